@@ -1,0 +1,50 @@
+-- The cell of a signal at a time: an interval of times at which it has the same value for the same cause.
+use Rattle.std.specs.Prelude.{ℕ, ◌+◌, ◌-◌, ◌≤◌, ◌<◌, nat_lt, min, max, if◌then◌else◌, List, [], ◌∷◌, length, get_or, map, fold, Option, Some, None}
+use Rattle.gate_values.specs.declared.Kind.{Kind}
+use Rattle.gate_values.specs.Gates.{decides, up_to_first}
+use Rattle.circuit_meaning.specs.Circuit.{Setting, Pin, Driver, Input, Gate, Flop, Circuit}
+use Rattle.valid_intervals.specs.Spans.{Span, from_to, meet, moved}
+use Rattle.circuit_meaning.specs.Forward.{row_at, last_setting, seen, value}
+use Rattle.flip_flops.specs.Edges.{shown_edge, flop_span}
+
+-- the least time of a setting after t, or else the limit
+unfoldable pub next_setting : List Setting → ℕ → ℕ → ℕ
+next_setting [] t limit = limit
+next_setting (s ∷ rest) t limit = if nat_lt t s.time then min s.time (next_setting rest t limit) else next_setting rest t limit
+
+-- the least delay of a pin
+unfoldable pub least_delay : List Pin → ℕ
+least_delay [] = 0
+least_delay (p ∷ rest) = fold (λ m q. min m q.delay) p.delay rest
+
+-- the pins of a gate up to and including the first that decides its value at t
+abbrev pub looked : Circuit → ℕ → Kind → List Pin → List Pin
+looked c t kind pins = up_to_first (λ p. decides kind (seen (value c) t p)) pins
+
+-- the times about t at which a pin of a gate sees what it sees at t, where before s u is the interval of the signal s at an earlier time u
+abbrev pub pin_span : (ℕ → ℕ → Span) → ℕ → Pin → Span
+pin_span before t p = if nat_lt t p.delay then from_to 0 p.delay else moved p.delay (before p.signal (t - p.delay))
+
+abbrev pub input_start : Option Setting → ℕ
+input_start None = 0
+input_start (Some s) = s.time
+
+-- the interval of a gate whose least delay is m
+abbrev pub gate_span : ℕ → ℕ → ℕ → List Span → Span
+gate_span limit t m pins = if nat_lt t m then from_to 0 (min m limit) else fold meet (from_to m limit) pins
+
+-- the interval that a driver gives at t
+abbrev pub span_from : Circuit → (ℕ → ℕ → Span) → ℕ → Driver → Span
+span_from c before t (Input settings) = from_to (input_start (last_setting settings t)) (next_setting settings t (c.horizon + 1))
+span_from c before t (Gate kind pins) = gate_span (c.horizon + 1) t (least_delay pins) (map (pin_span before t) (looked c t kind pins))
+span_from c before t (Flop f) = flop_span (c.horizon + 1) f.delay f.clock (shown_edge f.clock f.delay t)
+
+abbrev pub span_entry : Circuit → List (List Span) → ℕ → ℕ → Span
+span_entry c rows s t = get_or (get_or rows t []) s (from_to 0 (c.horizon + 1))
+
+abbrev pub next_spans : Circuit → List (List Span) → List Span
+next_spans c rows = map (span_from c (span_entry c rows) (length rows)) c.drivers
+
+-- the interval of the cell of the signal s at the time t
+unfoldable pub span : Circuit → ℕ → ℕ → Span
+span c s t = get_or (row_at (next_spans c) t) s (from_to 0 (c.horizon + 1))

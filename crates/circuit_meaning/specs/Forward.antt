@@ -1,0 +1,76 @@
+-- Forward simulation: the value of every signal at every time, each row of values from the rows before it.
+use Rattle.std.specs.Prelude.{ℕ, zero, suc, ◌+◌, ◌-◌, ◌*◌, ◌/◌, nat_lt, nat_le, if◌then◌else◌, not, ◌||◌, ◌==◌, List, [], ◌∷◌, ◌++◌, length, get_or, map, filter, Option, Some, None}
+use Rattle.std.specs.List.{range_with_len}
+use Rattle.gate_values.specs.declared.Value.{Value}
+use Rattle.gate_values.specs.declared.Value.TheVariants.{X}
+use Rattle.gate_values.specs.declared.Kind.TheVariants.{Dff}
+use Rattle.gate_values.specs.Gates.{gate_value, same_value}
+use Rattle.circuit_meaning.specs.Circuit.{Setting, Pin, FlipFlop, Driver, Input, Gate, Flop, Circuit}
+use Rattle.circuit_meaning.specs.declared.Run.{Run}
+use Rattle.flip_flops.specs.Edges.{shown_edge}
+
+-- one row more, made from the rows so far
+abbrev pub one_more : {A : Type 0} → (List A → A) → List A → List A
+one_more next rows = rows ++ next rows ∷ []
+
+-- the rows for the times below t, each made from those before it
+unfoldable pub rows_below : {A : Type 0} → (List A → A) → ℕ → List A
+rows_below next zero = []
+rows_below next (suc t) = one_more next (rows_below next t)
+
+-- the row for the time t
+unfoldable pub row_at : {A : Type 0} → (List A → A) → ℕ → A
+row_at next t = next (rows_below next t)
+
+-- of the two settings the one with the greater time
+abbrev pub later : Setting → Option Setting → Option Setting
+later a None = Some a
+later a (Some b) = Some (if nat_lt a.time b.time then b else a)
+
+-- the setting with the greatest time at or before t
+unfoldable pub last_setting : List Setting → ℕ → Option Setting
+last_setting [] t = None
+last_setting (s ∷ rest) t = if nat_le s.time t then later s (last_setting rest t) else last_setting rest t
+
+abbrev pub input_value : Option Setting → Value
+input_value None = X
+input_value (Some s) = s.value
+
+-- what a pin of a gate sees at t, where before s u is the value of the signal s at an earlier time u
+abbrev pub seen : (ℕ → ℕ → Value) → ℕ → Pin → Value
+seen before t p = if nat_lt t p.delay then X else before p.signal (t - p.delay)
+
+-- what a flip-flop shows: its pin at the edge, or its initial value
+abbrev pub flop_value : (ℕ → ℕ → Value) → FlipFlop → Option ℕ → Value
+flop_value before f None = f.initial
+flop_value before f (Some e) = gate_value Dff (before f.pin e ∷ [])
+
+-- the value that a driver gives at t
+abbrev pub value_from : (ℕ → ℕ → Value) → ℕ → Driver → Value
+value_from before t (Input settings) = input_value (last_setting settings t)
+value_from before t (Gate kind pins) = gate_value kind (map (seen before t) pins)
+value_from before t (Flop f) = flop_value before f (shown_edge f.clock f.delay t)
+
+-- the entry of the signal s in the row of the time t
+abbrev pub entry : List (List Value) → ℕ → ℕ → Value
+entry rows s t = get_or (get_or rows t []) s X
+
+-- the row that comes after these rows
+abbrev pub next_row : Circuit → List (List Value) → List Value
+next_row c rows = map (value_from (entry rows) (length rows)) c.drivers
+
+-- the rows for the times 0 to the horizon
+abbrev pub forward : Circuit → List (List Value)
+forward c = rows_below (next_row c) (c.horizon + 1)
+
+-- the value of the signal s at the time t
+unfoldable pub value : Circuit → ℕ → ℕ → Value
+value c s t = get_or (row_at (next_row c) t) s X
+
+-- the times from a on and below b
+abbrev pub window : ℕ → ℕ → List ℕ
+window a b = range_with_len a (b - a)
+
+-- the pairs (t, value) in the window at which it begins or the value changes
+unfoldable pub wave : Circuit → ℕ → ℕ → ℕ → List Run
+wave c s a b = map (λ t. record { time = t; value = value c s t }) (filter (λ t. (t == a) || not (same_value (value c s t) (value c s (t - 1)))) (window a b))

@@ -1,0 +1,45 @@
+-- What a query needs: the points reached from its roots, back through the looked pins.
+use Rattle.std.specs.Prelude.{ℕ, ◌-◌, ◌*◌, ◌≤◌, ◌<◌, nat_le, List, [], ◌∷◌, map, filter, Option, Some, None, IsSome, Contains}
+pub use Rattle.valid_intervals.specs.declared.Point.{Point}
+pub use Rattle.circuit_meaning.specs.declared.Window.{Window}
+use Rattle.circuit_meaning.specs.Circuit.{Driver, Input, Gate, Flop, Circuit, driver, read_by}
+use Rattle.flip_flops.specs.Edges.{shown_edge}
+use Rattle.circuit_meaning.specs.Cells.{least_delay, looked, span}
+
+-- Whether a signal's value at t comes from other points; every other point is answered at once.
+abbrev pub HasSources : ℕ → Driver → Type 0
+HasSources t (Input settings) = ⊥
+HasSources t (Gate kind pins) = least_delay pins ≤ t
+HasSources t (Flop f) = IsSome (shown_edge f.clock f.delay t)
+
+abbrev pub IsEvaluable : Circuit → ℕ → ℕ → Type 0
+IsEvaluable c s t = HasSources t (driver c s)
+
+abbrev pub flop_source : ℕ → Option ℕ → List Point
+flop_source pin None = []
+flop_source pin (Some e) = record { signal = pin; time = e } ∷ []
+
+-- the points that the value at t comes from
+abbrev pub sources : Circuit → ℕ → Driver → List Point
+sources c t (Input settings) = []
+sources c t (Gate kind pins) = map (λ p. record { signal = p.signal; time = t - p.delay }) (filter (λ p. nat_le p.delay t) (looked c t kind pins))
+sources c t (Flop f) = flop_source f.pin (shown_edge f.clock f.delay t)
+
+unfoldable pub children : Circuit → ℕ → ℕ → List Point
+children c s t = sources c t (driver c s)
+
+-- the times at which a query asks: where a piece of its window begins, and where a cell ends
+pub data IsRoot (c : Circuit) (q : Window) : ℕ → Type 0 where
+  First : q.start < q.stop → IsRoot c q q.start
+  Piece : (n : ℕ) → q.start < n * 65536 → n * 65536 < q.stop → IsRoot c q (n * 65536)
+  Next : {r : ℕ} → IsRoot c q r → (span c q.signal r).stop < q.stop → IsRoot c q (span c q.signal r).stop
+
+-- the points that a query needs
+pub data IsNeeded (c : Circuit) (q : Window) : ℕ → ℕ → Type 0 where
+  Root : {t : ℕ} → IsRoot c q t → IsEvaluable c q.signal t → IsNeeded c q q.signal t
+  Child : {s t u w : ℕ} → IsNeeded c q s t → Contains (children c s t) (record { signal = u; time = w }) → IsEvaluable c u w → IsNeeded c q u w
+
+-- the signals that a signal is reached from, itself included
+pub data IsInCone (c : Circuit) (root : ℕ) : ℕ → Type 0 where
+  Itself : IsInCone c root root
+  Reads : {s u : ℕ} → IsInCone c root s → Contains (read_by (driver c s)) u → IsInCone c root u

@@ -1,0 +1,89 @@
+-- What becomes of a point's claim, and of the cells.
+use Rattle.std.proofs.Common.{◌≡◌, ◌≢◌, ℕ, ◌≤◌, Bool, true, false, cond, not, List, [], ◌∷◌, filter, find, option_map, Some, None, refl, sym, subst, ◌∙◌, true≢false, eq-eqb, le-leb, lt-ltb}
+use Rattle.std.proofs.lemmas.Bool.{and_from}
+use Rattle.valid_intervals.specs.declared.Point.{Point}
+use Rattle.circuit_meaning.specs.Circuit.{Circuit, IsCircuit}
+use Rattle.circuit_meaning.proofs.Cover.{cell-covers}
+use Rattle.journal_meaning.specs.declared.Entry.{Entry}
+use Rattle.journal_meaning.specs.declared.Entry.TheVariants.{Told, Claimed, Filled, Evicted, Dropped, Spent}
+use Rattle.journal_meaning.specs.Memo.{Claim, State, is_covered, holder, without, Needs, after}
+use Rattle.valid_intervals.specs.Cells.{same_point, covers, cell_for}
+use Rattle.valid_intervals.specs.declared.SignalCell.{SignalCell}
+use Rattle.journal_meaning.specs.Batch.{cell_at}
+use Rattle.journal_meaning.proofs.Same.{same_point-true, same_point-itself}
+use Rattle.journal_meaning.proofs.Lists.{Each, Stands, stands-any, test-false}
+
+some≢none : {A : Type 0} (x : A) → Some x ≢ None
+some≢none x e = cc
+
+pub holder-filter : (test : Claim → Bool) (claims : List Claim) (p : Point) → holder claims p ≡ None → holder (filter test claims) p ≡ None
+holder-filter test [] p h = refl
+holder-filter test (c ∷ claims) p h =
+    elim (same_point p c.point) as (λ b. same_point p c.point ≡ b → option_map (λ (c : Claim). c.q) (cond b (Some c) (find (λ c. same_point p c.point) claims)) ≡ None → holder (cond (test c) (c ∷ filter test claims) (filter test claims)) p ≡ None) [
+      | true ↦ λ e k. absurd (some≢none c.q k)
+      | false ↦ λ e k. elim (test c) as (λ t. holder (cond t (c ∷ filter test claims) (filter test claims)) p ≡ None) [
+        | true ↦ rw e (holder-filter test claims p k)
+        | false ↦ holder-filter test claims p k
+      ]
+    ] refl h
+
+pub holder-without : (claims : List Claim) (p : Point) → holder (without claims p) p ≡ None
+holder-without [] p = refl
+holder-without (c ∷ claims) p =
+    elim (same_point p c.point) as (λ b. same_point p c.point ≡ b → holder (cond (not b) (c ∷ without claims p) (without claims p)) p ≡ None) [
+      | true ↦ λ e. holder-without claims p
+      | false ↦ λ e. rw e (holder-without claims p)
+    ] refl
+
+pub holder-other : (claims : List Claim) (q : ℕ) (r p : Point) → r ≢ p → holder claims p ≡ None → holder (record { q = q; point = r } ∷ claims) p ≡ None
+holder-other claims q r p h k = rw (test-false same_point same_point-true same_point-itself p r (λ e. h (sym e))) k
+
+some-same : (a b : ℕ) → Some a ≡ Some b → a ≡ b
+some-same a b e = cc
+
+pub holder-each : (P : ℕ → Point → Type 0) (claims : List Claim) (p : Point) (q : ℕ) → Each (λ c. P c.q c.point) claims → holder claims p ≡ Some q → P q p
+holder-each P [] p q h e = absurd (some≢none q (sym e))
+holder-each P (c ∷ claims) p q h e =
+    elim (same_point p c.point) as (λ b. same_point p c.point ≡ b → option_map (λ (c : Claim). c.q) (cond b (Some c) (find (λ c. same_point p c.point) claims)) ≡ Some q → P q p) [
+      | true ↦ λ k l. subst (λ z. P z p) (some-same c.q q l) (subst (λ z. P c.q z) (sym (same_point-true p c.point k)) h.0)
+      | false ↦ λ k l. holder-each P claims p q h.1 l
+    ] refl e
+
+-- a point's own cell covers it
+pub own-covers : (c : Circuit) → IsCircuit c → (p : Point) → p.time ≤ c.horizon → covers p (cell_for p (cell_at c p)) ≡ true
+own-covers c ok p h =
+    let k = (cell-covers c ok p.time p.signal h).inside in
+    and_from _ _ (and_from _ _ (eq-eqb p.signal p.signal refl) (le-leb _ _ k.low)) (lt-ltb _ _ k.high)
+
+-- an entry that is not one of the point, or only tells it
+abbrev pub Quiet : Point → Entry → Type 0
+Quiet p (Told q r x) = Unit {0}
+Quiet p (Claimed q r) = r ≢ p
+Quiet p (Filled q r x) = r ≢ p
+Quiet p (Evicted signal start) = Unit {0}
+Quiet p (Dropped q r) = r ≢ p
+Quiet p (Spent q r held) = r ≢ p
+
+-- while a cell stands that covers the point, and the point is not claimed
+module _ (p : Point) (x : SignalCell) (c : covers p x ≡ true) (capacity : ℕ) (s : State) (unclaimed : holder s.claims p ≡ None) where
+  claimed : (q : ℕ) (r : Point) → holder s.claims r ≡ Some q → r ≢ p
+  claimed q r h e = some≢none q (sym h ∙ subst (λ y. holder s.claims y ≡ None) (sym e) unclaimed)
+
+  uncovered : Stands x s.cells → (r : Point) → is_covered s r ≡ false → r ≢ p
+  uncovered st r h e = true≢false (sym (stands-any (covers p) x s.cells c st) ∙ subst (λ y. is_covered s y ≡ false) e h)
+
+  pub quiet : (s.made ≡ false → Stands x s.cells) → (e : Entry) → Needs capacity s e → Quiet p e
+  quiet st (Told q r y) n = tt
+  quiet st (Claimed q r) n = uncovered (st n.0) r n.1
+  quiet st (Filled q r y) n = claimed q r n.0
+  quiet st (Evicted signal start) n = tt
+  quiet st (Dropped q r) n = claimed q r n.1
+  quiet st (Spent q r held) n = uncovered (st n.0) r n.1
+
+  pub still_unclaimed : (e : Entry) → Quiet p e → holder (after s e).claims p ≡ None
+  still_unclaimed (Told q r y) h = unclaimed
+  still_unclaimed (Claimed q r) h = holder-other s.claims q r p h unclaimed
+  still_unclaimed (Filled q r y) h = holder-filter (λ c. not (same_point r c.point)) s.claims p unclaimed
+  still_unclaimed (Evicted signal start) h = unclaimed
+  still_unclaimed (Dropped q r) h = holder-filter (λ c. not (same_point r c.point)) s.claims p unclaimed
+  still_unclaimed (Spent q r held) h = unclaimed

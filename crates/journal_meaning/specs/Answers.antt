@@ -1,0 +1,88 @@
+-- When a query is closed, when its budget is spent, and what is replied.
+use Rattle.std.specs.Prelude.{◌≡◌, ℕ, ◌+◌, ◌≤◌, Bool, ◌&&◌, true, false, nat_eq, List, [], ◌∷◌, length, filter, Contains, All, AllPairs, ◌≢◌, ◌⊎◌, Option, Some, None, if◌then◌else◌}
+use Rattle.std.specs.Option.{option_or}
+use Rattle.valid_intervals.specs.declared.Point.{Point}
+use Rattle.circuit_meaning.specs.Circuit.{Circuit}
+use Rattle.circuit_meaning.specs.Forward.{wave}
+use Rattle.circuit_meaning.specs.declared.Run.{Run}
+use Rattle.circuit_meaning.specs.Need.{IsRoot, IsEvaluable, children}
+use Rattle.circuit_meaning.specs.Held.{held}
+use Rattle.journal_meaning.specs.declared.Query.{Query}
+use Rattle.journal_meaning.specs.declared.Entry.{Entry}
+use Rattle.journal_meaning.specs.declared.Entry.TheVariants.{Told, Claimed, Filled, Evicted, Dropped, Spent}
+use Rattle.valid_intervals.specs.Cells.{same_point, covers, cell_for}
+use Rattle.journal_meaning.specs.Batch.{window_of}
+
+-- the entry says the cell of the point
+abbrev pub Says : Point → Entry → Type 0
+Says p (Told q x cell) = covers p (cell_for x cell) ≡ true
+Says p (Filled q x cell) = covers p (cell_for x cell) ≡ true
+Says p e = ⊥
+
+-- the point has a base answer, or an entry says its cell
+abbrev pub IsCovered : Circuit → List Entry → Point → Type 0
+IsCovered c es p = (IsEvaluable c p.signal p.time → ⊥) ⊎ ((e : Entry) × Contains es e × Says p e)
+
+-- the children of each point that the query evaluated are covered
+abbrev pub ChildrenCovered : Circuit → List Entry → ℕ → Type 0
+ChildrenCovered c es q = (p : Point) (x : _) → Contains es (Filled q p x) → All (IsCovered c es) (children c p.signal p.time)
+
+pub record IsClosed (c : Circuit) (es : List Entry) (q : Query) : Type 0 where
+  pub roots : (t : ℕ) → IsRoot c (window_of q) t → IsCovered c es (record { signal = q.signal; time = t })
+  pub children : ChildrenCovered c es q.number
+
+-- whether the entry is one of the query at the point
+abbrev pub is_of : ℕ → Point → Entry → Bool
+is_of number p (Told q x cell) = nat_eq q number && same_point p x
+is_of number p (Claimed q x) = nat_eq q number && same_point p x
+is_of number p (Filled q x cell) = nat_eq q number && same_point p x
+is_of number p (Evicted signal start) = false
+is_of number p (Dropped q x) = nat_eq q number && same_point p x
+is_of number p (Spent q x held) = nat_eq q number && same_point p x
+
+-- the last entry of the query at the point
+abbrev pub last_of : List Entry → ℕ → Point → Option Entry
+last_of [] q p = None
+last_of (e ∷ es) q p = option_or (last_of es q p) (if is_of q p e then Some e else None)
+
+abbrev pub is_fill_of : ℕ → Entry → Bool
+is_fill_of number (Filled q p x) = nat_eq q number
+is_fill_of number e = false
+
+abbrev pub filled : List Entry → ℕ → ℕ
+filled es q = length (filter (is_fill_of q) es)
+
+-- What the query evaluated, with what it gave up when it was refused one point more, comes to its budget.
+pub record IsSpent (es : List Entry) (q : Query) : Type 0 where
+  pub point : Point
+  pub held : ℕ
+  pub last : last_of es q.number point ≡ Some (Spent q.number point held)
+  pub given_up : List Point
+  pub different : AllPairs (λ a b. a ≢ b) given_up
+  pub dropped : All (λ p. last_of es q.number p ≡ Some (Dropped q.number p)) given_up
+  pub enough : held ≤ length given_up
+  pub budget : q.budget ≤ filled es q.number + held
+
+-- a query of a signal is answered by its wave or by its budget; every other item is refused
+pub data Reply : Type 0 where
+  Wave : List Run → Reply
+  Unknown : Reply
+  Past : Reply
+  Budget : ℕ → Reply
+  BadLine : Reply
+
+-- what becomes of an item
+pub data Verdict : Type 0 where
+  Ask : Query → Verdict
+  NoSignal : Verdict
+  TooLate : Verdict
+  NoForm : Verdict
+
+-- the reply to an item, over the entries of its batch
+abbrev pub IsReply : Circuit → List Entry → Verdict → Reply → Type 0
+IsReply c es (Ask q) (Wave changes) = (changes ≡ wave c q.signal q.from q.to) × IsClosed c es q
+IsReply c es (Ask q) (Budget b) = (b ≡ q.budget) × IsSpent es q
+IsReply c es NoSignal Unknown = Unit {0}
+IsReply c es TooLate Past = Unit {0}
+IsReply c es NoForm BadLine = Unit {0}
+IsReply c es verdict reply = ⊥

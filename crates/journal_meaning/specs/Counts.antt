@@ -1,0 +1,39 @@
+-- How often points are evaluated.
+use Rattle.std.specs.Prelude.{ℕ, ◌+◌, not, if◌then◌else◌, List, [], ◌∷◌, length, filter, filter_map, flat_map, Option, Some, None}
+use Rattle.std.specs.List.{list_any, range_with_len}
+use Rattle.valid_intervals.specs.declared.Point.{Point}
+use Rattle.journal_meaning.specs.declared.Entry.{Entry}
+use Rattle.journal_meaning.specs.declared.Entry.TheVariants.{Filled}
+use Rattle.valid_intervals.specs.Cells.{same_point}
+use Rattle.journal_meaning.specs.Replay.{Section, joined}
+
+abbrev pub evaluated : Entry → Option Point
+evaluated (Filled q p x) = Some p
+evaluated e = None
+
+-- the points that entries say were evaluated
+abbrev pub points_of : List Entry → List Point
+points_of es = filter_map evaluated es
+
+-- the different ones among the points
+abbrev pub different : List Point → List Point
+different [] = []
+different (p ∷ rest) = p ∷ filter (λ x. not (same_point p x)) (different rest)
+
+-- how many of the points stand among those before them, of which these are the earlier ones
+abbrev pub repeated : List Point → List Point → ℕ
+repeated earlier [] = 0
+repeated earlier (p ∷ rest) = (if list_any (same_point p) earlier then 1 else 0) + repeated (p ∷ earlier) rest
+
+-- the entries of the session's own memo, shard by shard
+abbrev pub all_joined : ℕ → List Section → List Entry
+all_joined shards sections = flat_map (λ shard. joined shard sections) (range_with_len 0 shards)
+
+abbrev pub evaluations : List Entry → ℕ
+evaluations es = length (points_of es)
+
+abbrev pub distinct : List Entry → ℕ
+distinct es = length (different (points_of es))
+
+abbrev pub again : List Entry → ℕ
+again es = repeated [] (points_of es)

@@ -1,0 +1,30 @@
+-- Points, cells, and lists of cells with the most recent first.
+use Rattle.std.specs.Prelude.{ℕ, ◌-◌, nat_le, nat_lt, nat_eq, Bool, not, ◌&&◌, List, ◌∷◌, length, take, filter}
+use Rattle.gate_values.specs.Gates.{same_value}
+use Rattle.valid_intervals.specs.declared.Point.{Point}
+use Rattle.valid_intervals.specs.declared.Cell.{Cell}
+use Rattle.valid_intervals.specs.declared.SignalCell.{SignalCell}
+
+abbrev pub same_point : Point → Point → Bool
+same_point a b = nat_eq a.signal b.signal && nat_eq a.time b.time
+
+abbrev pub same_cell : Cell → Cell → Bool
+same_cell a b = nat_eq a.span.start b.span.start && nat_eq a.span.stop b.span.stop && same_value a.value b.value
+
+abbrev pub same_stored : SignalCell → SignalCell → Bool
+same_stored a b = nat_eq a.signal b.signal && same_cell a.cell b.cell
+
+-- the cell as that of the point's signal
+abbrev pub cell_for : Point → Cell → SignalCell
+cell_for p x = record { signal = p.signal; cell = x }
+
+-- whether the cell is of the point's signal and has its time
+abbrev pub covers : Point → SignalCell → Bool
+covers p x = nat_eq x.signal p.signal && nat_le x.cell.span.start p.time && nat_lt p.time x.cell.span.stop
+
+-- the cell comes, or moves, to the front
+abbrev pub to_front : SignalCell → List SignalCell → List SignalCell
+to_front x cells = x ∷ filter (λ y. not (same_stored x y)) cells
+
+abbrev pub all_but_last : List SignalCell → List SignalCell
+all_but_last cells = take (length cells - 1) cells

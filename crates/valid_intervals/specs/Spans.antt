@@ -1,0 +1,31 @@
+-- Intervals of times.
+use Rattle.std.specs.Prelude.{ℕ, ◌+◌, ◌≤◌, ◌<◌, min, max}
+
+-- the times from start on and below stop
+pub record Span : Type 0 where
+  pub start : ℕ
+  pub stop : ℕ
+
+pub record IsIn (span : Span) (t : ℕ) : Type 0 where
+  pub low : span.start ≤ t
+  pub high : t < span.stop
+
+abbrev pub from_to : ℕ → ℕ → Span
+from_to a b = record { start = a; stop = b }
+
+-- the times that both have
+abbrev pub meet : Span → Span → Span
+meet a b = from_to (max a.start b.start) (min a.stop b.stop)
+
+-- the same times, each later by d
+abbrev pub moved : ℕ → Span → Span
+moved d a = from_to (a.start + d) (a.stop + d)
+
+-- the times below the limit
+abbrev pub cut_at : ℕ → Span → Span
+cut_at limit a = from_to a.start (min a.stop limit)
+
+-- it has a time, and ends where no horizon and delay can pass
+pub record IsSpan (a : Span) : Type 0 where
+  pub some : a.start < a.stop
+  pub within : a.stop ≤ 2000002
