@@ -1,5 +1,5 @@
 -- The cell of a signal at a time: an interval of times at which it has the same value for the same cause.
-use Rattle.std.specs.Prelude.{ℕ, ◌+◌, ◌-◌, ◌≤◌, ◌<◌, nat_lt, min, max, if◌then◌else◌, List, [], ◌∷◌, length, get_or, map, fold, Option, Some, None}
+use Rattle.std.specs.Prelude.{ℕ, ◌+◌, ◌-◌, nat_lt, min, if◌then◌else◌, List, [], ◌∷◌, length, get_or, map, fold, Option, Some, None}
 use Rattle.gate_values.specs.declared.Kind.{Kind}
 use Rattle.gate_values.specs.Gates.{decides, up_to_first}
 use Rattle.circuit_meaning.specs.Circuit.{Setting, Pin, Driver, Input, Gate, Flop, Circuit}

@@ -1,0 +1,64 @@
+-- What an evaluable point looks at, said alike of gates and of flip-flops: each pin has a source, a value that it sees, and an interval.
+use Rattle.std.specs.Prelude.{ℕ, ◌+◌, ◌-◌, nat_lt, if◌then◌else◌, List, [], ◌∷◌, get_or, map, fold, Option, Some, None}
+use Rattle.std.specs.List.{range_with_len}
+use Rattle.gate_values.specs.declared.Value.{Value}
+use Rattle.gate_values.specs.declared.Value.TheVariants.{X}
+use Rattle.gate_values.specs.declared.Kind.{Kind}
+use Rattle.gate_values.specs.declared.Kind.TheVariants.{Buff, Dff}
+use Rattle.gate_values.specs.Gates.{decides, up_to_first}
+use Rattle.valid_intervals.specs.declared.Point.{Point}
+use Rattle.valid_intervals.specs.Spans.{Span, from_to, meet, cut_at}
+use Rattle.flip_flops.specs.Edges.{shown_edge}
+use Rattle.circuit_meaning.specs.declared.Pin.{Pin}
+use Rattle.circuit_meaning.specs.Circuit.{Circuit, Driver, Input, Gate, Flop, driver}
+use Rattle.circuit_meaning.specs.Forward.{value}
+use Rattle.circuit_meaning.specs.Cells.{span, pin_span}
+
+-- a flip-flop passes its pin on
+abbrev pub kind_of : Driver → Kind
+kind_of (Input settings) = Buff
+kind_of (Gate kind pins) = kind
+kind_of (Flop f) = Dff
+
+-- the point that a pin of a gate reads at t; none where that is before time 0
+abbrev pub source : ℕ → Pin → Option Point
+source t p = if nat_lt t p.delay then None else Some (record { signal = p.signal; time = t - p.delay })
+
+-- a flip-flop reads its pin at the edge that it shows
+abbrev pub flop_sources : ℕ → Option ℕ → List (Option Point)
+flop_sources pin None = []
+flop_sources pin (Some e) = Some (record { signal = pin; time = e }) ∷ []
+
+-- the sources of all pins, in the order of the pins
+abbrev pub sources_at : ℕ → Driver → List (Option Point)
+sources_at t (Input settings) = []
+sources_at t (Gate kind pins) = map (source t) pins
+sources_at t (Flop f) = flop_sources f.pin (shown_edge f.clock f.delay t)
+
+abbrev pub pin_sources : Circuit → ℕ → ℕ → List (Option Point)
+pin_sources c s t = sources_at t (driver c s)
+
+-- the value that is seen there; before time 0 it is x
+abbrev pub sees : Circuit → Option Point → Value
+sees c None = X
+sees c (Some p) = value c p.signal p.time
+
+-- the sources that are looked at: up to and including the first that decides
+abbrev pub looked_sources : Circuit → ℕ → ℕ → List (Option Point)
+looked_sources c s t = up_to_first (λ o. decides (kind_of (driver c s)) (sees c o)) (pin_sources c s t)
+
+abbrev pub no_pin : Pin
+no_pin = record { signal = 0; delay = 0 }
+
+-- the times about t at which the pin number k sees what it sees at t; of a flip-flop, the interval of its cell
+abbrev pub interval_at : Circuit → ℕ → ℕ → Driver → ℕ → Span
+interval_at c s t (Input settings) k = span c s t
+interval_at c s t (Gate kind pins) k = cut_at (c.horizon + 1) (pin_span (span c) t (get_or pins k no_pin))
+interval_at c s t (Flop f) k = span c s t
+
+abbrev pub pin_interval : Circuit → ℕ → ℕ → ℕ → Span
+pin_interval c s t k = interval_at c s t (driver c s) k
+
+-- the times that the intervals of the first n pins have in common
+abbrev pub met_interval : Circuit → ℕ → ℕ → ℕ → Span
+met_interval c s t n = fold meet (from_to 0 2000002) (map (pin_interval c s t) (range_with_len 0 n))
