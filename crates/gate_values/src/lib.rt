@@ -1,16 +1,37 @@
-// The values of signals, the kinds of gates, and the truth table.
+//! The values that signals take, the kinds of gates, and the truth table.
+//!
+//! A [`Value`] is 0, 1, x (unknown) or z (not driven). The tables are those of the gate primitives of IEEE 1364: a pin
+//! that is z counts as x, and no gate gives z. [`eval_all`] is the table over the whole list of a gate's pins.
+//!
+//! Often the first pins settle the value: a 0 at an AND decides it, whatever the others are. Two types look at the pins
+//! one at a time for that reason. A [`Look`] keeps the values that it has seen, up to 64 of them. An [`Evaluation`] keeps
+//! only what they come to, two bytes that are copied, for callers that have very many of them at once.
+//! [`Kind::decides`] says whether a value ends the look. The value of the one pin of a NOT, BUFF or DFF never decides:
+//! such a look ends because all pins are seen.
+//!
+//! Nothing here takes memory or fails. Each call takes constant time, but [`eval_all`] and [`Look::end`], which take time
+//! in proportion to the number of pins.
+//!
+//! ```
+//! let mut look = Look::new(Kind::And);
+//! if look.see(Value::Zero) {
+//!     // 0, whatever the other pins are
+//!     let value = look.end();
+//! }
+//! ```
 #![tactic(auto)]
 
 ghost use Rattle.std.specs.Prelude.{◌≡◌, ℕ, ◌+◌, ◌<◌, ◌≤◌, IsTrue, List, [], ◌∷◌, ◌++◌, length, take, count_by};
 ghost use Rattle.std.specs.List.{list_any};
 ghost use Rattle.gate_values.specs.Gates.{gate_value, conjunction, disjunction, parity, decides, is_unary, is_zero, is_one, is_unknown, read, negation};
-ghost use Rattle.gate_values.specs.Looks.{Seen, Undecided};
+ghost use Rattle.gate_values.specs.Looks.{Seen, Undecided, Decided, Evaluates};
 ghost use Rattle.gate_values.specs.Spelling.{byte_of_value, kind_of_word, value_of_byte, value_of_word};
 ghost use Rattle.gate_values.specs.Spelling as spelling;
 ghost use Rattle.gate_values.specs.Gates as gates;
 
 use std::marker::Model;
 
+/// The value of a signal.
 #[derive(Clone, Copy, Debug, PartialEq, Eq)]
 pub enum Value {
     Zero,
@@ -19,6 +40,7 @@ pub enum Value {
     Z,
 }
 
+/// What a gate does. A `Dff` is a flip-flop, which passes its pin on at an edge of its clock.
 #[derive(Clone, Copy, Debug, PartialEq, Eq)]
 pub enum Kind {
     And,
@@ -33,6 +55,7 @@ pub enum Kind {
 }
 
 impl Value {
+    /// The value that a byte spells; the letters x and z in either case.
     pub fn from_byte(b: u8) -> Option<Value>
         ensures { result ≡ value_of_byte b }
     {
@@ -45,6 +68,7 @@ impl Value {
         }
     }
 
+    /// The value that a word of one byte spells.
     pub fn from_word(word: &[u8]) -> Option<Value>
         ensures { result ≡ value_of_word word.now }
     {
@@ -54,6 +78,7 @@ impl Value {
         }
     }
 
+    /// The byte that spells it, letters in lower case.
     pub fn byte(self) -> u8
         ensures { result ≡ byte_of_value self }
     {
@@ -65,6 +90,7 @@ impl Value {
         }
     }
 
+    /// The value as a pin sees it.
     fn read(self) -> Value
         ensures { result ≡ read self }
     {
@@ -101,6 +127,36 @@ impl Value {
     {
         matches!(self, Value::X | Value::Z)
     }
+
+    fn and(self, other: Value) -> Value
+        ensures { result ≡ conjunction (self ∷ other ∷ []) }
+    {
+        match (self, other) {
+            (Value::Zero, _) | (_, Value::Zero) => Value::Zero,
+            (Value::One, Value::One) => Value::One,
+            _ => Value::X,
+        }
+    }
+
+    fn or(self, other: Value) -> Value
+        ensures { result ≡ disjunction (self ∷ other ∷ []) }
+    {
+        match (self, other) {
+            (Value::One, _) | (_, Value::One) => Value::One,
+            (Value::Zero, Value::Zero) => Value::Zero,
+            _ => Value::X,
+        }
+    }
+
+    fn xor(self, other: Value) -> Value
+        ensures { result ≡ parity (self ∷ other ∷ []) }
+    {
+        match (self, other) {
+            (Value::Zero, Value::Zero) | (Value::One, Value::One) => Value::Zero,
+            (Value::Zero, Value::One) | (Value::One, Value::Zero) => Value::One,
+            _ => Value::X,
+        }
+    }
 }
 
 /// Whether two words differ in case at most.
@@ -111,6 +167,7 @@ fn is_spelling(word: &[u8], text: &[u8]) -> bool
 }
 
 impl Kind {
+    /// The kind that a word names, in either case. `BUF` is another spelling of `BUFF`.
     pub fn from_word(word: &[u8]) -> Option<Kind>
         ensures { result ≡ kind_of_word word.now }
     {
@@ -144,10 +201,24 @@ impl Kind {
         None
     }
 
+    /// Whether such a gate has exactly one pin.
     pub fn is_unary(self) -> bool
         ensures { result ≡ gates.is_unary self }
     {
         matches!(self, Kind::Not | Kind::Buff | Kind::Dff)
+    }
+
+    /// Whether a pin with this value settles the value of the gate, whatever its other pins are. No value does so at a
+    /// unary gate.
+    pub fn decides(self, value: Value) -> bool
+        ensures { result ≡ gates.decides self value }
+    {
+        match self {
+            Kind::And | Kind::Nand => value.is_zero(),
+            Kind::Or | Kind::Nor => value.is_one(),
+            Kind::Xor | Kind::Xnor => value.is_unknown(),
+            Kind::Not | Kind::Buff | Kind::Dff => false,
+        }
     }
 }
 
@@ -229,7 +300,8 @@ pub fn eval_all(kind: Kind, pins: &[Value]) -> Value
     }
 }
 
-/// A look at the pins of a gate, one after another, up to the first that decides.
+/// A look at the pins of a gate, one after another, up to the first that decides. It is seen as its kind and the values
+/// that it has seen.
 #[derive(Drop)]
 pub struct Look {
     kind: Kind,
@@ -267,20 +339,136 @@ impl Look {
     {
         self.seen[self.count] = value;
         self.count += 1;
-        match self.kind {
-            Kind::And | Kind::Nand => value.is_zero(),
-            Kind::Or | Kind::Nor => value.is_one(),
-            Kind::Xor | Kind::Xnor => value.is_unknown(),
-            Kind::Not | Kind::Buff | Kind::Dff => false,
-        }
+        self.kind.decides(value)
     }
 
-    /// The value of the gate from the pins seen. Where the last one decides, it is so whatever comes after them.
+    /// The value of the gate from the pins seen.
     pub fn end(&self) -> Value
         requires some { 1 ≤ length self.now.values }
         requires one { IsTrue (is_unary self.now.kind) → length self.now.values ≡ 1 }
-        ensures { result ≡ gate_value self.now.kind self.now.values }
+        ensures value { result ≡ gate_value self.now.kind self.now.values }
+        // once a value has decided, so it is whatever the pins behind it are
+        ensures decided { Decided self.now → (rest : List Value) → gate_value self.now.kind (self.now.values ++ rest) ≡ result }
     {
         eval_all(self.kind, &self.seen[..self.count])
+    }
+}
+
+/// What the pins of a gate come to that were seen so far: the value that the gate would have if they were all. Of the
+/// values themselves nothing is kept.
+#[derive(Clone, Copy, Debug, PartialEq, Eq)]
+pub struct Evaluation {
+    pub kind: Kind,
+    pub value: Value,
+}
+
+impl Evaluation {
+    /// Nothing is seen yet.
+    pub fn new(kind: Kind) -> Evaluation
+        ensures kind { result.kind ≡ kind }
+        ensures nothing { Evaluates result [] }
+    {
+        let value = match kind {
+            Kind::And | Kind::Nor | Kind::Xnor => Value::One,
+            Kind::Nand | Kind::Or | Kind::Xor => Value::Zero,
+            Kind::Not | Kind::Buff | Kind::Dff => Value::X,
+        };
+        Evaluation { kind, value }
+    }
+
+    /// Sees one pin more.
+    pub fn see(self, value: Value) -> Evaluation
+        ensures kind { result.kind ≡ self.kind }
+        ensures seen { (seen : List Value) → (IsTrue (is_unary self.kind) → seen ≡ []) → Evaluates self seen
+            → Evaluates result (seen ++ value ∷ []) }
+    {
+        let before = self.value;
+        let value = match self.kind {
+            Kind::And => before.and(value),
+            Kind::Nand => before.negation().and(value).negation(),
+            Kind::Or => before.or(value),
+            Kind::Nor => before.negation().or(value).negation(),
+            Kind::Xor => before.xor(value),
+            Kind::Xnor => before.negation().xor(value).negation(),
+            Kind::Not => value.negation(),
+            Kind::Buff | Kind::Dff => value.read(),
+        };
+        Evaluation {
+            kind: self.kind,
+            value,
+        }
+    }
+}
+
+#[cfg(test)]
+mod tests {
+    use super::*;
+    use std::test::Fail;
+
+    const VALUES: [Value; 4] = [Value::Zero, Value::One, Value::X, Value::Z];
+
+    fn value_of(letter: u8) -> Value {
+        Value::from_byte(letter).unwrap_or(Value::Z)
+    }
+
+    // the tables of IEEE 1364 for two pins: a row for each value 0, 1, x, z of the first
+    #[test]
+    fn tables(rt: HostRuntime) {
+        for (kind, table) in [
+            (Kind::And, b"000001xx0xxx0xxx"),
+            (Kind::Nand, b"111110xx1xxx1xxx"),
+            (Kind::Or, b"01xx1111x1xxx1xx"),
+            (Kind::Nor, b"10xx0000x0xxx0xx"),
+            (Kind::Xor, b"01xx10xxxxxxxxxx"),
+            (Kind::Xnor, b"10xx01xxxxxxxxxx"),
+        ] {
+            for i in 0..16usize {
+                let first = VALUES[i / 4];
+                let second = VALUES[i % 4];
+                let want = value_of(table[i]);
+                assert_eq!(rt; eval_all(kind, &[first, second]), want, "{kind:?} at {i}");
+                let mut look = Look::new(kind);
+                if !look.see(first) {
+                    look.see(second);
+                }
+                assert_eq!(rt; look.end(), want, "look, {kind:?} at {i}");
+                let all = Evaluation::new(kind).see(first).see(second);
+                assert_eq!(rt; all.value, want, "evaluation, {kind:?} at {i}");
+                assert_eq!(rt; all.kind, kind);
+            }
+        }
+        for (kind, table) in [
+            (Kind::Not, b"10xx"),
+            (Kind::Buff, b"01xx"),
+            (Kind::Dff, b"01xx"),
+        ] {
+            for i in 0..4usize {
+                let want = value_of(table[i]);
+                assert_eq!(rt; eval_all(kind, &[VALUES[i]]), want, "{kind:?} at {i}");
+                assert!(rt; !kind.decides(VALUES[i]) && kind.is_unary());
+            }
+        }
+    }
+
+    #[test]
+    fn spelling(rt: HostRuntime) -> Result<(), Fail> {
+        for (word, kind) in [
+            (b"NAND".as_slice(), Kind::Nand),
+            (b"buf".as_slice(), Kind::Buff),
+            (b"Buff".as_slice(), Kind::Buff),
+            (b"dFF".as_slice(), Kind::Dff),
+            (b"xnor".as_slice(), Kind::Xnor),
+        ] {
+            assert_eq!(rt; Kind::from_word(word).ok_or("no kind")?, kind);
+        }
+        assert_eq!(rt; Kind::from_word(b"buffer"), None);
+        assert_eq!(rt; Kind::from_word(b""), None);
+        assert_eq!(rt; Value::from_word(b"X").ok_or("no value")?, Value::X);
+        assert_eq!(rt; Value::from_word(b"01"), None);
+        assert_eq!(rt; Value::from_byte(b'2'), None);
+        for value in VALUES {
+            assert_eq!(rt; value_of(value.byte()), value);
+        }
+        Ok(())
     }
 }
