@@ -1,0 +1,35 @@
+-- What is so of every strand.
+use Rattle.std.specs.Prelude.{◌≡◌, ◌<◌}
+use Rattle.valid_intervals.specs.declared.Point.{Point}
+use Rattle.circuit_meaning.specs.Need.{IsEvaluable}
+use Rattle.journal_meaning.specs.Batch.{Batch, IsNeededBy, OfQuery}
+use Rattle.strand_meaning.specs.Batches.{IsLawful}
+use Rattle.strand_meaning.specs.Strands.{Strand, IsStrand, next, Ask, Fill, Drop, heard, claimed, given_up, dropped, finished, IsHeld}
+
+-- the point is needed by a query of the batch with the strand's number, and has no answer at once
+pub record IsWanted (b : Batch) (s : Strand) (p : Point) : Type 0 where
+  pub needed : OfQuery b s.query.number (λ q. IsNeededBy b q p)
+  pub evaluable : IsEvaluable b.circuit p.signal p.time
+
+-- what a strand asks for, and what it holds, is needed
+pub record AsksWhatIsNeeded (b : Batch) (s : Strand) : Type 0 where
+  pub asked : (p : Point) → next s ≡ Ask p → IsWanted b s p
+  pub held : (p : Point) → IsHeld s.stack p → IsWanted b s p
+
+abbrev pub StrandsAskWhatIsNeeded : Type 0
+StrandsAskWhatIsNeeded = (b : Batch) → IsLawful b → (s : Strand) → IsStrand b s → AsksWhatIsNeeded b s
+
+-- it waits for a point that is earlier than all that it holds
+abbrev pub WaitsAreEarlier : Type 0
+WaitsAreEarlier = (b : Batch) → IsLawful b → (s : Strand) → IsStrand b s → (p x : Point) → next s ≡ Ask p → IsHeld s.stack x → p.time < x.time
+
+-- each step of a strand leaves a strand
+pub record StepsKeep (b : Batch) (s : Strand) : Type 0 where
+  pub heard : IsStrand b (heard s)
+  pub claimed : (p : Point) → next s ≡ Ask p → s.charged < s.budget → IsStrand b (claimed b.circuit s p)
+  pub given_up : IsStrand b (given_up s)
+  pub dropped : (p : Point) → next s ≡ Drop p → IsStrand b (dropped s)
+  pub finished : (p : Point) → next s ≡ Fill p → IsStrand b (finished s)
+
+abbrev pub StrandsStay : Type 0
+StrandsStay = (b : Batch) → (s : Strand) → IsStrand b s → StepsKeep b s
