@@ -9,13 +9,15 @@ use Rattle.circuit_meaning.specs.Circuit.{IsCircuit}
 use Rattle.journal_meaning.specs.declared.Query.{Query}
 use Rattle.journal_meaning.specs.declared.Entry.{Entry}
 use Rattle.journal_meaning.specs.declared.Entry.TheVariants.{Told, Claimed, Filled, Evicted, Dropped, Spent}
-use Rattle.journal_meaning.specs.Memo.{fresh}
+use Rattle.journal_meaning.specs.States.{fresh}
 use Rattle.valid_intervals.specs.Cells.{same_point}
 use Rattle.valid_intervals.specs.declared.SignalCell.{SignalCell}
 use Rattle.journal_meaning.specs.Batch.{Batch, IsNeededBy}
 use Rattle.journal_meaning.specs.Replay.{IsLegalBatch}
-use Rattle.journal_meaning.specs.Answers.{is_of, last_of, is_fill_of, filled, IsSpent}
-use Rattle.journal_meaning.specs.Laws.{NoEviction, HasRoom, of_batch}
+use Rattle.journal_meaning.specs.Answers.{is_of, last_of, is_fill_of, filled, IsSpent, IsAnswer}
+use Rattle.journal_meaning.specs.Laws.{NoEviction, HasRoom, of_batch, IsLegalFrom, IsRoomy, IsOwnQuery, NeedsMoreThan, NeedsAtMost}
+use Rattle.circuit_meaning.specs.Forward.{wave}
+use Rattle.circuit_meaning.specs.declared.Run.{Run}
 use Rattle.journal_meaning.proofs.Same.{same_point-true, same_point-itself}
 use Rattle.journal_meaning.proofs.Lists.{Each, Differ, each-append, each-imply, pairs_from, pairs_to}
 use Rattle.journal_meaning.proofs.Claims.{Quiet}
@@ -265,17 +267,13 @@ module _ (b : Batch) (ok : IsCircuit b.circuit) (opening : ℕ → List SignalCe
         elsewhere = λ m h. each-append (Elsewhere m) es (of_batch rest) (each-imply (Named b k) (Elsewhere m) (named-elsewhere m k h) es named) (more.elsewhere m (omega arith));
       }
 
-  pub spent-needs_more : (lists : List (List Entry))
-      → ((shard : ℕ) → shard < length lists → IsLegalBatch b shard (opening shard) (get_or lists shard []))
-      → length lists ≡ b.shards
-      → NoEviction (of_batch lists) ⊎ ((shard : ℕ) → shard < b.shards → HasRoom b shard)
-      → (q : Query) → Contains b.queries q → ((r : Query) → Contains b.queries r → r.number ≡ q.number → r ≡ q) → IsSpent (of_batch lists) q
-      → (points : List Point) × (q.budget + 1 ≤ length points) × AllPairs (λ p r. p ≢ r) points × All (IsNeededBy b q) points
+  pub spent-needs_more : (lists : List (List Entry)) → IsLegalFrom b opening lists → IsRoomy b lists → (q : Query) → IsOwnQuery b q → IsSpent (of_batch lists) q → NeedsMoreThan b q q.budget
   unfolding AreLegalFrom
-  spent-needs_more lists legal n room q known one spent =
+  spent-needs_more lists from room q one spent =
       let es = of_batch lists in
-      let g = good 0 lists (λ i h. subst (λ j. IsLegalBatch b j (opening j) (get_or lists i [])) (omega arith) (legal i h)) (omega (arith, n)) room in
-      let needs : (p : Point) → Needed b q.number p → IsNeededBy b q p = λ p o. subst (λ r. IsNeededBy b r p) (one o.0 o.1 o.2) o.3 in
+      let n = from.count in
+      let g = good 0 lists (λ i h. subst (λ j. IsLegalBatch b j (opening j) (get_or lists i [])) (omega arith) (from.legal i (omega (arith, h, n)))) (omega (arith, n)) room in
+      let needs : (p : Point) → Needed b q.number p → IsNeededBy b q p = λ p o. subst (λ r. IsNeededBy b r p) (one.single o.0 o.1 o.2) o.3 in
       let fills = fill_points q.number es in
       let points = spent.point ∷ (spent.given_up ++ fills) in
       let dropped : Each (λ p. last_of es q.number p ≡ Some (Dropped q.number p)) spent.given_up = recursion_from_All (λ p. last_of es q.number p ≡ Some (Dropped q.number p)) spent.given_up spent.dropped in
@@ -296,3 +294,11 @@ module _ (b : Batch) (ok : IsCircuit b.circuit) (opening : ℕ → List SignalCe
             (fill-each q.number (IsNeededBy b q) Asked (λ r p x h e. needs p (subst (λ n. Needed b n p) e h)) es g.asked),
       ) in
       (points, long, pairs_to points differ, All-from_recursion (IsNeededBy b q) points needed)
+
+  pub enough-budget : (lists : List (List Entry)) → IsLegalFrom b opening lists → IsRoomy b lists → (q : Query) → IsOwnQuery b q → NeedsAtMost b q q.budget
+      → (answer : Option (List Run)) → IsAnswer b.circuit (of_batch lists) q answer → answer ≡ Some (wave b.circuit q.signal q.from q.to)
+  enough-budget lists from room q one most (Some runs) h = ap Some h.0
+  enough-budget lists from room q one most None h =
+      let k = spent-needs_more lists from room q one h in
+      let l = most k.0 k.2 k.3 in
+      absurd (omega (arith, l, k.1))

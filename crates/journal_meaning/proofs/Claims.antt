@@ -6,7 +6,8 @@ use Rattle.circuit_meaning.specs.Circuit.{Circuit, IsCircuit}
 use Rattle.circuit_meaning.proofs.Cover.{cell-covers}
 use Rattle.journal_meaning.specs.declared.Entry.{Entry}
 use Rattle.journal_meaning.specs.declared.Entry.TheVariants.{Told, Claimed, Filled, Evicted, Dropped, Spent}
-use Rattle.journal_meaning.specs.Memo.{Claim, State, is_covered, holder, without, Needs, after}
+use Rattle.journal_meaning.specs.States.{Claim, State, is_covered, holder, without}
+use Rattle.journal_meaning.specs.Table.{Needs, after}
 use Rattle.valid_intervals.specs.Cells.{same_point, covers, cell_for}
 use Rattle.valid_intervals.specs.declared.SignalCell.{SignalCell}
 use Rattle.journal_meaning.specs.Batch.{cell_at}
@@ -19,8 +20,8 @@ some≢none x e = cc
 pub holder-filter : (test : Claim → Bool) (claims : List Claim) (p : Point) → holder claims p ≡ None → holder (filter test claims) p ≡ None
 holder-filter test [] p h = refl
 holder-filter test (c ∷ claims) p h =
-    elim (same_point p c.point) as (λ b. same_point p c.point ≡ b → option_map (λ (c : Claim). c.q) (cond b (Some c) (find (λ c. same_point p c.point) claims)) ≡ None → holder (cond (test c) (c ∷ filter test claims) (filter test claims)) p ≡ None) [
-      | true ↦ λ e k. absurd (some≢none c.q k)
+    elim (same_point p c.point) as (λ b. same_point p c.point ≡ b → option_map (λ (c : Claim). c.query) (cond b (Some c) (find (λ c. same_point p c.point) claims)) ≡ None → holder (cond (test c) (c ∷ filter test claims) (filter test claims)) p ≡ None) [
+      | true ↦ λ e k. absurd (some≢none c.query k)
       | false ↦ λ e k. elim (test c) as (λ t. holder (cond t (c ∷ filter test claims) (filter test claims)) p ≡ None) [
         | true ↦ rw e (holder-filter test claims p k)
         | false ↦ holder-filter test claims p k
@@ -35,17 +36,17 @@ holder-without (c ∷ claims) p =
       | false ↦ λ e. rw e (holder-without claims p)
     ] refl
 
-pub holder-other : (claims : List Claim) (q : ℕ) (r p : Point) → r ≢ p → holder claims p ≡ None → holder (record { q = q; point = r } ∷ claims) p ≡ None
+pub holder-other : (claims : List Claim) (q : ℕ) (r p : Point) → r ≢ p → holder claims p ≡ None → holder (record { query = q; point = r } ∷ claims) p ≡ None
 holder-other claims q r p h k = rw (test-false same_point same_point-true same_point-itself p r (λ e. h (sym e))) k
 
 some-same : (a b : ℕ) → Some a ≡ Some b → a ≡ b
 some-same a b e = cc
 
-pub holder-each : (P : ℕ → Point → Type 0) (claims : List Claim) (p : Point) (q : ℕ) → Each (λ c. P c.q c.point) claims → holder claims p ≡ Some q → P q p
+pub holder-each : (P : ℕ → Point → Type 0) (claims : List Claim) (p : Point) (q : ℕ) → Each (λ c. P c.query c.point) claims → holder claims p ≡ Some q → P q p
 holder-each P [] p q h e = absurd (some≢none q (sym e))
 holder-each P (c ∷ claims) p q h e =
-    elim (same_point p c.point) as (λ b. same_point p c.point ≡ b → option_map (λ (c : Claim). c.q) (cond b (Some c) (find (λ c. same_point p c.point) claims)) ≡ Some q → P q p) [
-      | true ↦ λ k l. subst (λ z. P z p) (some-same c.q q l) (subst (λ z. P c.q z) (sym (same_point-true p c.point k)) h.0)
+    elim (same_point p c.point) as (λ b. same_point p c.point ≡ b → option_map (λ (c : Claim). c.query) (cond b (Some c) (find (λ c. same_point p c.point) claims)) ≡ Some q → P q p) [
+      | true ↦ λ k l. subst (λ z. P z p) (some-same c.query q l) (subst (λ z. P c.query z) (sym (same_point-true p c.point k)) h.0)
       | false ↦ λ k l. holder-each P claims p q h.1 l
     ] refl e
 

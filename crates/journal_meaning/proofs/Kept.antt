@@ -6,11 +6,13 @@ use Rattle.circuit_meaning.specs.Circuit.{Circuit, IsCircuit}
 use Rattle.valid_intervals.specs.declared.Cell.{Cell}
 use Rattle.journal_meaning.specs.declared.Entry.{Entry}
 use Rattle.journal_meaning.specs.declared.Entry.TheVariants.{Told, Claimed, Filled, Evicted, Dropped, Spent}
-use Rattle.journal_meaning.specs.Memo.{State, fresh, holder, Needs, after, IsLast}
+use Rattle.journal_meaning.specs.States.{State, fresh, holder, IsLast}
+use Rattle.journal_meaning.specs.Table.{Needs, after}
 use Rattle.valid_intervals.specs.Cells.{covers, cell_for, all_but_last}
 use Rattle.valid_intervals.specs.declared.SignalCell.{SignalCell}
 use Rattle.journal_meaning.specs.Batch.{Batch, cell_at}
-use Rattle.journal_meaning.specs.Replay.{replay, IsLegal, IsLegalTrim, Purpose, Asks, Trims, Holds, Section, IsLegalIn, own, list_of, left, AreLegal, joined}
+use Rattle.journal_meaning.specs.Replay.{replay, IsLegal, IsLegalTrim}
+use Rattle.journal_meaning.specs.Sections.{Purpose, Asks, Trims, Holds, Section, IsLegalIn, own, list_of, cells_left, AreLegal, joined}
 use Rattle.journal_meaning.specs.Laws.{OfCircuit}
 use Rattle.journal_meaning.proofs.Same.{same_stored-true, same_stored-itself}
 use Rattle.valid_intervals.specs.Cells.{same_stored}
@@ -39,7 +41,7 @@ module _ (p : Point) (x : Cell) (c : covers p (cell_for p x) ≡ true) where
     | inr e ↦ inl (ap₂ Evicted (sym l.2 ∙ sym (ap (λ y. y.signal) e)) (sym l.3 ∙ sym (ap (λ y. y.cell.span.start) e)))
   ]
 
-  stays : (capacity : ℕ) (s : State) → Stands (cell_for p x) s.cells → (e : Entry) → Needs capacity s e → Evicts p x e ⊎ Stands (cell_for p x) (after s e).cells
+  pub stays : (capacity : ℕ) (s : State) → Stands (cell_for p x) s.cells → (e : Entry) → Needs capacity s e → Evicts p x e ⊎ Stands (cell_for p x) (after s e).cells
   stays capacity s st (Told q r y) n = inr (stands-front same_stored same_stored-true same_stored-itself (cell_for p x) (cell_for r y) s.cells st)
   stays capacity s st (Claimed q r) n = inr st
   stays capacity s st (Filled q r y) n = inr (stands-front same_stored same_stored-true same_stored-itself (cell_for p x) (cell_for r y) s.cells st)
@@ -78,7 +80,7 @@ module _ (p : Point) (x : Cell) (c : covers p (cell_for p x) ≡ true) where
   walk_sections : (shard : ℕ) (sections : List Section) (cells : List SignalCell) → Stands (cell_for p x) cells → AreLegal shard cells sections → Kept p x (joined shard sections)
   walk_sections shard [] cells st l = tt
   walk_sections shard (section ∷ rest) cells st l =
-      walk_section shard (joined shard rest) section.purpose (list_of section shard) cells st l.0 (λ k. walk_sections shard rest (left shard cells section) k l.1)
+      walk_section shard (joined shard rest) section.purpose (list_of section shard) cells st l.0 (λ k. walk_sections shard rest (cells_left shard cells section) k l.1)
 
 -- up to a second evaluation the eviction is found
 module _ (p : Point) (x : Cell) where
@@ -135,8 +137,8 @@ module _ (c : Circuit) (ok : IsCircuit c) where
   finals_sections shard [] cells same l = tt
   finals_sections shard (section ∷ rest) cells same l =
       finals_section shard (joined shard rest) section.purpose (list_of section shard) cells same.0 l.0
-      (λ p x cov k. walk_sections p x cov shard rest (left shard cells section) k l.1)
-      (finals_sections shard rest (left shard cells section) same.1 l.1)
+      (λ p x cov k. walk_sections p x cov shard rest (cells_left shard cells section) k l.1)
+      (finals_sections shard rest (cells_left shard cells section) same.1 l.1)
 
   -- an entry of the list, with what follows it
   final_at : (q : ℕ) (p : Point) (x : Cell) (before behind : List Entry) → Finals c (before ++ Filled q p x ∷ behind) → (x ≡ cell_at c p) × Kept p x behind

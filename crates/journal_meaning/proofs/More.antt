@@ -5,7 +5,8 @@ use Rattle.std.proofs.lemmas.Bool.{cases_Bool, or_parts}
 use Rattle.valid_intervals.specs.declared.SignalCell.{SignalCell}
 use Rattle.journal_meaning.specs.declared.Entry.{Entry}
 use Rattle.journal_meaning.specs.declared.Entry.TheVariants.{Told, Claimed, Filled, Evicted, Dropped, Spent}
-use Rattle.journal_meaning.specs.Memo.{State, is_stored, Needs, after}
+use Rattle.journal_meaning.specs.States.{State, is_stored}
+use Rattle.journal_meaning.specs.Table.{Needs, after}
 use Rattle.valid_intervals.specs.Cells.{same_stored, cell_for}
 use Rattle.journal_meaning.specs.Batch.{Batch, IsAllowed}
 use Rattle.journal_meaning.specs.Replay.{replay, IsLegal}

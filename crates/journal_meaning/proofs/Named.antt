@@ -3,7 +3,8 @@ use Rattle.std.proofs.Common.{ℕ, not, List, [], ◌∷◌}
 use Rattle.valid_intervals.specs.declared.Point.{Point}
 use Rattle.journal_meaning.specs.declared.Entry.{Entry}
 use Rattle.journal_meaning.specs.declared.Entry.TheVariants.{Told, Claimed, Filled, Evicted, Dropped, Spent}
-use Rattle.journal_meaning.specs.Memo.{State, Needs, after}
+use Rattle.journal_meaning.specs.States.{State}
+use Rattle.journal_meaning.specs.Table.{Needs, after}
 use Rattle.valid_intervals.specs.Cells.{same_point}
 use Rattle.journal_meaning.specs.Batch.{Batch, IsNeededBy, OfQuery, IsAt, IsAllowed}
 use Rattle.journal_meaning.specs.Replay.{IsLegal}
@@ -29,7 +30,7 @@ module _ (b : Batch) where
     Named (Spent q p held) = Ours q p
 
     abbrev pub ClaimsOurs : State → Type 0
-    ClaimsOurs s = Each (λ c. Ours c.q c.point) s.claims
+    ClaimsOurs s = Each (λ c. Ours c.query c.point) s.claims
 
     pub names : (s : State) (e : Entry) → ClaimsOurs s → Needs b.capacity s e → IsAllowed b shard e → Named e
     names s (Told q p x) h n a = (a.0, a.1)
@@ -42,9 +43,9 @@ module _ (b : Batch) where
     pub still_ours : (s : State) (e : Entry) → ClaimsOurs s → IsAllowed b shard e → ClaimsOurs (after s e)
     still_ours s (Told q p x) h a = h
     still_ours s (Claimed q p) h a = ((a.0, a.1), h)
-    still_ours s (Filled q p x) h a = each-filter (λ c. Ours c.q c.point) (λ c. not (same_point p c.point)) s.claims h
+    still_ours s (Filled q p x) h a = each-filter (λ c. Ours c.query c.point) (λ c. not (same_point p c.point)) s.claims h
     still_ours s (Evicted signal start) h a = h
-    still_ours s (Dropped q p) h a = each-filter (λ c. Ours c.q c.point) (λ c. not (same_point p c.point)) s.claims h
+    still_ours s (Dropped q p) h a = each-filter (λ c. Ours c.query c.point) (λ c. not (same_point p c.point)) s.claims h
     still_ours s (Spent q p held) h a = h
 
     pub all_named : (es : List Entry) (s : State) → ClaimsOurs s → IsLegal b shard s es → Each Named es

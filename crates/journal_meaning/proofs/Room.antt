@@ -8,7 +8,8 @@ use Rattle.circuit_meaning.specs.Circuit.{IsCircuit}
 use Rattle.valid_intervals.specs.declared.Cell.{Cell}
 use Rattle.journal_meaning.specs.declared.Entry.{Entry}
 use Rattle.journal_meaning.specs.declared.Entry.TheVariants.{Told, Claimed, Filled, Evicted, Dropped, Spent}
-use Rattle.journal_meaning.specs.Memo.{State, fresh, holder, Needs, after, IsLast, is_stored}
+use Rattle.journal_meaning.specs.States.{State, fresh, holder, IsLast, is_stored}
+use Rattle.journal_meaning.specs.Table.{Needs, after}
 use Rattle.valid_intervals.specs.Cells.{same_stored, covers, cell_for, to_front, all_but_last}
 use Rattle.valid_intervals.specs.declared.SignalCell.{SignalCell}
 use Rattle.journal_meaning.specs.Batch.{Batch, IsAllowed, cell_at}

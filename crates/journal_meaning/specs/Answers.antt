@@ -1,4 +1,4 @@
--- When a query is closed, when its budget is spent, and what is replied.
+-- When a query is closed, when its budget is spent, and what it is answered.
 use Rattle.std.specs.Prelude.{◌≡◌, ℕ, ◌+◌, ◌≤◌, Bool, ◌&&◌, true, false, nat_eq, List, [], ◌∷◌, length, filter, Contains, All, AllPairs, ◌≢◌, ◌⊎◌, Option, Some, None, if◌then◌else◌}
 use Rattle.std.specs.Option.{option_or}
 use Rattle.valid_intervals.specs.declared.Point.{Point}
@@ -6,7 +6,6 @@ use Rattle.circuit_meaning.specs.Circuit.{Circuit}
 use Rattle.circuit_meaning.specs.Forward.{wave}
 use Rattle.circuit_meaning.specs.declared.Run.{Run}
 use Rattle.circuit_meaning.specs.Need.{IsRoot, IsEvaluable, children}
-use Rattle.circuit_meaning.specs.Held.{held}
 use Rattle.journal_meaning.specs.declared.Query.{Query}
 use Rattle.journal_meaning.specs.declared.Entry.{Entry}
 use Rattle.journal_meaning.specs.declared.Entry.TheVariants.{Told, Claimed, Filled, Evicted, Dropped, Spent}
@@ -52,7 +51,7 @@ is_fill_of number e = false
 abbrev pub filled : List Entry → ℕ → ℕ
 filled es q = length (filter (is_fill_of q) es)
 
--- What the query evaluated, with what it gave up when it was refused one point more, comes to its budget.
+-- Why a query is refused: it was refused a point, and the points that it evaluated and those that it gave up then come to its budget.
 pub record IsSpent (es : List Entry) (q : Query) : Type 0 where
   pub point : Point
   pub held : ℕ
@@ -63,26 +62,7 @@ pub record IsSpent (es : List Entry) (q : Query) : Type 0 where
   pub enough : held ≤ length given_up
   pub budget : q.budget ≤ filled es q.number + held
 
--- a query of a signal is answered by its wave or by its budget; every other item is refused
-pub data Reply : Type 0 where
-  Wave : List Run → Reply
-  Unknown : Reply
-  Past : Reply
-  Budget : ℕ → Reply
-  BadLine : Reply
-
--- what becomes of an item
-pub data Verdict : Type 0 where
-  Ask : Query → Verdict
-  NoSignal : Verdict
-  TooLate : Verdict
-  NoForm : Verdict
-
--- the reply to an item, over the entries of its batch
-abbrev pub IsReply : Circuit → List Entry → Verdict → Reply → Type 0
-IsReply c es (Ask q) (Wave changes) = (changes ≡ wave c q.signal q.from q.to) × IsClosed c es q
-IsReply c es (Ask q) (Budget b) = (b ≡ q.budget) × IsSpent es q
-IsReply c es NoSignal Unknown = Unit {0}
-IsReply c es TooLate Past = Unit {0}
-IsReply c es NoForm BadLine = Unit {0}
-IsReply c es verdict reply = ⊥
+-- what a query is answered, over the entries of its batch: its wave, or nothing since its budget was spent
+abbrev pub IsAnswer : Circuit → List Entry → Query → Option (List Run) → Type 0
+IsAnswer c es q (Some runs) = (runs ≡ wave c q.signal q.from q.to) × IsClosed c es q
+IsAnswer c es q None = IsSpent es q

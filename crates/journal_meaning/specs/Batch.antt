@@ -9,6 +9,7 @@ use Rattle.circuit_meaning.specs.Cells.{span}
 use Rattle.circuit_meaning.specs.Need.{IsNeeded}
 use Rattle.circuit_meaning.specs.Held.{held, IsFree}
 use Rattle.valid_intervals.specs.declared.Cell.{Cell}
+use Rattle.valid_intervals.specs.declared.SignalCell.{SignalCell}
 use Rattle.journal_meaning.specs.declared.Query.{Query}
 use Rattle.journal_meaning.specs.declared.Entry.{Entry}
 use Rattle.journal_meaning.specs.declared.Entry.TheVariants.{Told, Claimed, Filled, Evicted, Dropped, Spent}
@@ -18,7 +19,8 @@ pub record Site : Type 0 where
   pub signal : ℕ
   pub value : Value
 
--- the queries that the shards of a memo of this circuit are asked together; with a site, for the circuit in which it is held
+-- The queries that the shards of a memo of this circuit are asked together, each shard with room for as many cells as the capacity.
+-- With a site they are queries of the circuit in which it is held.
 pub record Batch : Type 0 where
   pub circuit : Circuit
   pub shards : ℕ
@@ -48,6 +50,12 @@ IsAt b shard p = (p.signal % b.shards ≡ shard) × (p.time ≤ b.circuit.horizo
 -- the cell of a point
 abbrev pub cell_at : Circuit → Point → Cell
 cell_at c p = record { span = span c p.signal p.time; value = value c p.signal p.time }
+
+-- A stored cell is right if it is the cell of its signal at some time.
+pub record IsRight (c : Circuit) (x : SignalCell) : Type 0 where
+  pub time : ℕ
+  pub within : time ≤ c.horizon
+  pub cell : x.cell ≡ cell_at c (record { signal = x.signal; time = time })
 
 -- what an entry of the shard may name
 abbrev pub IsAllowed : Batch → ℕ → Entry → Type 0

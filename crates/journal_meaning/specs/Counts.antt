@@ -1,11 +1,11 @@
--- How often points are evaluated.
-use Rattle.std.specs.Prelude.{ℕ, ◌+◌, not, if◌then◌else◌, List, [], ◌∷◌, length, filter, filter_map, flat_map, Option, Some, None}
+-- How often points are evaluated, and cells evicted.
+use Rattle.std.specs.Prelude.{ℕ, ◌+◌, nat_eq, Bool, false, not, ◌&&◌, if◌then◌else◌, List, [], ◌∷◌, length, filter, filter_map, flat_map, Option, Some, None}
 use Rattle.std.specs.List.{list_any, range_with_len}
 use Rattle.valid_intervals.specs.declared.Point.{Point}
 use Rattle.journal_meaning.specs.declared.Entry.{Entry}
-use Rattle.journal_meaning.specs.declared.Entry.TheVariants.{Filled}
+use Rattle.journal_meaning.specs.declared.Entry.TheVariants.{Filled, Evicted}
 use Rattle.valid_intervals.specs.Cells.{same_point}
-use Rattle.journal_meaning.specs.Replay.{Section, joined}
+use Rattle.journal_meaning.specs.Sections.{Section, joined}
 
 abbrev pub evaluated : Entry → Option Point
 evaluated (Filled q p x) = Some p
@@ -37,3 +37,19 @@ distinct es = length (different (points_of es))
 
 abbrev pub again : List Entry → ℕ
 again es = repeated [] (points_of es)
+
+-- how often the entries fill the point
+abbrev pub is_fill_at : Point → Entry → Bool
+is_fill_at p (Filled q r x) = same_point p r
+is_fill_at p e = false
+
+abbrev pub fills_at : List Entry → Point → ℕ
+fills_at es p = length (filter (is_fill_at p) es)
+
+-- how often they evict the cell with this signal and start
+abbrev pub is_eviction_of : ℕ → ℕ → Entry → Bool
+is_eviction_of signal start (Evicted s t) = nat_eq signal s && nat_eq start t
+is_eviction_of signal start e = false
+
+abbrev pub evictions_of : List Entry → ℕ → ℕ → ℕ
+evictions_of es signal start = length (filter (is_eviction_of signal start) es)

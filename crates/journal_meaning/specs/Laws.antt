@@ -1,5 +1,5 @@
 -- Laws of the journal.
-use Rattle.std.specs.Prelude.{◌≡◌, ℕ, ◌+◌, ◌≤◌, ◌<◌, List, [], ◌∷◌, ◌++◌, length, All, AllPairs, Contains, ◌≢◌, ◌⊎◌, flat_map, get_or}
+use Rattle.std.specs.Prelude.{◌≡◌, ℕ, ◌+◌, ◌≤◌, ◌<◌, List, [], ◌∷◌, ◌++◌, length, All, AllPairs, Contains, ◌≢◌, ◌⊎◌, flat_map, get_or, Option, Some}
 use Rattle.valid_intervals.specs.declared.Point.{Point}
 use Rattle.circuit_meaning.specs.Circuit.{Circuit, IsCircuit}
 use Rattle.valid_intervals.specs.declared.Cell.{Cell}
@@ -9,9 +9,13 @@ use Rattle.journal_meaning.specs.declared.Entry.TheVariants.{Filled, Evicted}
 use Rattle.valid_intervals.specs.Cells.{cell_for}
 use Rattle.valid_intervals.specs.declared.SignalCell.{SignalCell}
 use Rattle.journal_meaning.specs.Batch.{Batch, IsNeededBy, cell_at, IsAt}
-use Rattle.journal_meaning.specs.Replay.{Section, AreLegal, joined, IsLegalBatch, Asks}
-use Rattle.journal_meaning.specs.Counts.{evaluations, distinct, again}
-use Rattle.journal_meaning.specs.Answers.{IsSpent}
+use Rattle.journal_meaning.specs.Replay.{IsLegal, IsLegalBatch}
+use Rattle.journal_meaning.specs.Sections.{Section, AreLegal, joined, Asks}
+use Rattle.journal_meaning.specs.Counts.{evaluations, distinct, again, fills_at, evictions_of}
+use Rattle.journal_meaning.specs.Answers.{IsSpent, IsAnswer}
+use Rattle.journal_meaning.specs.States.{fresh}
+use Rattle.circuit_meaning.specs.Forward.{wave}
+use Rattle.circuit_meaning.specs.declared.Run.{Run}
 
 -- every evaluation is of a point for the first time, or again
 abbrev pub CountsAdd : Type 0
@@ -27,6 +31,11 @@ AgainAfterEviction = (c : Circuit) → IsCircuit c → (shard : ℕ) (sections :
     → (q r : ℕ) (p : Point) (x y : Cell) (before between behind : List Entry)
     → joined shard sections ≡ before ++ Filled q p x ∷ between ++ Filled r p y ∷ behind
     → Contains between (Evicted p.signal y.span.start)
+
+-- in a shard of a batch a point is evaluated at most once more than its cell is evicted
+abbrev pub OneFillPerEviction : Type 0
+OneFillPerEviction = (b : Batch) → IsCircuit b.circuit → (shard : ℕ) (cells : List SignalCell) (es : List Entry) → IsLegal b shard (fresh cells) es
+    → (p : Point) → fills_at es p ≤ evictions_of es p.signal (cell_at b.circuit p).span.start + 1
 
 -- no entry evicts
 abbrev pub NoEviction : List Entry → Type 0
@@ -46,11 +55,34 @@ HasRoom b shard = (points : List Point) → All (IsWanted b shard) points
 abbrev pub of_batch : List (List Entry) → List Entry
 of_batch lists = flat_map (λ es. es) lists
 
--- A query whose budget was spent needs more points than that: where nothing was evicted, or where the needed cells fit.
+-- the journals of a batch, one for each shard, are legal from the cells that the shards held before
+pub record IsLegalFrom (b : Batch) (opening : ℕ → List SignalCell) (lists : List (List Entry)) : Type 0 where
+  pub count : length lists ≡ b.shards
+  pub legal : (shard : ℕ) → shard < b.shards → IsLegalBatch b shard (opening shard) (get_or lists shard [])
+
+-- nothing was evicted, or the cells that the batch needs fit each shard
+abbrev pub IsRoomy : Batch → List (List Entry) → Type 0
+IsRoomy b lists = NoEviction (of_batch lists) ⊎ ((shard : ℕ) → shard < b.shards → HasRoom b shard)
+
+-- the query is one of the batch, and no other has its number
+pub record IsOwnQuery (b : Batch) (q : Query) : Type 0 where
+  pub known : Contains b.queries q
+  pub single : (r : Query) → Contains b.queries r → r.number ≡ q.number → r ≡ q
+
+-- the query needs more points than this, or at most as many
+abbrev pub NeedsMoreThan : Batch → Query → ℕ → Type 0
+NeedsMoreThan b q n = (points : List Point) × (n + 1 ≤ length points) × AllPairs (λ p r. p ≢ r) points × All (IsNeededBy b q) points
+
+abbrev pub NeedsAtMost : Batch → Query → ℕ → Type 0
+NeedsAtMost b q n = (points : List Point) → AllPairs (λ p r. p ≢ r) points → All (IsNeededBy b q) points → length points ≤ n
+
+-- a query whose budget was spent needs more points than that, whatever the shards held before
 abbrev pub SpentNeedsMore : Type 0
-SpentNeedsMore = (b : Batch) → IsCircuit b.circuit → (opening : ℕ → List SignalCell) (lists : List (List Entry))
-    → ((shard : ℕ) → shard < length lists → IsLegalBatch b shard (opening shard) (get_or lists shard []))
-    → length lists ≡ b.shards
-    → NoEviction (of_batch lists) ⊎ ((shard : ℕ) → shard < b.shards → HasRoom b shard)
-    → (q : Query) → Contains b.queries q → ((r : Query) → Contains b.queries r → r.number ≡ q.number → r ≡ q) → IsSpent (of_batch lists) q
-    → (points : List Point) × (q.budget + 1 ≤ length points) × AllPairs (λ p r. p ≢ r) points × All (IsNeededBy b q) points
+SpentNeedsMore = (b : Batch) → IsCircuit b.circuit → (opening : ℕ → List SignalCell) (lists : List (List Entry)) → IsLegalFrom b opening lists → IsRoomy b lists
+    → (q : Query) → IsOwnQuery b q → IsSpent (of_batch lists) q → NeedsMoreThan b q q.budget
+
+-- so a query whose budget is as great as its need is answered by its wave
+abbrev pub EnoughBudget : Type 0
+EnoughBudget = (b : Batch) → IsCircuit b.circuit → (opening : ℕ → List SignalCell) (lists : List (List Entry)) → IsLegalFrom b opening lists → IsRoomy b lists
+    → (q : Query) → IsOwnQuery b q → NeedsAtMost b q q.budget
+    → (answer : Option (List Run)) → IsAnswer b.circuit (of_batch lists) q answer → answer ≡ Some (wave b.circuit q.signal q.from q.to)

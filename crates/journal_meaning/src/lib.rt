@@ -1,14 +1,30 @@
-// What the journal of a memo means.
-// The functions carry the laws of these definitions, and do nothing.
+//! What the journal of a memo means: which journals are legal, to which state they lead, and when a query is closed.
+//!
+//! A memo keeps cells of signals in shards. Each shard writes down what it does, one [`Entry`] a step: it tells a
+//! stored cell, a point is claimed for a query, filled or dropped, a cell is evicted, a query is refused a point. The entries of
+//! a batch of queries are its journal.
+//!
+//! - [`Query`] and [`Entry`] are the plain values that every crate above passes on; the definitions in `specs/` use them as
+//!   their records, together with the points and cells of `valid_intervals`.
+//! - `specs/States` is the state of a shard, and `specs/Table` the table of legal entries in two columns: what an entry needs,
+//!   and what it changes. `specs/Batch` says what an entry may name: points that a query of the batch needs, and right cells.
+//! - `specs/Replay` is the fold of the table over a journal, and says which journals of a batch and of a trim are legal;
+//!   `specs/Sections` puts them one after another into the journal of a session.
+//! - `specs/Counts` counts evaluations, those of different points, and those that come again. `specs/Answers` says when a query
+//!   is closed, why one is refused for its budget, and what a query is answered.
+//! - `specs/Laws` holds what follows for every legal journal. The functions below carry these laws as their contracts, and do
+//!   nothing.
+//!
+//! What a shard's type needs to keep these facts as it records one entry more are lemmas of `proofs/More`.
 #![tactic(auto)]
 
-ghost use Rattle.journal_meaning.specs.Laws.{CountsAdd, AgainAfterEviction, SpentNeedsMore};
-ghost use Rattle.journal_meaning.specs.SessionLaws.{SessionAgain, SessionSpent, EnoughBudget};
+ghost use Rattle.journal_meaning.specs.Laws.{CountsAdd, AgainAfterEviction, OneFillPerEviction, SpentNeedsMore, EnoughBudget};
 
 use valid_intervals::{Cell, Point};
 
-/// A window of a signal that a script line asks for, and how many points it may evaluate.
-#[derive(Clone, Copy, PartialEq, Eq)]
+/// A window of a signal that a script line asks for: the times from `from` on and below `to`. The number is that of the line;
+/// at most `budget` points are evaluated for it.
+#[derive(Clone, Copy, Debug, PartialEq, Eq)]
 pub struct Query {
     pub number: u32,
     pub signal: u32,
@@ -17,35 +33,44 @@ pub struct Query {
     pub budget: u32,
 }
 
-/// What a shard of the memo did.
-#[derive(Clone, Copy, PartialEq, Eq)]
+/// What a shard of the memo did. `q` is the number of the query for which it did so, and `p` the point.
+#[derive(Clone, Copy, Debug, PartialEq, Eq)]
 pub enum Entry {
+    /// A stored cell covers the point, and is now the most recent.
     Told { q: u32, p: Point, cell: Cell },
+    /// The query is evaluating the point.
     Claimed { q: u32, p: Point },
+    /// The point is evaluated, and its cell is now the most recent.
     Filled { q: u32, p: Point, cell: Cell },
+    /// The least recent cell made place for the next one; in a trim it only went.
     Evicted { signal: u32, start: u32 },
+    /// The claim ends without an evaluation.
     Dropped { q: u32, p: Point },
+    /// The query was refused the point, with `held` claims of its own, since its budget is spent.
     Spent { q: u32, p: Point, held: u32 },
 }
 
-/// Every evaluation is of a point for the first time, or again.
+/// The evaluations are those of different points and those that come again.
 pub fn counts_add()
     ensures { CountsAdd }
 {}
 
-/// Between two evaluations of a point its cell was evicted.
+/// Between two evaluations of a point, in one section or in several, its cell was evicted.
 pub fn again_after_eviction()
     ensures { AgainAfterEviction }
 {}
 
-/// A query whose budget was spent needs more points than that.
+/// A point is evaluated at most once more than its cell is evicted.
+pub fn one_fill_per_eviction()
+    ensures { OneFillPerEviction }
+{}
+
+/// A query that was refused needs more points than its budget has, where nothing was evicted or the needed cells fit.
 pub fn spent_needs_more()
     ensures { SpentNeedsMore }
 {}
 
-/// The laws hold of a session.
-pub fn sessions_are_legal()
-    ensures again { SessionAgain }
-    ensures spent { SessionSpent }
-    ensures enough { EnoughBudget }
+/// There a query whose budget is as great as its need is answered by its wave.
+pub fn enough_budget()
+    ensures { EnoughBudget }
 {}

@@ -1,10 +1,5 @@
 -- Worked examples: journals that are legal.
 use Rattle.std.proofs.Common.{◌≡◌, ℕ, refl, arith, [], ◌∷◌, List, Some, None}
-use Rattle.std.proofs.Common.{subst, get_or}
-use Rattle.journal_meaning.specs.Answers.{Ask, Budget}
-use Rattle.journal_meaning.specs.Replay.{Asks}
-use Rattle.journal_meaning.specs.Session.{Item, Items, Setup, Session, Opened, Served, section}
-use Rattle.journal_meaning.specs.SessionLaws.{Proves}
 use Rattle.gate_values.specs.declared.Value.{Value}
 use Rattle.gate_values.specs.declared.Value.TheVariants.{Zero, One, X}
 use Rattle.gate_values.specs.declared.Kind.TheVariants.{And, Not, Buff}
@@ -22,7 +17,7 @@ use Rattle.valid_intervals.specs.declared.Cell.{Cell}
 use Rattle.journal_meaning.specs.declared.Query.{Query}
 use Rattle.journal_meaning.specs.declared.Entry.{Entry}
 use Rattle.journal_meaning.specs.declared.Entry.TheVariants.{Told, Claimed, Filled, Evicted, Dropped, Spent}
-use Rattle.journal_meaning.specs.Memo.{fresh}
+use Rattle.journal_meaning.specs.States.{fresh}
 use Rattle.journal_meaning.specs.Batch.{Batch, window_of, OfQuery, IsNeededBy}
 use Rattle.std.proofs.Common.{true≢false, ap, nat_eq}
 use Rattle.std.proofs.lemmas.List.Elements.{All-from_recursion}
@@ -333,36 +328,3 @@ held-is-legal = record {
   );
   ended = record { claims = refl; made = refl };
 }
-
--- the session of the refused query, whole
-abbrev small : Setup
-small = record {
-  circuit = chain;
-  shards = 1;
-  capacity = 16384;
-  names = [];
-  trimmed = λ k. [];
-  counted = λ a b c d. [];
-  dumped = λ a b. [];
-  taken = λ a. [];
-  none = [];
-  full = [];
-  wires = λ a. [];
-}
-
-abbrev refused_item : Item
-refused_item = record { verdict = Ask query; text = λ r. 98 ∷ 10 ∷ [] }
-
-refused-session : Session Proves small (Items (refused_item ∷ []) ∷ []) (record {
-  sections = section (Asks batch) (refused ∷ []) ∷ [];
-  out = 98 ∷ 10 ∷ [];
-  last = Some ((refused_item, Budget 2) ∷ []);
-  files = [];
-})
-refused-session = Served (Items (refused_item ∷ [])) Opened (record {
-  lists = refused ∷ [];
-  replies = Budget 2 ∷ [];
-  legal = record { count = refl; legal = λ shard h. subst (λ k. IsLegalBatch batch k [] (get_or (refused ∷ []) k [])) (omega (arith, h)) refused-legal };
-  right = ((refl, refused-spent), tt);
-  leads = refl;
-})
