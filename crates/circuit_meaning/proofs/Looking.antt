@@ -14,14 +14,8 @@ use Rattle.circuit_meaning.specs.Circuit.{Circuit, Driver, Input, Gate, Flop, dr
 use Rattle.circuit_meaning.specs.Forward.{value, value_from, flop_value, seen}
 use Rattle.circuit_meaning.specs.Cells.{looked}
 use Rattle.circuit_meaning.specs.Need.{HasSources, IsEvaluable, children, sources, flop_source}
-use Rattle.circuit_meaning.specs.Looks.{kind_of, source, flop_sources, sources_at, pin_sources, sees, looked_sources}
+use Rattle.circuit_meaning.specs.Looks.{somes, kind_of, source, flop_sources, sources_at, pin_sources, sees, looked_sources}
 use Rattle.circuit_meaning.proofs.Equations.{value_is, map_same}
-
--- those that there are
-abbrev pub somes : {A : Type 0} → List (Option A) → List A
-somes [] = []
-somes (None ∷ xs) = somes xs
-somes (Some a ∷ xs) = a ∷ somes xs
 
 all_of : {A : Type 0} (P : A → Type 0) → ((a : A) → P a) → (xs : List A) → AllByRecursion P xs
 all_of P h [] = tt

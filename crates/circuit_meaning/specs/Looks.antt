@@ -38,6 +38,12 @@ sources_at t (Flop f) = flop_sources f.pin (shown_edge f.clock f.delay t)
 abbrev pub pin_sources : Circuit → ℕ → ℕ → List (Option Point)
 pin_sources c s t = sources_at t (driver c s)
 
+-- those that there are
+abbrev pub somes : {A : Type 0} → List (Option A) → List A
+somes [] = []
+somes (None ∷ xs) = somes xs
+somes (Some a ∷ xs) = a ∷ somes xs
+
 -- the value that is seen there; before time 0 it is x
 abbrev pub sees : Circuit → Option Point → Value
 sees c None = X

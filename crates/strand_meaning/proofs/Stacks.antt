@@ -8,7 +8,9 @@ use Rattle.circuit_meaning.specs.declared.Window.{Window}
 use Rattle.circuit_meaning.specs.Need.{children, IsEvaluable, HasSources, IsNeeded, Root, Child}
 use Rattle.circuit_meaning.proofs.Points.{children-earlier}
 use Rattle.journal_meaning.specs.Batch.{Batch, window_of}
-use Rattle.strand_meaning.specs.Strands.{Frame, Strand, has_sources, is_evaluable, sources_of, Next, Ask, Fill, Drop, Done, ask_or, next_in, next, rest, roots_heard, stack_heard, heard, claimed, dropped, finished, IsHeld, left_in, IsFirst, IsSource, IsChain, IsRootPoint, IsStrand}
+use Rattle.strand_meaning.specs.declared.Next.TheVariants.{Ask, Fill, Drop, Done}
+use Rattle.strand_meaning.specs.declared.Next.{Next}
+use Rattle.strand_meaning.specs.Strands.{Frame, Strand, has_sources, is_evaluable, sources_of, ask_or, next_in, next, rest, roots_heard, stack_heard, heard, claimed, dropped, finished, IsHeld, left_in, IsFirst, IsSource, IsChain, IsRootPoint, IsStrand}
 
 pub rest_all : {A : Type 0} (P : A → Type 0) (xs : List A) → AllByRecursion P xs → AllByRecursion P (rest xs)
 rest_all P [] h = tt

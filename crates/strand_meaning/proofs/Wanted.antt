@@ -12,7 +12,8 @@ use Rattle.circuit_meaning.proofs.Roots.{needed-alone}
 use Rattle.journal_meaning.specs.declared.Query.{Query}
 use Rattle.journal_meaning.specs.Batch.{Batch, Site, IsNeededBy, NeedOf, OfQuery, window_of}
 use Rattle.strand_meaning.specs.Batches.{IsLawful, IsQueryOf, start_of}
-use Rattle.strand_meaning.specs.Strands.{Strand, IsStrand, next, Ask, IsHeld}
+use Rattle.strand_meaning.specs.declared.Next.TheVariants.{Ask}
+use Rattle.strand_meaning.specs.Strands.{Strand, IsStrand, next, IsHeld}
 use Rattle.strand_meaning.specs.Laws.{IsWanted, AsksWhatIsNeeded}
 use Rattle.strand_meaning.proofs.Stacks.{IsAskable, first-askable, held-askable, asks-first, earlier}
 

@@ -4,7 +4,8 @@ use Rattle.valid_intervals.specs.declared.Point.{Point}
 use Rattle.circuit_meaning.specs.Need.{IsEvaluable}
 use Rattle.journal_meaning.specs.Batch.{Batch, IsNeededBy, OfQuery}
 use Rattle.strand_meaning.specs.Batches.{IsLawful}
-use Rattle.strand_meaning.specs.Strands.{Strand, IsStrand, next, Ask, Fill, Drop, heard, claimed, given_up, dropped, finished, IsHeld}
+use Rattle.strand_meaning.specs.declared.Next.TheVariants.{Ask, Fill, Drop}
+use Rattle.strand_meaning.specs.Strands.{Strand, IsStrand, next, heard, claimed, given_up, dropped, finished, IsHeld}
 
 -- the point is needed by a query of the batch with the strand's number, and has no answer at once
 pub record IsWanted (b : Batch) (s : Strand) (p : Point) : Type 0 where

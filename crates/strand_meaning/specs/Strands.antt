@@ -9,6 +9,8 @@ use Rattle.circuit_meaning.specs.declared.Window.{Window}
 use Rattle.circuit_meaning.specs.Need.{children, IsEvaluable, IsRoot}
 use Rattle.journal_meaning.specs.declared.Query.{Query}
 use Rattle.journal_meaning.specs.Batch.{Batch, window_of}
+use Rattle.strand_meaning.specs.declared.Next.{Next}
+use Rattle.strand_meaning.specs.declared.Next.TheVariants.{Ask, Fill, Drop, Done}
 use Rattle.strand_meaning.specs.Batches.{IsQueryOf}
 
 -- a claimed point, and those of its children that are still to be heard
@@ -74,12 +76,6 @@ pub record IsStart (b : Batch) (a : Start) : Type 0 where
   pub stop : a.stop ≤ a.query.to
   pub charge : a.charged ≤ a.budget
   pub budget : a.budget ≤ a.query.budget
-
-pub data Next : Type 0 where
-  Ask : Point → Next
-  Fill : Point → Next
-  Drop : Point → Next
-  Done : Next
 
 -- what is left to be heard is asked for, and then comes the end
 abbrev pub ask_or : Next → List Point → Next

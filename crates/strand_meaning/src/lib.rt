@@ -7,6 +7,21 @@
 
 ghost use Rattle.strand_meaning.specs.Laws.{StrandsAskWhatIsNeeded, WaitsAreEarlier, StrandsStay};
 
+use valid_intervals::Point;
+
+/// The next step of a strand.
+#[derive(Clone, Copy, Debug, PartialEq, Eq)]
+pub enum Next {
+    /// It asks for a point.
+    Ask(Point),
+    /// The claimed point on top of its stack has heard all its children, and is filled.
+    Fill(Point),
+    /// Its budget is spent, and the claimed point on top of its stack is dropped.
+    Drop(Point),
+    /// It has ended.
+    Done,
+}
+
 /// Every point that a strand asks for or holds is needed by a query of its batch that has its number.
 pub fn strands_ask_what_is_needed()
     ensures { StrandsAskWhatIsNeeded }
