@@ -12,12 +12,14 @@ use Rattle.circuit_meaning.specs.Forward.{value, value_from, seen, flop_value}
 use Rattle.flip_flops.specs.Edges.{shown_edge}
 use Rattle.circuit_meaning.specs.Cells.{span, span_from, gate_span, pin_span, looked, least_delay}
 use Rattle.valid_intervals.specs.Spans.{moved}
+use Rattle.circuit_meaning.specs.Base.{base_from, base_answer}
 use Rattle.circuit_meaning.specs.Need.{children, sources, IsInCone, Itself, Reads}
 use Rattle.valid_intervals.specs.declared.Point.{Point}
 use Rattle.circuit_meaning.specs.Laws.{Pins, look}
 use Rattle.circuit_meaning.specs.Held.{IsAlike, IsFree, held}
 use Rattle.circuit_meaning.proofs.Table.{at_all_times}
-use Rattle.circuit_meaning.proofs.Equations.{value_is, span_is, driver_fits, map_same, all_imply, all_cut, shown_edge-le}
+use Rattle.circuit_meaning.proofs.Equations.{value_is, span_is, driver_fits, map_same, all_imply, all_cut}
+use Rattle.flip_flops.proofs.EdgeLemmas.{shown_edge-le}
 use Rattle.circuit_meaning.proofs.Steady.{seen-early, seen-late, pin_span-early, pin_span-late, both}
 
 -- the signals of a gate's pins
@@ -72,11 +74,15 @@ module _ (c d : Circuit) (c_ok : IsCircuit c) (d_ok : IsCircuit d) (same_horizon
       let k = driver-alike c d same_horizon P t before (driver c s) (length c.drivers) c.horizon (driver_fits c c_ok s) (closed s h) in
       (value_is d d_ok s t ∙ rw (same s h) (k.value ∙ sym (value_is c c_ok s t)), span_is d d_ok s t ∙ rw (same s h) (k.span ∙ sym (span_is c c_ok s t))))
 
+  base-alike : (s t : ℕ) → driver d s ≡ driver c s → base_answer d s t ≡ base_answer c s t
+  unfolding base_answer
+  base-alike s t e = ap (λ h. base_from (h + 1) t (driver d s)) same_horizon ∙ ap (base_from (c.horizon + 1) t) e
+
   pub alike : (s t : ℕ) → P s → IsAlike c d s t
   unfolding children
   alike s t h =
       let k = driver-alike c d same_horizon P t (λ w _ x p. values-alike w x p) (driver c s) (length c.drivers) c.horizon (driver_fits c c_ok s) (closed s h) in
-      record { value = (values-alike t s h).0; span = (values-alike t s h).1; look = rw (same s h) k.look; driver = same s h; children = rw (same s h) k.sources }
+      record { value = (values-alike t s h).0; span = (values-alike t s h).1; look = rw (same s h) k.look; driver = same s h; base = base-alike s t (same s h); children = rw (same s h) k.sources }
 
 -- the signals that are free of s are closed under what they read
 pub cone-step : (c : Circuit) (x p s : ℕ) → Contains (read_by (driver c x)) p → IsInCone c p s → IsInCone c x s

@@ -14,8 +14,9 @@ use Rattle.flip_flops.specs.Edges.{flop_span}
 use Rattle.valid_intervals.specs.Spans.{Span, IsIn, from_to}
 use Rattle.circuit_meaning.specs.Laws.{IsCovered}
 use Rattle.circuit_meaning.proofs.Table.{at_all_times}
-use Rattle.circuit_meaning.proofs.Equations.{span_is, driver_fits, all_imply, all_cut, last_edge-le}
-use Rattle.circuit_meaning.proofs.Inputs.{start-le, next-le, next-above, edge-none, edge-next}
+use Rattle.circuit_meaning.proofs.Equations.{span_is, driver_fits, all_imply, all_cut}
+use Rattle.flip_flops.proofs.EdgeLemmas.{last_edge-le, edge-none, edge-next}
+use Rattle.circuit_meaning.proofs.Inputs.{start-le, next-le, next-above}
 use Rattle.circuit_meaning.proofs.Steady.{in_meet, meet-stop, map_all, pin_span-early, pin_span-late, gate_span-early, gate_span-late}
 
 record Covers (limit t : ℕ) (x : Span) : Type 0 where

@@ -1,5 +1,5 @@
 -- Each value and each interval is what the driver gives from the earlier ones.
-use Rattle.std.proofs.Common.{◌≡◌, ℕ, ◌+◌, ◌-◌, ◌*◌, ◌/◌, ◌<◌, ◌≤◌, Bool, true, false, if◌then◌else◌, cond, nat_lt, List, [], ◌∷◌, length, get_or, map, Option, Some, None, refl, ap, ◌∙◌, arith, ltb-false, div-mul-le_self, ◌⊎◌, inl, inr}
+use Rattle.std.proofs.Common.{◌≡◌, ℕ, ◌+◌, ◌-◌, ◌<◌, ◌≤◌, Bool, true, false, if◌then◌else◌, cond, nat_lt, List, [], ◌∷◌, length, get_or, map, Option, Some, None, refl, ap, ◌∙◌, arith, ltb-false, ◌⊎◌, inl, inr}
 use Rattle.std.specs.List.{AllByRecursion}
 use Rattle.std.proofs.lemmas.List.Elements.{recursion_from_All, All-nil}
 use Rattle.std.proofs.Math.ListN.{get_or-map, get_or-eq_default}
@@ -8,9 +8,9 @@ use Rattle.gate_values.specs.declared.Value.TheVariants.{X}
 use Rattle.gate_values.specs.declared.Kind.TheVariants.{Dff}
 use Rattle.gate_values.specs.Gates.{gate_value, decides, up_to_first}
 use Rattle.circuit_meaning.specs.Circuit.{Pin, FlipFlop, Driver, Input, Gate, Flop, Circuit, driver, IsCircuit, IsDriver}
-use Rattle.flip_flops.specs.declared.Clock.{Clock}
 use Rattle.circuit_meaning.specs.Forward.{rows_below, row_at, last_setting, seen, flop_value, value_from, entry, next_row, value}
-use Rattle.flip_flops.specs.Edges.{last_edge, shown_edge}
+use Rattle.flip_flops.specs.Edges.{shown_edge}
+use Rattle.flip_flops.proofs.EdgeLemmas.{shown_edge-le}
 use Rattle.circuit_meaning.specs.Cells.{pin_span, span_from, span_entry, next_spans, span, looked, next_setting, least_delay, gate_span}
 use Rattle.valid_intervals.specs.Spans.{Span, from_to, moved}
 use Rattle.circuit_meaning.proofs.Table.{length-rows_below, get_or-rows_below}
@@ -32,25 +32,6 @@ driver_fits c ok s = elim (either s (length c.drivers)) [
   | inl h ↦ ok s (Input []) h
   | inr h ↦ rw (get_or-eq_default c.drivers (Input []) h) (record { within = All-nil _; different = λ i j d _ h. absurd (omega arith) })
 ]
-
--- a shown edge is at least the delay back
-pub last_edge-le : (clock : Clock) (delay t e : ℕ) → last_edge clock delay t ≡ Some e → e + delay ≤ t
-unfolding last_edge
-last_edge-le clock delay t e = go (nat_lt t (clock.first + delay)) refl
-  where
-    at : ℕ
-    at = clock.first + (t - (clock.first + delay)) / clock.period * clock.period
-
-    go : (b : Bool) → nat_lt t (clock.first + delay) ≡ b → (if b then None else Some at) ≡ Some e → e + delay ≤ t
-    go true h k = absurd (cc)
-    go false h k =
-        let e_is : at ≡ e = cc in
-        let low : clock.first + delay ≤ t = ltb-false t (clock.first + delay) h in
-        omega (arith, div-mul-le_self (t - (clock.first + delay)) clock.period)
-
-pub shown_edge-le : (clock : Option Clock) (delay t e : ℕ) → shown_edge clock delay t ≡ Some e → e + delay ≤ t
-shown_edge-le None delay t e h = absurd (cc)
-shown_edge-le (Some clock) delay t e h = last_edge-le clock delay t e h
 
 -- a pin with a delay of at least one reads an earlier time
 seen_same : (b b' : ℕ → ℕ → Value) (t : ℕ) → ((s u : ℕ) → u < t → b s u ≡ b' s u) → (p : Pin) → 1 ≤ p.delay → seen b t p ≡ seen b' t p

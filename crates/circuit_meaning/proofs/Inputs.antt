@@ -1,11 +1,9 @@
--- The settings of an input, and the edges of a clock.
-use Rattle.std.proofs.Common.{◌≡◌, ℕ, ◌+◌, ◌-◌, ◌*◌, ◌/◌, ◌<◌, ◌≤◌, min, max, Bool, true, false, if◌then◌else◌, nat_lt, List, [], ◌∷◌, Option, Some, None, refl, sym, ap, ◌∙◌, arith, ltb-false, ltb-true, lt-ltb, le-ltb, le-leb, inl, inr, div-lt_iff_lt-mul, le-div_iff_mul-le}
+-- The settings of an input.
+use Rattle.std.proofs.Common.{◌≡◌, ℕ, ◌<◌, ◌≤◌, min, max, Bool, true, false, if◌then◌else◌, nat_lt, List, [], ◌∷◌, Option, Some, None, refl, ap, arith, ltb-false, ltb-true, lt-ltb, le-ltb, le-leb, inl, inr}
 use Rattle.std.proofs.lemmas.Bool.{lt-leb, cases_lt}
 use Rattle.std.specs.List.{AllByRecursion}
 use Rattle.circuit_meaning.specs.Circuit.{Setting}
-use Rattle.flip_flops.specs.declared.Clock.{Clock}
 use Rattle.circuit_meaning.specs.Forward.{last_setting, later}
-use Rattle.flip_flops.specs.Edges.{last_edge}
 use Rattle.circuit_meaning.specs.Cells.{next_setting, input_start}
 
 start-later : (a : Setting) (o : Option Setting) → input_start (later a o) ≡ max a.time (input_start o)
@@ -96,57 +94,3 @@ module _ (settings : List Setting) (t u limit : ℕ) (low : input_start (last_se
 
   pub next-steady : next_setting settings u limit ≡ next_setting settings t limit
   next-steady = same_next settings t u limit (in_between settings t u limit low high)
-
--- the quotient of what lies in the same block
-div-same : (x y p : ℕ) → 1 ≤ p → y / p * p ≤ x → x < y / p * p + p → x / p ≡ y / p
-div-same x y p pos low high =
-    let a : y / p ≤ x / p = (le-div_iff_mul-le pos).1 low in
-    let b : x / p < y / p + 1 = (div-lt_iff_lt-mul pos).1 (omega arith) in
-    omega arith
-
-module _ (clock : Clock) (delay t : ℕ) where
-  -- before the first shown edge
-  pub edge-none : last_edge clock delay t ≡ None → t < clock.first + delay
-  unfolding last_edge
-  edge-none = go (nat_lt t (clock.first + delay)) refl
-    where
-      at : ℕ
-      at = clock.first + (t - (clock.first + delay)) / clock.period * clock.period
-
-      go : (b : Bool) → nat_lt t (clock.first + delay) ≡ b → (if b then None else Some at) ≡ None → t < clock.first + delay
-      go true h k = ltb-true _ _ h
-      go false h k = cc
-
-  pub edge-some : (e : ℕ) → last_edge clock delay t ≡ Some e → (clock.first + delay ≤ t) × (e ≡ clock.first + (t - (clock.first + delay)) / clock.period * clock.period)
-  unfolding last_edge
-  edge-some e = go (nat_lt t (clock.first + delay)) refl
-    where
-      at : ℕ
-      at = clock.first + (t - (clock.first + delay)) / clock.period * clock.period
-
-      go : (b : Bool) → nat_lt t (clock.first + delay) ≡ b → (if b then None else Some at) ≡ Some e → (clock.first + delay ≤ t) × (e ≡ at)
-      go true h k = cc
-      go false h k = (ltb-false _ _ h, cc)
-
-  pub none-edge : t < clock.first + delay → last_edge clock delay t ≡ None
-  unfolding last_edge
-  none-edge h = rw (lt-ltb _ _ h)
-
-  pub some-edge : clock.first + delay ≤ t → last_edge clock delay t ≡ Some (clock.first + (t - (clock.first + delay)) / clock.period * clock.period)
-  unfolding last_edge
-  some-edge h = rw (le-ltb _ _ h)
-
--- the next edge comes a period later
-pub edge-next : (clock : Clock) (delay t e : ℕ) → 1 ≤ clock.period → last_edge clock delay t ≡ Some e → t < e + delay + clock.period
-edge-next clock delay t e pos h =
-    let k = edge-some clock delay t e h in
-    let a : (t - (clock.first + delay)) / clock.period < (t - (clock.first + delay)) / clock.period + 1 = omega arith in
-    let b : t - (clock.first + delay) < ((t - (clock.first + delay)) / clock.period + 1) * clock.period = (div-lt_iff_lt-mul pos).0 a in
-    omega arith
-
--- the same edge is shown for a period
-pub edge-steady : (clock : Clock) (delay t u e : ℕ) → 1 ≤ clock.period → last_edge clock delay t ≡ Some e → e + delay ≤ u → u < e + delay + clock.period → last_edge clock delay u ≡ Some e
-edge-steady clock delay t u e pos h low high =
-    let k = edge-some clock delay t e h in
-    let q : (u - (clock.first + delay)) / clock.period ≡ (t - (clock.first + delay)) / clock.period = div-same _ _ clock.period pos (omega arith) (omega arith) in
-    some-edge clock delay u (omega arith) ∙ ap Some (rw q (sym k.1))

@@ -11,7 +11,8 @@ use Rattle.flip_flops.specs.Edges.{shown_edge}
 use Rattle.circuit_meaning.specs.Cells.{looked}
 use Rattle.circuit_meaning.specs.Need.{Window, flop_source, sources, children, IsNeeded, Root, Child, IsInCone, Itself, Reads}
 use Rattle.valid_intervals.specs.declared.Point.{Point}
-use Rattle.circuit_meaning.proofs.Equations.{driver_fits, shown_edge-le, all_cut}
+use Rattle.circuit_meaning.proofs.Equations.{driver_fits, all_cut}
+use Rattle.flip_flops.proofs.EdgeLemmas.{shown_edge-le}
 
 -- the points of the pins that read no time before 0
 module _ (t : ℕ) (P : Point → Type 0) where

@@ -1,20 +1,16 @@
 -- The roots of a query, and the queries for one point.
-use Rattle.std.proofs.Common.{◌≡◌, ℕ, zero, suc, ◌+◌, ◌-◌, ◌*◌, ◌/◌, ◌<◌, ◌≤◌, Option, Some, None, MatchOption, refl, sym, subst, arith, inl, inr, mul-le-mul_right}
+use Rattle.std.proofs.Common.{◌≡◌, ℕ, zero, suc, ◌+◌, ◌<◌, ◌≤◌, refl, sym, subst, arith, inl, inr}
 use Rattle.std.proofs.lemmas.Bool.{cases_lt}
 use Rattle.circuit_meaning.specs.Circuit.{Circuit, IsCircuit}
-use Rattle.flip_flops.specs.declared.Clock.{Clock}
 use Rattle.circuit_meaning.specs.Forward.{value, entry, forward}
-use Rattle.flip_flops.specs.Edges.{last_edge}
 use Rattle.circuit_meaning.specs.Cells.{span}
 use Rattle.valid_intervals.specs.Spans.{IsIn}
 use Rattle.circuit_meaning.specs.Need.{Window, IsRoot, First, Piece, Next, IsNeeded, Root, Child, children}
-use Rattle.flip_flops.specs.Edges.{IsLastEdge}
 use Rattle.circuit_meaning.specs.Laws.{at_point}
-use Rattle.circuit_meaning.proofs.Equations.{entry-value, last_edge-le}
+use Rattle.circuit_meaning.proofs.Equations.{entry-value}
 use Rattle.circuit_meaning.proofs.Points.{children-earlier}
 use Rattle.std.proofs.lemmas.List.Elements.{All-contains}
 use Rattle.circuit_meaning.proofs.Cover.{cell-covers}
-use Rattle.circuit_meaning.proofs.Inputs.{edge-none, edge-some, edge-next}
 
 module _ (c : Circuit) (ok : IsCircuit c) (q : Window) (within : q.stop ≤ c.horizon + 1) where
   -- from a root on, in so many steps
@@ -64,23 +60,3 @@ module _ (c : Circuit) (ok : IsCircuit c) (q : Window) where
 
 pub forward-holds : (c : Circuit) (s t : ℕ) → t ≤ c.horizon → entry (forward c) s t ≡ value c s t
 forward-holds c s t h = entry-value c (c.horizon + 1) s t (omega arith)
-
-pub last-edge : (clock : Clock) (delay t : ℕ) → 1 ≤ clock.period → MatchOption (last_edge clock delay t) ((k : ℕ) → t < clock.first + k * clock.period + delay) (IsLastEdge clock delay t)
-last-edge clock delay t pos = go (last_edge clock delay t) refl
-  where
-    go : (o : Option ℕ) → last_edge clock delay t ≡ o → MatchOption o ((k : ℕ) → t < clock.first + k * clock.period + delay) (IsLastEdge clock delay t)
-    go None h = λ k. let l = edge-none clock delay t h in omega arith
-    go (Some e) h =
-        let l = edge-some clock delay t e h in
-        let high = edge-next clock delay t e pos h in
-        let q = (t - (clock.first + delay)) / clock.period in
-        record {
-          edge = (q, l.1);
-          shown = last_edge-le clock delay t e h;
-          last = λ k low. elim (cases_lt q k) [
-            | inl m ↦
-                let n : (q + 1) * clock.period ≤ k * clock.period = mul-le-mul_right clock.period (omega arith) in
-                absurd (omega arith)
-            | inr m ↦ let n : k * clock.period ≤ q * clock.period = mul-le-mul_right clock.period m in omega arith
-          ];
-        }

@@ -18,7 +18,8 @@ use Rattle.valid_intervals.specs.Spans.{Span, IsIn, from_to, meet, moved}
 use Rattle.circuit_meaning.specs.Laws.{Pins, Edge, look, IsSame}
 use Rattle.circuit_meaning.proofs.Table.{at_all_times}
 use Rattle.circuit_meaning.proofs.Equations.{value_is, span_is, driver_fits, map_same, all_imply, all_cut}
-use Rattle.circuit_meaning.proofs.Inputs.{last-steady, next-steady, none-edge, edge-steady}
+use Rattle.circuit_meaning.proofs.Inputs.{last-steady, next-steady}
+use Rattle.flip_flops.proofs.EdgeLemmas.{none-edge, edge-steady}
 
 -- intersections
 in_all : (a : Span) (xs : List Span) (u : ℕ) → IsIn (fold meet a xs) u → IsIn a u × AllByRecursion (λ x. IsIn x u) xs
@@ -40,7 +41,7 @@ fold-least : (m : ℕ) (pins : List Pin) → fold (λ m q. min m q.delay) m pins
 fold-least m [] = (omega arith, tt)
 fold-least m (p ∷ pins) = let k = fold-least (min m p.delay) pins in (omega (arith, k.0), (omega (arith, k.0), k.1))
 
-least : (pins : List Pin) → AllByRecursion (λ p. least_delay pins ≤ p.delay) pins
+pub least : (pins : List Pin) → AllByRecursion (λ p. least_delay pins ≤ p.delay) pins
 unfolding least_delay
 least [] = tt
 least (p ∷ pins) = fold-least p.delay pins

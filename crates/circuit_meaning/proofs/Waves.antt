@@ -1,6 +1,7 @@
 -- A wave is its first value and the changes after it, and there is no change inside a cell.
-use Rattle.std.proofs.Common.{◌≡◌, ℕ, zero, suc, ◌+◌, ◌-◌, ◌<◌, ◌≤◌, Bool, true, cond, not, ◌||◌, ◌==◌, [], ◌∷◌, ◌++◌, map, filter, refl, sym, ap, ◌∙◌, arith, zero-add, add-zero, suc-add}
+use Rattle.std.proofs.Common.{◌≡◌, ℕ, zero, suc, ◌+◌, ◌-◌, ◌<◌, ◌≤◌, ◌≢◌, Bool, true, false, cond, not, ◌||◌, ◌==◌, List, [], ◌∷◌, ◌++◌, map, filter, refl, sym, ap, ◌∙◌, subst, inl, inr, arith, zero-add, add-zero, suc-add}
 use Rattle.std.specs.List.{range_with_len}
+use Rattle.std.proofs.lemmas.Bool.{cases_lt}
 use borrow.Author.Tests.{ne_eqb, eq-eqb}
 use Rattle.std.proofs.lemmas.List.Elements.{filter-append}
 use Rattle.std.proofs.lemmas.List.{map-append}
@@ -8,7 +9,7 @@ use Rattle.gate_values.specs.declared.Value.{Value}
 use Rattle.gate_values.specs.declared.Value.TheVariants.{Zero, One, X, Z}
 use Rattle.gate_values.specs.Gates.{same_value}
 use Rattle.circuit_meaning.specs.Circuit.{Circuit, IsCircuit}
-use Rattle.circuit_meaning.specs.Laws.{changes, WavesAreChanges}
+use Rattle.circuit_meaning.specs.Laws.{changes, WavesAreChanges, GoOn, AreMaximal}
 use Rattle.circuit_meaning.specs.Cells.{span}
 use Rattle.circuit_meaning.proofs.Steady.{cell-steady}
 use Rattle.circuit_meaning.specs.Forward.{value, wave}
@@ -59,7 +60,7 @@ module _ (c : Circuit) (s : ℕ) where
       ap (map (λ t. record { time = t; value = value c s t }))
       (no_changes a n (λ x l h. (cell-steady c ok t s x (record { low = omega arith; high = omega arith })).value ∙ sym (cell-steady c ok t s (x - 1) (record { low = omega arith; high = omega arith })).value))
 
-  wave-empty : (a b : ℕ) → b ≤ a → wave c s a b ≡ []
+  pub wave-empty : (a b : ℕ) → b ≤ a → wave c s a b ≡ []
   unfolding wave
   wave-empty a b h =
       let none : b - a ≡ 0 = omega arith in
@@ -67,3 +68,56 @@ module _ (c : Circuit) (s : ℕ) where
 
   pub waves-are : WavesAreChanges c s
   waves-are = record { first = wave-first; empty = wave-empty; follow = changes-add; inside = changes-cell }
+
+-- values that the test takes for one are one
+same_is : (v w : Value) → same_value v w ≡ true → v ≡ w
+same_is Zero Zero h = refl
+same_is One One h = refl
+same_is X X h = refl
+same_is Z Z h = refl
+same_is Zero One h = cc
+same_is Zero X h = cc
+same_is Zero Z h = cc
+same_is One Zero h = cc
+same_is One X h = cc
+same_is One Z h = cc
+same_is X Zero h = cc
+same_is X One h = cc
+same_is X Z h = cc
+same_is Z Zero h = cc
+same_is Z One h = cc
+same_is Z X h = cc
+
+other_is : (v w : Value) → same_value v w ≡ false → v ≢ w
+other_is v w h = λ e. let k : same_value v w ≡ true = ap (λ x. same_value v x) (sym e) ∙ same_itself v in absurd (cc (h, k))
+
+module _ (c : Circuit) (s : ℕ) where
+  -- the changes go on from a run that has the value just before them
+  changes-go_on : (r : Run) (k n : ℕ) → r.time < k → r.value ≡ value c s (k - 1) → GoOn r (changes c s k n)
+  changes-go_on r k zero low same = tt
+  changes-go_on r k (suc n) low same = go (λ x l e. changes-go_on x (k + 1) n l e) (same_value (value c s k) (value c s (k - 1))) refl
+    where
+      run_at : ℕ → Run
+      run_at t = record { time = t; value = value c s t }
+
+      rest : List ℕ
+      rest = filter (changed c s) (range_with_len (k + 1) n)
+
+      back : k ≡ (k + 1) - 1
+      back = omega arith
+
+      go : ((x : Run) → x.time < k + 1 → x.value ≡ value c s ((k + 1) - 1) → GoOn x (map run_at rest))
+          → (b : Bool) → same_value (value c s k) (value c s (k - 1)) ≡ b → GoOn r (map run_at (cond (not b) (k ∷ rest) rest))
+      go again true e = again r (omega arith) (same ∙ sym (same_is (value c s k) (value c s (k - 1)) e) ∙ ap (value c s) back)
+      go again false e = (low, λ h. other_is (value c s k) (value c s (k - 1)) e (h ∙ same), again (run_at k) (omega arith) (ap (value c s) back))
+
+  pub waves-maximal : (a b : ℕ) → AreMaximal (wave c s a b)
+  waves-maximal a b = elim (cases_lt a b) [
+    | inl l ↦
+        let n = b - (a + 1) in
+        let whole : a + suc n ≡ b = omega arith in
+        let here : a ≡ (a + 1) - 1 = omega arith in
+        subst (λ x. AreMaximal (wave c s a x)) whole
+        (subst AreMaximal (sym (wave-first c s a n)) (changes-go_on (record { time = a; value = value c s a }) (a + 1) n (omega arith) (ap (value c s) here)))
+    | inr l ↦ subst AreMaximal (sym (wave-empty c s a b l)) tt
+  ]

@@ -4,6 +4,7 @@ use Rattle.gate_values.specs.declared.Kind.{Kind}
 use Rattle.gate_values.specs.Gates.{decides, up_to_first}
 use Rattle.circuit_meaning.specs.Circuit.{Setting, Pin, Driver, Input, Gate, Flop, Circuit}
 use Rattle.valid_intervals.specs.Spans.{Span, from_to, meet, moved}
+use Rattle.valid_intervals.specs.declared.Cell.{Cell}
 use Rattle.circuit_meaning.specs.Forward.{row_at, last_setting, seen, value}
 use Rattle.flip_flops.specs.Edges.{shown_edge, flop_span}
 
@@ -25,11 +26,12 @@ looked c t kind pins = up_to_first (λ p. decides kind (seen (value c) t p)) pin
 abbrev pub pin_span : (ℕ → ℕ → Span) → ℕ → Pin → Span
 pin_span before t p = if nat_lt t p.delay then from_to 0 p.delay else moved p.delay (before p.signal (t - p.delay))
 
+-- the interval of an input begins at its last setting, or at 0
 abbrev pub input_start : Option Setting → ℕ
 input_start None = 0
 input_start (Some s) = s.time
 
--- the interval of a gate whose least delay is m
+-- the interval of a gate whose least delay is m: that of x before it, and then the times that its looked pins have in common
 abbrev pub gate_span : ℕ → ℕ → ℕ → List Span → Span
 gate_span limit t m pins = if nat_lt t m then from_to 0 (min m limit) else fold meet (from_to m limit) pins
 
@@ -48,3 +50,7 @@ next_spans c rows = map (span_from c (span_entry c rows) (length rows)) c.driver
 -- the interval of the cell of the signal s at the time t
 unfoldable pub span : Circuit → ℕ → ℕ → Span
 span c s t = get_or (row_at (next_spans c) t) s (from_to 0 (c.horizon + 1))
+
+-- the cell of the signal s at the time t
+abbrev pub cell : Circuit → ℕ → ℕ → Cell
+cell c s t = record { span = span c s t; value = value c s t }

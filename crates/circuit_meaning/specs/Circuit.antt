@@ -1,10 +1,12 @@
 -- A circuit: what drives each signal, and how long it is watched.
-use Rattle.std.specs.Prelude.{◌≡◌, ℕ, ◌≤◌, ◌<◌, IsTrue, List, [], ◌∷◌, length, get_or, map, All, AllPairs, ◌≢◌, IfSome}
+use Rattle.std.specs.Prelude.{◌≡◌, ℕ, ◌≤◌, ◌<◌, IsTrue, List, [], ◌∷◌, length, get_or, map, All, AllPairs, ◌≢◌, IfSome, sum_by}
 use Rattle.gate_values.specs.declared.Kind.{Kind}
 use Rattle.gate_values.specs.Gates.{is_unary}
 pub use Rattle.circuit_meaning.specs.declared.Setting.{Setting}
 pub use Rattle.circuit_meaning.specs.declared.Pin.{Pin}
 pub use Rattle.flip_flops.specs.declared.Clock.{Clock}
+use Rattle.flip_flops.specs.Edges.{IsClock}
+use Rattle.gate_values.specs.declared.Value.TheVariants.{Z}
 pub use Rattle.circuit_meaning.specs.declared.FlipFlop.{FlipFlop}
 
 -- What a signal's value comes from.
@@ -28,10 +30,12 @@ read_by (Gate kind pins) = map (λ p. p.signal) pins
 read_by (Flop f) = f.pin ∷ []
 
 -- A driver of a circuit with this many signals and this horizon.
+-- The settings of an input may stand in any order; no two have one time.
 pub record AreSettings (horizon : ℕ) (settings : List Setting) : Type 0 where
   pub within : All (λ s. s.time ≤ horizon) settings
   pub different : AllPairs (λ a b. a.time ≢ b.time) settings
 
+-- a gate has from 1 to 64 pins, a unary gate one; each pin reads a signal of the circuit, at least one instant back
 pub record ArePins (signals : ℕ) (kind : Kind) (pins : List Pin) : Type 0 where
   pub some : 1 ≤ length pins
   pub few : length pins ≤ 64
@@ -39,15 +43,37 @@ pub record ArePins (signals : ℕ) (kind : Kind) (pins : List Pin) : Type 0 wher
   pub signal : All (λ p. p.signal < signals) pins
   pub delay : All (λ p. 1 ≤ p.delay) pins
 
+-- the initial value of a flip-flop is 0, 1 or x
 pub record IsFlipFlop (signals : ℕ) (f : FlipFlop) : Type 0 where
   pub pin : f.pin < signals
   pub delay : 1 ≤ f.delay
   pub period : IfSome f.clock (λ clock. 1 ≤ clock.period)
+  pub initial : f.initial ≢ Z
 
 abbrev pub IsDriver : ℕ → ℕ → Driver → Type 0
 IsDriver signals horizon (Input settings) = AreSettings horizon settings
 IsDriver signals horizon (Gate kind pins) = ArePins signals kind pins
 IsDriver signals horizon (Flop f) = IsFlipFlop signals f
 
+-- every driver fits the circuit; cycles are allowed
 abbrev pub IsCircuit : Circuit → Type 0
 IsCircuit c = All (IsDriver (length c.drivers) c.horizon) c.drivers
+
+-- The numbers of a driver are those that the files may state.
+abbrev pub AreFlopLimits : FlipFlop → Type 0
+AreFlopLimits f = (f.delay ≤ 1000000) × IfSome f.clock IsClock
+
+abbrev pub AreDriverLimits : Driver → Type 0
+AreDriverLimits (Input settings) = Unit {0}
+AreDriverLimits (Gate kind pins) = All (λ p. p.delay ≤ 1000000) pins
+AreDriverLimits (Flop f) = AreFlopLimits f
+
+abbrev pub pin_count : Driver → ℕ
+pin_count d = length (read_by d)
+
+-- the limits within which a circuit is simulated
+pub record AreLimits (c : Circuit) : Type 0 where
+  pub horizon : c.horizon ≤ 1000000
+  pub signals : length c.drivers ≤ 1048576
+  pub pins : sum_by pin_count c.drivers ≤ 4194304
+  pub drivers : All AreDriverLimits c.drivers

@@ -1,4 +1,5 @@
--- Forward simulation: the value of every signal at every time, each row of values from the rows before it.
+-- Forward simulation: the value of every signal at every time, each row of values from the rows before it. Delays are
+-- transport delays: a pin sees its signal's value of exactly so long ago, and no pulse is swallowed.
 use Rattle.std.specs.Prelude.{ℕ, zero, suc, ◌+◌, ◌-◌, nat_lt, nat_le, if◌then◌else◌, not, ◌||◌, ◌==◌, List, [], ◌∷◌, ◌++◌, length, get_or, map, filter, Option, Some, None}
 use Rattle.std.specs.List.{range_with_len}
 use Rattle.gate_values.specs.declared.Value.{Value}
@@ -36,7 +37,7 @@ abbrev pub input_value : Option Setting → Value
 input_value None = X
 input_value (Some s) = s.value
 
--- what a pin of a gate sees at t, where before s u is the value of the signal s at an earlier time u
+-- what a pin of a gate sees at t, where before s u is the value of the signal s at an earlier time u; before time 0 it is x
 abbrev pub seen : (ℕ → ℕ → Value) → ℕ → Pin → Value
 seen before t p = if nat_lt t p.delay then X else before p.signal (t - p.delay)
 
@@ -51,7 +52,7 @@ value_from before t (Input settings) = input_value (last_setting settings t)
 value_from before t (Gate kind pins) = gate_value kind (map (seen before t) pins)
 value_from before t (Flop f) = flop_value before f (shown_edge f.clock f.delay t)
 
--- the entry of the signal s in the row of the time t
+-- the entry of the signal s in the row of the time t; where there is none, x
 abbrev pub entry : List (List Value) → ℕ → ℕ → Value
 entry rows s t = get_or (get_or rows t []) s X
 
@@ -71,6 +72,6 @@ value c s t = get_or (row_at (next_row c) t) s X
 abbrev pub window : ℕ → ℕ → List ℕ
 window a b = range_with_len a (b - a)
 
--- the pairs (t, value) in the window at which it begins or the value changes
+-- the waveform of the signal s in the window from a to b: its runs, one where the window begins and one at each change of the value
 unfoldable pub wave : Circuit → ℕ → ℕ → ℕ → List Run
 wave c s a b = map (λ t. record { time = t; value = value c s t }) (filter (λ t. (t == a) || not (same_value (value c s t) (value c s (t - 1)))) (window a b))

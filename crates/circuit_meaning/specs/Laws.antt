@@ -1,15 +1,18 @@
 -- Laws of the definitions.
-use Rattle.std.specs.Prelude.{◌≡◌, ℕ, ◌+◌, ◌*◌, ◌≤◌, ◌<◌, List, All, Option, MatchOption, suc, [], ◌∷◌, map, filter, not, ◌++◌, ◌-◌}
+use Rattle.std.specs.Prelude.{◌≡◌, ◌≢◌, ℕ, ◌+◌, ◌≤◌, ◌<◌, List, All, Option, Some, None, MatchOption, suc, [], ◌∷◌, map, filter, Bool, false, if◌then◌else◌, not, ◌||◌, ◌==◌, ◌++◌, ◌-◌}
 use Rattle.std.specs.List.{range_with_len}
 use Rattle.gate_values.specs.Gates.{same_value}
 use Rattle.circuit_meaning.specs.Circuit.{Pin, Driver, Input, Gate, Flop, Circuit, driver, IsCircuit}
-use Rattle.flip_flops.specs.declared.Clock.{Clock}
 use Rattle.circuit_meaning.specs.Forward.{value, value_from, entry, forward, wave}
 use Rattle.circuit_meaning.specs.declared.Run.{Run}
-use Rattle.flip_flops.specs.Edges.{IsLastEdge, shown_edge, last_edge}
-use Rattle.circuit_meaning.specs.Cells.{span, span_from, looked}
+use Rattle.flip_flops.specs.Edges.{shown_edge}
+use Rattle.circuit_meaning.specs.Cells.{span, span_from, looked, cell}
+use Rattle.circuit_meaning.specs.Base.{base_answer}
+use Rattle.valid_intervals.specs.declared.Cell.{Cell}
+use Rattle.gate_values.specs.declared.Value.{Value}
+use Rattle.gate_values.specs.declared.Value.TheVariants.{Z}
 use Rattle.valid_intervals.specs.Spans.{IsIn}
-use Rattle.circuit_meaning.specs.Need.{Window, children, IsRoot, IsNeeded, IsInCone}
+use Rattle.circuit_meaning.specs.Need.{Window, children, IsRoot, IsEvaluable, IsNeeded, IsInCone, IsClosedUnderChildren, IsPart}
 
 -- each value is what the driver gives from the values before it, and each interval from the intervals before it
 abbrev pub ValuesFollow : Type 0
@@ -69,11 +72,6 @@ NeededAlone = (c : Circuit) → IsCircuit c → (q : Window) → q.stop ≤ c.ho
 abbrev pub ForwardHolds : Type 0
 ForwardHolds = (c : Circuit) (s t : ℕ) → t ≤ c.horizon → entry (forward c) s t ≡ value c s t
 
-abbrev pub EdgesAreLast : Type 0
-EdgesAreLast = (clock : Clock) (delay t : ℕ) → 1 ≤ clock.period → MatchOption (last_edge clock delay t)
-    ((k : ℕ) → t < clock.first + k * clock.period + delay)
-    (IsLastEdge clock delay t)
-
 -- a wave is its first value and the changes after it; those of two stretches follow one another, and there is none inside a cell
 abbrev pub changes : Circuit → ℕ → ℕ → ℕ → List Run
 changes c s a n = map (λ t. record { time = t; value = value c s t }) (filter (λ t. not (same_value (value c s t) (value c s (t - 1)))) (range_with_len a n))
@@ -83,3 +81,61 @@ pub record WavesAreChanges (c : Circuit) (s : ℕ) : Type 0 where
   pub empty : (a b : ℕ) → b ≤ a → wave c s a b ≡ []
   pub follow : (a m n : ℕ) → changes c s a (m + n) ≡ changes c s a m ++ changes c s (a + m) n
   pub inside : IsCircuit c → (t a n : ℕ) → (span c s t).start < a → a + n ≤ (span c s t).stop → changes c s a n ≡ []
+
+-- where there is a base answer it is the cell; and there is one exactly where a point is not evaluable
+abbrev pub BaseAnswersAreCells : Type 0
+BaseAnswersAreCells = (c : Circuit) → IsCircuit c → (s t : ℕ) → MatchOption (base_answer c s t) (IsEvaluable c s t) (λ x. (x ≡ cell c s t) × (IsEvaluable c s t → ⊥))
+
+abbrev pub IsDriven : Driver → Type 0
+IsDriven (Input settings) = ⊥
+IsDriven (Gate kind pins) = Unit {0}
+IsDriven (Flop f) = Unit {0}
+
+-- only an input can have the value z
+abbrev pub OnlyInputsShowZ : Type 0
+OnlyInputsShowZ = (c : Circuit) → IsCircuit c → (s t : ℕ) → IsDriven (driver c s) → value c s t ≢ Z
+
+-- runs that come after this one: times ascend, and neighbours differ
+abbrev pub GoOn : Run → List Run → Type 0
+GoOn r [] = Unit {0}
+GoOn r (x ∷ rest) = (r.time < x.time) × (x.value ≢ r.value) × GoOn x rest
+
+abbrev pub AreMaximal : List Run → Type 0
+AreMaximal [] = Unit {0}
+AreMaximal (r ∷ rest) = GoOn r rest
+
+abbrev pub WavesAreMaximal : Type 0
+WavesAreMaximal = (c : Circuit) (s a b : ℕ) → AreMaximal (wave c s a b)
+
+-- As far as a cell reaches, a waveform goes on with at most one run: where the window begins, and where the value is another than just before.
+abbrev pub new_run : Circuit → ℕ → ℕ → ℕ → List Run
+new_run c s a t = if (t == a) || not (same_value (value c s t) (value c s (t - 1))) then record { time = t; value = value c s t } ∷ [] else []
+
+abbrev pub WavesGrowByCells : Type 0
+WavesGrowByCells = (c : Circuit) → IsCircuit c → (s a t u : ℕ) → a ≤ t → t ≤ c.horizon → t < u → u ≤ (span c s t).stop → wave c s a u ≡ wave c s a t ++ new_run c s a t
+
+-- the cells of the signal s one after another, from that of t to that which reaches the time b
+abbrev pub AreCells : Circuit → ℕ → ℕ → ℕ → List Cell → Type 0
+AreCells c s b t [] = b ≤ t
+AreCells c s b t (x ∷ rest) = (t < b) × (x ≡ cell c s t) × AreCells c s b x.span.stop rest
+
+abbrev pub is_value : Option Value → Value → Bool
+is_value None v = false
+is_value (Some w) v = same_value v w
+
+-- the maximal runs of such cells from the time t on, where the signal had this value just before
+abbrev pub runs_of : Option Value → ℕ → List Cell → List Run
+runs_of before t [] = []
+runs_of before t (x ∷ rest) = (if is_value before x.value then [] else record { time = t; value = x.value } ∷ []) ++ runs_of (Some x.value) x.span.stop rest
+
+-- the cells of a window fix its waveform
+abbrev pub CellsFixWaves : Type 0
+CellsFixWaves = (c : Circuit) → IsCircuit c → (s a b : ℕ) (cells : List Cell) → b ≤ c.horizon + 1 → AreCells c s b a cells → wave c s a b ≡ runs_of None a cells
+
+-- What a query needs has the evaluable ones among its children; so do the free ones of what the query needs where a signal is held.
+abbrev pub NeedIsClosed : Type 0
+NeedIsClosed = (c : Circuit) (q : Window) → IsClosedUnderChildren c (IsNeeded c q)
+
+-- what a part of a window needs, that begins at a root, the window needs
+abbrev pub PartsNeedNoMore : Type 0
+PartsNeedNoMore = (c : Circuit) (q part : Window) → IsPart c q part → (s t : ℕ) → IsNeeded c part s t → IsNeeded c q s t

@@ -1,11 +1,37 @@
-// What a circuit means: the values of its signals by forward simulation, their cells, and what a query needs.
-// The functions carry the laws of these definitions, and do nothing.
+//! What a circuit means: the values of its signals by full forward simulation, the cells of its signals, and what a query
+//! for a signal needs.
+//!
+//! This crate is the measure for all others: their contracts say that they give what is defined here. The definitions
+//! stand in `specs/`, in the order in which they are best read:
+//!
+//! - `Circuit`: what drives each signal (an input with its settings, a gate with a delay for each pin, a flip-flop with a
+//!   clock), when drivers make a circuit, and within which limits the program takes one;
+//! - `Forward`: the rows of values for the times 0 to the horizon, each made from the rows before it. Delays are transport
+//!   delays: no pulse is swallowed, however short. A signal's waveform is the list of its maximal runs;
+//! - `Cells`: the interval about a time in which a signal keeps its value for the same cause;
+//! - `Base`: the points that are answered at once; every other point is evaluable;
+//! - `Need`: the children of a point, the roots of a query, the points that it needs, and the fan-in cone of a signal;
+//! - `Looks`: what a point looks at, said alike of gates and flip-flops;
+//! - `Held`: a circuit with one signal held at a value, and the signals that are free of it;
+//! - `Laws`: what follows.
+//!
+//! The source holds small structs that the definitions use as their records, and functions without a body. Each of them
+//! carries a law as its contract, so that it is proved, and other crates cite its proof. Definitions by recursion on time
+//! speak of every earlier row; no program has to make these rows. `reference_simulator` is the plain program whose contract
+//! is the value defined here.
+//!
+//! ```
+//! let pin = Pin { signal: 0, delay: 3 };
+//! let window = Window { signal: 1, start: 0, stop: 11 };
+//! ```
 #![tactic(auto)]
 
-ghost use Rattle.circuit_meaning.specs.Laws.{ValuesFollow, SpansFollow, CellsCover, CellsAreSteady, ChildrenAreEarlier, NeededAreInCone, RootsReach, NeededAlone, ForwardHolds, EdgesAreLast, WavesAreChanges};
+ghost use Rattle.circuit_meaning.specs.Laws.{ValuesFollow, SpansFollow, ForwardHolds, OnlyInputsShowZ, CellsCover, CellsAreSteady, BaseAnswersAreCells};
+ghost use Rattle.circuit_meaning.specs.Laws.{ChildrenAreEarlier, NeededAreInCone, RootsReach, NeededAlone, NeedIsClosed, PartsNeedNoMore};
+ghost use Rattle.circuit_meaning.specs.Laws.{WavesAreChanges, WavesAreMaximal, WavesGrowByCells, CellsFixWaves};
+ghost use Rattle.circuit_meaning.specs.Held.{FreeAreAlike, FreeNeedIsNeeded, HeldNeedIsClosed};
 ghost use Rattle.circuit_meaning.specs.Circuit.{Circuit};
 ghost use Rattle.std.specs.Prelude.{ℕ};
-ghost use Rattle.circuit_meaning.specs.Held.{FreeAreAlike, FreeNeedIsNeeded};
 
 use flip_flops::Clock;
 use gate_values::Value;
@@ -48,13 +74,24 @@ pub struct Run {
     pub value: Value,
 }
 
-/// Each value and each interval is what its driver gives from the earlier ones.
+/// Each value is what its driver gives from the values of earlier times, and each interval from earlier intervals.
 pub fn values_follow()
     ensures values { ValuesFollow }
     ensures spans { SpansFollow }
 {}
 
-/// The cells of a signal divide the time up to the horizon.
+/// The values are those of the rows of the forward simulation.
+pub fn forward_holds()
+    ensures { ForwardHolds }
+{}
+
+/// No gate and no flip-flop ever has the value z.
+pub fn only_inputs_show_z()
+    ensures { OnlyInputsShowZ }
+{}
+
+/// Each instant up to the horizon lies in its own cell, and no cell ends later than just behind the horizon. With
+/// [`cells_are_steady`]: the cells of a signal divide the simulated time.
 pub fn cells_cover()
     ensures { CellsCover }
 {}
@@ -64,47 +101,63 @@ pub fn cells_are_steady()
     ensures { CellsAreSteady }
 {}
 
-/// A child's time is below its parent's.
+/// A base answer is the cell, and there is one exactly where a point is not evaluable.
+pub fn base_answers_are_cells()
+    ensures { BaseAnswersAreCells }
+{}
+
+/// A child's time is below its parent's. So a demand ends.
 pub fn children_are_earlier()
     ensures { ChildrenAreEarlier }
 {}
 
-/// What a query needs lies in the cone of its signal.
+/// What a query needs is of signals in the fan-in cone of its own signal.
 pub fn needed_are_in_cone()
     ensures { NeededAreInCone }
 {}
 
-/// Each time of a query's window lies in the cell of a root.
+/// What a query needs is closed under children.
+pub fn need_is_closed()
+    ensures { NeedIsClosed }
+{}
+
+/// Each instant of a query's window lies in the cell of a root.
 pub fn roots_reach()
     ensures { RootsReach }
 {}
 
-/// A query for one needed point needs nothing more.
+/// What a query for one needed point needs, is needed by the query itself.
 pub fn needed_alone()
     ensures { NeededAlone }
 {}
 
-/// The values are those of the forward simulation.
-pub fn forward_holds()
-    ensures { ForwardHolds }
+/// What a part of a window needs, that begins at a root, is needed by the whole window.
+pub fn parts_need_no_more()
+    ensures { PartsNeedNoMore }
 {}
 
-/// The edge that a flip-flop shows is the last one, its delay counted.
-pub fn edges_are_last()
-    ensures { EdgesAreLast }
+/// A waveform is its first run and the changes after it. Its times ascend, and neighbours differ.
+pub fn waves_are_changes()
+    ensures changes { (c : Circuit) (s : ℕ) → WavesAreChanges c s }
+    ensures maximal { WavesAreMaximal }
 {}
 
-/// Signals that don't read a held signal, however far back, are as before.
+/// The waveform of a window is fixed by the cells of its roots: walked from cell to cell, it gets a run where it begins and
+/// where the value is another than just before, and no other.
+pub fn cells_fix_waves()
+    ensures grows { WavesGrowByCells }
+    ensures whole { CellsFixWaves }
+{}
+
+/// Signals that are free of a held signal, that is do not read it however far back, have the same values, cells, looked
+/// pins and children in both circuits.
 pub fn free_are_alike()
     ensures { FreeAreAlike }
 {}
 
-/// What free signals need is needed in the held circuit too.
+/// What a query for a free signal needs is needed in the held circuit too. And the free points of what a query needs in
+/// the held circuit are closed under children in the circuit itself, so that its memo may answer them.
 pub fn free_need_is_needed()
-    ensures { FreeNeedIsNeeded }
-{}
-
-/// A wave is its first value and the changes after it.
-pub fn waves_are_changes()
-    ensures { (c : Circuit) (s : ℕ) → WavesAreChanges c s }
+    ensures held { FreeNeedIsNeeded }
+    ensures closed { HeldNeedIsClosed }
 {}

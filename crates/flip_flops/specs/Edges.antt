@@ -1,5 +1,5 @@
 -- The edges of a clock, and what a flip-flop shows of them.
-use Rattle.std.specs.Prelude.{◌≡◌, ℕ, ◌+◌, ◌-◌, ◌*◌, ◌/◌, ◌≤◌, nat_lt, min, if◌then◌else◌, Option, Some, None}
+use Rattle.std.specs.Prelude.{◌≡◌, ℕ, ◌+◌, ◌-◌, ◌*◌, ◌/◌, ◌≤◌, ◌<◌, nat_lt, min, if◌then◌else◌, Option, Some, None, MatchOption}
 use Rattle.valid_intervals.specs.Spans.{Span, from_to}
 use Rattle.flip_flops.specs.declared.Clock.{Clock}
 
@@ -20,7 +20,7 @@ abbrev pub shown_edge : Option Clock → ℕ → ℕ → Option ℕ
 shown_edge None delay t = None
 shown_edge (Some clock) delay t = last_edge clock delay t
 
--- the interval of a flip-flop that shows this edge
+-- the interval of a flip-flop that shows this edge, cut at the limit
 abbrev pub flop_span : ℕ → ℕ → Option Clock → Option ℕ → Span
 flop_span limit delay None shown = from_to 0 limit
 flop_span limit delay (Some clock) None = from_to 0 (min (clock.first + delay) limit)
@@ -31,3 +31,11 @@ pub record IsLastEdge (clock : Clock) (delay t e : ℕ) : Type 0 where
   pub edge : (k : ℕ) × (e ≡ clock.first + k * clock.period)
   pub shown : e + delay ≤ t
   pub last : (k : ℕ) → clock.first + k * clock.period + delay ≤ t → clock.first + k * clock.period ≤ e
+
+-- no edge is shown yet
+abbrev pub ShowsNone : Clock → ℕ → ℕ → Type 0
+ShowsNone clock delay t = (k : ℕ) → t < clock.first + k * clock.period + delay
+
+-- last_edge is the last edge that is shown, or none where none is
+abbrev pub EdgesAreLast : Type 0
+EdgesAreLast = (clock : Clock) (delay t : ℕ) → 1 ≤ clock.period → MatchOption (last_edge clock delay t) (ShowsNone clock delay t) (IsLastEdge clock delay t)

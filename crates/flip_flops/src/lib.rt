@@ -1,13 +1,25 @@
-//! The edges of clocks, and how long a flip-flop shows what it took at one.
+//! The edges of clocks, and for how long a flip-flop shows what it took at one.
+//!
+//! A [`Clock`] has an edge at `first`, and one a period after each edge. A flip-flop with a delay reads its pin at an edge
+//! `e` itself and shows what it read from `e + delay` on, until the next edge is shown; before its first shown edge it has
+//! its initial value. [`last_edge`] gives the edge that is shown at a time, [`flop_span`] the times at which it is.
+//!
+//! Every call takes constant time and no memory.
+//!
+//! ```
+//! let clock = Clock { first: 10, period: 10 };
+//! let edge = last_edge(&clock, 1, 25); // Some(20)
+//! let times = flop_span(&clock, 1, 25, 31); // (21, 31)
+//! ```
 #![tactic(auto)]
 
-ghost use Rattle.std.specs.Prelude.{◌≡◌, ◌≤◌, ◌<◌, Some};
-ghost use Rattle.valid_intervals.specs.Spans.{from_to};
+ghost use Rattle.std.specs.Prelude.{◌≡◌, ◌≤◌, ◌<◌, Some, MatchOption};
+ghost use Rattle.valid_intervals.specs.Spans.{from_to, IsIn};
 ghost use Rattle.flip_flops.specs.Edges as edges;
-ghost use Rattle.flip_flops.specs.Edges.{IsClock};
+ghost use Rattle.flip_flops.specs.Edges.{IsClock, IsLastEdge, ShowsNone, EdgesAreLast};
 
-/// A clock: its edges are `first`, `first + period`, `first + 2 * period` and so on.
-/// `first` is at most 1,000,000, `period` from 1 to 1,000,000.
+/// A clock: its edges are `first`, `first + period`, `first + 2 * period` and so on. `first` is at most 1,000,000, `period`
+/// from 1 to 1,000,000.
 #[derive(Clone, Copy, Debug, PartialEq, Eq)]
 pub struct Clock {
     pub first: u32,
@@ -20,12 +32,63 @@ pub fn last_edge(clock: &Clock, delay: u32, t: u32) -> Option<u32>
     requires clock { IsClock clock.now }
     requires delay { (1 ≤ delay) × (delay ≤ 1000000) }
     requires time { t ≤ 1000000 }
-    ensures { result ≡ edges.last_edge clock.now delay t }
+    ensures edge { result ≡ edges.last_edge clock.now delay t }
+    ensures last { MatchOption result (ShowsNone clock.now delay t) (IsLastEdge clock.now delay t) }
 {
     let shown = clock.first + delay;
     if t < shown {
         None
     } else {
         Some(clock.first + (t - shown) / clock.period * clock.period)
+    }
+}
+
+/// The times about `t` at which a flip-flop with this delay shows the same edge, or none: the first of them, and the first
+/// time behind them, which is at most `cut`.
+pub fn flop_span(clock: &Clock, delay: u32, t: u32, cut: u32) -> (u32, u32)
+    requires clock { IsClock clock.now }
+    requires delay { (1 ≤ delay) × (delay ≤ 1000000) }
+    requires time { t < cut }
+    requires cut { cut ≤ 1000001 }
+    ensures span { from_to result.0 result.1 ≡ edges.flop_span cut delay (Some clock.now) (edges.last_edge clock.now delay t) }
+    ensures inside { IsIn (from_to result.0 result.1) t }
+{
+    match last_edge(clock, delay, t) {
+        None => (0, (clock.first + delay).min(cut)),
+        Some(edge) => {
+            let start = edge + delay;
+            (start, (start + clock.period).min(cut))
+        }
+    }
+}
+
+/// A law, for proofs; the function does nothing. At every time, whatever the numbers of the clock, the edge that is shown
+/// is the greatest one whose delay has passed.
+pub fn edges_are_last()
+    ensures { EdgesAreLast }
+{}
+
+#[cfg(test)]
+mod tests {
+    use super::*;
+
+    // a flip-flop with delay 1 at a clock with its edges at 10, 20 and 30, watched up to 30
+    #[test]
+    fn shown_edges(rt: HostRuntime) {
+        let clock = Clock {
+            first: 10,
+            period: 10,
+        };
+        for (t, edge, start, end) in [
+            (0, None, 0, 11),
+            (10, None, 0, 11),
+            (11, Some(10), 11, 21),
+            (20, Some(10), 11, 21),
+            (21, Some(20), 21, 31),
+            (30, Some(20), 21, 31),
+        ] {
+            assert_eq!(rt; last_edge(&clock, 1, t), edge, "at {t}");
+            assert_eq!(rt; flop_span(&clock, 1, t, 31), (start, end), "at {t}");
+        }
     }
 }

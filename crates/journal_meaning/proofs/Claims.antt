@@ -1,6 +1,6 @@
 -- What becomes of a point's claim, and of the cells.
-use Rattle.std.proofs.Common.{◌≡◌, ◌≢◌, ℕ, ◌≤◌, Bool, true, false, cond, not, List, [], ◌∷◌, filter, find, option_map, Some, None, refl, sym, subst, ◌∙◌, true≢false, eq-eqb, le-leb, lt-ltb}
-use Rattle.std.proofs.lemmas.Bool.{and_from}
+use Rattle.std.proofs.Common.{◌≡◌, ◌≢◌, ℕ, ◌≤◌, Bool, true, false, cond, not, List, [], ◌∷◌, filter, find, option_map, Some, None, inl, inr, ◌⊎◌, refl, sym, subst, ◌∙◌, true≢false, eq-eqb, le-leb, lt-ltb}
+use Rattle.std.proofs.lemmas.Bool.{and_from, cases_Bool}
 use Rattle.valid_intervals.specs.declared.Point.{Point}
 use Rattle.circuit_meaning.specs.Circuit.{Circuit, IsCircuit}
 use Rattle.circuit_meaning.proofs.Cover.{cell-covers}
@@ -14,7 +14,7 @@ use Rattle.journal_meaning.specs.Batch.{cell_at}
 use Rattle.journal_meaning.proofs.Same.{same_point-true, same_point-itself}
 use Rattle.journal_meaning.proofs.Lists.{Each, Stands, stands-any, test-false}
 
-some≢none : {A : Type 0} (x : A) → Some x ≢ None
+pub some≢none : {A : Type 0} (x : A) → Some x ≢ None
 some≢none x e = cc
 
 pub holder-filter : (test : Claim → Bool) (claims : List Claim) (p : Point) → holder claims p ≡ None → holder (filter test claims) p ≡ None
@@ -49,6 +49,29 @@ holder-each P (c ∷ claims) p q h e =
       | true ↦ λ k l. subst (λ z. P z p) (some-same c.query q l) (subst (λ z. P c.query z) (sym (same_point-true p c.point k)) h.0)
       | false ↦ λ k l. holder-each P claims p q h.1 l
     ] refl e
+
+-- what is claimed after a claim, and after one has ended
+pub cases_point : (a b : Point) → ((same_point a b ≡ true) × (a ≡ b)) ⊎ ((same_point a b ≡ false) × (a ≢ b))
+cases_point a b = elim (cases_Bool (same_point a b)) [
+  | inl e ↦ inl (e, same_point-true a b e)
+  | inr e ↦ inr (e, λ k. true≢false (sym (subst (λ c. same_point a c ≡ true) k (same_point-itself a)) ∙ e))
+]
+
+pub claim-here : (claims : List Claim) (p : Point) (q : ℕ) → holder (record { query = q; point = p } ∷ claims) p ≡ Some q
+claim-here claims p q = rw (same_point-itself p) refl
+
+pub claim-other : (claims : List Claim) (p r : Point) (q : ℕ) → r ≢ p → holder (record { query = q; point = p } ∷ claims) r ≡ holder claims r
+claim-other claims p r q h = rw (test-false same_point same_point-true same_point-itself r p h) refl
+
+pub without-other : (claims : List Claim) (p r : Point) → r ≢ p → holder (without claims p) r ≡ holder claims r
+without-other [] p r h = refl
+without-other (c ∷ claims) p r h = elim (cases_point p c.point) [
+  | inl e ↦ rw (e.0, test-false same_point same_point-true same_point-itself r c.point (λ k. h (k ∙ sym e.1))) (without-other claims p r h)
+  | inr e ↦ rw e.0 (elim (same_point r c.point) as (λ t. option_map (λ (c : Claim). c.query) (cond t (Some c) (find (λ c. same_point r c.point) (without claims p))) ≡ option_map (λ (c : Claim). c.query) (cond t (Some c) (find (λ c. same_point r c.point) claims))) [
+    | true ↦ refl
+    | false ↦ without-other claims p r h
+  ])
+]
 
 -- a point's own cell covers it
 pub own-covers : (c : Circuit) → IsCircuit c → (p : Point) → p.time ≤ c.horizon → covers p (cell_for p (cell_at c p)) ≡ true

@@ -1,14 +1,14 @@
--- Worked examples: journals that are legal.
+-- Worked examples: journals that are legal, computed from the definitions.
 use Rattle.std.proofs.Common.{◌≡◌, ℕ, refl, arith, [], ◌∷◌, List, Some, None}
 use Rattle.gate_values.specs.declared.Value.{Value}
 use Rattle.gate_values.specs.declared.Value.TheVariants.{Zero, One, X}
-use Rattle.gate_values.specs.declared.Kind.TheVariants.{And, Not, Buff}
+use Rattle.gate_values.specs.declared.Kind.TheVariants.{And, Nand, Not, Buff}
 use Rattle.circuit_meaning.specs.Held.{held}
 use Rattle.valid_intervals.specs.declared.Point.{Point}
 use Rattle.circuit_meaning.specs.declared.Window.{Window}
 use Rattle.circuit_meaning.specs.declared.Setting.{Setting}
 use Rattle.circuit_meaning.specs.declared.Pin.{Pin}
-use Rattle.circuit_meaning.specs.Circuit.{Input, Gate, Circuit}
+use Rattle.circuit_meaning.specs.Circuit.{Driver, Input, Gate, Circuit}
 use Rattle.circuit_meaning.specs.Forward.{rows_below, row_at, last_setting, value}
 use Rattle.circuit_meaning.specs.Cells.{span, least_delay, next_setting}
 use Rattle.valid_intervals.specs.Spans.{from_to}
@@ -25,26 +25,26 @@ use Rattle.journal_meaning.specs.Answers.{IsSpent, last_of}
 use Rattle.journal_meaning.proofs.Lists.{pairs_to}
 use Rattle.journal_meaning.specs.Replay.{replay, IsLegalBatch}
 
-abbrev set : ℕ → Value → Setting
+abbrev pub set : ℕ → Value → Setting
 set t v = record { time = t; value = v }
 
-abbrev pin : ℕ → Pin
+abbrev pub pin : ℕ → Pin
 pin s = record { signal = s; delay = 1 }
 
-abbrev at : ℕ → ℕ → Point
+abbrev pub at : ℕ → ℕ → Point
 at s t = record { signal = s; time = t }
 
-abbrev cell : ℕ → ℕ → Value → Cell
+abbrev pub cell : ℕ → ℕ → Value → Cell
 cell a b v = record { span = from_to a b; value = v }
 
 -- a is 0, n3 is 1, n1 is 2, n2 is 3
-abbrev chain : Circuit
+abbrev pub chain : Circuit
 chain = record { horizon = 10; drivers = Input (set 0 One ∷ []) ∷ Gate Buff (pin 3 ∷ []) ∷ Gate Buff (pin 0 ∷ []) ∷ Gate Buff (pin 2 ∷ []) ∷ [] }
 
-abbrev query : Query
+abbrev pub query : Query
 query = record { number = 1; signal = 1; from = 5; to = 6; budget = 2 }
 
-abbrev batch : Batch
+abbrev pub batch : Batch
 batch = record { circuit = chain; shards = 1; capacity = 16384; queries = query ∷ []; site = None }
 
 needs15 : IsNeeded chain (window_of query) 1 5
@@ -65,7 +65,7 @@ of p n = (query, (0, omega arith, refl), refl, n)
 any : OfQuery batch 1 (λ q. Unit {0})
 any = (query, (0, omega arith, refl), refl, tt)
 
-abbrev refused : List Entry
+abbrev pub refused : List Entry
 refused = Claimed 1 (at 1 5) ∷ Claimed 1 (at 3 4) ∷ Dropped 1 (at 3 4) ∷ Dropped 1 (at 1 5) ∷ Claimed 1 (at 1 5) ∷ Claimed 1 (at 3 4) ∷ Spent 1 (at 2 3) 2 ∷ Dropped 1 (at 3 4) ∷ Dropped 1 (at 1 5) ∷ []
 
 refused-legal : IsLegalBatch batch 0 [] refused
@@ -107,16 +107,16 @@ refused-legal = record {
 }
 
 -- an AND of two gates, in a memo of one cell: a is 0, y is 1, p is 2, q is 3
-abbrev both : Circuit
+abbrev pub both : Circuit
 both = record { horizon = 10; drivers = Input (set 0 One ∷ []) ∷ Gate And (pin 2 ∷ pin 3 ∷ []) ∷ Gate Buff (pin 0 ∷ []) ∷ Gate Buff (pin 0 ∷ []) ∷ [] }
 
-abbrev first_query : Query
+abbrev pub first_query : Query
 first_query = record { number = 1; signal = 1; from = 5; to = 6; budget = 50000 }
 
-abbrev tight : Batch
+abbrev pub tight : Batch
 tight = record { circuit = both; shards = 1; capacity = 1; queries = first_query ∷ []; site = None }
 
-both15 : IsNeeded both (window_of first_query) 1 5
+pub both15 : IsNeeded both (window_of first_query) 1 5
 unfolding least_delay
 both15 = Root (First (omega arith)) (omega arith)
 
@@ -134,7 +134,7 @@ of_first p n = (first_query, (0, omega arith, refl), refl, n)
 any_first : OfQuery tight 1 (λ q. Unit {0})
 any_first = (first_query, (0, omega arith, refl), refl, tt)
 
-abbrev evicting : List Entry
+abbrev pub evicting : List Entry
 evicting =
     Claimed 1 (at 1 5) ∷ Claimed 1 (at 2 4) ∷ Filled 1 (at 2 4) (cell 1 11 One) ∷ Claimed 1 (at 3 4) ∷ Evicted 2 1 ∷ Filled 1 (at 3 4) (cell 1 11 One) ∷ Evicted 3 1 ∷ Filled 1 (at 1 5) (cell 2 11 One) ∷ []
 
@@ -190,10 +190,10 @@ refused-spent = record {
 }
 
 -- the second batch of that session
-abbrev second_query : Query
+abbrev pub second_query : Query
 second_query = record { number = 3; signal = 2; from = 4; to = 5; budget = 50000 }
 
-abbrev again : Batch
+abbrev pub again : Batch
 again = record { circuit = both; shards = 1; capacity = 1; queries = second_query ∷ []; site = None }
 
 again24 : IsNeeded both (window_of second_query) 2 4
@@ -216,13 +216,13 @@ again-legal = record {
 }
 
 -- an inverter whose two cells are stored already
-abbrev inverter : Circuit
+abbrev pub inverter : Circuit
 inverter = record { horizon = 10; drivers = Input (set 0 Zero ∷ set 5 One ∷ []) ∷ Gate Not (record { signal = 0; delay = 3 } ∷ []) ∷ [] }
 
-abbrev third_query : Query
+abbrev pub third_query : Query
 third_query = record { number = 3; signal = 1; from = 0; to = 11; budget = 500000 }
 
-abbrev third : Batch
+abbrev pub third : Batch
 third = record { circuit = inverter; shards = 1; capacity = 16384; queries = third_query ∷ []; site = None }
 
 root3 : IsRoot inverter (window_of third_query) 3
@@ -244,36 +244,17 @@ told-legal = record {
   ended = record { claims = refl; made = refl };
 }
 
--- journals that are not legal
-
--- a claim of a point that a stored cell covers
-told-not-claimed : IsLegalBatch third 0 (record { signal = 1; cell = cell 3 8 One } ∷ []) (Claimed 3 (at 1 3) ∷ Dropped 3 (at 1 3) ∷ []) → ⊥
-told-not-claimed h = true≢false h.legal.0.1
-
--- an eviction from a shard with room
-evicts-with-room : IsLegalBatch third 0 (record { signal = 1; cell = cell 3 8 One } ∷ []) (Claimed 3 (at 1 8) ∷ Evicted 1 3 ∷ Filled 3 (at 1 8) (cell 8 11 Zero) ∷ []) → ⊥
-evicts-with-room h = let n : 1 ≡ 16384 = h.legal.2.0.1 in omega (arith, n)
-
--- a cell with another interval than the definition's
-wrong-cell : IsLegalBatch third 0 [] (Claimed 3 (at 1 3) ∷ Filled 3 (at 1 3) (cell 3 11 One) ∷ []) → ⊥
-unfolding span value row_at rows_below last_setting next_setting least_delay
-wrong-cell h = let n : 11 ≡ 8 = ap (λ (x : Cell). x.span.stop) h.legal.2.1.2 in omega (arith, n)
-
--- a claim that is left at the end
-left-claimed : IsLegalBatch third 0 [] (Claimed 3 (at 1 3) ∷ []) → ⊥
-left-claimed h = absurd (cc)
-
 -- the held section of a stuck signal: n1 is held at 0
-abbrev stuck_query : Query
+abbrev pub stuck_query : Query
 stuck_query = record { number = 1; signal = 1; from = 0; to = 11; budget = 50000 }
 
-abbrev stuck_chain : Circuit
+abbrev pub stuck_chain : Circuit
 stuck_chain = held chain 2 Zero
 
-abbrev apart : Batch
+abbrev pub apart : Batch
 apart = record { circuit = stuck_chain; shards = 1; capacity = 65536; queries = stuck_query ∷ []; site = None }
 
-abbrev stuck_window : Window
+abbrev pub stuck_window : Window
 stuck_window = window_of stuck_query
 
 root1 : IsRoot stuck_chain stuck_window 1
@@ -321,6 +302,72 @@ held-is-legal = record {
             (refl, (λ e. refl), (λ e. omega arith)),
             ((refl, omega arith), any_stuck, refl),
             ((refl, (λ e. refl), (λ e. omega arith)), ((refl, omega arith), any_stuck, refl), tt),
+          ),
+        ),
+      ),
+    ),
+  );
+  ended = record { claims = refl; made = refl };
+}
+
+-- the benchmark c17: 1, 2, 3, 6 and 7 are 0 to 4, 22 is 5, 23 is 6, 10 is 7, 11 is 8, 16 is 9, 19 is 10
+abbrev pub nand : ℕ → ℕ → Driver
+nand a b = Gate Nand (pin a ∷ pin b ∷ [])
+
+abbrev pub low : Driver
+low = Input (set 0 Zero ∷ [])
+
+abbrev pub c17 : Circuit
+c17 = record { horizon = 10; drivers = low ∷ low ∷ low ∷ low ∷ low ∷ nand 7 9 ∷ nand 9 10 ∷ nand 0 2 ∷ nand 2 3 ∷ nand 1 8 ∷ nand 8 4 ∷ [] }
+
+abbrev pub c17_query : Query
+c17_query = record { number = 1; signal = 5; from = 3; to = 4; budget = 50000 }
+
+abbrev pub c17_batch : Batch
+c17_batch = record { circuit = c17; shards = 1; capacity = 16384; queries = c17_query ∷ []; site = None }
+
+c17-53 : IsNeeded c17 (window_of c17_query) 5 3
+unfolding least_delay
+c17-53 = Root (First (omega arith)) (omega arith)
+
+c17-72 : IsNeeded c17 (window_of c17_query) 7 2
+unfolding children least_delay value row_at rows_below last_setting
+c17-72 = Child c17-53 (0, omega arith, refl) (omega arith)
+
+c17-92 : IsNeeded c17 (window_of c17_query) 9 2
+unfolding children least_delay value row_at rows_below last_setting
+c17-92 = Child c17-53 (1, omega arith, refl) (omega arith)
+
+-- signal 11 is not looked at, since signal 2 decides
+c17-children : children c17 9 2 ≡ at 1 1 ∷ []
+unfolding children value row_at rows_below last_setting
+c17-children = refl
+
+of_c17 : (p : Point) → IsNeededBy c17_batch c17_query p → OfQuery c17_batch 1 (λ q. IsNeededBy c17_batch q p)
+of_c17 p n = (c17_query, (0, omega arith, refl), refl, n)
+
+any_c17 : OfQuery c17_batch 1 (λ q. Unit {0})
+any_c17 = (c17_query, (0, omega arith, refl), refl, tt)
+
+c17-legal : IsLegalBatch c17_batch 0 [] (Claimed 1 (at 5 3) ∷ Claimed 1 (at 7 2) ∷ Filled 1 (at 7 2) (cell 1 11 One) ∷ Claimed 1 (at 9 2) ∷ Filled 1 (at 9 2) (cell 1 11 One) ∷ Filled 1 (at 5 3) (cell 2 11 Zero) ∷ [])
+unfolding span value row_at rows_below last_setting next_setting least_delay
+c17-legal = record {
+  legal = (
+    (refl, refl, refl),
+    ((refl, omega arith), of_c17 (at 5 3) c17-53),
+    (
+      (refl, refl, refl),
+      ((refl, omega arith), of_c17 (at 7 2) c17-72),
+      (
+        (refl, (λ e. refl), (λ e. omega arith)),
+        ((refl, omega arith), any_c17, refl),
+        (
+          (refl, refl, refl),
+          ((refl, omega arith), of_c17 (at 9 2) c17-92),
+          (
+            (refl, (λ e. refl), (λ e. omega arith)),
+            ((refl, omega arith), any_c17, refl),
+            ((refl, (λ e. refl), (λ e. omega arith)), ((refl, omega arith), any_c17, refl), tt),
           ),
         ),
       ),

@@ -1,17 +1,24 @@
 -- What a shard needs when it records one entry more.
-use Rattle.std.proofs.Common.{◌≡◌, ◌≢◌, ℕ, zero, suc, cond, ◌||◌, ◌+◌, ◌-◌, ◌≤◌, Bool, true, false, not, List, [], ◌∷◌, ◌++◌, length, take, filter, refl, sym, ap, arith, true≢false, inl, inr, length-take}
+use Rattle.std.proofs.Common.{◌≡◌, ◌≢◌, ℕ, zero, suc, cond, ◌||◌, ◌+◌, ◌-◌, ◌≤◌, Bool, true, false, not, List, [], ◌∷◌, ◌++◌, length, take, filter, refl, sym, ap, ap₂, subst, ◌∙◌, ◌&&◌, nat_eq, nat_le, nat_lt, eqb-true, leb-true, arith, true≢false, inl, inr, length-take}
 use Rattle.std.specs.List.{list_any}
-use Rattle.std.proofs.lemmas.Bool.{cases_Bool, or_parts}
+use Rattle.std.proofs.lemmas.Bool.{cases_Bool, or_parts, and_parts, ltb-true}
+use Rattle.gate_values.specs.declared.Value.{Value}
+use Rattle.valid_intervals.specs.declared.Cell.{Cell}
+use Rattle.valid_intervals.specs.declared.Point.{Point}
+use Rattle.valid_intervals.specs.Spans.{Span, IsIn}
+use Rattle.circuit_meaning.specs.Circuit.{Circuit, IsCircuit}
+use Rattle.circuit_meaning.specs.Cells.{span}
+use Rattle.circuit_meaning.proofs.Steady.{cell-steady}
 use Rattle.valid_intervals.specs.declared.SignalCell.{SignalCell}
 use Rattle.journal_meaning.specs.declared.Entry.{Entry}
 use Rattle.journal_meaning.specs.declared.Entry.TheVariants.{Told, Claimed, Filled, Evicted, Dropped, Spent}
 use Rattle.journal_meaning.specs.States.{State, is_stored}
 use Rattle.journal_meaning.specs.Table.{Needs, after}
-use Rattle.valid_intervals.specs.Cells.{same_stored, cell_for}
-use Rattle.journal_meaning.specs.Batch.{Batch, IsAllowed}
+use Rattle.valid_intervals.specs.Cells.{same_stored, cell_for, covers, to_front}
+use Rattle.journal_meaning.specs.Batch.{Batch, IsAllowed, IsRight, cell_at}
 use Rattle.journal_meaning.specs.Replay.{replay, IsLegal}
 use Rattle.journal_meaning.proofs.Same.{same_stored-true, same_stored-itself}
-use Rattle.journal_meaning.proofs.Lists.{Each, Differ, differ-front, test-false}
+use Rattle.journal_meaning.proofs.Lists.{Each, Differ, each-filter, differ-front, test-false}
 
 pub replay-more : (s : State) (es : List Entry) (e : Entry) → replay s (es ++ e ∷ []) ≡ after (replay s es) e
 replay-more s [] e = refl
@@ -86,3 +93,41 @@ still-fits capacity s (Claimed q p) n l = l
 still-fits capacity s (Evicted signal start) n l = let k = length-take (length s.cells - 1) s.cells in omega (arith, k, l)
 still-fits capacity s (Dropped q p) n l = l
 still-fits capacity s (Spent q p held) n l = l
+
+-- stored cells stay right
+all-front : (P : SignalCell → Type 0) (x : SignalCell) (cells : List SignalCell) → P x → Each P cells → Each P (to_front x cells)
+all-front P x cells h k = (h, each-filter P (λ y. not (same_stored x y)) cells k)
+
+right-at : (c : Circuit) (p : Point) (x : Cell) → p.time ≤ c.horizon → x ≡ cell_at c p → IsRight c (cell_for p x)
+right-at c p x h e = record { time = p.time; within = h; cell = e }
+
+pub still-right : (b : Batch) (shard : ℕ) (s : State) (e : Entry) → IsAllowed b shard e → Each (IsRight b.circuit) s.cells → Each (IsRight b.circuit) (after s e).cells
+still-right b shard s (Told q p x) a h = all-front (IsRight b.circuit) (cell_for p x) s.cells (right-at b.circuit p x a.0.1 a.2) h
+still-right b shard s (Filled q p x) a h = all-front (IsRight b.circuit) (cell_for p x) s.cells (right-at b.circuit p x a.0.1 a.2) h
+still-right b shard s (Claimed q p) a h = h
+still-right b shard s (Evicted signal start) a h = each-take (IsRight b.circuit) (length s.cells - 1) s.cells h
+still-right b shard s (Dropped q p) a h = h
+still-right b shard s (Spent q p held) a h = h
+
+pub all-right : (b : Batch) (shard : ℕ) (es : List Entry) (s : State) → IsLegal b shard s es → Each (IsRight b.circuit) s.cells → Each (IsRight b.circuit) (replay s es).cells
+all-right b shard [] s l h = h
+all-right b shard (e ∷ es) s l h = all-right b shard es (after s e) l.2 (still-right b shard s e l.1 h)
+
+-- a right cell is that of each of its times
+cell-is : (a b : Cell) → a.span ≡ b.span → a.value ≡ b.value → a ≡ b
+cell-is a b e f = let at : Span → Value → Cell = λ s v. record { span = s; value = v } in ap (λ s. at s a.value) e ∙ ap (at b.span) f
+
+pub right-within : (c : Circuit) → IsCircuit c → (x : SignalCell) → IsRight c x → (t : ℕ) → IsIn x.cell.span t → x.cell ≡ cell_at c (record { signal = x.signal; time = t })
+right-within c ok x r t inside =
+    let spans : x.cell.span ≡ span c x.signal r.time = ap (λ (z : Cell). z.span) r.cell in
+    let same = cell-steady c ok r.time x.signal t (subst (λ z. IsIn z t) spans inside) in
+    cell-is x.cell (cell_at c (record { signal = x.signal; time = t })) (spans ∙ sym same.span) (ap (λ (z : Cell). z.value) r.cell ∙ sym same.value)
+
+pub right-answers : (c : Circuit) → IsCircuit c → (p : Point) (x : SignalCell) → IsRight c x → covers p x ≡ true → x ≡ cell_for p (cell_at c p)
+right-answers c ok p x r h =
+    let k = and_parts (nat_eq x.signal p.signal && nat_le x.cell.span.start p.time) (nat_lt p.time x.cell.span.stop) h in
+    let l = and_parts (nat_eq x.signal p.signal) (nat_le x.cell.span.start p.time) k.0 in
+    let signal : x.signal ≡ p.signal = eqb-true x.signal p.signal l.0 in
+    let cell = right-within c ok x r p.time (record { low = leb-true x.cell.span.start p.time l.1; high = ltb-true p.time x.cell.span.stop k.1 }) in
+    let of : ℕ → Cell → SignalCell = λ s z. record { signal = s; cell = z } in
+    ap₂ of signal (cell ∙ ap (λ s. cell_at c (record { signal = s; time = p.time })) signal)

@@ -16,6 +16,19 @@
 //!   nothing.
 //!
 //! What a shard's type needs to keep these facts as it records one entry more are lemmas of `proofs/More`.
+//!
+//! No function here does anything, and no definition costs anything; a query and an entry are a few numbers, which are copied.
+//!
+//! An example: signal 1 is a buffer with a delay of 1, and its input is 1 from time 0 to the horizon, 10. A query for time 5 and
+//! then one for time 6, asked of an empty shard, leave the journal
+//!
+//! ```text
+//! Claimed { q: 1, p: 1 at 5 }
+//! Filled { q: 1, p: 1 at 5, cell: 1 from 1 to 11 }
+//! Told { q: 2, p: 1 at 6, cell: 1 from 1 to 11 }
+//! ```
+//!
+//! More of them stand in `proofs/Examples`, and in `proofs/Refusals` such as are not legal.
 #![tactic(auto)]
 
 ghost use Rattle.journal_meaning.specs.Laws.{CountsAdd, AgainAfterEviction, OneFillPerEviction, SpentNeedsMore, EnoughBudget};

@@ -1,5 +1,5 @@
 -- What a strand asks for is needed by a query of its batch.
-use Rattle.std.proofs.Common.{◌≡◌, ℕ, ◌+◌, ◌<◌, ◌≤◌, refl, sym, subst, inl, inr, Contains, Option, Some, None}
+use Rattle.std.proofs.Common.{arith, ◌≡◌, ℕ, ◌+◌, ◌<◌, ◌≤◌, refl, sym, subst, inl, inr, Contains, Option, Some, None}
 use Rattle.valid_intervals.specs.declared.Point.{Point}
 use Rattle.circuit_meaning.specs.declared.Window.{Window}
 use Rattle.circuit_meaning.specs.Circuit.{Circuit, IsCircuit}
@@ -8,13 +8,14 @@ use Rattle.circuit_meaning.specs.Held.{held}
 use Rattle.circuit_meaning.specs.Laws.{at_point}
 use Rattle.circuit_meaning.proofs.Alike.{held-fits}
 use Rattle.circuit_meaning.proofs.Free.{needed-alike}
-use Rattle.circuit_meaning.proofs.Roots.{needed-alone}
+use Rattle.circuit_meaning.proofs.Roots.{needed-alone, needed-before}
 use Rattle.journal_meaning.specs.declared.Query.{Query}
 use Rattle.journal_meaning.specs.Batch.{Batch, Site, IsNeededBy, NeedOf, OfQuery, window_of}
 use Rattle.strand_meaning.specs.Batches.{IsLawful, IsQueryOf, start_of}
 use Rattle.strand_meaning.specs.declared.Next.TheVariants.{Ask}
 use Rattle.strand_meaning.specs.Strands.{Strand, IsStrand, next, IsHeld}
 use Rattle.strand_meaning.specs.Laws.{IsWanted, AsksWhatIsNeeded}
+use Rattle.strand_meaning.proofs.Started.{query-within}
 use Rattle.strand_meaning.proofs.Stacks.{IsAskable, first-askable, held-askable, asks-first, earlier}
 
 -- what a query for a needed point needs, the query needs
@@ -46,3 +47,11 @@ asks-needed b l s is = record {
 
 pub waits-earlier : (b : Batch) → IsLawful b → (s : Strand) → IsStrand b s → (p x : Point) → next s ≡ Ask p → IsHeld s.stack x → p.time < x.time
 waits-earlier b l s is p x h k = earlier b.circuit l.circuit s.roots s.stack p x is.chain (asks-first s p h) k
+
+-- what a strand holds lies within the horizon
+pub held-within : (b : Batch) → IsLawful b → (s : Strand) → IsStrand b s → (p : Point) → IsHeld s.stack p → p.time ≤ b.circuit.horizon
+held-within b l s is p h =
+    let a = held-askable b.circuit (window_of s.query) s.roots s.stack p is.roots is.chain h in
+    let before : p.time < s.query.to = needed-before b.circuit l.circuit (window_of s.query) p.signal p.time a.needed in
+    let window = (query-within b l s.query is.known).window in
+    omega arith

@@ -25,6 +25,8 @@ pub record IsSubQuery (b : Batch) (q : Query) : Type 0 where
   pub number : q.number ≡ of.number
   pub budget : q.budget ≡ of.budget
   pub alone : q.to ≡ q.from + 1
+  pub signal : q.signal < length b.circuit.drivers
+  pub within : q.to ≤ b.circuit.horizon + 1
   pub needed : IsNeededBy b of (start_of q)
 
 -- What strands of the batch serve: its queries, and queries for one point that these need. Where a signal is held, only the latter.

@@ -1,5 +1,5 @@
 -- Points, cells, and lists of cells with the most recent first.
-use Rattle.std.specs.Prelude.{ℕ, ◌-◌, nat_le, nat_lt, nat_eq, Bool, not, ◌&&◌, List, ◌∷◌, length, take, filter}
+use Rattle.std.specs.Prelude.{◌-◌, nat_le, nat_lt, nat_eq, Bool, not, ◌&&◌, List, ◌∷◌, length, take, filter}
 use Rattle.gate_values.specs.Gates.{same_value}
 use Rattle.valid_intervals.specs.declared.Point.{Point}
 use Rattle.valid_intervals.specs.declared.Cell.{Cell}

@@ -1,5 +1,5 @@
 -- Intervals of times.
-use Rattle.std.specs.Prelude.{ℕ, ◌+◌, ◌≤◌, ◌<◌, min, max}
+use Rattle.std.specs.Prelude.{ℕ, ◌+◌, ◌≤◌, ◌<◌, ◌↔◌, min, max}
 
 -- the times from start on and below stop
 pub record Span : Type 0 where
@@ -29,3 +29,11 @@ cut_at limit a = from_to a.start (min a.stop limit)
 pub record IsSpan (a : Span) : Type 0 where
   pub some : a.start < a.stop
   pub within : a.stop ≤ 2000002
+
+-- a time is in the meet exactly where it is in both
+abbrev pub MeetsAreIntersections : Type 0
+MeetsAreIntersections = (a b : Span) (t : ℕ) → (IsIn (meet a b) t) ↔ (IsIn a t × IsIn b t)
+
+-- a time that is later by d is in the moved span, cut at the limit, exactly where the time was in the span and is below the limit
+abbrev pub MovedIsLater : Type 0
+MovedIsLater = (d limit : ℕ) (a : Span) (t : ℕ) → (IsIn (cut_at limit (moved d a)) (t + d)) ↔ (IsIn a t × (t + d < limit))

@@ -1,13 +1,27 @@
 //! Intervals of times, cells and points.
 //!
-//! A [`Span`] is a nonempty interval of times, a [`Cell`] is an interval with the one value that a signal has in it, and a
-//! [`Point`] is a signal at a time. A [`SignalCell`] is a cell together with its signal: what a memo stores.
+//! A [`Span`] is an interval of times that has at least one: its start is in it, its end is the first time behind it. A
+//! [`Cell`] is a span with the one value that a signal has in it, a [`Point`] is a signal at a time, and a [`SignalCell`]
+//! is a cell together with its signal, which is what a memo stores.
+//!
+//! A gate changes only where a pin that it looks at does. So the span of its cell is the intersection of its pins' spans,
+//! each moved by the delay of the pin and cut at the end of the simulation: [`Span::meet`] and [`Span::moved`]. Callers may
+//! rely on a span being nonempty and ending at [`LATEST`] at most; what would be empty is `None`.
+//!
 //! All are small values that are copied; every call takes constant time and no memory.
+//!
+//! ```
+//! let pin = Span::new(0, 10)?.moved(3, 11)?; // 3 to 11
+//! let both = pin.meet(Span::new(0, 8)?)?; // 3 to 8
+//! let cell = Cell { span: both, value: Value::One };
+//! cell.covers(7) // true
+//! ```
 #![tactic(auto)]
 
-ghost use Rattle.std.specs.Prelude.{◌≡◌, ◌+◌, ◌<◌, ◌≤◌, ◌↔◌, IsTrue, IsNone, IfSome, max, min};
+ghost use Rattle.std.specs.Prelude.{◌≡◌, ◌+◌, ◌<◌, ◌≤◌, ◌↔◌, ◌⊎◌, IsTrue, IsNone, IfSome, max, min};
+ghost use Rattle.valid_intervals.specs.Cells as cells;
 ghost use Rattle.valid_intervals.specs.Spans as spans;
-ghost use Rattle.valid_intervals.specs.Spans.{IsIn, IsSpan, from_to, cut_at};
+ghost use Rattle.valid_intervals.specs.Spans.{IsIn, IsSpan, from_to, cut_at, MeetsAreIntersections, MovedIsLater};
 
 use gate_values::Value;
 use std::marker::Model;
@@ -38,7 +52,7 @@ impl Span {
     /// The times from `start` on and below `end`, where there is one.
     pub fn new(start: u32, end: u32) -> Option<Span>
         ensures some { IfSome result (λ span. span ≡ from_to start end) }
-        ensures none { IsNone result ↔ (IsSpan (from_to start end) → ⊥) }
+        ensures none { IsNone result ↔ ((end ≤ start) ⊎ (2000002 < end)) }
     {
         if start < end && end <= LATEST {
             Some(Span { start, end })
@@ -98,8 +112,8 @@ impl Cell {
     }
 }
 
-/// A signal at a time.
-#[derive(Clone, Copy, Debug, PartialEq, Eq, PartialOrd, Ord)]
+/// A signal, by its number, at a time.
+#[derive(Clone, Copy, Debug, PartialEq, Eq, PartialOrd, Ord, Hash)]
 pub struct Point {
     pub signal: u32,
     pub time: u32,
@@ -110,4 +124,77 @@ pub struct Point {
 pub struct SignalCell {
     pub signal: u32,
     pub cell: Cell,
+}
+
+impl SignalCell {
+    /// Whether it is a cell of the point's signal that has the point's time.
+    pub fn covers(&self, point: Point) -> bool
+        ensures { result ≡ cells.covers point self.now }
+    {
+        self.signal == point.signal
+            && self.cell.span.start <= point.time
+            && point.time < self.cell.span.end
+    }
+}
+
+/// A law, for proofs; the function does nothing. A time lies in the meet of two spans exactly where it lies in both.
+pub fn meets_are_intersections()
+    ensures { MeetsAreIntersections }
+{}
+
+/// A law, for proofs; the function does nothing. A moved span has the times of the old one, each later by as much, up to
+/// the limit.
+pub fn moved_is_later()
+    ensures { MovedIsLater }
+{}
+
+#[cfg(test)]
+mod tests {
+    use super::*;
+
+    fn span(start: u32, end: u32) -> Option<Span> {
+        Span::new(start, end)
+    }
+
+    #[test]
+    fn spans(rt: HostRuntime) {
+        for (start, end, some) in [
+            (0, 1, true),
+            (4, 4, false),
+            (5, 4, false),
+            (7, 2_000_002, true),
+            (7, 2_000_003, false),
+        ] {
+            let made = span(start, end);
+            assert_eq!(rt; made.is_some(), some, "{start} to {end}");
+            if let Some(made) = made {
+                assert_eq!(rt; (made.start(), made.end()), (start, end));
+            }
+        }
+        // from 2 to 11, and from 5 to 11
+        for (by, cut, moved) in [(3, 11, span(3, 11)), (3, 9, span(3, 9)), (9, 9, None)] {
+            assert_eq!(rt; span(0, 8).and_then(|s| s.moved(by, cut)), moved, "by {by}");
+        }
+        for (start, end, met) in [(5, 20, span(5, 8)), (0, 3, span(2, 3)), (8, 9, None)] {
+            let other = span(start, end);
+            let both = span(2, 8).and_then(|s| other.and_then(|o| s.meet(o)));
+            assert_eq!(rt; both, met, "with {start} to {end}");
+        }
+    }
+
+    #[test]
+    fn cells(rt: HostRuntime) {
+        if let Some(span) = span(3, 8) {
+            let cell = Cell {
+                span,
+                value: Value::One,
+            };
+            for (time, covered) in [(2, false), (3, true), (7, true), (8, false)] {
+                assert_eq!(rt; cell.covers(time), covered, "at {time}");
+                let stored = SignalCell { signal: 4, cell };
+                assert_eq!(rt; stored.covers(Point { signal: 4, time }), covered);
+                assert!(rt; !stored.covers(Point { signal: 5, time }));
+            }
+        }
+    }
 }

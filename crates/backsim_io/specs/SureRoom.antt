@@ -1,0 +1,6 @@
+-- How many bytes sure files keep of each file that they create.
+use Rattle.std.specs.Prelude.{ℕ}
+use Rattle.backsim_io.specs.declared.sure_files.SureFiles.{SureFiles}
+
+abbrev pub room_of : SureFiles → ℕ
+room_of files = files.room

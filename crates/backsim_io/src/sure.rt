@@ -1,0 +1,89 @@
+//! Objects in memory that never fail and take no memory after they are made.
+ghost use Rattle.std.specs.Prelude.{◌≡◌, ℕ, [], Some, length, take, drop, IfOk, vec_len, vec_capacity, ◌≤◌};
+ghost use Rattle.backsim_io.specs.Kept.{Kept, kept_more};
+
+use crate::copies::copy_next;
+use crate::{Failed, OutOfMemory, Sink, Source};
+use std::alloc::Global;
+use std::marker::Model;
+
+/// A source in memory that never fails: its count of faults is the constant 0.
+#[derive(Drop)]
+pub struct SureSource {
+    bytes: Vec<u8>,
+    at: usize,
+    ghost within: { at ≤ length bytes.items },
+}
+
+impl SureSource {
+    /// A source of these bytes.
+    pub fn new(bytes: Vec<u8>) -> SureSource
+        ensures left { ⟦<SureSource as Source>⟧.left result ≡ Some bytes.items }
+    {
+        SureSource { bytes, at: 0 }
+    }
+}
+
+impl Source for SureSource {
+    ghost left = { λ s. Some (drop s.at s.bytes.items) };
+
+    ghost faults = { λ _. 0 };
+
+    fn read(&mut self, into: &mut [u8]) -> Result<usize, Failed> {
+        let n = copy_next(&self.bytes, self.at, into, usize::MAX);
+        self.at += n;
+        Ok(n)
+    }
+}
+
+/// A sink in memory that never fails: its count of faults is the constant 0. It keeps the first
+/// bytes, as many as it has room for, and takes the others without keeping them.
+#[derive(Drop)]
+pub struct SureSink {
+    kept: Vec<u8>,
+    room: usize,
+}
+
+impl Model for SureSink {
+    ghost Value = { Kept };
+
+    ghost view = { λ s. record { room = s.room; bytes = s.kept.items } };
+
+    ghost invariant = { λ s. (vec_len s.kept ≤ s.room) × (s.room ≤ vec_capacity s.kept) };
+}
+
+impl SureSink {
+    /// A sink that keeps the first `room` bytes. The room is taken here, and no call takes more.
+    pub fn new(alloc: Global, room: usize) -> Result<SureSink, OutOfMemory>
+        ensures { IfOk result (λ s. s ≡ record { room = room; bytes = [] }) }
+    {
+        let kept = Vec::with_capacity(alloc, room)?;
+        Ok(SureSink { kept, room })
+    }
+
+    /// The bytes that were kept.
+    pub fn bytes(&self) -> &[u8]
+        ensures { result.now ≡ self.now.bytes }
+    {
+        &self.kept
+    }
+
+    /// Keeps the bytes that there is room for.
+    pub(crate) fn keep(&mut self, piece: &[u8])
+        ensures { self.new ≡ kept_more self.old piece.now }
+    {
+        let n = (self.room - self.kept.len()).min(piece.len());
+        self.kept.extend_from_slice(&piece[..n]).unwrap();
+    }
+}
+
+impl Sink for SureSink {
+    ghost written = { λ s xs. take s.room xs ≡ s.bytes };
+
+    ghost faults = { λ _. 0 };
+
+    fn write(&mut self, piece: &[u8]) -> Result<usize, Failed> {
+        self.keep(piece);
+        Ok(piece.len())
+    }
+}

@@ -1,0 +1,190 @@
+//! Files in memory that never fail and take no memory after they are made.
+ghost use Rattle.std.specs.Prelude.{◌≡◌, List, [], Some, map, take, drop, length, All, option_map, slice_get, vec_len, vec_capacity, IsNone, IfOk, ◌↔◌, ◌+◌, ◌<◌, ◌≤◌, true};
+ghost use Rattle.std.specs.Option.{option_copied};
+ghost use Rattle.backsim_io.specs.Held.{Made, Places, bytes_at};
+ghost use Rattle.backsim_io.specs.Kept.{kept_more};
+ghost use Rattle.backsim_io.specs.SureFiles.{KeptFile, IsBlank, kept_file, cut, held_or_empty};
+
+use crate::held::HeldFiles;
+use crate::slots::Slots;
+use crate::{Failed, Files, OutOfMemory, SureSink, Text};
+use std::alloc::Global;
+use std::marker::Model;
+
+/// How many files may be created.
+const FILES: usize = 4;
+
+/// How many bytes of a created file's name are kept.
+const NAME: usize = 255;
+
+/// A created file, or a place for one: the first bytes of its name and of what was written.
+#[derive(Drop)]
+struct SureFile {
+    name: SureSink,
+    bytes: SureSink,
+}
+
+impl Model for SureFile {
+    ghost Value = { KeptFile };
+
+    ghost view = { λ file. record { name = file.name.bytes; bytes = file.bytes } };
+
+    ghost invariant = { λ file. file.name.room ≡ 255 };
+}
+
+impl SureFile {
+    /// A place for a file of this room.
+    fn new(alloc: Global, room: usize) -> Result<SureFile, OutOfMemory>
+        ensures { IfOk result (λ file. IsBlank room file) }
+    {
+        let name = SureSink::new(alloc, NAME)?;
+        let bytes = SureSink::new(alloc, room)?;
+        Ok(SureFile { name, bytes })
+    }
+
+    /// Names the file.
+    fn set_name(&mut self, name: &str)
+        requires { self.old.name ≡ [] }
+        ensures { self.new ≡ record self.old { name = take 255 name.now } }
+    {
+        self.name.keep(name.as_bytes());
+    }
+
+    /// Keeps the bytes that there is room for.
+    fn keep(&mut self, piece: &[u8])
+        ensures { self.new ≡ record self.old { bytes = kept_more self.old.bytes piece.now } }
+    {
+        self.bytes.keep(piece);
+    }
+
+    /// The bytes that were kept.
+    fn bytes(&self) -> &[u8]
+        ensures { result.now ≡ self.now.bytes.bytes }
+    {
+        self.bytes.bytes()
+    }
+}
+
+/// Files in memory that never fail: their three counts of faults are the constant 0. Each created file
+/// keeps its first bytes, as many as there is room for, and takes the others without keeping them. Of
+/// its name it keeps the first 255 bytes.
+#[derive(Drop)]
+pub struct SureFiles {
+    held: HeldFiles,
+    room: usize,
+    created: Vec<SureFile>,
+    spare: Vec<SureFile>,
+    slots: Slots,
+    ghost fit: { Places slots.files slots.unfinished },
+    ghost all: { slots.files ≡ length created.items },
+    ghost four: { vec_len created + vec_len spare ≡ 4 },
+    ghost fits: { 4 ≤ vec_capacity created },
+    ghost rooms: { All (λ file. file.bytes.room ≡ room) created.items },
+    ghost blank: { All (IsBlank room) spare.items },
+}
+
+/// Four places for files of this room.
+fn blank_files(alloc: Global, room: usize) -> Result<Vec<SureFile>, OutOfMemory>
+    ensures four { IfOk result (λ files. vec_len files ≡ 4) }
+    ensures blank { IfOk result (λ files. All (IsBlank room) files.items) }
+{
+    let mut files = Vec::with_capacity(alloc, FILES)?;
+    for _ in 0..FILES {
+        files.push(SureFile::new(alloc, room)?)?;
+    }
+    Ok(files)
+}
+
+impl SureFiles {
+    ghost use Rattle.backsim_io.specs.SureRoom.{room_of};
+
+    /// Files that hold these bytes under these names, of two equal names the first, and an empty file
+    /// under every other name. The room for four created files is taken here, and no call takes more.
+    pub fn new(
+        alloc: Global,
+        held: Vec<(Text, Vec<u8>)>,
+        room: usize,
+    ) -> Result<SureFiles, OutOfMemory>
+        ensures room { IfOk result (λ s. room_of s ≡ room) }
+        ensures held { IfOk result (λ s. ⟦<SureFiles as Files>⟧.held s ≡ held_or_empty held.items) }
+        ensures left { IfOk result (λ s. ⟦<SureFiles as Files>⟧.left s ≡ Some []) }
+        ensures made { IfOk result (λ s. ⟦<SureFiles as Files>⟧.made s []) }
+        ensures started { IfOk result (λ s. ⟦<SureFiles as Files>⟧.started s ≡ 0) }
+        ensures files { IfOk result (λ s. ⟦<SureFiles as Files>⟧.files s ≡ 0) }
+        ensures unfinished { IfOk result (λ s. ⟦<SureFiles as Files>⟧.unfinished s ≡ []) }
+    {
+        let created = Vec::with_capacity(alloc, FILES)?;
+        let spare = blank_files(alloc, room)?;
+        Ok(SureFiles {
+            held: HeldFiles::new(held),
+            room,
+            created,
+            spare,
+            slots: Slots::new(),
+        })
+    }
+
+    /// The bytes that were kept of the created file at this place.
+    pub fn made(&self, slot: u32) -> Option<&[u8]>
+        ensures bytes { (files : List Made) → ⟦<SureFiles as Files>⟧.made self.now files → option_copied result ≡ option_map (λ file. take (room_of self.now) file.bytes) (slice_get files slot) }
+        ensures none { IsNone result ↔ (⟦<SureFiles as Files>⟧.files self.now ≤ slot) }
+    {
+        match self.created.get(slot as usize) {
+            Some(file) => Some(file.bytes()),
+            None => None,
+        }
+    }
+}
+
+impl Files for SureFiles {
+    ghost held = { λ s. held_or_empty s.held.files.items };
+
+    ghost tells_names = { true };
+
+    ghost left = { λ s. Some (drop s.held.at (bytes_at s.held.files.items s.held.reading)) };
+
+    ghost made = { λ s files. map (cut s.room) files ≡ map kept_file s.created.items };
+
+    ghost file_faults = { λ _. 0 };
+
+    ghost read_faults = { λ _. 0 };
+
+    ghost write_faults = { λ _. 0 };
+
+    ghost started = { λ s. s.held.started };
+
+    ghost files = { λ s. s.slots.files };
+
+    ghost unfinished = { λ s. s.slots.unfinished };
+
+    ghost places = { λ s. s.fit };
+
+    fn start_read(&mut self, name: &str) -> Result<(), Failed> {
+        let place = self.held.place_of(name);
+        self.held.start(place);
+        Ok(())
+    }
+
+    fn read(&mut self, into: &mut [u8]) -> Result<usize, Failed> {
+        Ok(self.held.next(into))
+    }
+
+    fn create(&mut self, name: &str) -> Result<u32, Failed> {
+        let place = self.slots.files();
+        let mut file = self.spare.pop().unwrap();
+        file.set_name(name);
+        self.created.push(file).unwrap();
+        self.slots.add();
+        Ok(place)
+    }
+
+    fn write(&mut self, slot: u32, piece: &[u8]) -> Result<usize, Failed> {
+        self.created[slot as usize].keep(piece);
+        Ok(piece.len())
+    }
+
+    fn finish(&mut self, slot: u32) -> Result<(), Failed> {
+        self.slots.remove(slot);
+        Ok(())
+    }
+}

@@ -1,0 +1,4 @@
+pub mod Causes
+pub mod Netlists
+pub mod Kept
+pub mod Reading

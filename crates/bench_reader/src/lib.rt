@@ -1,0 +1,56 @@
+//! The netlist: the signals of a circuit and what drives each, read from the
+//! text form of the ISCAS'85 and ISCAS'89 benchmarks (`.bench`).
+//!
+//! The file is text after the rules of `text_rules`. Its tokens are names and
+//! the marks `(`, `)`, `,` and `=`; blanks may stand between them. A line that
+//! isn't blank has one of three forms:
+//!
+//! | line | meaning |
+//! |---|---|
+//! | `INPUT ( name )` | the signal is a primary input |
+//! | `OUTPUT ( name )` | the signal is an output |
+//! | `name = KIND ( LIST )` | the signal is driven by a gate or flip-flop of this kind, whose pins are the names of LIST in order, divided by `,` |
+//!
+//! INPUT, OUTPUT and the kinds are read in either case; the kinds are AND,
+//! NAND, OR, NOR, XOR, XNOR, NOT, BUFF (also BUF) and DFF. A first name that
+//! `=` follows is the name of a gate, whatever it is. A name may be used above
+//! the line that defines it, a gate may have itself among its pins, and an
+//! INPUT or OUTPUT line may be said again. Lines may stand in any order.
+//!
+//! [`read_bench`] reads a whole file. Its one clause says that the answer is
+//! `bench_of` of the text (`specs/Netlists.antt`): the netlist, or the first
+//! line at fault with its cause. A line's cause is a fact about the line and
+//! the lines before it; only where no line has one, the first use of a name
+//! that is defined nowhere is the fault. Want of memory alone is left open.
+//!
+//! [`Netlist`] is seen by contracts as its content: the names of the signals
+//! in the order of first appearance, whose places are their numbers; what
+//! drives each; and the outputs. `facts` tells a proof what holds of each
+//! netlist: all pins and outputs are signals, the numbers of pins are those
+//! that the kinds take, and no name stands twice.
+//!
+//! Reading takes one walk over the text and one look-up in a hash set for each
+//! name that it meets, so its time grows with the length of the text. A
+//! netlist keeps each name once, and the pins of all gates in one list. `id_of`
+//! is one look-up, and the other calls read one place each.
+//!
+//! ```text
+//! let netlist = read_bench(alloc, b"INPUT(a)\nOUTPUT(y)\ny = NOT(a)\n")?;
+//! match netlist.row(1) {
+//!     Row::Input => ..,
+//!     Row::Gate { kind, pins } => .. // Kind::Not, [0]
+//! }
+//! ```
+#![tactic(auto)]
+
+mod fault;
+mod names;
+mod netlist;
+mod reader;
+
+pub use fault::{BenchCause, BenchFault};
+pub use netlist::{Netlist, Row};
+pub use reader::read_bench;
+
+#[cfg(test)]
+mod tests;

@@ -1,0 +1,106 @@
+//! The netlist that a text says.
+
+ghost use Rattle.std.specs.Prelude.{◌≡◌, ◌<◌, length, position, slice_get, Some};
+ghost use Rattle.std.specs.Str.{bytes_eq};
+ghost use Rattle.bench_reader.specs.Netlists.{IsNetlist};
+ghost use Rattle.bench_reader.specs.Kept.{driver_of_row};
+
+use gate_values::Kind;
+use indexmap::IndexSet;
+use std::marker::Model;
+
+/// What the lines so far say of a signal's definition.
+#[derive(Clone, Copy)]
+pub enum Definition {
+    /// None of them defines it, and this one is the first that names it.
+    Missing { line: u32 },
+    Input,
+    /// The pins are `count` numbers of the netlist's list of pins, from `start` on.
+    Gate { kind: Kind, start: u32, count: u32 },
+}
+
+/// What drives a signal: the outside, or a gate or flip-flop with these pins in order.
+#[derive(Clone, Copy)]
+pub enum Row<'a> {
+    Input,
+    Gate { kind: Kind, pins: &'a [u32] },
+}
+
+/// The signals of a netlist, numbered from 0 in the order in which their names first appear.
+///
+/// It holds each name once and the pins of all gates in one list. A name is looked up by hashing,
+/// and the other calls read one place.
+#[derive(Drop)]
+pub struct Netlist {
+    pub(crate) names: IndexSet<Vec<u8>>,
+    pub(crate) rows: Vec<Definition>,
+    pub(crate) pins: Vec<u32>,
+    pub(crate) outputs: IndexSet<u32>,
+}
+
+impl Model for Netlist {
+    ghost use Rattle.bench_reader.specs.Netlists.{Content};
+    ghost use Rattle.bench_reader.specs.Kept.{content, IsHeld};
+
+    ghost Value = { Content };
+
+    ghost view = { λ n. content n.names.keys n.rows.items n.pins.items n.outputs.keys };
+
+    ghost invariant = { λ n. IsHeld n.names.keys n.rows.items n.pins.items n.outputs.keys };
+}
+
+impl Netlist {
+    /// What holds of each netlist, for a proof that needs it. Nothing runs.
+    pub fn facts(&self)
+        ensures { IsNetlist self.now }
+    {
+        let _ = &self.rows;
+    }
+
+    /// How many signals there are.
+    pub fn signals(&self) -> u32
+        ensures { result ≡ length self.now.names }
+    {
+        self.names.len() as u32
+    }
+
+    /// The number of the signal of a name.
+    pub fn id_of(&self, name: &[u8]) -> Option<u32>
+        ensures { result ≡ position (bytes_eq name.now) self.now.names }
+    {
+        match self.names.get_index_of(name) {
+            None => None,
+            Some(index) => Some(index as u32),
+        }
+    }
+
+    pub fn name_of(&self, id: u32) -> &[u8]
+        requires { id < length self.now.names }
+        ensures { slice_get self.now.names id ≡ Some result.now }
+    {
+        self.names.as_slice()[id as usize].as_slice()
+    }
+
+    pub fn row(&self, id: u32) -> Row<'_>
+        requires { id < length self.now.names }
+        ensures { slice_get self.now.rows id ≡ Some (driver_of_row result) }
+    {
+        match self.rows[id as usize] {
+            Definition::Gate { kind, start, count } => {
+                let from_start = self.pins.as_slice().split_at(start as usize).1;
+                Row::Gate {
+                    kind,
+                    pins: from_start.split_at(count as usize).0,
+                }
+            }
+            Definition::Input | Definition::Missing { .. } => Row::Input,
+        }
+    }
+
+    /// The outputs, each once, in the order of their first OUTPUT lines.
+    pub fn outputs(&self) -> &[u32]
+        ensures { result.now ≡ self.now.outputs }
+    {
+        self.outputs.as_slice()
+    }
+}

@@ -1,0 +1,284 @@
+//! Reading the lines one after another.
+
+ghost use Rattle.std.specs.Prelude.{◌≡◌, ◌+◌, ◌≤◌, ℕ, false, List, [], ◌∷◌, length, map, Err, OnOk, IfOk, IfErr};
+ghost use Rattle.std.specs.List.{list_any};
+ghost use Rattle.bench_lines.specs.Lines.{Input, Output, Gate, line_of};
+ghost use Rattle.bench_reader.specs.Netlists.{out_of_memory, bench_of, Answers};
+ghost use Rattle.bench_reader.specs.Netlists as netlists;
+ghost use Rattle.bench_reader.specs.Reading.{IsSound, Takes, ReadsAll, CountsPins, padded, first_missing, is_gate_at, is_defined_at};
+ghost use Rattle.text_rules.specs.Text.{lines};
+ghost use Rattle.bench_lines.specs.Views.{view, each_now};
+
+use crate::fault::{BenchCause, BenchFault};
+use crate::names::{number, number_all};
+use crate::netlist::{Definition, Netlist};
+use bench_lines::{Form, form_of};
+use gate_values::Kind;
+use indexmap::IndexSet;
+use std::alloc::Global;
+use text_rules::next_line;
+
+/// What the lines so far say.
+#[derive(Drop)]
+pub struct Reader {
+    pub names: IndexSet<Vec<u8>>,
+    pub rows: Vec<Definition>,
+    pub pins: Vec<u32>,
+    pub outputs: IndexSet<u32>,
+}
+
+/// The most bytes of a name, pins of a gate, names of a netlist and pins of all its gates.
+const LONGEST_NAME: usize = 255;
+
+const MOST_GATE_PINS: usize = 64;
+
+const MOST_NAMES: usize = 1_048_576;
+
+const MOST_PINS: usize = 4_194_304;
+
+fn is_gate(rows: &[Definition], id: u32) -> bool
+    ensures { result ≡ is_gate_at rows.now id }
+{
+    match rows.get(id as usize) {
+        Some(Definition::Gate { .. }) => true,
+        _ => false,
+    }
+}
+
+/// A name that is new has no row yet.
+fn is_defined(rows: &[Definition], id: u32) -> bool
+    ensures { result ≡ is_defined_at rows.now id }
+{
+    match rows.get(id as usize) {
+        Some(Definition::Missing { .. }) => false,
+        Some(_) => true,
+        None => false,
+    }
+}
+
+fn is_miscounted(kind: Kind, pins: usize) -> bool
+    ensures { result ≡ netlists.miscounts kind pins }
+{
+    pins == 0 || pins > MOST_GATE_PINS || (kind.is_unary() && pins != 1)
+}
+
+fn is_long(name: &[u8]) -> bool
+    ensures { result ≡ netlists.is_long name.now }
+{
+    name.len() > LONGEST_NAME
+}
+
+fn is_any_pin_long(pins: &[&[u8]]) -> bool
+    ensures { result ≡ list_any (λ p. netlists.is_long p.now) pins.now }
+{
+    pins.iter().any(|pin| is_long(pin))
+}
+
+fn is_any_long(name: &[u8], pins: &[&[u8]]) -> bool
+    ensures { result ≡ list_any netlists.is_long (name.now ∷ each_now pins.now) }
+{
+    is_long(name) || is_any_pin_long(pins)
+}
+
+fn fault(cause: BenchCause, line: u32) -> Result<(), BenchFault>
+    ensures { result ≡ Err (record { cause = cause; line = line }) }
+{
+    Err(BenchFault { cause, line })
+}
+
+/// Adds rows for new names, which this line is the first to name.
+fn add_rows(
+    rows: &mut Vec<Definition>,
+    names: &IndexSet<Vec<u8>>,
+    line: u32,
+) -> Result<(), BenchFault>
+    requires { length rows.old.items ≤ length names.now.keys }
+    ensures rows { OnOk result (rows.new.items ≡ padded rows.old.items (length names.now.keys) line) }
+    ensures memory { IfErr result (λ fault. fault ≡ out_of_memory) }
+{
+    rows.resize(names.len(), Definition::Missing { line })?;
+    Ok(())
+}
+
+impl Reader {
+    fn new(alloc: Global) -> Reader
+        ensures names { result.names.keys ≡ [] }
+        ensures rows { result.rows.items ≡ [] }
+        ensures pins { result.pins.items ≡ [] }
+        ensures outputs { result.outputs.keys ≡ [] }
+    {
+        Reader {
+            names: IndexSet::new(alloc),
+            rows: Vec::new(alloc),
+            pins: Vec::new(alloc),
+            outputs: IndexSet::new(alloc),
+        }
+    }
+
+    fn is_crowded(&self) -> bool
+        ensures { result ≡ netlists.exceeds (length self.now.names.keys) (length self.now.pins.items) }
+    {
+        self.names.len() > MOST_NAMES || self.pins.len() > MOST_PINS
+    }
+
+    fn take_input(&mut self, alloc: Global, line: u32, name: &[u8]) -> Result<(), BenchFault>
+        requires sound { IsSound self.old }
+        ensures sound { OnOk result (IsSound self.new) }
+        ensures steps { Takes self.old (Input name.now) line self.new result }
+    {
+        if is_long(name) {
+            return fault(BenchCause::NameLong, line);
+        }
+        let id = number(alloc, &mut self.names, name)?;
+        if is_gate(&self.rows, id) {
+            return fault(BenchCause::Twice, line);
+        }
+        add_rows(&mut self.rows, &self.names, line)?;
+        if self.is_crowded() {
+            return fault(BenchCause::TooMany, line);
+        }
+        self.rows[id as usize] = Definition::Input;
+        Ok(())
+    }
+
+    fn take_output(&mut self, alloc: Global, line: u32, name: &[u8]) -> Result<(), BenchFault>
+        requires sound { IsSound self.old }
+        ensures sound { OnOk result (IsSound self.new) }
+        ensures steps { Takes self.old (Output name.now) line self.new result }
+    {
+        if is_long(name) {
+            return fault(BenchCause::NameLong, line);
+        }
+        let id = number(alloc, &mut self.names, name)?;
+        add_rows(&mut self.rows, &self.names, line)?;
+        if self.is_crowded() {
+            return fault(BenchCause::TooMany, line);
+        }
+        self.outputs.insert(id)?;
+        Ok(())
+    }
+
+    fn take_pins(
+        &mut self,
+        alloc: Global,
+        line: u32,
+        name: &[u8],
+        kind: Kind,
+        pins: &[&[u8]],
+    ) -> Result<(), BenchFault>
+        requires sound { IsSound self.old }
+        requires few { length pins.now ≤ 64 }
+        requires counted { netlists.miscounts kind (length pins.now) ≡ false }
+        ensures sound { OnOk result (IsSound self.new) }
+        ensures steps { (word : List ℕ) → CountsPins name.now word kind (each_now pins.now) → Takes self.old (Gate name.now word (each_now pins.now)) line self.new result }
+    {
+        let id = number(alloc, &mut self.names, name)?;
+        if is_defined(&self.rows, id) {
+            return fault(BenchCause::Twice, line);
+        }
+        let start = self.pins.len() as u32;
+        number_all(alloc, &mut self.names, &mut self.pins, pins)?;
+        add_rows(&mut self.rows, &self.names, line)?;
+        if self.is_crowded() {
+            return fault(BenchCause::TooMany, line);
+        }
+        self.rows[id as usize] = Definition::Gate {
+            kind,
+            start,
+            count: pins.len() as u32,
+        };
+        Ok(())
+    }
+
+    fn take_gate(
+        &mut self,
+        alloc: Global,
+        line: u32,
+        name: &[u8],
+        word: &[u8],
+        pins: &[&[u8]],
+    ) -> Result<(), BenchFault>
+        requires sound { IsSound self.old }
+        ensures sound { OnOk result (IsSound self.new) }
+        ensures steps { Takes self.old (Gate name.now word.now (each_now pins.now)) line self.new result }
+    {
+        let kind = match Kind::from_word(word) {
+            None => return fault(BenchCause::UnknownKind, line),
+            Some(kind) => kind,
+        };
+        if is_miscounted(kind, pins.len()) {
+            return fault(BenchCause::PinCount, line);
+        }
+        if is_any_long(name, pins) {
+            return fault(BenchCause::NameLong, line);
+        }
+        self.take_pins(alloc, line, name, kind, pins)
+    }
+
+    /// Takes one line.
+    fn take(&mut self, alloc: Global, line: u32, form: Form) -> Result<(), BenchFault>
+        requires sound { IsSound self.old }
+        ensures sound { OnOk result (IsSound self.new) }
+        ensures steps { Takes self.old (view form.entry) line self.new result }
+    {
+        match form {
+            Form::Blank => Ok(()),
+            Form::Malformed => fault(BenchCause::Syntax, line),
+            Form::Input(name) => self.take_input(alloc, line, name),
+            Form::Output(name) => self.take_output(alloc, line, name),
+            Form::Gate { name, kind, pins } => self.take_gate(alloc, line, name, kind, &pins),
+        }
+    }
+}
+
+/// Reads every line.
+fn read_lines(alloc: Global, text: &[u8]) -> Result<Reader, BenchFault>
+    requires { length text.now ≤ 67108864 }
+    ensures sound { IfOk result IsSound }
+    ensures lines { ReadsAll (map line_of (lines text.now)) result }
+{
+    let mut reader = Reader::new(alloc);
+    let mut rest = text;
+    let mut number: u32 = 0;
+    while !rest.is_empty() {
+        let (line, later) = next_line(rest);
+        number += 1;
+        reader.take(alloc, number, form_of(alloc, line)?)?;
+        rest = later;
+    }
+    Ok(reader)
+}
+
+/// The line that first names a signal that is defined nowhere.
+fn missing_line(rows: &[Definition]) -> Option<u32>
+    ensures { result ≡ first_missing rows.now }
+{
+    for row in rows {
+        if let Definition::Missing { line } = row {
+            return Some(*line);
+        }
+    }
+    None
+}
+
+/// The netlist that a text says, or its first fault.
+///
+/// The text is read once, in a time that grows with its length.
+pub fn read_bench(alloc: Global, text: &[u8]) -> Result<Netlist, BenchFault>
+    requires { length text.now ≤ 67108864 }
+    ensures { Answers (λ netlist. netlist) result (bench_of text.now) }
+{
+    let reader = read_lines(alloc, text)?;
+    match missing_line(&reader.rows) {
+        Some(line) => Err(BenchFault {
+            cause: BenchCause::Undefined,
+            line,
+        }),
+        None => Ok(Netlist {
+            names: reader.names,
+            rows: reader.rows,
+            pins: reader.pins,
+            outputs: reader.outputs,
+        }),
+    }
+}

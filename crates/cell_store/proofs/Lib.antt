@@ -1,0 +1,10 @@
+pub mod Same
+pub mod Keys
+pub mod Found
+pub mod Cached
+pub mod Kept
+pub mod Calls
+pub mod Puts
+pub mod Trims
+pub mod Plain
+pub mod Beside

@@ -1,0 +1,14 @@
+use Rattle.std.proofs.Common.{◌≡◌, ◌+◌, ◌-◌, ◌≤◌, length, vec_len, vec_capacity}
+use Rattle.std.specs.BTreeMap.{get}
+use Rattle.cell_store.specs.Index.{key_cmp}
+use Rattle.cell_store.proofs.Trims.{IsTrimmed}
+use Rattle.cell_store.proofs.store.CellStore.trim.Given as goal
+
+abbrev pub invariant-loop-self : goal.invariant-loop-self
+invariant-loop-self l = record {
+  trimmed : IsTrimmed (get key_cmp l.self-inside.index) l.self-inside.cache l.initial.self-inside.cache l.left l.keys.items;
+  room : vec_len l.keys + (length l.self-inside.cache.entries - l.left) ≤ vec_capacity l.keys;
+}
+
+abbrev pub decreases-loop-self : goal.decreases-loop-self
+decreases-loop-self l = length l.self-inside.cache.entries

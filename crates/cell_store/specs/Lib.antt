@@ -1,0 +1,3 @@
+pub mod Recency
+pub mod Index
+pub mod Beside

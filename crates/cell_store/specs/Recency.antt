@@ -1,0 +1,54 @@
+-- What a bounded store holds: cells of signals, the most recently used first.
+use Rattle.std.specs.Prelude.{◌≡◌, ℕ, ◌-◌, ◌==◌, Bool, true, not, ◌&&◌, ◌⊎◌, ⊤, List, [], ◌∷◌, length, find, slice_get, All, Option, Some, None, option_map, if◌then◌else◌}
+use Rattle.std.specs.List.{list_any}
+use Rattle.valid_intervals.specs.declared.Point.{Point}
+use Rattle.valid_intervals.specs.declared.SignalCell.{SignalCell}
+use Rattle.valid_intervals.specs.Cells.{same_stored, covers, to_front, all_but_last}
+use Rattle.cell_store.specs.declared.Key.{Key}
+
+-- how many cells there may be, and the cells
+pub record Contents : Type 0 where
+  pub capacity : ℕ
+  pub cells : List SignalCell
+
+abbrev pub contents : ℕ → List SignalCell → Contents
+contents capacity cells = record { capacity = capacity; cells = cells }
+
+-- the same store with other cells
+abbrev pub with_cells : Contents → List SignalCell → Contents
+with_cells s cells = contents s.capacity cells
+
+abbrev pub key_of : SignalCell → Key
+key_of x = record { signal = x.signal; start = x.cell.span.start }
+
+abbrev pub is_stored : SignalCell → List SignalCell → Bool
+is_stored x cells = list_any (same_stored x) cells
+
+-- no point is covered by both
+abbrev pub IsApart : SignalCell → SignalCell → Type 0
+IsApart x y = (p : Point) → covers p x ≡ true → covers p y ≡ true → ⊥
+
+-- no point is covered by two of the cells
+abbrev pub AreApart : List SignalCell → Type 0
+AreApart [] = ⊤
+AreApart (x ∷ cells) = All (IsApart x) cells × AreApart cells
+
+-- each of the cells is x, or apart from it
+abbrev pub Fits : SignalCell → List SignalCell → Type 0
+Fits x cells = All (λ y. (same_stored x y ≡ true) ⊎ IsApart x y) cells
+
+-- the cell that covers the point, and the cells once it has been used
+abbrev pub covering : Point → List SignalCell → Option SignalCell
+covering p cells = find (covers p) cells
+
+-- whether x comes to a store that has no place left for it
+abbrev pub pushes_out : SignalCell → Contents → Bool
+pushes_out x s = not (is_stored x s.cells) && (length s.cells == s.capacity)
+
+-- the key of the least recently used cell
+abbrev pub last_key : List SignalCell → Option Key
+last_key cells = option_map key_of (slice_get cells (length cells - 1))
+
+-- the store once x has come to it
+abbrev pub after_put : Contents → SignalCell → Contents
+after_put s x = with_cells s (to_front x (if pushes_out x s then all_but_last s.cells else s.cells))

@@ -1,0 +1,190 @@
+ghost use Rattle.std.specs.Prelude.{◌≡◌, ◌<◌, ◌≤◌, ◌↔◌, [], IsTrue, List, not, map, drop, reverse, take, option_map, IfNone, IfOk, IfSome, None, OnErr, OnOk, length, slice_get, if◌then◌else◌};
+ghost use Rattle.std.specs.List.{list_any};
+ghost use Rattle.std.specs.BTreeMap.{get};
+ghost use Rattle.valid_intervals.specs.declared.SignalCell.{SignalCell};
+ghost use Rattle.valid_intervals.specs.Cells as cells;
+ghost use Rattle.valid_intervals.specs.Cells.{cell_for, to_front};
+ghost use Rattle.cell_store.specs.Recency.{contents, with_cells, covering, key_of, last_key, is_stored, pushes_out, after_put, Fits, AreApart};
+ghost use Rattle.cell_store.specs.Index.{key_cmp, key_eq, IsIndexed};
+ghost use Rattle.lru.specs.LruCache.{lru_cache, promoted};
+
+use crate::{Key, Put};
+use backsim_io::OutOfMemory;
+use lru::LruCache;
+use std::alloc::Global;
+use std::collections::BTreeMap;
+use std::marker::Model;
+use std::num::NonZeroUsize;
+use valid_intervals::{Cell, Point};
+
+/// The greatest capacity of a store.
+pub const MOST_CELLS: u32 = 65_536;
+
+/// Cells of signals, the most recently used first, at most as many as its capacity. No two of a signal have a time in common.
+#[derive(Drop)]
+pub struct CellStore {
+    cache: LruCache<Key, Cell>,
+    index: BTreeMap<Key, u32>,
+}
+
+impl Model for CellStore {
+    ghost use Rattle.std.specs.BTreeMap.{get};
+    ghost use Rattle.cell_store.specs.Recency.{Contents, contents};
+    ghost use Rattle.cell_store.specs.Index.{key_cmp, cells_of, IsSound};
+
+    ghost Value = { Contents };
+
+    ghost view = { λ s. contents s.cache.cap (cells_of s.cache.entries) };
+
+    ghost invariant = { λ s. IsSound (get key_cmp s.index) s.cache.entries s.cache.cap };
+}
+
+impl CellStore {
+    /// An empty store. `capacity` is how many cells it may hold.
+    pub fn new(alloc: Global, capacity: u32) -> Result<CellStore, OutOfMemory>
+        requires some { 0 < capacity }
+        requires most { capacity ≤ MOST_CELLS }
+        ensures { IfOk result (λ store. store ≡ contents capacity []) }
+    {
+        let cells = NonZeroUsize::new(capacity as usize).unwrap();
+        Ok(CellStore {
+            cache: LruCache::sparse(alloc, cells)?,
+            index: BTreeMap::new(alloc),
+        })
+    }
+
+    /// How many cells it holds.
+    pub fn len(&self) -> u32
+        ensures len { result ≡ length self.now.cells }
+        ensures within { length self.now.cells ≤ self.now.capacity }
+        ensures apart { AreApart self.now.cells }
+    {
+        self.cache.len() as u32
+    }
+
+    /// Whether it holds none.
+    pub fn is_empty(&self) -> bool
+        ensures { IsTrue result ↔ (self.now.cells ≡ []) }
+    {
+        self.cache.is_empty()
+    }
+
+    /// How many cells it may hold.
+    pub fn capacity(&self) -> u32
+        ensures capacity { result ≡ self.now.capacity }
+        ensures some { 0 < self.now.capacity }
+        ensures most { self.now.capacity ≤ MOST_CELLS }
+    {
+        self.cache.cap().get() as u32
+    }
+
+    /// The stored cell that covers the point, which becomes the most recently used.
+    pub fn find(&mut self, p: Point) -> Option<Cell>
+        ensures found { result ≡ option_map (λ x. x.cell) (covering p self.old.cells) }
+        ensures used { IfSome result (λ cell. self.new ≡ with_cells self.old (to_front (cell_for p cell) self.old.cells)) }
+        ensures unchanged { IfNone result (self.new ≡ self.old) }
+    {
+        let key = covering_key(&self.index, p)?;
+        use_cell(&mut self.cache, key)
+    }
+
+    /// Whether a stored cell covers the point. Using a cell in this way does not count.
+    pub fn covers(&self, p: Point) -> bool
+        ensures { result ≡ list_any (cells.covers p) self.now.cells }
+    {
+        covering_key(&self.index, p).is_some()
+    }
+
+    /// Puts a cell in front: one that is stored already moves there, and a new one takes the place of the
+    /// least recently used cell where the store is full.
+    pub fn put(&mut self, signal: u32, cell: Cell) -> Result<Put, OutOfMemory>
+        requires { Fits (record { signal = signal; cell = cell }) self.old.cells }
+        ensures cells { let x : SignalCell = record { signal = signal; cell = cell } in OnOk result (self.new ≡ after_put self.old x) }
+        ensures fresh { let x : SignalCell = record { signal = signal; cell = cell } in IfOk result (λ put. put.fresh ≡ not (is_stored x self.old.cells)) }
+        ensures evicted { let x : SignalCell = record { signal = signal; cell = cell } in
+            IfOk result (λ put. put.evicted ≡ (if pushes_out x self.old then last_key self.old.cells else None)) }
+        ensures err { OnErr result (self.new ≡ self.old) }
+    {
+        let key = Key {
+            signal,
+            start: cell.span.start(),
+        };
+        if self.cache.promote(&key) {
+            return Ok(Put {
+                evicted: None,
+                fresh: false,
+            });
+        }
+        self.index.insert(key, cell.span.end())?;
+        match self.cache.push(key, cell) {
+            Ok(pushed_out) => match pushed_out {
+                None => Ok(Put {
+                    evicted: None,
+                    fresh: true,
+                }),
+                Some((last, _)) => {
+                    self.index.remove(&last);
+                    Ok(Put {
+                        evicted: Some(last),
+                        fresh: true,
+                    })
+                }
+            },
+            Err(_) => {
+                self.index.remove(&key);
+                Err(OutOfMemory)
+            }
+        }
+    }
+
+    /// Removes the least recently used cells until at most `n` are left. Answers their keys, the least recently used first.
+    pub fn trim(&mut self, n: u32) -> Result<Vec<Key>, OutOfMemory>
+        ensures cells { OnOk result (self.new ≡ with_cells self.old (take n self.old.cells)) }
+        ensures keys { IfOk result (λ keys. keys.items ≡ reverse (map key_of (drop n self.old.cells))) }
+        ensures err { OnErr result (self.new ≡ self.old) }
+    {
+        let left = n as usize;
+        let extra = self.cache.len().saturating_sub(left);
+        let mut keys = Vec::with_capacity(*self.cache.allocator(), extra)?;
+        while self.cache.len() > left {
+            let Some((oldest, _)) = self.cache.pop_lru() else {
+                unreachable!()
+            };
+            self.index.remove(&oldest);
+            let Ok(()) = keys.push(oldest) else {
+                unreachable!()
+            };
+        }
+        Ok(keys)
+    }
+}
+
+// The key of the cell that covers the point: of the cells of its signal that begin no later, the last is the only one that can.
+fn covering_key(index: &BTreeMap<Key, u32>, p: Point) -> Option<Key>
+    ensures { (cells : List SignalCell) → IsIndexed (get key_cmp index.now) cells → result ≡ option_map key_of (covering p cells) }
+{
+    let at = Key {
+        signal: p.signal,
+        start: p.time,
+    };
+    let (key, end) = index.range(..=at).next_back()?;
+    if key.signal == p.signal && p.time < *end {
+        Some(*key)
+    } else {
+        None
+    }
+}
+
+// Makes the cell of this key the most recently used, and answers the most recently used cell.
+fn use_cell(cache: &mut LruCache<Key, Cell>, key: Key) -> Option<Cell>
+    ensures cache { cache.new ≡ lru_cache (promoted (key_eq key) cache.old.entries) cache.old.cap }
+    ensures cell { result ≡ option_map (λ e. e.1) (slice_get cache.new.entries 0) }
+{
+    cache.promote(&key);
+    cache.peek_mru().map(|(_, cell)| *cell)
+}
+
+#[cfg(test)]
+mod plain;
+#[cfg(test)]
+mod tests;

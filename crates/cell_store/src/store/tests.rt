@@ -1,0 +1,189 @@
+//! Runs of the store, and of the plain list beside it.
+ghost use Rattle.std.specs.Prelude.{◌≡◌, ◌<◌, OnOk};
+ghost use Rattle.cell_store.specs.Beside.{is_apart, is_fitting};
+
+use crate::Key;
+use crate::store::CellStore;
+use crate::store::plain::{PlainStore, same};
+use backsim_io::OutOfMemory;
+use gate_values::Value;
+use std::alloc::Global;
+use std::test::Fail;
+use valid_intervals::{Cell, Point, SignalCell, Span};
+
+fn cell_at(start: u32, value: Value) -> Option<Cell> {
+    let span = Span::new(start, start.checked_add(10)?)?;
+    Some(Cell { span, value })
+}
+
+fn apart(x: &SignalCell, y: &SignalCell) -> bool
+    ensures { result ≡ is_apart x.now y.now }
+{
+    x.signal != y.signal
+        || x.cell.span.end() <= y.cell.span.start()
+        || y.cell.span.end() <= x.cell.span.start()
+}
+
+fn fits(x: &SignalCell, cells: &[SignalCell]) -> bool
+    ensures { result ≡ is_fitting x.now cells.now }
+{
+    cells.iter().all(|y| same(x, y) || apart(x, y))
+}
+
+// Each function below makes one call of both bodies, and answers whether they agree. That their lists are one is proved.
+fn find_both(store: &mut CellStore, plain: &mut PlainStore, p: Point) -> bool
+    requires { store.old ≡ plain.old }
+    ensures { store.new ≡ plain.new }
+{
+    let found = store.find(p);
+    let expected = plain.find(p);
+    found == expected
+}
+
+fn put_both(
+    store: &mut CellStore,
+    plain: &mut PlainStore,
+    x: &SignalCell,
+) -> Result<bool, OutOfMemory>
+    requires { store.old ≡ plain.old }
+    ensures { OnOk result (store.new ≡ plain.new) }
+{
+    if fits(x, plain.cells()) {
+        let put = store.put(x.signal, x.cell)?;
+        let expected = plain.put(x.signal, x.cell)?;
+        Ok(put == expected)
+    } else {
+        Ok(true)
+    }
+}
+
+fn trim_both(store: &mut CellStore, plain: &mut PlainStore, n: u32) -> Result<bool, OutOfMemory>
+    requires { store.old ≡ plain.old }
+    ensures { OnOk result (store.new ≡ plain.new) }
+{
+    let keys = store.trim(n)?;
+    let expected = plain.trim(n)?;
+    Ok(keys.as_slice() == expected.as_slice())
+}
+
+// Pseudorandom draws of 15 bits.
+#[derive(Drop)]
+struct Draws {
+    x: u64,
+}
+
+impl Draws {
+    fn draw(&mut self) -> u32
+        ensures { result < 32768 }
+    {
+        self.x = self.x.wrapping_mul(1_103_515_245).wrapping_add(12_345) % 2_147_483_648;
+        (self.x / 65_536) as u32
+    }
+}
+
+// One call, drawn at random: of each sixteen, five finds, one test, one trim and nine puts.
+fn one_call(
+    store: &mut CellStore,
+    plain: &mut PlainStore,
+    draws: &mut Draws,
+) -> Result<bool, OutOfMemory>
+    requires { store.old ≡ plain.old }
+    ensures { OnOk result (store.new ≡ plain.new) }
+{
+    let choice = draws.draw() % 16;
+    let signal = draws.draw() % 4;
+    let time = draws.draw() % 400;
+    let p = Point { signal, time };
+    match choice {
+        0..=4 => Ok(find_both(store, plain, p)),
+        5 => Ok(store.covers(p) == plain.covers(p)),
+        6 => trim_both(store, plain, 12 + time % 12),
+        _ => {
+            let value = if time / 10 % 2 == signal % 2 {
+                Value::One
+            } else {
+                Value::Zero
+            };
+            match cell_at(time - time % 10, value) {
+                Some(cell) => put_both(store, plain, &SignalCell { signal, cell }),
+                None => Ok(false),
+            }
+        }
+    }
+}
+
+fn agree(alloc: Global, calls: u32) -> Result<bool, OutOfMemory> {
+    let mut store = CellStore::new(alloc, 24)?;
+    let mut plain = PlainStore::new(alloc, 24)?;
+    let mut draws = Draws { x: 1 };
+    for _call in 0..calls {
+        if !one_call(&mut store, &mut plain, &mut draws)? {
+            return Ok(false);
+        }
+        if store.len() as usize != plain.cells().len() {
+            return Ok(false);
+        }
+    }
+    trim_both(&mut store, &mut plain, 0)
+}
+
+#[test]
+fn the_store_and_the_plain_list_agree(rt: HostRuntime) -> Result<(), Fail> {
+    assert!(rt; agree(rt.alloc(), 2_000)?);
+    Ok(())
+}
+
+#[test]
+fn a_used_cell_outlives_older_ones(rt: HostRuntime) -> Result<(), Fail> {
+    let cell = cell_at(0, Value::One).ok_or("a span")?;
+    let first = SignalCell { signal: 1, cell };
+    let second = SignalCell {
+        signal: 2,
+        cell: first.cell,
+    };
+    let third = SignalCell {
+        signal: 3,
+        cell: second.cell,
+    };
+    let mut store = CellStore::new(rt.alloc(), 3)?;
+    let mut plain = PlainStore::new(rt.alloc(), 3)?;
+    assert!(rt; put_both(&mut store, &mut plain, &first)?);
+    assert!(rt; put_both(&mut store, &mut plain, &second)?);
+    assert!(rt; put_both(&mut store, &mut plain, &third)?);
+    assert_eq!(rt; store.len(), 3);
+    assert_eq!(rt;
+        store
+            .find(Point { signal: 1, time: 9 })
+            .map(|cell| cell.value),
+        Some(Value::One)
+    );
+    assert!(rt;
+        store
+            .find(Point {
+                signal: 1,
+                time: 10
+            })
+            .is_none(),
+        "past its end"
+    );
+    let keys = store.trim(1)?;
+    assert_eq!(rt;
+        keys.as_slice(),
+        [
+            Key {
+                signal: 2,
+                start: 0
+            },
+            Key {
+                signal: 3,
+                start: 0
+            }
+        ]
+        .as_slice()
+    );
+    assert_eq!(rt; store.len(), 1);
+    assert!(rt; store.covers(Point { signal: 1, time: 0 }));
+    assert_eq!(rt; store.capacity(), 3);
+    assert!(rt; !store.is_empty());
+    Ok(())
+}

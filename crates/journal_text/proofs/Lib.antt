@@ -1,0 +1,6 @@
+pub mod Numbers
+pub mod Fields
+pub mod Entries
+pub mod Lines
+pub mod Shards
+pub mod WholeSections

@@ -1,0 +1,13 @@
+pub mod Shards
+pub mod Links
+pub mod Steps
+pub mod Turns
+pub mod Ready
+pub mod Ends
+pub mod Measure
+pub mod New
+pub mod Safe
+pub mod Examples
+pub mod Facts
+pub mod Parts
+pub mod Kept

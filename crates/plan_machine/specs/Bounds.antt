@@ -1,0 +1,41 @@
+-- How many turns a plan can have.
+use Rattle.std.specs.Prelude.{ℕ, ◌+◌, ◌-◌, ◌*◌, Bool, true, false, List, [], ◌∷◌, length, max}
+use Rattle.std.specs.List.{sum_by}
+use Rattle.circuit_meaning.specs.Circuit.{Driver, Input, Gate, Flop}
+use Rattle.journal_meaning.specs.Batch.{Batch}
+use Rattle.strand_meaning.specs.Strands.{Frame, Strand, Start}
+use Rattle.plan_machine.specs.Plans.{Plan}
+
+-- the greatest number of pins
+abbrev pub pins_of : Driver → ℕ
+pins_of (Input settings) = 0
+pins_of (Gate kind pins) = length pins
+pins_of (Flop f) = 1
+
+abbrev pub most_pins : List Driver → ℕ
+most_pins [] = 0
+most_pins (d ∷ more) = max (pins_of d) (most_pins more)
+
+-- what a claim can cost in turns: itself, its end, one for each child, and one for each strand that its end lets out
+abbrev pub claim_cost : Batch → ℕ → ℕ
+claim_cost b strands = most_pins b.circuit.drivers + strands + 2
+
+-- At most so many turns a new plan makes: for each claim that the budgets allow what it can cost, one for each root, and for
+-- each strand one to give up and one to wait at first.
+abbrev pub bound : Batch → List Start → ℕ
+bound b starts = sum_by (λ a. a.budget) starts * claim_cost b (length starts) + sum_by (λ a. a.stop - a.start) starts + 2 * length starts
+
+-- At most so many are still to come for a strand, among so many strands.
+abbrev pub stack_cost : ℕ → List Frame → ℕ
+stack_cost strands [] = 0
+stack_cost strands (f ∷ fs) = strands + 1 + length f.left + stack_cost strands fs
+
+abbrev pub flag : Bool → ℕ
+flag true = 0
+flag false = 1
+
+abbrev pub turns_left : Batch → ℕ → Strand → ℕ
+turns_left b strands s = (s.budget - s.charged) * claim_cost b strands + stack_cost strands s.stack + length s.roots + flag s.spent + flag s.waits
+
+abbrev pub all_left : Batch → Plan → ℕ
+all_left b plan = sum_by (turns_left b (length plan.strands)) plan.strands

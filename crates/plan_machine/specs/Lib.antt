@@ -1,0 +1,9 @@
+pub mod Shards
+pub mod Plans
+pub mod Steps
+pub mod Turns
+pub mod Bounds
+pub mod Sound
+pub mod Laws
+pub mod Parts
+pub mod Kept

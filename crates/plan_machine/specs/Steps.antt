@@ -1,0 +1,62 @@
+-- What the turn of a strand does, and what it comes to.
+use Rattle.std.specs.Prelude.{ℕ, nat_lt, if◌then◌else◌, slice_get, Option, Some, None}
+use Rattle.valid_intervals.specs.declared.Point.{Point}
+use Rattle.valid_intervals.specs.declared.SignalCell.{SignalCell}
+use Rattle.strand_meaning.specs.declared.Next.{Next}
+use Rattle.strand_meaning.specs.declared.Next.TheVariants.{Ask, Fill, Drop, Done}
+use Rattle.strand_meaning.specs.Strands.{Strand, next}
+use Rattle.plan_machine.specs.Shards.{stored_at}
+use Rattle.plan_machine.specs.Plans.{Plan, shard_of, claim_of}
+use Rattle.plan_machine.specs.declared.Turned.{Turned}
+use Rattle.plan_machine.specs.declared.Turned.TheVariants.{Told, Claimed, Waits, Spent, Filled, Dropped, NotReady}
+
+-- the step of a turn: it is told a cell, claims a point, waits, is spent, fills a point, drops one, or there is none
+pub data Step : Type 0 where
+  Tell : Point → SignalCell → Step
+  Claim : Point → Step
+  Wait : Step
+  Spend : Step
+  Finish : Point → Step
+  GiveBack : Point → Step
+  Rest : Step
+
+-- A point that a stored cell covers is told. Else at a claimed one the strand waits, and else it claims the point or is spent.
+abbrev pub claim_step : Strand → Point → Option ℕ → Step
+claim_step s p (Some q) = Wait
+claim_step s p None = if nat_lt s.charged s.budget then Claim p else Spend
+
+abbrev pub ask_step : Plan → Strand → Point → Option SignalCell → Step
+ask_step plan s p (Some x) = Tell p x
+ask_step plan s p None = claim_step s p (claim_of plan p)
+
+abbrev pub next_step : Plan → Strand → Next → Step
+next_step plan s (Ask p) = ask_step plan s p (stored_at (shard_of plan p).state.cells p)
+next_step plan s (Fill p) = Finish p
+next_step plan s (Drop p) = GiveBack p
+next_step plan s Done = Rest
+
+abbrev pub step_at : Plan → Option Strand → Step
+step_at plan None = Rest
+step_at plan (Some s) = if s.waits then Rest else next_step plan s (next s)
+
+-- the step of the turn of strand i
+abbrev pub step : Plan → ℕ → Step
+step plan i = step_at plan (slice_get plan.strands i)
+
+-- what that turn comes to
+abbrev pub turned_by : Step → Turned
+turned_by (Tell p x) = Told
+turned_by (Claim p) = Claimed
+turned_by Wait = Waits
+turned_by Spend = Spent
+turned_by (Finish p) = Filled
+turned_by (GiveBack p) = Dropped
+turned_by Rest = NotReady
+
+abbrev pub turned : Plan → ℕ → Turned
+turned plan i = turned_by (step plan i)
+
+-- whether it is one that counts
+abbrev pub is_turn : Turned → ℕ
+is_turn NotReady = 0
+is_turn t = 1

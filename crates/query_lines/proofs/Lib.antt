@@ -1,0 +1,4 @@
+pub mod Maximal
+pub mod Feeding
+pub mod Requests
+pub mod Limits

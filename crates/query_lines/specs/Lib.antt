@@ -1,0 +1,7 @@
+pub mod Lines
+pub mod Cutting
+pub mod Units
+pub mod Reading
+pub mod Laws
+pub mod Runs
+pub mod Replies

@@ -1,0 +1,86 @@
+-- The forms of a script's lines.
+use Rattle.std.specs.Prelude.{ℕ, nat_le, List, [], ◌∷◌, length, Option, Some, None, if◌then◌else◌, codes}
+use Rattle.std.specs.Str.{bytes_eq}
+use Rattle.text_rules.specs.declared.Amount.{Amount}
+use Rattle.text_rules.specs.declared.Amount.TheVariants as amounts
+use Rattle.text_rules.specs.Text.{amount, content, is_name, words}
+use Rattle.query_lines.specs.declared.line.Line.{Line}
+use Rattle.query_lines.specs.declared.line.Line.TheVariants.{Blank, Ask, Go, Trim, Stats, Bad}
+use Rattle.query_lines.specs.declared.line.What.TheVariants.{Wave, At}
+
+abbrev pub within : Amount → Option ℕ
+within amounts.NoNumber = None
+within amounts.Above = None
+within (amounts.Within n) = Some n
+
+-- a number that is at most the limit
+abbrev pub number_up_to : ℕ → List ℕ → Option ℕ
+number_up_to limit word = within (amount limit word)
+
+-- FROM, TO and T
+abbrev pub instant : List ℕ → Option ℕ
+instant word = number_up_to 4294967294 word
+
+-- BUDGET, which a line may leave out
+abbrev pub budget_of : List (List ℕ) → Option ℕ
+budget_of [] = Some 50000
+budget_of (budget ∷ []) = number_up_to 500000 budget
+budget_of (budget ∷ word ∷ words) = None
+
+-- NAME FROM TO BUDGET
+abbrev pub wave_of_parts : List ℕ → Option ℕ → Option ℕ → Option ℕ → Line
+wave_of_parts name (Some from) (Some to) (Some budget) = if is_name name then Ask (Wave name from to budget) else Bad
+wave_of_parts name (Some from) (Some to) None = Bad
+wave_of_parts name (Some from) None budget = Bad
+wave_of_parts name None to budget = Bad
+
+-- behind `wave`: NAME FROM TO or NAME FROM TO BUDGET
+abbrev pub wave_of : List (List ℕ) → Line
+wave_of [] = Bad
+wave_of (name ∷ []) = Bad
+wave_of (name ∷ from ∷ []) = Bad
+wave_of (name ∷ from ∷ to ∷ budget) = wave_of_parts name (instant from) (instant to) (budget_of budget)
+
+-- NAME T BUDGET
+abbrev pub at_of_parts : List ℕ → Option ℕ → Option ℕ → Line
+at_of_parts name (Some time) (Some budget) = if is_name name then Ask (At name time budget) else Bad
+at_of_parts name (Some time) None = Bad
+at_of_parts name None budget = Bad
+
+-- behind `at`: NAME T or NAME T BUDGET
+abbrev pub at_of : List (List ℕ) → Line
+at_of [] = Bad
+at_of (name ∷ []) = Bad
+at_of (name ∷ time ∷ budget) = at_of_parts name (instant time) (budget_of budget)
+
+abbrev pub trim_of_part : Option ℕ → Line
+trim_of_part (Some n) = Trim n
+trim_of_part None = Bad
+
+-- behind `trim`: N
+abbrev pub trim_of : List (List ℕ) → Line
+trim_of [] = Bad
+trim_of (n ∷ []) = trim_of_part (number_up_to 65536 n)
+trim_of (n ∷ word ∷ words) = Bad
+
+-- behind a keyword that stands alone: nothing
+abbrev pub alone : Line → List (List ℕ) → Line
+alone line [] = line
+alone line (word ∷ words) = Bad
+
+-- a line of commands, by its keyword
+abbrev pub command_of : List ℕ → List (List ℕ) → Line
+command_of keyword words =
+    if bytes_eq keyword (codes "wave") then wave_of words else (
+    if bytes_eq keyword (codes "at") then at_of words else (
+    if bytes_eq keyword (codes "go") then alone Go words else (
+    if bytes_eq keyword (codes "trim") then trim_of words else (
+    if bytes_eq keyword (codes "stats") then alone Stats words else Bad))))
+
+abbrev pub by_words : List (List ℕ) → Line
+by_words [] = Blank
+by_words (keyword ∷ words) = command_of keyword words
+
+-- a line by its bytes: one of more than 4,096 bytes, its comment counted, is bad
+unfoldable pub line_of : List ℕ → Line
+line_of bytes = if nat_le (length bytes) 4096 then by_words (words (content bytes)) else Bad

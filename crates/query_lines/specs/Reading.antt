@@ -1,0 +1,41 @@
+-- The units of a script, read byte by byte.
+use Rattle.std.specs.Prelude.{◌≡◌, ℕ, ◌+◌, ◌≤◌, true, not, List, ◌++◌, length, map}
+use Rattle.std.specs.List.{enumerate_from, list_all}
+use Rattle.text_rules.specs.Text.{is_feed, lines}
+use Rattle.query_lines.specs.declared.line.Line.{Line}
+use Rattle.query_lines.specs.declared.unit.Unit.{Unit as ScriptUnit}
+use Rattle.query_lines.specs.Cutting.{Cutter, Holds}
+use Rattle.query_lines.specs.Lines.{line_of}
+use Rattle.query_lines.specs.Units.{Pending, given_by, left_by, units_from, units_of}
+
+-- the lines of a text with their numbers, of which the first is this one
+abbrev pub numbered_lines : ℕ → List ℕ → List (ℕ × Line)
+numbered_lines first text = enumerate_from first (map line_of (lines text))
+
+-- the units of a script, whose lines are numbered from 1
+unfoldable pub script_units : ℕ → List ℕ → List ScriptUnit
+script_units horizon script = units_of horizon (numbered_lines 1 script)
+
+-- what a reader of a script shows: the line under way, the pending items, and how many lines have ended
+pub record Reader : Type 0 where
+  pub cutter : Cutter
+  pub pending : Pending
+  pub lines : ℕ
+
+-- The reader has taken these bytes and given these units: whatever bytes follow, the units of the whole are
+-- those given, and behind them what the line under way and all that follows make of the pending items.
+pub record HasRead (horizon : ℕ) (script : List ℕ) (given : List ScriptUnit) (reader : Reader) : Type 0 where
+  pub line : List ℕ
+  pub under_way : list_all (λ byte. not (is_feed byte)) line ≡ true
+  pub holds : Holds line reader.cutter
+  pub horizon_is : reader.pending.horizon ≡ horizon
+  pub lines_end : reader.lines ≤ length script
+  pub goes_on : (rest : List ℕ) → script_units horizon (script ++ rest)
+      ≡ given ++ units_from horizon reader.pending.items (numbered_lines (reader.lines + 1) (line ++ rest))
+
+-- The reader reads one more line, and gives these units.
+pub record ReadsLine (line : List ℕ) (old new : Reader) (units : List ScriptUnit) : Type 0 where
+  pub cutter_stays : new.cutter ≡ old.cutter
+  pub lines_end : new.lines ≡ old.lines + 1
+  pub units_are : units ≡ given_by old.pending (old.lines + 1) (line_of line)
+  pub pending_are : new.pending ≡ left_by old.pending (old.lines + 1) (line_of line)

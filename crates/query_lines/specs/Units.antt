@@ -1,0 +1,96 @@
+-- The units of a script: batches of items, trims and requests for the counts.
+use Rattle.std.specs.Prelude.{ℕ, ◌+◌, ◌-◌, Bool, false, ◌&&◌, ◌||◌, nat_lt, nat_le, List, [], ◌∷◌, ◌++◌, length, sum_by, if◌then◌else◌}
+use Rattle.query_lines.specs.declared.line.Line.{Line}
+use Rattle.query_lines.specs.declared.line.Line.TheVariants.{Blank, Ask, Go}
+use Rattle.query_lines.specs.declared.line.Line.TheVariants as lines
+use Rattle.query_lines.specs.declared.line.What.{What}
+use Rattle.query_lines.specs.declared.line.What.TheVariants.{Wave, At, Bad}
+use Rattle.query_lines.specs.declared.unit.Item.{Item}
+use Rattle.query_lines.specs.declared.unit.Unit.{Unit as ScriptUnit}
+use Rattle.query_lines.specs.declared.unit.Unit.TheVariants.{Batch, Trim, Stats}
+
+-- what an item counts toward the budgets of its batch
+abbrev pub budget_weight : What → ℕ
+budget_weight (Wave name from to budget) = budget
+budget_weight (At name time budget) = budget
+budget_weight Bad = 0
+
+-- the length of a window that isn't empty and ends by the horizon; of any other 0
+abbrev pub window_length : ℕ → ℕ → ℕ → ℕ
+window_length horizon from to = if nat_lt from to && nat_le to (horizon + 1) then to - from else 0
+
+-- what an item counts toward the window lengths of its batch
+abbrev pub length_weight : ℕ → What → ℕ
+length_weight horizon (Wave name from to budget) = window_length horizon from to
+length_weight horizon (At name time budget) = window_length horizon time (time + 1)
+length_weight horizon Bad = 0
+
+abbrev pub budgets : List Item → ℕ
+budgets items = sum_by (λ item. budget_weight item.what) items
+
+abbrev pub lengths : ℕ → List Item → ℕ
+lengths horizon items = sum_by (λ item. length_weight horizon item.what) items
+
+-- one more item would take a batch that isn't empty over one of its limits
+abbrev pub is_over : ℕ → List Item → Item → Bool
+is_over horizon [] item = false
+is_over horizon (first ∷ items) item =
+    nat_lt 1000000 (budgets (first ∷ items ++ item ∷ []))
+    || nat_lt 4000000 (lengths horizon (first ∷ items ++ item ∷ []))
+
+-- the pending items as a unit, if there are any
+abbrev pub closed : List Item → List ScriptUnit
+closed [] = []
+closed (item ∷ items) = Batch (item ∷ items) ∷ []
+
+-- what a line does: the units that it completes, and the items that are pending after it
+pub record Step : Type 0 where
+  pub units : List ScriptUnit
+  pub pending : List Item
+
+-- these items are pending, unless they are the 64 of a whole batch
+abbrev pub pending_up_to_64 : List Item → Step
+pending_up_to_64 items =
+    if nat_lt (length items) 64
+    then record { units = []; pending = items }
+    else record { units = closed items; pending = [] }
+
+-- one more item: where it would take the pending batch over a limit, that batch becomes a unit first
+abbrev pub with_item : ℕ → List Item → Item → Step
+with_item horizon pending item =
+    if is_over horizon pending item
+    then record { units = closed pending; pending = item ∷ [] }
+    else pending_up_to_64 (pending ++ item ∷ [])
+
+-- the line of this number, after these pending items
+abbrev pub step : ℕ → List Item → ℕ → Line → Step
+step horizon pending number Blank = record { units = []; pending = pending }
+step horizon pending number (Ask what) = with_item horizon pending (record { line = number; what = what })
+step horizon pending number lines.Bad = with_item horizon pending (record { line = number; what = Bad })
+step horizon pending number Go = record { units = closed pending; pending = [] }
+step horizon pending number (lines.Trim cells) =
+    record { units = closed pending ++ Trim cells ∷ []; pending = [] }
+step horizon pending number lines.Stats = record { units = closed pending ++ Stats ∷ []; pending = [] }
+
+-- what a batcher shows: the horizon, and the pending items
+pub record Pending : Type 0 where
+  pub horizon : ℕ
+  pub items : List Item
+
+-- the units that a line completes
+abbrev pub given_by : Pending → ℕ → Line → List ScriptUnit
+given_by pending number line = (step pending.horizon pending.items number line).units
+
+-- what is pending behind a line
+abbrev pub left_by : Pending → ℕ → Line → Pending
+left_by pending number line = record pending { items = (step pending.horizon pending.items number line).pending }
+
+-- the units of lines with their numbers, after these pending items; the script's end closes the last batch
+abbrev pub units_from : ℕ → List Item → List (ℕ × Line) → List ScriptUnit
+units_from horizon pending [] = closed pending
+units_from horizon pending (line ∷ lines) =
+    let done = step horizon pending line.0 line.1 in
+    done.units ++ units_from horizon done.pending lines
+
+abbrev pub units_of : ℕ → List (ℕ × Line) → List ScriptUnit
+units_of horizon lines = units_from horizon [] lines

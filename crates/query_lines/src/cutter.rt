@@ -1,0 +1,119 @@
+//! A stream of bytes, cut into its lines.
+
+ghost use Rattle.std.specs.Prelude.{◌≡◌, ◌≢◌, ◌<◌, ◌≤◌, length, ℕ, List, [], ◌∷◌, ◌++◌, take, true};
+ghost use Rattle.query_lines.specs.Cutting.{Cutter, Holds, Ends};
+
+use crate::line::LONGEST_LINE;
+use std::marker::Model;
+
+/// What a byte, or the end of the stream, did.
+#[derive(Clone, Copy, Debug, PartialEq, Eq)]
+pub enum Cut {
+    /// No line ended.
+    More,
+    /// A line ended, of at most 4,096 bytes.
+    Whole,
+    /// A line of more than 4,096 bytes ended.
+    Long,
+}
+
+/// Cuts a stream of bytes into its lines. Of a line that is longer than 4,096
+/// bytes it keeps only that it is; it takes no memory.
+#[derive(Drop)]
+pub struct LineCutter {
+    buffer: [u8; LONGEST_LINE],
+    len: usize,
+    is_long: bool,
+    ended: usize,
+}
+
+impl Model for LineCutter {
+    ghost Value = { Cutter };
+
+    ghost view = { λ c. record {
+      kept = take c.len c.buffer;
+      is_long = c.is_long;
+      ended = take c.ended c.buffer;
+    } };
+
+    ghost invariant = { λ c. (c.len ≤ 4096) × (c.ended ≤ 4096) };
+}
+
+impl LineCutter {
+    /// A cutter at the start of a stream.
+    pub fn new() -> LineCutter
+        ensures { Holds [] result }
+    {
+        LineCutter {
+            buffer: [0; LONGEST_LINE],
+            len: 0,
+            is_long: false,
+            ended: 0,
+        }
+    }
+
+    /// Takes the next byte. A line feed ends the line.
+    pub fn take(&mut self, byte: u8) -> Cut
+        ensures more { (line : List ℕ) → Holds line self.old → byte ≢ 10
+            → (result ≡ Cut.More) × Holds (line ++ byte ∷ []) self.new }
+        ensures end { (line : List ℕ) → Holds line self.old → byte ≡ 10
+            → Ends line result self.new }
+        ensures no_text { byte ≢ 10 → self.new.ended ≡ [] }
+    {
+        if byte == b'\n' {
+            return self.finish();
+        }
+        self.put(byte);
+        Cut::More
+    }
+
+    fn put(&mut self, byte: u8)
+        ensures no_text { self.new.ended ≡ [] }
+        ensures holds { (line : List ℕ) → Holds line self.old → Holds (line ++ byte ∷ []) self.new }
+    {
+        self.ended = 0;
+        if self.len < LONGEST_LINE {
+            self.buffer[self.len] = byte;
+            self.len += 1;
+        } else {
+            self.is_long = true;
+        }
+    }
+
+    fn finish(&mut self) -> Cut
+        ensures { (line : List ℕ) → Holds line self.old → Ends line result self.new }
+    {
+        let len = self.len;
+        self.len = 0;
+        if self.is_long {
+            self.is_long = false;
+            self.ended = 0;
+            Cut::Long
+        } else {
+            self.ended = len;
+            Cut::Whole
+        }
+    }
+
+    /// Ends the stream, and with it the last line, if a byte came after the
+    /// last line feed.
+    pub fn end(&mut self) -> Cut
+        ensures none { Holds [] self.old
+            → (result ≡ Cut.More) × Holds [] self.new × (self.new.ended ≡ []) }
+        ensures some { (line : List ℕ) → Holds line self.old → 0 < length line
+            → Ends line result self.new }
+    {
+        if self.len == 0 {
+            self.ended = 0;
+            return Cut::More;
+        }
+        self.finish()
+    }
+
+    /// The line just ended; empty for a line that is too long.
+    pub fn text(&self) -> &[u8]
+        ensures { result.now ≡ self.now.ended }
+    {
+        self.buffer.as_slice().split_at(self.ended).0
+    }
+}

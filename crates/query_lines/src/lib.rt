@@ -1,0 +1,61 @@
+//! The query script and the replies to it: what a line says, which lines make a
+//! batch, and how a reply is written.
+//!
+//! A script is a text of lines. `wave` and `at` lines ask for the values of a
+//! signal, and are the **items** of batches, as is a line of no known form,
+//! which gets a reply too. `go` runs the pending batch, `trim` and `stats` are
+//! served by themselves. So a script is a list of **units**, each of which is
+//! served as a whole: `specs/Lines` says what a line means, `specs/Units` where
+//! a batch ends, and `specs/Laws` what holds of all units: they are the lines'
+//! requests in their order, and each batch is within its limits.
+//!
+//! The script comes byte by byte, and may stop at any byte. `ScriptReader` takes
+//! one byte after another and gives each unit as soon as the line that completes
+//! it has ended. Its parts serve alone too: `LineCutter` cuts a stream into
+//! lines, `read_line` reads one of them, and `Batcher` gathers items into units.
+//! Whatever bytes follow, the units given so far are the first of the whole
+//! script's (`HasRead` in `specs/Reading`).
+//!
+//! ```text
+//! let mut reader = ScriptReader::new(alloc, horizon);
+//! for byte in script {
+//!     for unit in reader.take(*byte)?.into_vec() {
+//!         serve(unit)?;
+//!     }
+//! }
+//! for unit in reader.end()?.into_vec() {
+//!     serve(unit)?;
+//! }
+//! ```
+//!
+//! An item's `Reply` is a waveform, as its maximal `Runs`, or says why there is
+//! none; `reply_text` writes it, and `specs/Replies` is the format.
+//!
+//! A byte costs constant time, and memory is taken only for an item's name, for
+//! pending items and for units. A line is read in time in proportion to its
+//! length, an item is moved into its batch once, and a reply's text is written
+//! from front to back. `LineCutter` keeps its line in an array of 4,096 bytes,
+//! and takes no memory.
+#![tactic(auto)]
+
+mod batcher;
+mod cutter;
+mod laws;
+mod line;
+mod reply;
+mod script;
+mod text;
+mod unit;
+
+pub use batcher::Batcher;
+pub use circuit_meaning::Run;
+pub use cutter::{Cut, LineCutter};
+pub use laws::{runs_of_cells, units_are_within_limits, units_keep_requests};
+pub use line::{Line, What, read_line};
+pub use reply::{Reply, Runs};
+pub use script::{ScriptReader, read_script};
+pub use text::{reply_text, stats_text, trimmed_text};
+pub use unit::{Item, ItemList, Unit, UnitList};
+
+#[cfg(test)]
+mod tests;

@@ -1,0 +1,150 @@
+//! A script, read a byte at a time.
+
+ghost use Rattle.std.specs.Prelude.{◌≡◌, ◌<◌, ◌≤◌, ◌+◌, ◌++◌, ◌∷◌, [], ℕ, List, length, All, IfOk, OnErr};
+ghost use Rattle.query_lines.specs.Laws.{IsWithinLimits};
+ghost use Rattle.query_lines.specs.Cutting.{Ends, cut_of, kept_of};
+ghost use Rattle.query_lines.specs.Lines.{line_of};
+ghost use Rattle.query_lines.specs.Reading.{HasRead, ReadsLine, script_units};
+ghost use Rattle.query_lines.specs.Units.{closed};
+ghost use Rattle.query_lines.specs.declared.unit.Unit.{Unit as ScriptUnit};
+
+use crate::batcher::Batcher;
+use crate::cutter::{Cut, LineCutter};
+use crate::line::{Line, read_line};
+use crate::unit::UnitList;
+use backsim_io::OutOfMemory;
+use std::alloc::Global;
+use std::marker::Model;
+
+/// Reads a script a byte at a time, and gives each unit as soon as the line
+/// that completes it has ended.
+#[derive(Drop)]
+pub struct ScriptReader {
+    alloc: Global,
+    cutter: LineCutter,
+    batcher: Batcher,
+    lines: u32,
+}
+
+impl Model for ScriptReader {
+    ghost use Rattle.query_lines.specs.Reading.{Reader};
+
+    ghost Value = { Reader };
+
+    ghost view = { λ r. record { cutter = r.cutter; pending = r.batcher; lines = r.lines } };
+}
+
+impl ScriptReader {
+    /// A reader at the start of a script, for a simulation up to this horizon.
+    pub fn new(alloc: Global, horizon: u32) -> ScriptReader
+        ensures { HasRead horizon [] [] result }
+    {
+        ScriptReader {
+            alloc,
+            cutter: LineCutter::new(),
+            batcher: Batcher::new(alloc, horizon),
+            lines: 0,
+        }
+    }
+
+    /// Takes the next byte, and gives the units that it completes. Where memory
+    /// runs out, the line that the byte ended is lost, and what is pending stays.
+    pub fn take(&mut self, byte: u8) -> Result<UnitList, OutOfMemory>
+        requires { self.old.lines < 4294967295 }
+        ensures read { (horizon : ℕ) (script : List ℕ) (given : List ScriptUnit)
+            → HasRead horizon script given self.old
+            → IfOk result (λ units. HasRead horizon (script ++ byte ∷ []) (given ++ units) self.new) }
+        ensures within { (horizon : ℕ) (script : List ℕ) (given : List ScriptUnit)
+            → HasRead horizon script given self.old
+            → horizon ≤ 1000000 → IfOk result (All (IsWithinLimits horizon)) }
+        ensures err { OnErr result
+            ((self.new.pending ≡ self.old.pending) × (self.new.lines ≡ self.old.lines)) }
+    {
+        match self.cutter.take(byte) {
+            Cut::More => Ok(UnitList::from_vec(Vec::new(self.alloc))),
+            cut => self.read_ended(cut),
+        }
+    }
+
+    /// Ends the script, and gives the units that are left.
+    pub fn end(self) -> Result<UnitList, OutOfMemory>
+        requires { self.lines < 4294967295 }
+        ensures whole { (horizon : ℕ) (script : List ℕ) (given : List ScriptUnit)
+            → HasRead horizon script given self
+            → IfOk result (λ units. script_units horizon script ≡ given ++ units) }
+        ensures within { (horizon : ℕ) (script : List ℕ) (given : List ScriptUnit)
+            → HasRead horizon script given self
+            → horizon ≤ 1000000 → IfOk result (All (IsWithinLimits horizon)) }
+    {
+        let mut reader = self;
+        let units = reader.read_last()?;
+        reader.close(units)
+    }
+
+    // Reads the last line, which no line feed ends, if it has a byte.
+    fn read_last(&mut self) -> Result<UnitList, OutOfMemory>
+        requires { self.old.lines < 4294967295 }
+        ensures { (horizon : ℕ) (script : List ℕ) (given : List ScriptUnit)
+            → HasRead horizon script given self.old
+            → IfOk result (λ units. script_units horizon script
+            ≡ given ++ (units ++ closed self.new.pending.items)) }
+    {
+        match self.cutter.end() {
+            Cut::More => Ok(UnitList::from_vec(Vec::new(self.alloc))),
+            cut => self.read_ended(cut),
+        }
+    }
+
+    // Puts the pending batch behind these units.
+    fn close(&mut self, units: UnitList) -> Result<UnitList, OutOfMemory>
+        ensures { IfOk result (λ all. all ≡ units ++ closed self.old.pending.items) }
+    {
+        let mut units = units.into_vec();
+        if let Some(batch) = self.batcher.end() {
+            units.push(batch)?;
+        }
+        Ok(UnitList::from_vec(units))
+    }
+
+    // Reads the line that the cutter has just ended.
+    fn read_ended(&mut self, cut: Cut) -> Result<UnitList, OutOfMemory>
+        requires { self.old.lines < 4294967295 }
+        ensures read { (line : List ℕ) → Ends line cut self.old.cutter
+            → IfOk result (ReadsLine line self.old self.new) }
+        ensures err { OnErr result
+            ((self.new.pending ≡ self.old.pending) × (self.new.lines ≡ self.old.lines)) }
+    {
+        let line = ended_line(self.alloc, cut, self.cutter.text())?;
+        let units = self.batcher.take(self.lines + 1, line)?;
+        self.lines += 1;
+        Ok(units)
+    }
+}
+
+// The line that a cutter has ended.
+#[tactic(auto, unfolding(crate::specs::Lines::line_of))]
+fn ended_line(alloc: Global, cut: Cut, text: &[u8]) -> Result<Line, OutOfMemory>
+    ensures { (bytes : List ℕ) → cut ≡ cut_of bytes → text.now ≡ kept_of bytes
+        → IfOk result (λ line. line ≡ line_of bytes) }
+{
+    match cut {
+        Cut::Long => Ok(Line::Bad),
+        Cut::Whole | Cut::More => read_line(alloc, text),
+    }
+}
+
+/// The units of a script that is held as a whole.
+pub fn read_script(alloc: Global, horizon: u32, script: &[u8]) -> Result<UnitList, OutOfMemory>
+    requires { length script.now < 4294967295 }
+    ensures { IfOk result (λ units. units ≡ script_units horizon script.now) }
+{
+    let mut reader = ScriptReader::new(alloc, horizon);
+    let mut units = Vec::new(alloc);
+    for byte in script {
+        let mut completed = reader.take(*byte)?.into_vec();
+        units.append(&mut completed)?;
+    }
+    let mut left = reader.end()?.into_vec();
+    units.append(&mut left)?;
+    Ok(UnitList::from_vec(units))
+}

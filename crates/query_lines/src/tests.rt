@@ -1,0 +1,300 @@
+use super::*;
+use backsim_io::Text;
+use gate_values::Value;
+use std::test::Fail;
+
+#[derive(Clone, Copy, Debug, PartialEq, Eq)]
+enum Said {
+    Blank,
+    Wave(u32, u32, u32),
+    At(u32, u32),
+    Go,
+    Trim(u32),
+    Stats,
+    Bad,
+}
+
+fn form_of(line: &Line) -> Said {
+    match line {
+        Line::Blank => Said::Blank,
+        Line::Ask(
+            What::Wave {
+                from,
+                to,
+                budget,
+                ..
+            },
+        ) => Said::Wave(*from, *to, *budget),
+        Line::Ask(What::At { time, budget, .. }) => Said::At(*time, *budget),
+        Line::Go => Said::Go,
+        Line::Trim(cells) => Said::Trim(*cells),
+        Line::Stats => Said::Stats,
+        Line::Bad | Line::Ask(What::Bad) => Said::Bad,
+    }
+}
+
+#[test]
+fn lines_have_their_forms(rt: HostRuntime) -> Result<(), Fail> {
+    let rows: [(&[u8], Said); 36] = [
+        (b"", Said::Blank),
+        (b" \t # wave y 0 11\r", Said::Blank),
+        (b"wave y 0 11", Said::Wave(0, 11, 50_000)),
+        (b"\twave  y 0 11 7 # budget", Said::Wave(0, 11, 7)),
+        (b"wave y 007 0011\r", Said::Wave(7, 11, 50_000)),
+        (
+            b"wave y 4294967294 4294967294 500000",
+            Said::Wave(4_294_967_294, 4_294_967_294, 500_000),
+        ),
+        (b"wave y 4294967295 11", Said::Bad),
+        (b"wave y 0 4294967295", Said::Bad),
+        (b"wave y 0 11 500001", Said::Bad),
+        (b"wave y 0 11 7 8", Said::Bad),
+        (b"wave y", Said::Bad),
+        (b"wave y 0", Said::Bad),
+        (b"wave y 0 -1", Said::Bad),
+        (b"wave y=z 0 11", Said::Bad),
+        (b"WAVE y 0 11", Said::Bad),
+        (b"at y 5", Said::At(5, 50_000)),
+        (b"at y 5 0", Said::At(5, 0)),
+        (b"at wave 4294967294", Said::At(4_294_967_294, 50_000)),
+        (b"at y 4294967295", Said::Bad),
+        (b"at y 5 500001", Said::Bad),
+        (b"at y", Said::Bad),
+        (b"at y 5x", Said::Bad),
+        (b"go # now", Said::Go),
+        (b"go now", Said::Bad),
+        (b"Go", Said::Bad),
+        (b"trim 0065536", Said::Trim(65_536)),
+        (b"trim 65537", Said::Bad),
+        (b"trim", Said::Bad),
+        (b"trim 1 2", Said::Bad),
+        (b"stats", Said::Stats),
+        (b"stats 1", Said::Bad),
+        (b"hello", Said::Bad),
+        (b"vcd dump", Said::Bad),
+        (b"first y 1 0 11", Said::Bad),
+        (b"why y 5", Said::Bad),
+        (b"stuck y 0 y 0 11", Said::Bad),
+    ];
+    for (text, want) in rows {
+        let line = read_line(rt.alloc(), text)?;
+        assert_eq!(rt; form_of(&line), want);
+    }
+    Ok(())
+}
+
+#[derive(Clone, Copy, Debug, PartialEq, Eq)]
+enum Shape {
+    Items(usize),
+    Trim(u32),
+    Stats,
+}
+
+fn shape_of(unit: &Unit) -> Shape {
+    match unit {
+        Unit::Batch(items) => Shape::Items(items.as_slice().len()),
+        Unit::Trim(cells) => Shape::Trim(*cells),
+        Unit::Stats => Shape::Stats,
+    }
+}
+
+fn shapes_of(rt: &HostRuntime, units: &UnitList) -> Result<Vec<Shape>, Fail> {
+    let mut shapes = Vec::new(rt.alloc());
+    for unit in units.as_slice() {
+        shapes.push(shape_of(unit))?;
+    }
+    Ok(shapes)
+}
+
+#[test]
+fn window_lengths_close_a_batch(rt: HostRuntime) -> Result<(), Fail> {
+    let script =
+        b"wave y 0 1000000\nwave y 0 1000001\nwave y 1 1000001\nat y 0\nwave y 2 1000001\nat y 1";
+    let units = read_script(rt.alloc(), 1_000_000, script.as_slice())?;
+    assert_eq!(rt;
+        shapes_of(&rt, &units)?.as_slice(),
+        [Shape::Items(4), Shape::Items(2)].as_slice()
+    );
+    Ok(())
+}
+
+#[test]
+fn sixty_four_items_are_a_batch(rt: HostRuntime) -> Result<(), Fail> {
+    let mut script = Vec::new(rt.alloc());
+    for _ in 0..65 {
+        script.extend_from_slice(b"at y 5 0\n")?;
+    }
+    assert!(rt; script.len() < 1000);
+    let units = read_script(rt.alloc(), 10, &script)?;
+    assert_eq!(rt;
+        shapes_of(&rt, &units)?.as_slice(),
+        [Shape::Items(64), Shape::Items(1)].as_slice()
+    );
+    Ok(())
+}
+
+// A line of `at y 5` that blanks fill up to this length.
+fn filled_line(rt: &HostRuntime, len: usize, behind: &[u8]) -> Result<Vec<u8>, Fail> {
+    let mut line = Vec::from_slice(rt.alloc(), b"at y 5 ")?;
+    line.resize(len, b' ')?;
+    line.extend_from_slice(behind)?;
+    Ok(line)
+}
+
+#[test]
+fn a_line_may_have_4096_bytes(rt: HostRuntime) -> Result<(), Fail> {
+    let rows: [(usize, &[u8], Said); 5] = [
+        (4096, b"", Said::At(5, 50_000)),
+        (4097, b"", Said::Bad),
+        (4095, b"#", Said::At(5, 50_000)),
+        (4095, b"# comment", Said::Bad),
+        (4095, b"\r", Said::At(5, 50_000)),
+    ];
+    for (len, behind, want) in rows {
+        let text = filled_line(&rt, len, behind)?;
+        assert_eq!(rt; form_of(&read_line(rt.alloc(), &text)?), want);
+    }
+    Ok(())
+}
+
+#[test]
+fn a_stream_is_cut_into_lines(rt: HostRuntime) -> Result<(), Fail> {
+    let mut text = filled_line(&rt, 4096, b"\n")?;
+    let long = filled_line(&rt, 4097, b"\n\nlast")?;
+    text.extend_from_slice(&long)?;
+    let mut cutter = LineCutter::new();
+    let mut cuts = Vec::new(rt.alloc());
+    for byte in &text {
+        match cutter.take(*byte) {
+            Cut::More => {}
+            cut => cuts.push((cut, cutter.text().len()))?,
+        }
+    }
+    cuts.push((cutter.end(), cutter.text().len()))?;
+    cuts.push((cutter.end(), cutter.text().len()))?;
+    let want = [
+        (Cut::Whole, 4096),
+        (Cut::Long, 0),
+        (Cut::Whole, 0),
+        (Cut::Whole, 4),
+        (Cut::More, 0),
+    ];
+    assert_eq!(rt; cuts.as_slice(), want.as_slice());
+    Ok(())
+}
+
+#[test]
+fn units_close_where_they_must(rt: HostRuntime) -> Result<(), Fail> {
+    use Shape::{Items, Stats, Trim};
+    let rows: [(&[u8], &[Shape]); 9] = [
+        (b"", &[]),
+        (b"go\n\n# nothing is pending\ngo", &[]),
+        (b"at y 5\ngo\nat y 6", &[Items(1), Items(1)]),
+        (b"at y 3\nwave y\nat y 9\n", &[Items(3)]),
+        (
+            b"wave y 0 11 500000\nwave y 0 11 500000\nwave y 0 11 500000",
+            &[Items(2), Items(1)],
+        ),
+        (
+            b"wave y 0 11\r\ntrim 1\r\nstats\r\n",
+            &[Items(1), Trim(1), Stats],
+        ),
+        (
+            b"wave y 0 11 500000\nwave y 0 11 499999\nat y 1 1",
+            &[Items(3)],
+        ),
+        (
+            b"wave y 0 11 500000\nwave y 0 11 499999\nat y 1 2\nat y 2",
+            &[Items(2), Items(2)],
+        ),
+        (
+            b"wave y 9 3 500000\nat y 9 500000\nwave z 0 999999999 1\ngo\nbad\n",
+            &[Items(2), Items(1), Items(1)],
+        ),
+    ];
+    for (script, want) in rows {
+        let units = read_script(rt.alloc(), 10, script)?;
+        assert_eq!(rt; shapes_of(&rt, &units)?.as_slice(), want);
+    }
+    Ok(())
+}
+
+#[test]
+fn waves_have_their_texts(rt: HostRuntime) -> Result<(), Fail> {
+    let alloc = rt.alloc();
+    let item = Item {
+        line: 1,
+        what: What::Wave {
+            name: Text::from_bytes(alloc, b"y")?,
+            from: 0,
+            to: 12,
+            budget: 7,
+        },
+    };
+    let mut runs = Runs::new(alloc);
+    runs.push(0, Value::X)?;
+    runs.push(1, Value::X)?;
+    runs.push(3, Value::One)?;
+    runs.push(8, Value::Zero)?;
+    runs.push(9, Value::Zero)?;
+    runs.push(10, Value::Z)?;
+    let text = reply_text(alloc, &item, &Reply::Wave(runs))?;
+    assert_eq!(rt;
+        text.as_slice(),
+        b"wave y 0 12\n0 x\n3 1\n8 0\n10 z\nend\n".as_slice()
+    );
+    let text = reply_text(alloc, &item, &Reply::Wave(Runs::new(alloc)))?;
+    assert_eq!(rt; text.as_slice(), b"wave y 0 12\nend\n".as_slice());
+    let text = reply_text(alloc, &item, &Reply::Past)?;
+    assert_eq!(rt; text.as_slice(), b"past y 0 12\n".as_slice());
+    Ok(())
+}
+
+#[test]
+fn values_have_their_texts(rt: HostRuntime) -> Result<(), Fail> {
+    let alloc = rt.alloc();
+    let item = Item {
+        line: 3,
+        what: What::At {
+            name: Text::from_bytes(alloc, b"n3")?,
+            time: 4_294_967_294,
+            budget: 2,
+        },
+    };
+    let mut runs = Vec::new(alloc);
+    runs.push(Run {
+        time: 4_294_967_294,
+        value: Value::One,
+    })?;
+    let text = reply_text(alloc, &item, &Reply::Wave(Runs::from_vec(runs)))?;
+    assert_eq!(rt; text.as_slice(), b"at n3 4294967294 1\n".as_slice());
+    let text = reply_text(alloc, &item, &Reply::Past)?;
+    assert_eq!(rt;
+        text.as_slice(),
+        b"past n3 4294967294 4294967295\n".as_slice()
+    );
+    let text = reply_text(alloc, &item, &Reply::Unknown)?;
+    assert_eq!(rt; text.as_slice(), b"unknown n3\n".as_slice());
+    let text = reply_text(alloc, &item, &Reply::Budget(2))?;
+    assert_eq!(rt; text.as_slice(), b"budget n3 2\n".as_slice());
+    Ok(())
+}
+
+#[test]
+fn other_replies_have_their_texts(rt: HostRuntime) -> Result<(), Fail> {
+    let alloc = rt.alloc();
+    let bad = Item {
+        line: 10,
+        what: What::Bad,
+    };
+    let text = reply_text(alloc, &bad, &Reply::BadLine)?;
+    assert_eq!(rt; text.as_slice(), b"error line 10\n".as_slice());
+    let text = trimmed_text(alloc, 1)?;
+    assert_eq!(rt; text.as_slice(), b"trimmed 1\n".as_slice());
+    let text = stats_text(alloc, 1, 399_997, 383_613, 16_384)?;
+    assert_eq!(rt;
+        text.as_slice(),
+        b"stats batches 1 fills 399997 evictions 383613 cells 16384\n".as_slice()
+    );
+    Ok(())
+}

@@ -1,0 +1,5 @@
+pub mod Causes
+pub mod Forms
+pub mod Stimulus
+pub mod Ranges
+pub mod Reading

@@ -1,0 +1,99 @@
+-- What a stimulus file says, or its first line at fault.
+use Rattle.std.specs.Prelude.{◌≡◌, ℕ, ◌+◌, Bool, true, false, ◌&&◌, ◌==◌, List, [], ◌∷◌, ◌++◌, length, map, Option, Some, None, Result, Ok, Err, if◌then◌else◌, ◌⊎◌, slice_get}
+use Rattle.std.specs.List.{list_all, list_any, flat_map}
+use Rattle.std.specs.Str.{bytes_eq}
+use Rattle.text_rules.specs.Text.{lines}
+use Rattle.stimulus_file.specs.declared.StimulusCause.{StimulusCause}
+use Rattle.stimulus_file.specs.declared.StimulusCause.TheVariants.{Syntax, NoHorizon, Range, Twice}
+use Rattle.stimulus_file.specs.declared.StimulusFault.{StimulusFault}
+use Rattle.stimulus_file.specs.declared.SetRow.{SetRow}
+use Rattle.stimulus_file.specs.Causes.{out_of_memory}
+use Rattle.stimulus_file.specs.Forms.{Line, Blank, Other, Horizon, Setting, line_of}
+
+-- what the file says: the horizon, and the settings in the order of their lines
+pub record Content : Type 0 where
+  pub horizon : ℕ
+  pub sets : List SetRow
+
+abbrev pub is_blank : Line → Bool
+is_blank Blank = true
+is_blank Other = false
+is_blank (Horizon h) = false
+is_blank (Setting name time value) = false
+
+abbrev pub is_horizon : Line → Bool
+is_horizon Blank = false
+is_horizon Other = false
+is_horizon (Horizon h) = true
+is_horizon (Setting name time value) = false
+
+-- a line that sets this name at this time
+abbrev pub sets : List ℕ → ℕ → Line → Bool
+sets name time Blank = false
+sets name time Other = false
+sets name time (Horizon h) = false
+sets name time (Setting n None v) = false
+sets name time (Setting n (Some t) v) = bytes_eq n name && t == time
+
+-- the cause of a line after the lines before it, if it is at fault
+abbrev pub cause_of : List Line → Line → Option StimulusCause
+cause_of before Blank = None
+cause_of before Other = Some Syntax
+cause_of before (Horizon None) = Some Range
+cause_of before (Horizon (Some h)) = if list_any is_horizon before then Some Twice else None
+cause_of before (Setting name None value) = if list_all is_blank before then Some NoHorizon else Some Range
+cause_of before (Setting name (Some t) value) = if list_all is_blank before then Some NoHorizon else (if list_any (sets name t) before then Some Twice else None)
+
+abbrev pub fault_at : Option StimulusCause → ℕ → Option StimulusFault → Option StimulusFault
+fault_at None line later = later
+fault_at (Some cause) line later = Some (record { cause = cause; line = line })
+
+-- the first line at fault among the later ones, after those before
+abbrev pub first_fault : List Line → List Line → Option StimulusFault
+first_fault before [] = None
+first_fault before (line ∷ later) = fault_at (cause_of before line) (length before + 1) (first_fault (before ++ line ∷ []) later)
+
+-- the horizon that a line states
+abbrev pub stated : Line → List ℕ
+stated Blank = []
+stated Other = []
+stated (Horizon None) = []
+stated (Horizon (Some h)) = h ∷ []
+stated (Setting name time value) = []
+
+-- the row of the line with the number n
+abbrev pub row_of : ℕ → Line → List SetRow
+row_of n Blank = []
+row_of n Other = []
+row_of n (Horizon h) = []
+row_of n (Setting name None value) = []
+row_of n (Setting name (Some t) value) = record { line = n; name = name; time = t; value = value } ∷ []
+
+-- the rows of lines of which the first has the number n
+abbrev pub rows_from : ℕ → List Line → List SetRow
+rows_from n [] = []
+rows_from n (line ∷ more) = row_of n line ++ rows_from (n + 1) more
+
+abbrev pub horizon_of : List Line → Option ℕ
+horizon_of all = slice_get (flat_map stated all) 0
+
+-- a file without a horizon is refused at line 0
+abbrev pub with_horizon : Option ℕ → List SetRow → Result Content StimulusFault
+with_horizon None rows = Err (record { cause = NoHorizon; line = 0 })
+with_horizon (Some h) rows = Ok (record { horizon = h; sets = rows })
+
+abbrev pub unless_fault : Option StimulusFault → Result Content StimulusFault → Result Content StimulusFault
+unless_fault None content = content
+unless_fault (Some fault) content = Err fault
+
+abbrev pub of_lines : List Line → Result Content StimulusFault
+of_lines all = unless_fault (first_fault [] all) (with_horizon (horizon_of all) (rows_from 1 all))
+
+-- the content of a stimulus file, or its first line at fault
+unfoldable pub stimulus_of : List ℕ → Result Content StimulusFault
+stimulus_of text = of_lines (map line_of (lines text))
+
+-- the answer is this one, unless memory ran out
+abbrev pub Answers : Result Content StimulusFault → Result Content StimulusFault → Type 0
+Answers (Ok content) said = said ≡ Ok content
+Answers (Err fault) said = (fault ≡ out_of_memory) ⊎ (said ≡ Err fault)

@@ -1,0 +1,186 @@
+//! The stimulus file: how long the simulation runs, and when the inputs are set.
+//!
+//! The file is text after the rules of `text_rules`. Its lines have two forms,
+//! whose words are divided by blanks and whose keywords are in lower case:
+//!
+//! | line | meaning |
+//! |---|---|
+//! | `horizon H` | the last time of the simulation, 0 to 1,000,000; once, on the first line that isn't blank |
+//! | `set NAME T VALUE` | the input NAME has the value VALUE from the time T on; T is 0 to 1,000,000, VALUE one of `0`, `1`, `x` and `z`, the letters in either case |
+//!
+//! Blank lines and comments are passed over, and the `set` lines may stand in
+//! any order. A word that is a keyword may be a name where a name stands.
+//!
+//! `read_stimulus` reads a whole file. Its one clause says that the answer is
+//! `stimulus_of` of the text: the content, or the first line at fault with its
+//! cause. Only want of memory is left open. `Stimulus` is seen by contracts as
+//! its content, `horizon` and `sets`, the settings in the order of the file.
+//! Whether a name is an input of some netlist is for the crate above to test.
+//!
+//! Reading takes one walk over the text, one look-up in a hash set a `set` line
+//! and one copy of its name, so time and memory grow with the length of the
+//! text. The set of what was seen borrows the names from the text.
+//!
+//! ```text
+//! let stimulus = read_stimulus(alloc, b"horizon 10\nset a 0 1\n")?;
+//! for row in stimulus.sets() { .. row.name.bytes() .. row.time .. }
+//! ```
+#![tactic(auto)]
+
+ghost use Rattle.std.specs.Prelude.{◌≡◌};
+
+mod form;
+mod reader;
+
+use backsim_io::{OutOfMemory, Text};
+use gate_values::Value;
+pub use reader::read_stimulus;
+use std::alloc::{AllocError, AllocFailed};
+use std::marker::Model;
+
+/// Why a line of the file is refused, in the order in which the causes of one
+/// line are tested.
+#[derive(Clone, Copy, Debug, PartialEq, Eq)]
+pub enum StimulusCause {
+    /// The line has none of the forms.
+    Syntax,
+    /// No horizon stands in front of the line, or in the file.
+    NoHorizon,
+    /// A number is above its range.
+    Range,
+    /// A second `horizon` line, or a second setting of a name at one time.
+    Twice,
+    /// Memory ran out.
+    OutOfMemory,
+}
+
+impl StimulusCause {
+    ghost use Rattle.stimulus_file.specs.Causes.{number_of};
+
+    /// The number that is printed for the cause.
+    pub fn number(self) -> u8
+        ensures { result ≡ number_of self }
+    {
+        match self {
+            StimulusCause::Syntax => 1,
+            StimulusCause::NoHorizon => 2,
+            StimulusCause::Range => 3,
+            StimulusCause::Twice => 4,
+            StimulusCause::OutOfMemory => 5,
+        }
+    }
+}
+
+/// The first line at fault. Lines are numbered from 1; where the file has no
+/// line that isn't blank, and where memory ran out, the line is 0.
+#[derive(Clone, Copy, Debug, PartialEq, Eq)]
+pub struct StimulusFault {
+    pub cause: StimulusCause,
+    pub line: u32,
+}
+
+impl StimulusFault {
+    ghost use Rattle.stimulus_file.specs.Causes.{out_of_memory};
+
+    fn out_of_memory() -> StimulusFault
+        ensures { result ≡ out_of_memory }
+    {
+        StimulusFault {
+            cause: StimulusCause::OutOfMemory,
+            line: 0,
+        }
+    }
+}
+
+impl From<AllocError> for StimulusFault {
+    ghost use Rattle.stimulus_file.specs.Causes.{out_of_memory};
+
+    ghost from_gives = { λ _ fault. fault ≡ out_of_memory };
+
+    fn from(_: AllocError) -> StimulusFault {
+        StimulusFault::out_of_memory()
+    }
+}
+
+impl<T: Drop> From<AllocFailed<T>> for StimulusFault {
+    ghost use Rattle.stimulus_file.specs.Causes.{out_of_memory};
+
+    ghost from_gives = { λ _ fault. fault ≡ out_of_memory };
+
+    fn from(_: AllocFailed<T>) -> StimulusFault {
+        StimulusFault::out_of_memory()
+    }
+}
+
+impl From<OutOfMemory> for StimulusFault {
+    ghost use Rattle.stimulus_file.specs.Causes.{out_of_memory};
+
+    ghost from_gives = { λ _ fault. fault ≡ out_of_memory };
+
+    fn from(_: OutOfMemory) -> StimulusFault {
+        StimulusFault::out_of_memory()
+    }
+}
+
+/// A `set` line: from `time` on the input `name` has `value`. `time` is at most
+/// 1,000,000.
+#[derive(Drop)]
+pub struct SetRow {
+    pub line: u32,
+    pub name: Text,
+    pub time: u32,
+    pub value: Value,
+}
+
+/// What a stimulus file says.
+#[derive(Drop)]
+pub struct Stimulus {
+    horizon: u32,
+    sets: Vec<SetRow>,
+}
+
+impl Model for Stimulus {
+    ghost use Rattle.stimulus_file.specs.Stimulus.{Content};
+    ghost use Rattle.stimulus_file.specs.Ranges.{IsStimulus};
+
+    ghost Value = { Content };
+
+    ghost view = { λ s. record { horizon = s.horizon; sets = s.sets.items } };
+
+    ghost invariant = { λ s. IsStimulus (record { horizon = s.horizon; sets = s.sets.items }) };
+}
+
+impl Stimulus {
+    ghost use Rattle.stimulus_file.specs.Ranges.{IsStimulus};
+
+    fn new(horizon: u32, sets: Vec<SetRow>) -> Stimulus
+        requires { IsStimulus (record { horizon = horizon; sets = sets.items }) }
+        ensures { result ≡ record { horizon = horizon; sets = sets.items } }
+    {
+        Stimulus { horizon, sets }
+    }
+
+    /// Does nothing, and tells a proof that no time is above 1,000,000.
+    pub fn facts(&self)
+        ensures { IsStimulus self.now }
+    {
+        let _ = &self.horizon;
+    }
+
+    /// The last time of the simulation, at most 1,000,000.
+    pub fn horizon(&self) -> u32
+        ensures { result ≡ self.now.horizon }
+    {
+        self.horizon
+    }
+
+    /// The settings, in the order of the file.
+    pub fn sets(&self) -> &[SetRow]
+        ensures { result.now ≡ self.now.sets }
+    {
+        &self.sets
+    }
+}
+
+#[cfg(test)]
+mod tests;

@@ -1,0 +1,4 @@
+pub mod Alike
+pub mod Loop
+pub mod Steps
+pub mod Within

@@ -1,0 +1,7 @@
+pub mod Causes
+pub mod Forms
+pub mod Subjects
+pub mod Timing
+pub mod Ranges
+pub mod Views
+pub mod Reading

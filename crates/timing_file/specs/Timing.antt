@@ -1,0 +1,142 @@
+-- What a timing file says, or its first line at fault.
+use Rattle.std.specs.Prelude.{◌≡◌, ℕ, ◌+◌, Bool, true, false, List, [], ◌∷◌, ◌++◌, length, map, Option, Some, None, Result, Ok, Err, if◌then◌else◌, ◌⊎◌, slice_get, unwrap_or}
+use Rattle.std.specs.List.{list_all, list_any, flat_map}
+use Rattle.gate_values.specs.declared.Kind.{Kind}
+use Rattle.flip_flops.specs.declared.Clock.{Clock}
+use Rattle.text_rules.specs.Text.{lines}
+use Rattle.timing_file.specs.declared.TimingCause.{TimingCause}
+use Rattle.timing_file.specs.declared.TimingCause.TheVariants.{Syntax, Range, Twice}
+use Rattle.timing_file.specs.declared.TimingFault.{TimingFault}
+use Rattle.timing_file.specs.declared.TimingRow.{TimingRow}
+use Rattle.timing_file.specs.declared.TimingWhat.TheVariants.{Delay, Init, Pin, Clocked}
+use Rattle.timing_file.specs.declared.ClockRow.{ClockRow}
+use Rattle.timing_file.specs.Causes.{out_of_memory}
+use Rattle.timing_file.specs.Forms.{Entry, CommonClock, NamedClock, Default, DefaultOf, DelayOf, InitOf, PinOf, ClockedBy, Line, Blank, Other, Version, Plain, Versioned, line_of}
+use Rattle.timing_file.specs.Subjects.{same_kind, same_subject, subject_of}
+
+-- what the file says: the clock and the default without a name, the defaults of kinds, and the rows in the order of their lines
+pub record Content : Type 0 where
+  pub clock : Option Clock
+  pub default : Option ℕ
+  pub kinds : List (Kind × ℕ)
+  pub rows : List TimingRow
+  pub clocks : List ClockRow
+
+abbrev pub kind_delay : Kind → List (Kind × ℕ) → Option ℕ
+kind_delay kind [] = None
+kind_delay kind (stated ∷ more) = if same_kind stated.0 kind then Some stated.1 else kind_delay kind more
+
+-- the delay of a kind: that of its own line, else that of all kinds, else 1
+abbrev pub default_of : Content → Kind → ℕ
+default_of content kind = unwrap_or (kind_delay kind content.kinds) (unwrap_or content.default 1)
+
+-- what the line with this number states
+pub record Statement : Type 0 where
+  pub line : ℕ
+  pub entry : Entry
+
+abbrev pub stated_at : ℕ → Option Entry → List Statement
+stated_at n None = []
+stated_at n (Some entry) = record { line = n; entry = entry } ∷ []
+
+abbrev pub statements_at : ℕ → Line → List Statement
+statements_at n Blank = []
+statements_at n Other = []
+statements_at n Version = []
+statements_at n (Plain entry) = stated_at n entry
+statements_at n (Versioned entry) = stated_at n entry
+
+-- the statements of lines of which the first has the number n
+abbrev pub statements_from : ℕ → List Line → List Statement
+statements_from n [] = []
+statements_from n (line ∷ more) = statements_at n line ++ statements_from (n + 1) more
+
+abbrev pub is_blank : Line → Bool
+is_blank Blank = true
+is_blank Other = false
+is_blank Version = false
+is_blank (Plain entry) = false
+is_blank (Versioned entry) = false
+
+abbrev pub is_version : Line → Bool
+is_version Blank = false
+is_version Other = false
+is_version Version = true
+is_version (Plain entry) = false
+is_version (Versioned entry) = false
+
+-- an earlier statement has the subject of this entry
+abbrev pub is_repeated : List Line → Entry → Bool
+is_repeated before entry = list_any (λ s. same_subject (subject_of entry) (subject_of s.entry)) (statements_from 1 before)
+
+abbrev pub cause_of_entry : List Line → Option Entry → Option TimingCause
+cause_of_entry before None = Some Range
+cause_of_entry before (Some entry) = if is_repeated before entry then Some Twice else None
+
+-- the cause of a line after the lines before it, if it is at fault
+abbrev pub cause_of : List Line → Line → Option TimingCause
+cause_of before Blank = None
+cause_of before Other = Some Syntax
+cause_of before Version = if list_all is_blank before then None else Some Syntax
+cause_of before (Plain entry) = cause_of_entry before entry
+cause_of before (Versioned entry) = if list_any is_version before then cause_of_entry before entry else Some Syntax
+
+abbrev pub fault_at : Option TimingCause → ℕ → Option TimingFault → Option TimingFault
+fault_at None line later = later
+fault_at (Some cause) line later = Some (record { cause = cause; line = line })
+
+-- the first line at fault among the later ones, after those before
+abbrev pub first_fault : List Line → List Line → Option TimingFault
+first_fault before [] = None
+first_fault before (line ∷ later) = fault_at (cause_of before line) (length before + 1) (first_fault (before ++ line ∷ []) later)
+
+abbrev pub clock_stated : Entry → List Clock
+clock_stated (CommonClock clock) = clock ∷ []
+clock_stated _ = []
+
+abbrev pub default_stated : Entry → List ℕ
+default_stated (Default delay) = delay ∷ []
+default_stated _ = []
+
+abbrev pub kind_stated : Entry → List (Kind × ℕ)
+kind_stated (DefaultOf kind delay) = (kind, delay) ∷ []
+kind_stated _ = []
+
+abbrev pub row_of : ℕ → Entry → List TimingRow
+row_of n (DelayOf name delay) = record { line = n; name = name; what = Delay delay } ∷ []
+row_of n (InitOf name value) = record { line = n; name = name; what = Init value } ∷ []
+row_of n (PinOf name place delay) = record { line = n; name = name; what = Pin place delay } ∷ []
+row_of n (ClockedBy flop clock) = record { line = n; name = flop; what = Clocked clock } ∷ []
+row_of n _ = []
+
+abbrev pub clock_row_of : ℕ → Entry → List ClockRow
+clock_row_of n (NamedClock name clock) = record { line = n; name = name; clock = clock } ∷ []
+clock_row_of n _ = []
+
+abbrev pub content_from : List Statement → Content
+content_from all = record {
+  clock = slice_get (flat_map (λ s. clock_stated s.entry) all) 0;
+  default = slice_get (flat_map (λ s. default_stated s.entry) all) 0;
+  kinds = flat_map (λ s. kind_stated s.entry) all;
+  rows = flat_map (λ s. row_of s.line s.entry) all;
+  clocks = flat_map (λ s. clock_row_of s.line s.entry) all;
+}
+
+abbrev pub content_of : List Line → Content
+content_of all = content_from (statements_from 1 all)
+
+abbrev pub unless_fault : Option TimingFault → Content → Result Content TimingFault
+unless_fault None content = Ok content
+unless_fault (Some fault) content = Err fault
+
+abbrev pub of_lines : List Line → Result Content TimingFault
+of_lines all = unless_fault (first_fault [] all) (content_of all)
+
+-- the content of a timing file, or its first line at fault
+unfoldable pub timing_of : List ℕ → Result Content TimingFault
+timing_of text = of_lines (map line_of (lines text))
+
+-- the answer is this one, unless memory ran out
+abbrev pub Answers : Result Content TimingFault → Result Content TimingFault → Type 0
+Answers (Ok content) said = said ≡ Ok content
+Answers (Err fault) said = (fault ≡ out_of_memory) ⊎ (said ≡ Err fault)
