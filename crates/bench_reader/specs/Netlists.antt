@@ -65,6 +65,7 @@ place names name = position_or_len (bytes_eq name) names
 abbrev pub number : List Line → List ℕ → ℕ
 number all name = place (names all) name
 
+-- a name may have 255 bytes
 abbrev pub is_long : List ℕ → Bool
 is_long name = nat_lt 255 (length name)
 
@@ -99,6 +100,7 @@ cause_of before (Input name) = cause_of_names before (Input name) (is_among (fla
 cause_of before (Output name) = cause_of_names before (Output name) false
 cause_of before (Gate name word pins) = cause_of_gate before name word pins (kind_of_word word)
 
+-- a cause on a line, else a later line's fault
 abbrev pub fault_at : Option BenchCause → ℕ → Option BenchFault → Option BenchFault
 fault_at None line later = later
 fault_at (Some cause) line later = Some (record { cause = cause; line = line })
@@ -108,6 +110,7 @@ abbrev pub first_fault : List Line → List Line → Option BenchFault
 first_fault before [] = None
 first_fault before (line ∷ later) = fault_at (cause_of before line) (length before + 1) (first_fault (before ++ line ∷ []) later)
 
+-- an INPUT or gate line defines the name
 abbrev pub is_defined : List Line → List ℕ → Bool
 is_defined all name = is_among (flat_map defined_in all) name
 
@@ -129,6 +132,7 @@ pub record Content : Type 0 where
   pub rows : List Driver
   pub outputs : List ℕ
 
+-- the fan-in of a signal
 abbrev pub pins_of : Driver → List ℕ
 pins_of Primary = []
 pins_of (Driven kind pins) = pins
@@ -192,9 +196,11 @@ unless_fault (Some fault) said = Err fault
 abbrev pub of_lines : List Line → Result Content BenchFault
 of_lines all = unless_fault (first_fault [] all) (unless_fault (undefined_from all 1 all) (Ok (content_of all)))
 
+-- what a text says: its netlist, or why it is refused
 unfoldable pub bench_of : List ℕ → Result Content BenchFault
 bench_of text = of_lines (map line_of (lines text))
 
+-- the one fault that says nothing of the text
 abbrev pub out_of_memory : BenchFault
 out_of_memory = record { cause = OutOfMemory; line = 0 }
 

@@ -9,7 +9,7 @@ use gate_values::Kind;
 use indexmap::IndexSet;
 use std::marker::Model;
 
-/// What the lines so far say of a signal's definition.
+/// What the lines so far say of a signal's definition. In a netlist none is missing.
 #[derive(Clone, Copy)]
 pub enum Definition {
     /// None of them defines it, and this one is the first that names it.
@@ -64,7 +64,7 @@ impl Netlist {
         self.names.len() as u32
     }
 
-    /// The number of the signal of a name.
+    /// The number of the signal of this name, if there is one. One look-up by hashing.
     pub fn id_of(&self, name: &[u8]) -> Option<u32>
         ensures { result ≡ position (bytes_eq name.now) self.now.names }
     {
@@ -74,6 +74,7 @@ impl Netlist {
         }
     }
 
+    /// The name of a signal.
     pub fn name_of(&self, id: u32) -> &[u8]
         requires { id < length self.now.names }
         ensures { slice_get self.now.names id ≡ Some result.now }
@@ -81,6 +82,7 @@ impl Netlist {
         self.names.as_slice()[id as usize].as_slice()
     }
 
+    /// What drives a signal.
     pub fn row(&self, id: u32) -> Row<'_>
         requires { id < length self.now.names }
         ensures { slice_get self.now.rows id ≡ Some (driver_of_row result) }

@@ -18,7 +18,8 @@ use indexmap::IndexSet;
 use std::alloc::Global;
 use text_rules::next_line;
 
-/// What the lines so far say.
+/// What the lines so far say: the names in the order of first appearance, a row for each, the pins
+/// of all gates in the order of the text, and the outputs.
 #[derive(Drop)]
 pub struct Reader {
     pub names: IndexSet<Vec<u8>>,
@@ -158,6 +159,7 @@ impl Reader {
         Ok(())
     }
 
+    /// Takes a gate line whose kind is known and takes so many pins.
     fn take_pins(
         &mut self,
         alloc: Global,
@@ -263,7 +265,8 @@ fn missing_line(rows: &[Definition]) -> Option<u32>
 
 /// The netlist that a text says, or its first fault.
 ///
-/// The text is read once, in a time that grows with its length.
+/// The text is read once, in a time that grows with its length. The netlist takes memory for each
+/// name, row and pin; a line at fault may want memory for a list as long as the line.
 pub fn read_bench(alloc: Global, text: &[u8]) -> Result<Netlist, BenchFault>
     requires { length text.now ≤ 67108864 }
     ensures { Answers (λ netlist. netlist) result (bench_of text.now) }

@@ -1,13 +1,10 @@
 -- The test before a put shows what a put requires.
-use Rattle.std.proofs.Common.{◌≡◌, ◌⊎◌, inl, inr, ℕ, ◌<◌, ◌≤◌, Bool, true, false, cond, not, ◌||◌, ◌&&◌, nat_eq, nat_le, List, [], ◌∷◌, All, Option, Some, None, IfSome, IfNone, Result, Ok, Err, OnOk, find, option_map, refl, sym, ap, ap₂, subst, ◌∙◌, true≢false, eqb-true, eq-eqb, arith}
+use Rattle.std.proofs.Common.{◌≡◌, ◌⊎◌, inl, inr, Bool, true, false, not, ◌||◌, nat_eq, nat_le, List, [], ◌∷◌, refl, sym, ◌∙◌, true≢false, eq-eqb, arith}
 use Rattle.std.proofs.lemmas.Bool.{leb-true, and_parts}
 use Rattle.std.proofs.lemmas.List.Elements.{All-nil, All-cons}
-use Rattle.std.specs.List.{list_all}
-use Rattle.valid_intervals.specs.declared.Point.{Point}
-use Rattle.valid_intervals.specs.declared.Cell.{Cell}
 use Rattle.valid_intervals.specs.declared.SignalCell.{SignalCell}
-use Rattle.valid_intervals.specs.Cells.{same_stored, covers, cell_for, to_front}
-use Rattle.cell_store.specs.Recency.{Contents, with_cells, covering, IsApart, Fits}
+use Rattle.valid_intervals.specs.Cells.{same_stored}
+use Rattle.cell_store.specs.Recency.{IsApart, Fits}
 use Rattle.cell_store.specs.Beside.{is_apart, is_fitting}
 use Rattle.cell_store.proofs.Keys.{IsCovered, covers_true}
 

@@ -1,21 +1,21 @@
 -- What the cache's calls do to cells that are apart.
-use Rattle.std.proofs.Common.{◌≡◌, ◌⊎◌, inl, inr, ⊎_elim, ℕ, ◌-◌, ◌<◌, ◌≤◌, Bool, true, false, cond, not, nat_eq, ◌&&◌, ◌||◌, List, [], ◌∷◌, ◌++◌, length, map, take, filter, All, Option, Some, None, is_some, option_map, find, refl, sym, ap, subst, ◌∙◌, true≢false, arith}
-use Rattle.std.proofs.lemmas.List.Elements.{All-head, All-tail, All-cons, All-nil, All-filter}
+use Rattle.std.proofs.Common.{◌≡◌, ◌⊎◌, ⊎_elim, ℕ, ◌-◌, Bool, true, false, cond, not, ◌||◌, List, [], ◌∷◌, take, filter, All, Some, None, option_map, find, refl, sym, ap, subst, ◌∙◌, true≢false}
+use Rattle.std.proofs.lemmas.List.Elements.{All-head, All-tail, All-cons, All-nil}
 use Rattle.std.proofs.lemmas.List.{take-map}
 use Rattle.std.specs.List.{list_any}
 use Rattle.std.specs.Map.{lookup, lookup_entry, remove_entry}
 use Rattle.std.specs.Option.{option_map_or}
-use Rattle.lru.specs.LruCache.{LruCache, lru_cache, promoted, put_entries}
+use Rattle.lru.specs.LruCache.{lru_cache, promoted, put_entries}
 use Rattle.valid_intervals.specs.Spans.{IsSpan}
 use Rattle.valid_intervals.specs.declared.Cell.{Cell}
 use Rattle.valid_intervals.specs.declared.SignalCell.{SignalCell}
-use Rattle.valid_intervals.specs.Cells.{same_stored, covers, to_front}
+use Rattle.valid_intervals.specs.Cells.{same_stored, to_front}
 use Rattle.cell_store.specs.declared.Key.{Key}
 use Rattle.cell_store.specs.Recency.{key_of, is_stored, IsApart, AreApart, Fits}
-use Rattle.cell_store.specs.Index.{key_eq, has_key, entry_of, cell_of, entries_of, cells_of}
+use Rattle.cell_store.specs.Index.{key_eq, has_key, entry_of, entries_of, cells_of}
 use Rattle.cell_store.proofs.Same.{same_stored-true, same_stored-itself}
-use Rattle.cell_store.proofs.Keys.{first_point, covers_first, shares_first, differs, told_apart, keys_differ, has_key-true, has_key-itself}
-use Rattle.cell_store.proofs.Found.{some_same, none_some, found_true, found_all, missed}
+use Rattle.cell_store.proofs.Keys.{first_point, covers_first, shares_first, differs, told_apart, has_key-itself}
+use Rattle.cell_store.proofs.Found.{some_same, none_some, found_true, found_all}
 
 pub cells_of-entries_of : (cells : List SignalCell) → cells_of (entries_of cells) ≡ cells
 cells_of-entries_of [] = refl

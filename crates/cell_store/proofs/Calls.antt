@@ -12,11 +12,11 @@ use Rattle.valid_intervals.specs.declared.Point.{Point}
 use Rattle.valid_intervals.specs.declared.SignalCell.{SignalCell}
 use Rattle.valid_intervals.specs.Cells.{same_stored, covers, cell_for, to_front, all_but_last}
 use Rattle.cell_store.specs.declared.Key.{Key}
-use Rattle.cell_store.specs.Recency.{Contents, contents, with_cells, key_of, is_stored, covering, last_key, IsApart, AreApart, Fits}
-use Rattle.cell_store.specs.Index.{key_cmp, key_eq, has_key, end_at, entry_of, entries_of, cells_of, IsIndexed, IsSound}
+use Rattle.cell_store.specs.Recency.{Contents, contents, with_cells, key_of, is_stored, covering, last_key, IsApart, Fits}
+use Rattle.cell_store.specs.Index.{key_cmp, key_eq, has_key, entry_of, entries_of, cells_of, IsIndexed, IsSound}
 use Rattle.cell_store.proofs.Same.{same_stored-itself}
-use Rattle.cell_store.proofs.Keys.{covers_true, has_key-itself}
-use Rattle.cell_store.proofs.Found.{some_same, none_some, found_true, found_all, found_at_key}
+use Rattle.cell_store.proofs.Keys.{covers_true}
+use Rattle.cell_store.proofs.Found.{some_same, none_some, found_true, found_at_key}
 use Rattle.cell_store.proofs.Cached.{cells_of-entries_of, lookup-entries_of, promoted-entries_of, promoted-none, put-entries_of, found_if_stored, not_stored, all_apart}
 use Rattle.cell_store.proofs.Kept.{same_index, used, added, dropped}
 

@@ -1,7 +1,6 @@
 -- What a search among cells that are apart finds.
 use Rattle.std.proofs.Common.{◌≡◌, ◌⊎◌, inl, inr, ⊎_elim, ℕ, ◌<◌, ◌≤◌, Bool, true, false, cond, List, [], ◌∷◌, All, Option, Some, None, IsSome, is_some, ◌||◌, option_map, find, refl, sym, ap, subst, ◌∙◌, true≢false, arith}
 use Rattle.std.proofs.lemmas.List.Elements.{All-head, All-tail}
-use Rattle.std.specs.Ordering.{is_gt, is_lt}
 use Rattle.std.specs.List.{list_any}
 use Rattle.valid_intervals.specs.Spans.{IsSpan}
 use Rattle.valid_intervals.specs.declared.Point.{Point}
@@ -9,8 +8,8 @@ use Rattle.valid_intervals.specs.declared.SignalCell.{SignalCell}
 use Rattle.valid_intervals.specs.Cells.{covers}
 use Rattle.cell_store.specs.declared.Key.{Key}
 use Rattle.cell_store.specs.Recency.{key_of, IsApart, AreApart, covering}
-use Rattle.cell_store.specs.Index.{key_cmp, has_key, end_at, IsIndexed}
-use Rattle.cell_store.proofs.Keys.{IsCovered, covers_true, covers_from, first_point, covers_first, shares_first, has_key-true, has_key-itself, AtMost, numbers-key_le, key_le-numbers, key_not_lt-numbers}
+use Rattle.cell_store.specs.Index.{has_key, IsIndexed}
+use Rattle.cell_store.proofs.Keys.{IsCovered, covers_true, covers_from, first_point, covers_first, shares_first, has_key-true, has_key-itself, AtMost}
 
 pub some_same : {X : Type 0} (x y : X) → Some x ≡ Some y → x ≡ y
 some_same x y h = cc h

@@ -1,15 +1,15 @@
 -- What each change of a store keeps: the cells are apart, and the index has their ends.
-use Rattle.std.proofs.Common.{◌≡◌, ℕ, ◌-◌, ◌<◌, ◌≤◌, Bool, true, false, cond, not, List, [], ◌∷◌, ◌++◌, length, take, filter, All, Option, Some, None, option_map, find, refl, sym, ap, subst, ◌∙◌, true≢false, arith}
+use Rattle.std.proofs.Common.{◌≡◌, ℕ, Bool, true, false, cond, not, List, [], ◌∷◌, ◌++◌, filter, All, Option, Some, None, option_map, find, refl, sym, ap, subst, ◌∙◌}
 use Rattle.std.proofs.lemmas.List.Elements.{All-head, All-tail, All-cons, All-nil, All-filter}
 use Rattle.std.proofs.lemmas.List.Folds.{find-append}
 use Rattle.std.specs.Option.{option_or}
 use Rattle.std.specs.Ordering.{is_eq}
 use Rattle.valid_intervals.specs.Spans.{IsSpan}
 use Rattle.valid_intervals.specs.declared.SignalCell.{SignalCell}
-use Rattle.valid_intervals.specs.Cells.{same_stored, covers, to_front}
+use Rattle.valid_intervals.specs.Cells.{same_stored, to_front}
 use Rattle.cell_store.specs.declared.Key.{Key}
 use Rattle.cell_store.specs.Recency.{key_of, IsApart, AreApart}
-use Rattle.cell_store.specs.Index.{key_cmp, has_key, end_at, IsIndexed}
+use Rattle.cell_store.specs.Index.{key_cmp, has_key, IsIndexed}
 use Rattle.cell_store.proofs.Same.{same_stored-true, same_stored-itself}
 use Rattle.cell_store.proofs.Keys.{first_point, covers_first, shares_first, has_key-true, key_eq-is}
 use Rattle.cell_store.proofs.Found.{some_same, none_some, found_true, found_all, found_at_key}

@@ -1,5 +1,5 @@
 -- What the tests on keys and points say in numbers.
-use Rattle.std.proofs.Common.{◌≡◌, ◌⊎◌, inl, inr, ℕ, ◌<◌, ◌≤◌, Bool, true, false, cond, ◌&&◌, nat_eq, nat_lt, nat_le, refl, sym, ap, ap₂, subst, ◌∙◌, true≢false, eqb-true, eq-eqb, arith}
+use Rattle.std.proofs.Common.{◌≡◌, ◌⊎◌, ℕ, ◌<◌, ◌≤◌, Bool, true, false, ◌&&◌, nat_eq, nat_lt, nat_le, refl, sym, ap, ap₂, subst, ◌∙◌, true≢false, eqb-true, eq-eqb, arith}
 use Rattle.std.proofs.lemmas.Bool.{and_parts, and_from, leb-true, ltb-true, le-leb, lt-ltb}
 use Rattle.std.proofs.lemmas.Bool.Decides.{nat_tests}
 use Rattle.std.specs.Ordering.{is_eq, is_gt, is_lt}
@@ -10,7 +10,7 @@ use Rattle.valid_intervals.specs.Cells.{same_stored, covers}
 use Rattle.cell_store.specs.declared.Key.{Key}
 use Rattle.cell_store.specs.Recency.{key_of, IsApart}
 use Rattle.cell_store.specs.Index.{key_cmp, has_key}
-use Rattle.cell_store.proofs.Same.{same_stored-true, same_stored-itself}
+use Rattle.cell_store.proofs.Same.{same_stored-true}
 
 pub record IsCovered (p : Point) (x : SignalCell) : Type 0 where
   pub signal : x.signal ≡ p.signal

@@ -1,5 +1,5 @@
 -- What the plain list does.
-use Rattle.std.proofs.Common.{◌≡◌, ℕ, ◌<◌, Bool, true, false, cond, not, ◌||◌, List, [], ◌∷◌, length, filter, All, Option, Some, None, find, option_map, ◌-◌, ◌==◌, ◌&&◌, refl, sym, ap, ap₂, subst, ◌∙◌, true≢false}
+use Rattle.std.proofs.Common.{◌≡◌, ℕ, ◌<◌, Bool, true, false, cond, not, ◌||◌, List, [], ◌∷◌, length, filter, All, Some, None, find, option_map, ◌-◌, ◌==◌, ◌&&◌, refl, sym, ap, ap₂, subst, ◌∙◌, true≢false}
 use Rattle.std.specs.List.{list_any}
 use Rattle.std.proofs.lemmas.List.Elements.{All-nil, All-cons, All-take}
 use Rattle.valid_intervals.specs.declared.SignalCell.{SignalCell}

@@ -1,5 +1,5 @@
 -- The ways in which a cell is put.
-use Rattle.std.proofs.Common.{◌≡◌, ℕ, ◌-◌, ◌<◌, Bool, true, false, cond, not, ◌&&◌, ◌==◌, nat_eq, List, [], ◌∷◌, length, filter, take, All, Option, Some, None, option_map, is_some, find, refl, sym, ap, ap₂, subst, ◌∙◌, true≢false, eq-eqb, arith}
+use Rattle.std.proofs.Common.{◌≡◌, ℕ, ◌-◌, ◌<◌, Bool, true, false, cond, not, ◌&&◌, ◌==◌, List, ◌∷◌, length, take, All, Option, Some, None, is_some, sym, ap, ap₂, subst, ◌∙◌, eq-eqb, arith}
 use Rattle.std.proofs.lemmas.Bool.{ne_eqb}
 use Rattle.std.proofs.lemmas.List.Elements.{All-take}
 use Rattle.std.specs.List.{slice_get}
@@ -10,7 +10,7 @@ use Rattle.lru.specs.LruCache.{LruCache, lru_cache, promoted, put_entries, displ
 use Rattle.valid_intervals.specs.Spans.{IsSpan}
 use Rattle.valid_intervals.specs.declared.Cell.{Cell}
 use Rattle.valid_intervals.specs.declared.SignalCell.{SignalCell}
-use Rattle.valid_intervals.specs.Cells.{same_stored, to_front, all_but_last}
+use Rattle.valid_intervals.specs.Cells.{to_front, all_but_last}
 use Rattle.cell_store.specs.declared.Key.{Key}
 use Rattle.cell_store.specs.Recency.{Contents, contents, with_cells, key_of, is_stored, pushes_out, last_key, after_put, IsApart, Fits}
 use Rattle.cell_store.specs.Index.{key_cmp, key_eq, entries_of, cells_of, IsSound}

@@ -1,7 +1,6 @@
 -- How a store is trimmed, one cell after another.
-use Rattle.std.proofs.Common.{◌≡◌, ℕ, zero, suc, ◌+◌, ◌-◌, ◌<◌, ◌≤◌, min, List, [], ◌∷◌, ◌++◌, length, map, reverse, take, drop, Option, Some, None, cond, refl, sym, ap, ap₂, subst, ◌∙◌, ⊎_elim, ◌⊎◌, arith}
+use Rattle.std.proofs.Common.{◌≡◌, ℕ, zero, suc, ◌-◌, ◌<◌, ◌≤◌, min, List, [], ◌∷◌, ◌++◌, length, map, reverse, take, drop, Option, Some, None, cond, refl, sym, ap, ap₂, subst, ◌∙◌, ⊎_elim, ◌⊎◌, arith}
 use Rattle.std.proofs.lemmas.List.{length-take, take_all, take-take, reverse-append, take-map, drop-map}
-use Rattle.std.proofs.lemmas.Option.{slice_get_within}
 use Rattle.std.specs.List.{slice_get}
 use Rattle.std.specs.Ordering.{is_eq}
 use Rattle.lru.specs.LruCache.{LruCache, lru_cache, last_entry}
@@ -11,7 +10,7 @@ use Rattle.cell_store.specs.declared.Key.{Key}
 use Rattle.cell_store.specs.Recency.{Contents, contents, with_cells, key_of}
 use Rattle.cell_store.specs.Index.{key_cmp, entry_of, entries_of, cell_of, cells_of, IsSound}
 use Rattle.cell_store.proofs.Found.{some_same, none_some}
-use Rattle.cell_store.proofs.Calls.{popped, past_end, without_end, same_sound}
+use Rattle.cell_store.proofs.Calls.{popped, without_end, same_sound}
 
 abbrev keys_in : List (Key × Cell) → List Key
 keys_in entries = map (λ (e : Key × Cell). e.0) entries

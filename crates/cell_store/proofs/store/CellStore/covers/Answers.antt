@@ -1,4 +1,4 @@
-use Rattle.std.proofs.Common.{◌≡◌, List, is_some, ap, ◌∙◌}
+use Rattle.std.proofs.Common.{List, is_some, ap, ◌∙◌}
 use Rattle.std.specs.List.{list_any}
 use Rattle.valid_intervals.specs.declared.SignalCell.{SignalCell}
 use Rattle.valid_intervals.specs.Cells as cells

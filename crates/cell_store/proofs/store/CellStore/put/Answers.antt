@@ -1,11 +1,10 @@
-use Rattle.std.proofs.Common.{◌≡◌, ℕ, true, false, not, cond, List, Option, Result, Ok, Err, Some, None, OnErr, sym, ap, subst, ◌∙◌}
-use Rattle.std.specs.BTreeMap.{BTreeMap, get, is_at}
+use Rattle.std.proofs.Common.{◌≡◌, ℕ, true, false, not, cond, List, Result, Ok, Err, Some, None, OnErr, sym, ap, subst, ◌∙◌}
+use Rattle.std.specs.BTreeMap.{get, is_at}
 use Rattle.std.specs.Map.{lookup}
 use Rattle.lru.specs.LruCache.{LruCache}
 use Rattle.valid_intervals.specs.declared.Cell.{Cell}
-use Rattle.valid_intervals.specs.declared.SignalCell.{SignalCell}
 use Rattle.cell_store.specs.declared.Key.{Key}
-use Rattle.cell_store.specs.Recency.{contents, key_of, last_key}
+use Rattle.cell_store.specs.Recency.{contents, last_key}
 use Rattle.cell_store.specs.Index.{key_cmp, cells_of, IsSound}
 use Rattle.cell_store.proofs.Calls.{same_sound}
 use Rattle.cell_store.proofs.Puts.{IsPut, IsMissed, put_again, put_missed, put_refused, put_in_room, put_in_place}

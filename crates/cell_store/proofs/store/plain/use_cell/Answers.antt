@@ -1,4 +1,4 @@
-use Rattle.std.proofs.Common.{◌≡◌, ℕ, ◌<◌, not, Bool, true, List, ◌∷◌, length, filter, ap, ◌∙◌, refl, arith, vec_len, rules}
+use Rattle.std.proofs.Common.{◌≡◌, not, List, ◌∷◌, length, filter, ap, ◌∙◌, arith, rules}
 use Rattle.std.proofs.lemmas.Fn.{filter_same}
 use Rattle.valid_intervals.specs.declared.SignalCell.{SignalCell}
 use Rattle.valid_intervals.specs.Cells.{same_stored}

@@ -1,4 +1,4 @@
-use Rattle.std.proofs.Common.{◌≡◌, ◌==◌, cond, false, List, ◌∷◌, length, sym, ap, subst, ◌∙◌}
+use Rattle.std.proofs.Common.{◌≡◌, ◌==◌, cond, false, List, length, sym, ap, subst, ◌∙◌}
 use Rattle.valid_intervals.specs.declared.SignalCell.{SignalCell}
 use Rattle.valid_intervals.specs.Cells.{all_but_last}
 use Rattle.cell_store.specs.Recency.{Contents, contents, is_stored, after_put}

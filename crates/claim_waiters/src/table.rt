@@ -1,0 +1,103 @@
+ghost use Rattle.std.specs.Prelude.{◌≡◌, All, IfErr, IfSome, IsSome, None, OnErr, OnOk, Some, []};
+ghost use Rattle.claim_waiters.specs.Claims.{claim_at, first_of, holder_of, waiters_of, with_claim, with_waiter, without, IsAtMost};
+
+use crate::waiter::Waiter;
+use backsim_io::OutOfMemory;
+use std::alloc::Global;
+use std::collections::BTreeMap;
+use std::marker::Model;
+use valid_intervals::Point;
+
+/// A claim: its query, and who waits.
+#[derive(Drop)]
+pub struct Holding<R> {
+    pub q: u32,
+    pub room: R,
+}
+
+/// The claims, by their points.
+#[derive(Drop)]
+pub struct ClaimTable<W: Waiter> {
+    map: BTreeMap<Point, Holding<W::Room>>,
+    alloc: Global,
+}
+
+impl<W: Waiter> Model for ClaimTable<W> {
+    ghost use Rattle.claim_waiters.specs.Claims.{Claims};
+
+    ghost Value = { Claims W };
+
+    ghost use Rattle.claim_waiters.specs.View.{claims_of};
+
+    ghost view = { λ t. claims_of W.items t.map.entries };
+}
+
+impl<W: Waiter> ClaimTable<W> {
+    /// Nothing is claimed.
+    pub fn new(alloc: Global) -> ClaimTable<W>
+        ensures { result ≡ [] }
+    {
+        ClaimTable {
+            map: BTreeMap::new(alloc),
+            alloc,
+        }
+    }
+
+    /// Claims a point for a query. Nobody waits for it yet.
+    pub fn claim(&mut self, q: u32, p: Point) -> Result<(), OutOfMemory>
+        requires { claim_at self.old p ≡ None }
+        ensures ok { OnOk result (self.new ≡ with_claim self.old q p) }
+        ensures err { OnErr result (self.new ≡ self.old) }
+    {
+        let room = W::none(self.alloc);
+        let Ok(_) = self.map.insert(p, Holding { q, room }) else {
+            return Err(OutOfMemory);
+        };
+        Ok(())
+    }
+
+    /// The query that has claimed the point.
+    pub fn holder(&self, p: Point) -> Option<u32>
+        ensures { result ≡ holder_of self.now p }
+    {
+        let claim = self.map.get(&p)?;
+        Some(claim.q)
+    }
+
+    /// Puts a waiter behind the others at a claimed point, or hands it back.
+    pub fn wait(&mut self, p: Point, waiter: W) -> Result<(), (W, OutOfMemory)>
+        requires { IsSome (claim_at self.old p) }
+        ensures ok { OnOk result (self.new ≡ with_waiter self.old p waiter) }
+        ensures err { OnErr result (self.new ≡ self.old) }
+        ensures back { IfErr result (λ refused. refused.0 ≡ waiter) }
+    {
+        match self.map.get_mut(&p) {
+            Some(claim) => W::wait(&mut claim.room, waiter),
+            None => unreachable!(),
+        }
+    }
+
+    /// Ends a claim. Its waiters come back in the order in which they came.
+    pub fn take(&mut self, p: Point) -> W::Room
+        requires { IsSome (claim_at self.old p) }
+        ensures waiters { waiters_of self.old p ≡ Some (W.items result) }
+        ensures rest { self.new ≡ without self.old p }
+    {
+        match self.map.remove(&p) {
+            Some(claim) => {
+                let Holding { q: _, room } = claim;
+                room
+            }
+            None => unreachable!(),
+        }
+    }
+
+    /// The first claimed point, with its query.
+    pub fn first(&self) -> Option<(u32, Point)>
+        ensures first { result ≡ first_of self.now }
+        ensures least { IfSome result (λ first. All (λ claimed. IsAtMost first.1 claimed.0) self.now) }
+    {
+        let (p, claim) = self.map.first_key_value()?;
+        Some((claim.q, *p))
+    }
+}

@@ -1,0 +1,65 @@
+//! A small waiter, and the calls one after another.
+ghost use Rattle.std.specs.Prelude.{◌≡◌};
+
+use crate::{ClaimTable, Waiter};
+use backsim_io::OutOfMemory;
+use std::alloc::Global;
+use std::test::Fail;
+use valid_intervals::Point;
+
+// Waits in a vector.
+#[derive(Drop)]
+struct Ticket {
+    number: u32,
+}
+
+impl Waiter for Ticket {
+    type Room = Vec<Ticket>;
+
+    ghost items = { λ room. room.items };
+
+    fn none(alloc: Global) -> Vec<Ticket> {
+        Vec::new(alloc)
+    }
+
+    fn wait(room: &mut Vec<Ticket>, waiter: Ticket) -> Result<(), (Ticket, OutOfMemory)> {
+        match room.push(waiter) {
+            Ok(()) => Ok(()),
+            Err(refused) => Err((refused.value, OutOfMemory)),
+        }
+    }
+}
+
+fn point(signal: u32, time: u32) -> Point
+    ensures { result ≡ record { signal = signal; time = time } }
+{
+    Point { signal, time }
+}
+
+#[test]
+fn waiters_come_back_in_their_order(rt: HostRuntime) -> Result<(), Fail> {
+    let mut claims: ClaimTable<Ticket> = ClaimTable::new(rt.alloc());
+    assert!(rt; claims.first().is_none());
+    claims.claim(4, point(3, 4))?;
+    if claims.holder(point(2, 9)).is_none() {
+        claims.claim(5, point(2, 9))?;
+    }
+    assert_eq!(rt; claims.holder(point(3, 4)), Some(4));
+    assert_eq!(rt; claims.holder(point(3, 5)), None);
+    assert_eq!(rt; claims.first(), Some((5, point(2, 9))));
+    for number in 1..4 {
+        if claims.holder(point(3, 4)).is_some() {
+            assert!(rt; claims.wait(point(3, 4), Ticket { number }).is_ok());
+        }
+    }
+    if claims.holder(point(3, 4)).is_some() {
+        let woken = claims.take(point(3, 4));
+        assert!(rt;
+            woken.iter().map(|ticket| ticket.number).eq([1, 2, 3]),
+            "in order"
+        );
+    }
+    assert_eq!(rt; claims.holder(point(3, 4)), None);
+    assert_eq!(rt; claims.first(), Some((5, point(2, 9))));
+    Ok(())
+}

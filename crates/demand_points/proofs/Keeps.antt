@@ -1,0 +1,108 @@
+-- What every strand of a batch keeps, at each of its steps.
+use Rattle.std.proofs.Common.{◌≡◌, ℕ, ◌+◌, ◌<◌, ◌≤◌, ◌^◌, List, [], length, map, refl, ap, sym, ◌∙◌, subst, arith, Option, Some, None, MatchOption, IfSome, false}
+use Rattle.std.proofs.Math.ListN.{length-map}
+use Rattle.valid_intervals.specs.declared.Cell.{Cell}
+use Rattle.valid_intervals.specs.declared.Point.{Point}
+use Rattle.circuit_meaning.specs.Circuit.{Circuit}
+use Rattle.circuit_meaning.specs.Need.{IsRoot}
+use Rattle.journal_meaning.specs.declared.Query.{Query}
+use Rattle.journal_meaning.specs.Batch.{Batch, window_of}
+use Rattle.strand_meaning.specs.declared.Next.TheVariants.{Ask, Fill}
+use Rattle.strand_meaning.specs.Batches.{IsLawful, IsQueryOf}
+use Rattle.strand_meaning.specs.Strands.{Strand, IsStrand, next, heard, claimed, started}
+use Rattle.strand_meaning.proofs.Stacks.{heard-keeps, claimed-keeps, length-heard, length-rest, fill-top}
+use Rattle.strand_meaning.proofs.Started.{started-right, query-within}
+use Rattle.demand_points.specs.declared.frame.Frame.{Frame}
+use Rattle.demand_points.specs.declared.parts.Parts.{Parts}
+use Rattle.demand_points.specs.Frames.{shown}
+use Rattle.demand_points.specs.Demands.{IsLast, IsRootCell, demand_of, strand_of, itself, StepsBy, IsDemand, IsRunning}
+use Rattle.demand_points.proofs.PartLemmas.{steps-on}
+
+-- the counts of a strand fit
+pub record Fits (s : Strand) : Type 0 where
+  pub charge : s.charged ≤ s.budget
+  pub claims : length s.stack + s.filled ≤ s.charged
+
+stack-count : (c : Circuit) (s : Parts) → length (strand_of c s).stack ≡ length s.stack
+stack-count c s = length-map s.stack (shown c)
+
+pub fits-of : (b : Batch) (s : Parts) → IsDemand b s → Fits (strand_of b.circuit s)
+fits-of b s is = let n = stack-count b.circuit s in let k = is.claims in record { charge = is.charge; claims = omega arith }
+
+pub demand-steps : (b : Batch) (old new : Parts) (f : Strand → Strand) → IsDemand b old → StepsBy b.circuit f old new
+    → (IsStrand b (strand_of b.circuit old) → IsStrand b (f (strand_of b.circuit old))) → Fits (f (strand_of b.circuit old)) → IsDemand b new
+demand-steps b old new f is steps keeps fits =
+    let n = stack-count b.circuit new in
+    let same : Fits (strand_of b.circuit new) = subst Fits (sym steps.strand) fits in
+    let claims = same.claims in
+    let live : 0 < new.to → 0 < old.to = λ h. subst (λ t. 0 < t) steps.to h in
+    record {
+      lawful = λ h. is.lawful (live h);
+      strand = λ h. subst (IsStrand b) (sym steps.strand) (keeps (is.strand (live h)));
+      running = steps.running;
+      charge = same.charge;
+      claims = omega arith;
+    }
+
+module _ (b : Batch) (d : Circuit) (e : d ≡ b.circuit) (old middle new : Parts) (is : IsDemand b old) (settled : StepsBy d itself old middle) where
+  pub heard-demand : StepsBy d heard middle new → IsDemand b new
+  heard-demand h =
+      let fits = fits-of b old is in
+      let n = length-heard (strand_of b.circuit old).stack in
+      let claims = fits.claims in
+      demand-steps b old new heard is (subst (λ x. StepsBy x heard old new) e (steps-on d heard old middle new settled h))
+      (λ s. heard-keeps b (strand_of b.circuit old) s)
+      (record { charge = fits.charge; claims = omega arith })
+
+  pub claimed-demand : (p : Point) → next (strand_of b.circuit old) ≡ Ask p → old.charged < old.budget → StepsBy d (λ x. claimed d x p) middle new → IsDemand b new
+  claimed-demand p asks room h =
+      let fits = fits-of b old is in
+      let claims = fits.claims in
+      let f : Circuit → Strand → Strand = λ x s. claimed x s p in
+      demand-steps b old new (f b.circuit) is (subst (λ x. StepsBy x (f x) old new) e (steps-on d (f d) old middle new settled h))
+      (λ s. claimed-keeps b (strand_of b.circuit old) s p asks room)
+      (record { charge = omega arith; claims = omega arith })
+
+-- a fill is counted
+pub fill-room : (b : Batch) (s : Parts) → IsDemand b s → (p : Point) → next (strand_of b.circuit s) ≡ Fill p → s.budget < 2 ^ 32 → s.filled + 1 < 2 ^ 32
+fill-room b s is p h small =
+    let n = stack-count b.circuit s in
+    let some = length-rest (strand_of b.circuit s).stack p (fill-top (strand_of b.circuit s) p h) in
+    let charge = is.charge in
+    let claims = is.claims in
+    omega arith
+
+-- a new strand
+module _ (b : Batch) (l : IsLawful b) (number : ℕ) (q : Query) (from to budget charged : ℕ) (known : IsQueryOf b q) (root : from < to → IsRoot b.circuit (window_of q) from)
+    (window : to ≤ q.to) (charge : charged ≤ budget) (most : budget ≤ q.budget) where
+  abbrev new_parts : List Frame → Parts
+  new_parts st = record { number = number; query = q; from = from; to = to; budget = budget; root = from; stack = st; charged = charged; filled = 0; spent = false; last = None }
+
+  pub new-demand : (st : List Frame) → st ≡ [] → IsDemand b (new_parts st)
+  new-demand st e =
+      let within = query-within b l q known in
+      let empty : IsDemand b (new_parts []) = record {
+        lawful = λ _. l;
+        strand = λ _. started-right b (record { query = q; start = from; stop = to; budget = budget; charged = charged }) (record { known = known; root = root; stop = window; charge = charge; budget = most });
+        running = record {
+          signal = λ _. within.signal;
+          window = window;
+          within = within.window;
+          since = omega arith;
+          root = root;
+          frames = tt;
+          busy = λ h. absurd (omega (arith, h));
+          last = refl;
+        };
+        charge = charge;
+        claims = omega arith;
+      } in
+      subst (λ x. IsDemand b (new_parts x)) (sym e) empty
+
+-- the cell that was heard last, as contracts see it
+last-in : (b : Batch) (s : Parts) (o : Option Cell) → MatchOption o (s.root ≡ s.from) (IsLast b.circuit s.query s.from s.to s.root) → IfSome o (IsRootCell b.circuit (demand_of b.circuit s))
+last-in b s None h = tt
+last-in b s (Some cell) h = record { time = h.time; since = h.since; before = h.before; right = h.right }
+
+pub last-root : (b : Batch) (s : Parts) → IsDemand b s → IfSome s.last (IsRootCell b.circuit (demand_of b.circuit s))
+last-root b s is = last-in b s s.last is.running.last

@@ -1,0 +1,4 @@
+pub mod FrameLemmas
+pub mod Lists
+pub mod PartLemmas
+pub mod Keeps

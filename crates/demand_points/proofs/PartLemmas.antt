@@ -1,0 +1,491 @@
+-- The parts of a strand at each of its steps.
+use Rattle.std.proofs.Common.{◌≡◌, ℕ, zero, suc, ◌+◌, ◌-◌, ◌<◌, ◌≤◌, ◌⊎◌, if◌then◌else◌, nat_lt, nat_eq, Bool, true, false, cond, List, [], ◌∷◌, length, map, get_or, refl, ap, sym, ◌∙◌, subst, arith, inl, inr, Option, Some, None, MatchOption, lt-ltb, le-ltb, ltb-true}
+use Rattle.std.proofs.lemmas.Bool.{cases_Bool, cases_lt, eqb-true}
+use Rattle.std.proofs.Math.ListN.{get_or-map, length-map}
+use Rattle.valid_intervals.specs.declared.Cell.{Cell}
+use Rattle.valid_intervals.specs.declared.Point.{Point}
+use Rattle.flip_flops.specs.Edges.{shown_edge}
+use Rattle.flip_flops.proofs.EdgeLemmas.{shown_edge-le}
+use Rattle.circuit_meaning.specs.declared.Pin.{Pin}
+use Rattle.circuit_meaning.specs.Circuit.{Circuit, Driver, Input, Gate, Flop, driver, IsCircuit, IsDriver}
+use Rattle.circuit_meaning.specs.Cells.{span}
+use Rattle.circuit_meaning.specs.Need.{IsEvaluable, IsRoot, Next}
+use Rattle.circuit_meaning.specs.Looks.{source, flop_sources, sources_at, pin_sources, no_pin}
+use Rattle.circuit_meaning.proofs.Equations.{driver_fits}
+use Rattle.circuit_meaning.proofs.Cover.{cell-covers}
+use Rattle.journal_meaning.specs.Batch.{cell_at, window_of}
+use Rattle.strand_meaning.specs.declared.Next.TheVariants.{Ask, Fill, Drop, Done}
+use Rattle.strand_meaning.specs.declared.Next as declared
+use Rattle.strand_meaning.specs.Strands as strands
+use Rattle.strand_meaning.specs.Strands.{Strand, ask_or, next, next_in, heard, claimed, dropped, finished, rest, sources_of}
+use Rattle.demand_points.specs.declared.frame.Frame.{Frame}
+use Rattle.demand_points.specs.declared.parts.Parts.{Parts}
+use Rattle.demand_points.specs.Stacks.{IsTop, with_top}
+use Rattle.demand_points.specs.Frames.{cell_there, shown, left_after, looked_at, all_sources, next_source, IsPoint, IsFrame, IsLooking, IsReady, LooksOn, Advances}
+use Rattle.demand_points.specs.Demands.{window_in, root_point, roots_left, strand_of, IsReadyIn, IsReadyAt, WaitsFor, AreFrames, IsLast, IsRunning, IsRootKnown, IsAnswer, IsFilling, StepsBy, itself}
+use Rattle.demand_points.proofs.FrameLemmas.{looking-below, next-among}
+use Rattle.demand_points.proofs.Lists.{left-done, left-all, left-ask, looked-left, no-roots, root-base, root-ask}
+
+get_or-default : {A : Type 0} (xs : List A) (k : ℕ) (d e : A) → k < length xs → get_or xs k d ≡ get_or xs k e
+get_or-default [] k d e h = absurd (omega arith)
+get_or-default (x ∷ xs) zero d e h = refl
+get_or-default (x ∷ xs) (suc k) d e h = get_or-default xs k d e (omega arith)
+
+-- the point that a pin of a frame reads is one of the circuit
+source-within : (n h t : ℕ) (d : Driver) (k : ℕ) (p : Point) → IsDriver n h d → t ≤ h → k < length (sources_at t d) → get_or (sources_at t d) k None ≡ Some p → (p.signal < n) × (p.time ≤ h)
+source-within n h t (Input settings) k p ok le below e = absurd (omega arith)
+source-within n h t (Gate kind pins) k p ok le below e =
+    let l = length-map pins (source t) in
+    let q = get_or pins k no_pin in
+    let at : source t q ≡ Some p = sym (get_or-map (source t) pins k no_pin) ∙ e' (source t no_pin) in
+    elim (cases_lt t q.delay) [
+      | inl m ↦ let none : source t q ≡ None = rw (lt-ltb t q.delay m) refl in absurd (cc (at, none))
+      | inr m ↦
+          let some : source t q ≡ Some (record { signal = q.signal; time = t - q.delay }) = rw (le-ltb t q.delay m) refl in
+          let same : record { signal = q.signal; time = t - q.delay } ≡ p = cc (at, some) in
+          let fits : q.signal < n = ok.signal k no_pin (omega arith) in
+          (subst (λ (x : Point). x.signal < n) same fits, subst (λ (x : Point). x.time ≤ h) same (omega arith))
+    ]
+  where
+    e' : (d : Option Point) → get_or (map (source t) pins) k d ≡ Some p
+    e' d = get_or-default (map (source t) pins) k d None below ∙ e
+source-within n h t (Flop f) k p ok le below e = go (shown_edge f.clock f.delay t) refl k below e
+  where
+    go : (o : Option ℕ) → shown_edge f.clock f.delay t ≡ o → (j : ℕ) → j < length (flop_sources f.pin o) → get_or (flop_sources f.pin o) j None ≡ Some p → (p.signal < n) × (p.time ≤ h)
+    go None w j b q = absurd (omega arith)
+    go (Some x) w zero b q =
+        let same : record { signal = f.pin; time = x } ≡ p = cc q in
+        let early = shown_edge-le f.clock f.delay t x w in
+        (subst (λ (y : Point). y.signal < n) same ok.pin, subst (λ (y : Point). y.time ≤ h) same (omega arith))
+    go (Some x) w (suc j) b q = absurd (omega arith)
+
+source-point : (c : Circuit) → IsCircuit c → (f : Frame) (p : Point) → IsFrame c f → IsLooking c f → next_source c f ≡ Some p → IsPoint c p
+source-point c ok f p is looking e =
+    let k = source-within (length c.drivers) c.horizon f.point.time (driver c f.point.signal) f.looked p (driver_fits c ok f.point.signal) is.point.time (looking-below c ok f is looking) (sym (next-among c ok f is looking) ∙ e) in
+    record { signal = k.0; time = k.1 }
+
+-- the top of a stack
+pub record HasTop (st : List Frame) (f : Frame) : Type 0 where
+  pub below : List Frame
+  pub is : st ≡ f ∷ below
+
+pub top-below : (st : List Frame) (f : Frame) → IsTop st f → HasTop st f
+top-below [] f h = absurd h
+top-below (g ∷ gs) f h = record { below = gs; is = ap (λ x. x ∷ gs) (sym h) }
+
+shown-is : (c : Circuit) (f g : Frame) → g.point ≡ f.point → left_after c g.point g.looked ≡ left_after c f.point f.looked → shown c g ≡ shown c f
+shown-is c f g p l = let at : Point → List Point → strands.Frame = λ x y. record { point = x; left = y } in ap (λ x. at x (left_after c g.point g.looked)) p ∙ ap (at f.point) l
+
+-- what a strand asks for, by what it is made of
+pub record IsAsked (c : Circuit) (s : Parts) (st : List Frame) (p : Point) : Type 0 where
+  pub awake : s.spent ≡ false
+  pub waits : WaitsFor c (root_point s) st p
+  pub evaluable : IsEvaluable c p.signal p.time
+  pub live : length st ≡ 0 → s.root < s.to
+
+module _ (c : Circuit) (ok : IsCircuit c) (s : Parts) (r : IsRunning c s) where
+  stop-within : (window_in s).stop ≤ c.horizon + 1
+  stop-within = let a = r.window in let b = r.within in omega arith
+
+  -- the next step, by the stack
+  step-root : (st : List Frame) → st ≡ [] → next_in s.spent (roots_left c (window_in s) s.root) (map (shown c) st) ≡ (if s.spent then Done else ask_or Done (roots_left c (window_in s) s.root))
+  step-root st e = rw e refl
+
+  pub asked-in : (st : List Frame) (p : Point) → st ≡ s.stack → IsReadyIn c s st → next_in s.spent (roots_left c (window_in s) s.root) (map (shown c) st) ≡ Ask p → IsAsked c s st p
+  asked-in [] p same ready h = go s.spent refl h
+    where
+      root-asked : (b : Bool) → s.spent ≡ b → b ≡ false → ask_or Done (roots_left c (window_in s) s.root) ≡ Ask p → IsAsked c s [] p
+      root-asked b e f k = elim (cases_lt s.root s.to) [
+        | inl l ↦
+            let v = ready l in
+            let q : ask_or Done (root_point s ∷ roots_left c (window_in s) (span c s.query.signal s.root).stop) ≡ Ask p = ap (ask_or Done) (sym (root-ask c ok (window_in s) stop-within s.root l v)) ∙ k in
+            let same : p ≡ root_point s = cc q in
+            record { awake = e ∙ f; waits = same; evaluable = subst (λ (x : Point). IsEvaluable c x.signal x.time) (sym same) v; live = λ _. l }
+        | inr l ↦
+            let q : Done ≡ Ask p = ap (ask_or Done) (sym (no-roots c ok (window_in s) stop-within s.root l)) ∙ k in
+            absurd (cc q)
+      ]
+
+      go : (b : Bool) → s.spent ≡ b → (if b then Done else ask_or Done (roots_left c (window_in s) s.root)) ≡ Ask p → IsAsked c s [] p
+      go true e k = absurd (cc k)
+      go false e k = root-asked false e refl k
+  asked-in (f ∷ fs) p same ready h = go s.spent refl h
+    where
+      top-asked : s.spent ≡ false → IsReady c f → ask_or (Fill f.point) (left_after c f.point f.looked) ≡ Ask p → IsAsked c s (f ∷ fs) p
+      top-asked e (inl done) k = let q : Fill f.point ≡ Ask p = ap (ask_or (Fill f.point)) (sym (left-done c f done)) ∙ k in absurd (cc q)
+      top-asked e (inr (looking, (q, src, v))) k =
+          let asks : Ask q ≡ Ask p = ap (ask_or (Fill f.point)) (sym (left-ask c f looking q src v)) ∙ k in
+          let same : q ≡ p = cc asks in
+          record { awake = e; waits = (looking, src ∙ ap Some same); evaluable = subst (λ (x : Point). IsEvaluable c x.signal x.time) same v; live = λ z. absurd (omega (arith, z)) }
+
+      go : (b : Bool) → s.spent ≡ b → (if b then Drop f.point else ask_or (Fill f.point) (left_after c f.point f.looked)) ≡ Ask p → IsAsked c s (f ∷ fs) p
+      go true e k = absurd (cc k)
+      go false e k = top-asked e ready k
+
+  pub asked : (p : Point) → IsReadyAt c s → next (strand_of c s) ≡ Ask p → IsAsked c s s.stack p
+  asked p ready h = asked-in s.stack p refl ready h
+
+  -- a stack of the parts
+  frames-of : (f : Frame) (fs : List Frame) → s.stack ≡ f ∷ fs → AreFrames c (root_point s) (f ∷ fs)
+  frames-of f fs e = subst (AreFrames c (root_point s)) e r.frames
+
+  count-of : (f : Frame) (fs : List Frame) → s.stack ≡ f ∷ fs → 0 < length s.stack
+  count-of f fs e = let k : length s.stack ≡ length (f ∷ fs) = ap length e in let l : length (f ∷ fs) ≡ suc (length fs) = refl in omega arith
+
+  pub top-frame : (f : Frame) (fs : List Frame) → s.stack ≡ f ∷ fs → IsFrame c f
+  top-frame f fs e = (frames-of f fs e).0
+
+  -- another frame of the same point on top
+  with_frame : (f g : Frame) (fs : List Frame) → s.stack ≡ f ∷ fs → IsFrame c g → g.point ≡ f.point → IsRunning c (record s { stack = g ∷ fs })
+  with_frame f g fs e is same = record {
+    signal = r.signal;
+    window = r.window;
+    within = r.within;
+    since = r.since;
+    root = r.root;
+    frames = (is, subst (WaitsFor c (root_point s) fs) (sym same) (frames-of f fs e).1, (frames-of f fs e).2);
+    busy = λ _. r.busy (count-of f fs e);
+    last = r.last;
+  }
+
+  abbrev stacked : List strands.Frame → List Point → Strand
+  stacked st rs = record (strand_of c s) { stack = st; roots = rs }
+
+  -- the top has heard base answers
+  pub moves-top : (f g : Frame) (fs : List Frame) → s.stack ≡ f ∷ fs → Advances c f g → StepsBy c itself s (record s { stack = g ∷ fs })
+  moves-top f g fs e a = record {
+    running = with_frame f g fs e a.frame a.point;
+    number = refl;
+    from = refl;
+    to = refl;
+    strand = ap (λ x. stacked (x ∷ map (shown c) fs) (roots_left c (window_in s) s.root)) (shown-is c f g a.point a.left) ∙ ap (λ st. stacked (map (shown c) st) (roots_left c (window_in s) s.root)) (sym e);
+  }
+
+  -- the next step, by the parts
+  abbrev step_by : Bool → List Frame → declared.Next
+  step_by b st = next_in b (roots_left c (window_in s) s.root) (map (shown c) st)
+
+  step-of : (b : Bool) (st : List Frame) → s.spent ≡ b → s.stack ≡ st → next (strand_of c s) ≡ step_by b st
+  step-of b st h e = ap (λ x. step_by x s.stack) h ∙ ap (step_by b) e
+
+  pub next-drop : (f : Frame) (fs : List Frame) → s.stack ≡ f ∷ fs → s.spent ≡ true → next (strand_of c s) ≡ Drop f.point
+  next-drop f fs e h = step-of true (f ∷ fs) h e
+
+  pub next-fill : (f : Frame) (fs : List Frame) → s.stack ≡ f ∷ fs → s.spent ≡ false → f.looked ≡ length (looked_at c f.point) → next (strand_of c s) ≡ Fill f.point
+  next-fill f fs e h d = step-of false (f ∷ fs) h e ∙ ap (ask_or (Fill f.point)) (left-done c f d)
+
+  pub next-ask : (f : Frame) (fs : List Frame) (p : Point) → s.stack ≡ f ∷ fs → s.spent ≡ false → IsLooking c f → next_source c f ≡ Some p → IsEvaluable c p.signal p.time → next (strand_of c s) ≡ Ask p
+  next-ask f fs p e h l src v = step-of false (f ∷ fs) h e ∙ ap (ask_or (Fill f.point)) (left-ask c f l p src v)
+
+  pub next-root : s.stack ≡ [] → s.spent ≡ false → s.root < s.to → IsEvaluable c s.query.signal s.root → next (strand_of c s) ≡ Ask (root_point s)
+  next-root e h l v = step-of false [] h e ∙ ap (ask_or Done) (root-ask c ok (window_in s) stop-within s.root l v)
+
+  pub next-spent : s.stack ≡ [] → s.spent ≡ true → next (strand_of c s) ≡ Done
+  next-spent e h = step-of true [] h e
+
+  pub next-end : s.stack ≡ [] → s.to ≤ s.root → next (strand_of c s) ≡ Done
+  next-end e h = elim (cases_Bool s.spent) [
+    | inl t ↦ step-of true [] t e
+    | inr f ↦ step-of false [] f e ∙ ap (ask_or Done) (no-roots c ok (window_in s) stop-within s.root h)
+  ]
+
+  -- a waiting stack asks
+  pub waits-ask : (p : Point) (st : List Frame) → s.stack ≡ st → s.spent ≡ false → WaitsFor c (root_point s) st p → IsEvaluable c p.signal p.time → s.root < s.to → next (strand_of c s) ≡ Ask p
+  waits-ask p [] e h w v l = next-root e h l (subst (λ (x : Point). IsEvaluable c x.signal x.time) w v) ∙ ap Ask (sym w)
+  waits-ask p (f ∷ fs) e h w v l = next-ask f fs p e h w.0 w.1 v
+
+  pub waits-ready : (p : Point) (st : List Frame) → WaitsFor c (root_point s) st p → IsEvaluable c p.signal p.time → IsReadyIn c s st
+  waits-ready p [] w v = λ _. subst (λ (x : Point). IsEvaluable c x.signal x.time) w v
+  waits-ready p (f ∷ fs) w v = inr (w.0, (p, w.1, v))
+
+  -- the next root
+  cell-end : (cell : Cell) → cell ≡ cell_at c (root_point s) → cell.span.stop ≡ (span c s.query.signal s.root).stop
+  cell-end cell e = ap (λ (x : Cell). x.span.stop) e
+
+  root-running : (cell : Cell) → s.stack ≡ [] → s.root < s.to → cell ≡ cell_at c (root_point s) → IsRunning c (record s { root = cell.span.stop; last = Some cell })
+  root-running cell e l right =
+      let stop = cell-end cell right in
+      let a = r.window in
+      let b = r.within in
+      let later : s.root < (span c s.query.signal s.root).stop = (cell-covers c ok s.root s.query.signal (omega arith)).inside.high in
+      let since = r.since in
+      record {
+        signal = λ _. r.signal l;
+        window = r.window;
+        within = r.within;
+        since = omega arith;
+        root = λ lt. subst (IsRoot c (window_of s.query)) (sym stop) (Next (r.root l) (omega (arith, lt, stop, a)));
+        frames = subst (AreFrames c (record { signal = s.query.signal; time = cell.span.stop })) (sym e) tt;
+        busy = λ h. let none : length s.stack ≡ 0 = ap length e in absurd (omega (arith, h, none));
+        last = record { time = s.root; heard = r.root l; since = r.since; before = l; right = right; stop = refl };
+      }
+
+  pub moves-root : (cell : Cell) → s.stack ≡ [] → s.root < s.to → (IsEvaluable c s.query.signal s.root → ⊥) → cell ≡ cell_at c (root_point s) → StepsBy c itself s (record s { root = cell.span.stop; last = Some cell })
+  moves-root cell e l base right = record {
+    running = root-running cell e l right;
+    number = refl;
+    from = refl;
+    to = refl;
+    strand = ap (λ t. stacked (map (shown c) s.stack) (roots_left c (window_in s) t)) (cell-end cell right) ∙ ap (stacked (map (shown c) s.stack)) (sym (root-base c ok (window_in s) stop-within s.root l base));
+  }
+
+  -- what is heard of what was asked for
+  abbrev heard_by : List strands.Frame → List Point → Strand
+  heard_by st rs = record (strand_of c s) { roots = strands.roots_heard rs st; stack = strands.stack_heard st }
+
+  pub hears-root : (cell : Cell) (p : Point) → s.stack ≡ [] → IsAsked c s s.stack p → cell ≡ cell_at c p → StepsBy c heard s (record s { root = cell.span.stop; last = Some cell })
+  hears-root cell p e a right =
+      let w : WaitsFor c (root_point s) [] p = subst (λ st. WaitsFor c (root_point s) st p) e a.waits in
+      let l : s.root < s.to = a.live (ap length e) in
+      let v : IsEvaluable c s.query.signal s.root = subst (λ (x : Point). IsEvaluable c x.signal x.time) w a.evaluable in
+      let here : cell ≡ cell_at c (root_point s) = right ∙ ap (cell_at c) w in
+      let w_roots = roots_left c (window_in s) s.root in
+      record {
+        running = root-running cell e l here;
+        number = refl;
+        from = refl;
+        to = refl;
+        strand = ap (λ st. stacked (map (shown c) st) (roots_left c (window_in s) cell.span.stop)) e
+            ∙ ap (λ t. stacked [] (roots_left c (window_in s) t)) (cell-end cell here)
+            ∙ sym (ap (λ st. heard_by (map (shown c) st) w_roots) e ∙ ap (heard_by []) (root-ask c ok (window_in s) stop-within s.root l v));
+      }
+
+  pub hears-top : (f g : Frame) (fs : List Frame) (p : Point) → s.stack ≡ f ∷ fs → IsAsked c s s.stack p → LooksOn c f g → StepsBy c heard s (record s { stack = g ∷ fs })
+  hears-top f g fs p e a on =
+      let w : WaitsFor c (root_point s) (f ∷ fs) p = subst (λ st. WaitsFor c (root_point s) st p) e a.waits in
+      let w_roots = roots_left c (window_in s) s.root in
+      let below = map (shown c) fs in
+      let at : Point → List Point → strands.Frame = λ x y. record { point = x; left = y } in
+      let left : left_after c g.point g.looked ≡ rest (left_after c f.point f.looked) = looked-left c f w.0 g on ∙ sym (ap rest (left-ask c f w.0 p w.1 a.evaluable)) in
+      let top : shown c g ≡ at f.point (rest (left_after c f.point f.looked)) = ap (λ x. at x (left_after c g.point g.looked)) on.point ∙ ap (at f.point) left in
+      record {
+        running = with_frame f g fs e on.frame on.point;
+        number = refl;
+        from = refl;
+        to = refl;
+        strand = ap (λ x. stacked (x ∷ below) w_roots) top ∙ sym (ap (λ st. heard_by (map (shown c) st) w_roots) e);
+      }
+
+  -- what the top is to hear
+  pub record IsHearing (f : Frame) (cell : Cell) : Type 0 where
+    pub frame : IsFrame c f
+    pub looking : IsLooking c f
+    pub heard : Some cell ≡ cell_there c (next_source c f)
+
+  pub hearing : (f : Frame) (fs : List Frame) (p : Point) (cell : Cell) → s.stack ≡ f ∷ fs → IsAsked c s s.stack p → cell ≡ cell_at c p → IsHearing f cell
+  hearing f fs p cell e a right =
+      let w : WaitsFor c (root_point s) (f ∷ fs) p = subst (λ st. WaitsFor c (root_point s) st p) e a.waits in
+      record { frame = top-frame f fs e; looking = w.0; heard = ap Some right ∙ sym (ap (cell_there c) w.1) }
+
+  -- the point that is asked for is one of the circuit
+  asked-in_circuit : (st : List Frame) (p : Point) → AreFrames c (root_point s) st → WaitsFor c (root_point s) st p → (length st ≡ 0 → s.root < s.to) → IsPoint c p
+  asked-in_circuit [] p fr w live =
+      let l : s.root < s.to = live refl in
+      let a = r.window in
+      let b = r.within in
+      subst (IsPoint c) (sym w) (record { signal = r.signal l; time = omega arith })
+  asked-in_circuit (f ∷ fs) p fr w live = source-point c ok f p fr.0 w.0 w.1
+
+  pub asked-point : (p : Point) → IsAsked c s s.stack p → IsPoint c p
+  asked-point p a = asked-in_circuit s.stack p r.frames a.waits a.live
+
+  busy-when : (st : List Frame) → (length st ≡ 0 → s.root < s.to) → (0 < length st → s.root < s.to) → s.root < s.to
+  busy-when [] f g = f refl
+  busy-when (x ∷ xs) f g = g (omega arith)
+
+  -- a point is claimed
+  pub claims : (g : Frame) (p : Point) (n : ℕ) → IsAsked c s s.stack p → IsFrame c g → g.point ≡ p → g.looked ≡ 0 → n ≡ s.charged + 1 → StepsBy c (λ x. claimed c x p) s (record s { stack = g ∷ s.stack; charged = n })
+  claims g p n a is same none count =
+      let at : Point → List Point → strands.Frame = λ x y. record { point = x; left = y } in
+      let with : List strands.Frame → ℕ → Strand = λ st k. record (strand_of c s) { stack = st; charged = k } in
+      let top : shown c g ≡ at p (sources_of c p) = ap (λ k. at g.point (left_after c g.point k)) none ∙ ap (λ x. at x (left_after c x 0)) same ∙ ap (at p) (left-all c p) in
+      record {
+        running = record {
+          signal = r.signal;
+          window = r.window;
+          within = r.within;
+          since = r.since;
+          root = r.root;
+          frames = (is, subst (WaitsFor c (root_point s) s.stack) (sym same) a.waits, r.frames);
+          busy = λ _. busy-when s.stack a.live r.busy;
+          last = r.last;
+        };
+        number = refl;
+        from = refl;
+        to = refl;
+        strand = ap (λ x. with (x ∷ map (shown c) s.stack) n) top ∙ ap (with (at p (sources_of c p) ∷ map (shown c) s.stack)) count;
+      }
+
+  -- the top is gone
+  without-top : (f : Frame) (fs : List Frame) (n : ℕ) → s.stack ≡ f ∷ fs → IsRunning c (record s { stack = fs; filled = n })
+  without-top f fs n e = record {
+    signal = r.signal;
+    window = r.window;
+    within = r.within;
+    since = r.since;
+    root = r.root;
+    frames = (frames-of f fs e).2;
+    busy = λ _. r.busy (count-of f fs e);
+    last = r.last;
+  }
+
+  pub drops : (f : Frame) (fs : List Frame) → s.stack ≡ f ∷ fs → StepsBy c dropped s (record s { stack = fs })
+  drops f fs e = record {
+    running = without-top f fs s.filled e;
+    number = refl;
+    from = refl;
+    to = refl;
+    strand = ap (λ st. stacked (rest (map (shown c) st)) (roots_left c (window_in s) s.root)) (sym e);
+  }
+
+  -- a fill is of the top, which has nothing left to hear
+  pub record IsTopFilled (f : Frame) (p : Point) : Type 0 where
+    pub point : f.point ≡ p
+    pub awake : s.spent ≡ false
+    pub whole : left_after c f.point f.looked ≡ []
+
+  pub top-filled : (f : Frame) (fs : List Frame) (p : Point) → s.stack ≡ f ∷ fs → next (strand_of c s) ≡ Fill p → IsTopFilled f p
+  top-filled f fs p e h = go s.spent refl (sym (ap (step_by s.spent) e) ∙ h)
+    where
+      whole : (xs : List Point) → left_after c f.point f.looked ≡ xs → ask_or (Fill f.point) xs ≡ Fill p → (f.point ≡ p) × (left_after c f.point f.looked ≡ [])
+      whole [] k q = (cc q, k)
+      whole (x ∷ xs) k q = absurd (cc q)
+
+      go : (b : Bool) → s.spent ≡ b → (if b then Drop f.point else ask_or (Fill f.point) (left_after c f.point f.looked)) ≡ Fill p → IsTopFilled f p
+      go true k q = absurd (cc q)
+      go false k q = let w = whole (left_after c f.point f.looked) refl q in record { point = w.0; awake = k; whole = w.1 }
+
+  pub fill-none : (p : Point) → s.stack ≡ [] → next (strand_of c s) ≡ Fill p → ⊥
+  fill-none p e h = go s.spent (sym (ap (step_by s.spent) e) ∙ h)
+    where
+      end : (xs : List Point) → ask_or Done xs ≡ Fill p → ⊥
+      end [] q = cc q
+      end (x ∷ xs) q = cc q
+
+      go : (b : Bool) → (if b then Done else ask_or Done (roots_left c (window_in s) s.root)) ≡ Fill p → ⊥
+      go true q = cc q
+      go false q = end (roots_left c (window_in s) s.root) q
+
+  -- what lies under a filled top asks for its point
+  pub record IsUnder (f : Frame) (fs : List Frame) (n : ℕ) : Type 0 where
+    pub running : IsRunning c (record s { stack = fs; filled = n })
+    pub ready : IsReadyIn c (record s { stack = fs; filled = n }) fs
+    pub asks : IsAsked c (record s { stack = fs; filled = n }) fs f.point
+
+  pub under : (f : Frame) (fs : List Frame) (p : Point) (n : ℕ) → s.stack ≡ f ∷ fs → IsTopFilled f p → IsUnder f fs n
+  under f fs p n e t =
+      let fr = frames-of f fs e in
+      record {
+        running = without-top f fs n e;
+        ready = ready-in fs fr.1 fr.0.evaluable;
+        asks = record { awake = t.awake; waits = fr.1; evaluable = fr.0.evaluable; live = λ _. r.busy (count-of f fs e) };
+      }
+    where
+      ready-in : (st : List Frame) → WaitsFor c (root_point s) st f.point → IsEvaluable c f.point.signal f.point.time → IsReadyIn c (record s { stack = fs; filled = n }) st
+      ready-in [] w v = λ _. subst (λ (x : Point). IsEvaluable c x.signal x.time) w v
+      ready-in (g ∷ gs) w v = inr (w.0, (f.point, w.1, v))
+
+  pub ready-root : s.stack ≡ [] → IsReadyAt c s → s.root < s.to → IsEvaluable c s.query.signal s.root
+  ready-root e h l = let k : IsReadyIn c s [] = subst (IsReadyIn c s) e h in k l
+
+  pub ready-top : (f : Frame) (fs : List Frame) → s.stack ≡ f ∷ fs → IsReadyAt c s → IsReady c f
+  ready-top f fs e h = subst (IsReadyIn c s) e h
+
+  -- where a point is to be filled there is a top
+  pub filling-top : (o : Option Frame) (below : List Frame) → MatchOption o ((s.stack ≡ []) × (below ≡ [])) (λ f. s.stack ≡ f ∷ below) → (p : Point) → next (strand_of c s) ≡ Fill p → (f : Frame) × (s.stack ≡ f ∷ below)
+  filling-top None below h p k = absurd (fill-none p h.0 k)
+  filling-top (Some f) below h p k = (f, h)
+
+  pub filling-frame : (o : Option Frame) → MatchOption o (s.stack ≡ []) (IsTop s.stack) → (p : Point) → next (strand_of c s) ≡ Fill p → o ≡ None → ⊥
+  filling-frame None h p k = λ e. fill-none p h k
+  filling-frame (Some f) h p k = λ e. absurd (cc e)
+
+-- a frame with nothing left to hear has looked at all that it looks at
+pub whole-done : (c : Circuit) (f g : Frame) → Advances c f g → IsReady c g → left_after c f.point f.looked ≡ [] → g.looked ≡ length (looked_at c g.point)
+whole-done c f g a (inl done) h = done
+whole-done c f g a (inr (looking, (p, src, v))) h = let k : p ∷ left_after c g.point (g.looked + 1) ≡ [] = sym (left-ask c g looking p src v) ∙ a.left ∙ h in absurd (cc k)
+
+-- steps that follow one another
+pub steps-none : (c : Circuit) (s : Parts) → IsRunning c s → StepsBy c itself s s
+steps-none c s r = record { running = r; number = refl; from = refl; to = refl; strand = refl }
+
+pub steps-on : (c : Circuit) (f : Strand → Strand) (a b d : Parts) → StepsBy c itself a b → StepsBy c f b d → StepsBy c f a d
+steps-on c f a b d h k = record {
+  running = k.running;
+  number = k.number ∙ h.number;
+  from = k.from ∙ h.from;
+  to = k.to ∙ h.to;
+  strand = k.strand ∙ ap f h.strand;
+}
+
+-- while roots with base answers are heard
+pub record SkipsRoots (c : Circuit) (old new : Parts) : Type 0 where
+  pub steps : StepsBy c itself old new
+  pub empty : new.stack ≡ []
+
+pub skips-none : (c : Circuit) (s : Parts) → IsRunning c s → s.stack ≡ [] → SkipsRoots c s s
+skips-none c s r e = record { steps = steps-none c s r; empty = e }
+
+module _ (c : Circuit) (ok : IsCircuit c) (a s : Parts) (h : SkipsRoots c a s) (cell : Cell) (k : IsRootKnown c s cell) (n : ℕ) (end : n ≡ cell.span.stop) where
+  at-end : ℕ → Parts
+  at-end t = record s { root = t; last = Some cell }
+
+  pub skips-on : SkipsRoots c a (record s { root = n; last = Some cell })
+  skips-on =
+      let m = moves-root c ok s h.steps.running cell h.empty k.live k.base k.right in
+      let t = steps-on c itself a s (record s { root = cell.span.stop; last = Some cell }) h.steps m in
+      subst (λ x. SkipsRoots c a (record s { root = x; last = Some cell })) (sym end) (record { steps = t; empty = h.empty })
+
+  pub roots-nearer : s.to - n < s.to - s.root
+  roots-nearer =
+      let r = h.steps.running in
+      let w = r.window in
+      let b = r.within in
+      let l = k.live in
+      let same : cell.span.stop ≡ (span c s.query.signal s.root).stop = ap (λ (x : Cell). x.span.stop) k.right in
+      let later : s.root < (span c s.query.signal s.root).stop = (cell-covers c ok s.root s.query.signal (omega arith)).inside.high in
+      omega arith
+
+-- what is pending of a strand that asks or fills
+pub answered : (c : Circuit) (ok : IsCircuit c) (s : Parts) (r : IsRunning c s) → IsReadyAt c s → (cell : Cell) → (a : IsAnswer c (strand_of c s) cell) → IsAsked c s s.stack a.0
+answered c ok s r ready cell a = asked c ok s r a.0 ready a.1
+
+-- the top is filled, and what lies under it hears its cell
+module _ (c : Circuit) (ok : IsCircuit c) (s : Parts) (r : IsRunning c s) (p : Point) (fills : next (strand_of c s) ≡ Fill p) (f : Frame) (below : List Frame) (e : s.stack ≡ f ∷ below) where
+  abbrev popped : Parts
+  popped = record s { stack = below; filled = s.filled + 1 }
+
+  filled-top : IsTopFilled c ok s r f p
+  filled-top = top-filled c ok s r f below p e fills
+
+  beneath : IsUnder c ok s r f below (s.filled + 1)
+  beneath = under c ok s r f below p (s.filled + 1) e filled-top
+
+  pub popped-running : IsRunning c popped
+  popped-running = beneath.running
+
+  pub popped-ready : IsReadyAt c popped
+  popped-ready = beneath.ready
+
+  pub popped-asks : next (strand_of c popped) ≡ Ask p
+  popped-asks =
+      let a = beneath.asks in
+      waits-ask c ok popped popped-running f.point below refl a.awake a.waits a.evaluable (r.busy (count-of c ok s r f below e)) ∙ ap Ask filled-top.point
+
+  pub popped-answer : (cell : Cell) → cell ≡ cell_at c p → IsAnswer c (strand_of c popped) cell
+  popped-answer cell h = (p, popped-asks, h)
+
+  pub popped-finishes : (t : Parts) → StepsBy c heard popped t → StepsBy c finished s t
+  popped-finishes t h = record {
+    running = h.running;
+    number = h.number;
+    from = h.from;
+    to = h.to;
+    strand = h.strand ∙ ap (λ st. heard (record (strand_of c s) { stack = rest (map (shown c) st); filled = s.filled + 1 })) (sym e);
+  }
+
+  pub filled-cell : (g : Frame) → Advances c f g → IsReady c g → g.looked ≡ length (looked_at c g.point)
+  filled-cell g a ready = whole-done c f g a ready filled-top.whole
+
+  pub filled-point : f.point ≡ p
+  filled-point = filled-top.point

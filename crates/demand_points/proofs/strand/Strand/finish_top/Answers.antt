@@ -1,0 +1,14 @@
+use Rattle.std.proofs.Common.{◌≡◌, ◌<◌, sym, subst, rules}
+use Rattle.strand_meaning.specs.declared.Next.TheVariants.{Fill}
+use Rattle.strand_meaning.specs.Strands.{next}
+use Rattle.demand_points.specs.Demands.{Demand, strand_of}
+use Rattle.demand_points.proofs.Keeps.{fill-room}
+use Rattle.demand_points.proofs.strand.Strand.finish_top.Goals as goal
+
+pub finish-requires-clause-room : goal.finish-requires-clause-room
+finish-requires-clause-room g c =
+    let b = g.B.BatchName.batch in
+    let s = c.self.inside.parts in
+    let p = c.requires.fills.0 in
+    let fills : next (strand_of b.circuit s) ≡ Fill p = subst (λ (v : Demand). next v.strand ≡ Fill p) (sym c.self.view_is) c.requires.fills.1 in
+    fill-room b s c.self.invariant p fills (search rules)

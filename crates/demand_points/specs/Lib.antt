@@ -1,0 +1,4 @@
+pub mod Names
+pub mod Frames
+pub mod Stacks
+pub mod Demands

@@ -1,0 +1,181 @@
+//! What a strand is made of, apart from the batch that it belongs to.
+
+ghost use Rattle.std.specs.Prelude.{◌≡◌, ◌+◌, ◌<◌, ◌^◌, [], OnOk, OnErr, MatchOption};
+ghost use Rattle.journal_meaning.specs.Batch.{cell_at};
+ghost use Rattle.strand_meaning.specs.Strands.{next, heard, claimed, finished};
+ghost use Rattle.strand_meaning.specs.declared.Next.TheVariants.{Ask, Fill};
+ghost use Rattle.valid_intervals.specs.declared.Point.{Point};
+ghost use Rattle.demand_points.specs.Demands.{strand_of, itself, IsRunning, IsReadyAt, IsRootReady, IsRootKnown, IsAnswer, IsFilling, StepsBy};
+
+use crate::frame::Frame;
+use crate::stack::Stack;
+use design::Design;
+use journal_meaning::Query;
+use std::alloc::AllocError;
+use strand_meaning::Next;
+use valid_intervals::{Cell, Point};
+
+/// What a strand is made of. The next root of its window is at the time `root`; `last` is the cell of the root before it.
+#[derive(Drop)]
+pub struct Parts {
+    pub number: u32,
+    pub query: Query,
+    pub from: u32,
+    pub to: u32,
+    pub budget: u32,
+    pub root: u32,
+    pub stack: Stack,
+    pub charged: u32,
+    pub filled: u32,
+    pub spent: bool,
+    pub last: Option<Cell>,
+}
+
+impl Parts {
+    /// The point of the next root.
+    fn root_point(&self) -> Point
+        ensures { result ≡ record { signal = self.now.query.signal; time = self.now.root } }
+    {
+        Point {
+            signal: self.query.signal,
+            time: self.root,
+        }
+    }
+
+    /// The base answer at the next root, where the window has one and it has one.
+    fn known_root(&self, design: &Design) -> Option<Cell>
+        requires { IsRunning design.now.circuit self.now }
+        ensures { MatchOption result (IsRootReady design.now.circuit self.now) (IsRootKnown design.now.circuit self.now) }
+    {
+        if self.root >= self.to {
+            return None;
+        }
+        design.base(self.query.signal, self.root)
+    }
+
+    /// Moves on over roots that have base answers.
+    fn skip_roots(&mut self, design: &Design)
+        requires running { IsRunning design.now.circuit self.old }
+        requires empty { self.old.stack ≡ [] }
+        ensures steps { StepsBy design.now.circuit itself self.old self.new }
+        ensures empty { self.new.stack ≡ [] }
+        ensures ready { IsRootReady design.now.circuit self.new }
+    {
+        'roots: loop {
+            design.facts();
+            match self.known_root(design) {
+                None => return,
+                Some(cell) => {
+                    self.root = cell.span.end();
+                    self.last = Some(cell);
+                }
+            }
+        }
+    }
+
+    /// Hears base answers, until a point has to be asked for or the point on top is whole.
+    pub fn settle(&mut self, design: &Design)
+        requires { IsRunning design.now.circuit self.old }
+        ensures steps { StepsBy design.now.circuit itself self.old self.new }
+        ensures ready { IsReadyAt design.now.circuit self.new }
+    {
+        design.facts();
+        match self.stack.top() {
+            Some(frame) => self.stack.set_top(frame.advance(design)),
+            None => self.skip_roots(design),
+        }
+    }
+
+    /// The next step, once base answers are heard.
+    pub fn next(&self, design: &Design) -> Next
+        requires running { IsRunning design.now.circuit self.now }
+        requires ready { IsReadyAt design.now.circuit self.now }
+        ensures { result ≡ next (strand_of design.now.circuit self.now) }
+    {
+        design.facts();
+        match self.stack.top() {
+            None => {
+                if self.spent {
+                    Next::Done
+                } else if self.root < self.to {
+                    Next::Ask(self.root_point())
+                } else {
+                    Next::Done
+                }
+            }
+            Some(frame) => {
+                if self.spent {
+                    Next::Drop(frame.point)
+                } else if frame.is_done(design) {
+                    Next::Fill(frame.point)
+                } else {
+                    match frame.next_source(design) {
+                        Some(p) => Next::Ask(p),
+                        None => unreachable!(),
+                    }
+                }
+            }
+        }
+    }
+
+    /// Hears the cell of the point that it asks for.
+    pub fn hear(&mut self, design: &Design, cell: &Cell)
+        requires running { IsRunning design.now.circuit self.old }
+        requires ready { IsReadyAt design.now.circuit self.old }
+        requires answer { IsAnswer design.now.circuit (strand_of design.now.circuit self.old) cell.now }
+        ensures { StepsBy design.now.circuit heard self.old self.new }
+    {
+        design.facts();
+        match self.stack.top() {
+            Some(frame) => self.stack.set_top(frame.see(design, Some(*cell))),
+            None => {
+                self.root = cell.span.end();
+                self.last = Some(*cell);
+            }
+        }
+    }
+
+    /// Claims the point that it asks for.
+    pub fn claim(&mut self, design: &Design, p: Point) -> Result<(), AllocError>
+        requires running { IsRunning design.now.circuit self.old }
+        requires ready { IsReadyAt design.now.circuit self.old }
+        requires asks { next (strand_of design.now.circuit self.old) ≡ Ask p }
+        requires room { self.old.charged < self.old.budget }
+        ensures ok { OnOk result (StepsBy design.now.circuit (λ s. claimed design.now.circuit s p) self.old self.new) }
+        ensures err { OnErr result (self.new ≡ self.old) }
+    {
+        design.facts();
+        self.stack.push(Frame::new(design, p))?;
+        self.charged += 1;
+        Ok(())
+    }
+
+    /// The cell of the point on top, whose children are all heard.
+    pub fn top_cell(&self, design: &Design) -> Cell
+        requires running { IsRunning design.now.circuit self.now }
+        requires fills { IsFilling (strand_of design.now.circuit self.now) }
+        ensures { (p : Point) → next (strand_of design.now.circuit self.now) ≡ Fill p → result ≡ cell_at design.now.circuit p }
+    {
+        design.facts();
+        match self.stack.top() {
+            Some(frame) => frame.advance(design).cell(design),
+            None => unreachable!(),
+        }
+    }
+
+    /// Ends the claim of the point on top with its cell, which what lies under it hears.
+    pub fn finish(&mut self, design: &Design) -> Cell
+        requires running { IsRunning design.now.circuit self.old }
+        requires fills { IsFilling (strand_of design.now.circuit self.old) }
+        requires room { self.old.filled + 1 < 2 ^ 32 }
+        ensures cell { (p : Point) → next (strand_of design.now.circuit self.old) ≡ Fill p → result ≡ cell_at design.now.circuit p }
+        ensures steps { StepsBy design.now.circuit finished self.old self.new }
+    {
+        let cell = self.top_cell(design);
+        design.facts();
+        let _ = self.stack.pop();
+        self.filled += 1;
+        self.hear(design, &cell);
+        cell
+    }
+}

@@ -1,0 +1,68 @@
+//! A stack of claimed points.
+
+ghost use Rattle.std.specs.Prelude.{◌≡◌, [], ◌∷◌, length, OnOk, OnErr, MatchOption};
+ghost use Rattle.demand_points.specs.Stacks.{IsTop, with_top};
+
+use crate::frame::Frame;
+use std::alloc::{AllocError, Global};
+use std::marker::Model;
+
+/// A stack of claimed points, seen as the list from the top down.
+#[derive(Drop)]
+pub struct Stack {
+    items: Vec<Frame>,
+}
+
+impl Model for Stack {
+    ghost use Rattle.std.specs.Prelude.{List, reverse};
+    ghost use Rattle.demand_points.specs.declared.frame.Frame.{Frame};
+
+    ghost Value = { List Frame };
+
+    ghost view = { λ s. reverse s.items.items };
+}
+
+impl Stack {
+    pub fn new(alloc: Global) -> Stack
+        ensures { result ≡ [] }
+    {
+        Stack {
+            items: Vec::new(alloc),
+        }
+    }
+
+    pub fn len(&self) -> usize
+        ensures { result ≡ length self.now }
+    {
+        self.items.len()
+    }
+
+    pub fn top(&self) -> Option<Frame>
+        ensures { MatchOption result (self.now ≡ []) (IsTop self.now) }
+    {
+        self.items.last().copied()
+    }
+
+    pub fn push(&mut self, frame: Frame) -> Result<(), AllocError>
+        ensures ok { OnOk result (self.new ≡ frame ∷ self.old) }
+        ensures err { OnErr result (self.new ≡ self.old) }
+    {
+        self.items.push(frame)?;
+        Ok(())
+    }
+
+    pub fn pop(&mut self) -> Option<Frame>
+        ensures { MatchOption result ((self.old ≡ []) × (self.new ≡ [])) (λ f. self.old ≡ f ∷ self.new) }
+    {
+        self.items.pop()
+    }
+
+    /// Changes the top, if there is one.
+    pub fn set_top(&mut self, frame: Frame)
+        ensures { self.new ≡ with_top frame self.old }
+    {
+        if self.items.pop().is_some() {
+            self.items.push_reserved(frame);
+        }
+    }
+}

@@ -1,0 +1,263 @@
+//! A strand of a batch.
+
+ghost use Rattle.std.specs.Prelude.{◌≡◌, ◌≤◌, ◌<◌, [], length, None, IfSome, OnOk, OnErr};
+ghost use Rattle.circuit_meaning.specs.Need.{IsRoot};
+ghost use Rattle.journal_meaning.specs.Batch.{cell_at, window_of};
+ghost use Rattle.strand_meaning.specs.declared.Next.TheVariants.{Ask, Fill, Drop};
+ghost use Rattle.strand_meaning.specs.Batches.{IsLawful, IsQueryOf};
+ghost use Rattle.strand_meaning.specs.Strands as strands;
+ghost use Rattle.strand_meaning.specs.Strands.{next, started};
+ghost use Rattle.demand_points.specs.Demands.{IsAnswer, IsAsking, IsFilling, IsKnown, IsRootCell, Steps, itself};
+ghost use Rattle.valid_intervals.specs.declared.Point.{Point};
+
+use crate::names::BatchName;
+use crate::parts::Parts;
+use crate::stack::Stack;
+use backsim_io::OutOfMemory;
+use design::Design;
+use journal_meaning::Query;
+use std::alloc::Global;
+use std::default::MadeWith;
+use std::marker::{Model, PhantomData};
+use strand_meaning::Next;
+use valid_intervals::{Cell, Point};
+
+/// The query, window and budget that a strand was started with.
+#[derive(Clone, Copy, Debug, PartialEq, Eq)]
+pub struct Task {
+    pub query: Query,
+    pub from: u32,
+    pub to: u32,
+    pub budget: u32,
+}
+
+/// One suspended demand of the batch that B names.
+#[derive(Drop)]
+pub struct Strand<B: BatchName> {
+    parts: Parts,
+    of: PhantomData<B>,
+}
+
+impl<B: BatchName> Model for Strand<B> {
+    ghost use Rattle.demand_points.specs.Demands.{Demand, demand_of, IsDemand};
+
+    ghost Value = { Demand };
+
+    ghost view = { λ s. demand_of B.batch.circuit s.parts };
+
+    ghost invariant = { λ s. IsDemand B.batch s.parts };
+}
+
+impl<B: BatchName> Strand<B> {
+    /// A strand with this number, for the window of the query from `from` on and below `to`. It may claim up to `budget` points,
+    /// of which `charged` are counted already.
+    pub fn start(
+        alloc: Global,
+        number: u32,
+        query: Query,
+        from: u32,
+        to: u32,
+        budget: u32,
+        charged: u32,
+    ) -> Strand<B>
+        requires lawful { IsLawful B.batch }
+        requires known { IsQueryOf B.batch query }
+        requires root { from < to → IsRoot B.batch.circuit (window_of query) from }
+        requires window { to ≤ query.to }
+        requires charge { charged ≤ budget }
+        requires budget { budget ≤ query.budget }
+        ensures number { result.number ≡ number }
+        ensures from { result.from ≡ from }
+        ensures to { result.to ≡ to }
+        ensures strand { result.strand ≡ started B.batch.circuit (record { query = query; start = from; stop = to; budget = budget; charged = charged }) }
+        ensures last { result.last ≡ None }
+    {
+        Strand {
+            parts: Parts {
+                number,
+                query,
+                from,
+                to,
+                budget,
+                root: from,
+                stack: Stack::new(alloc),
+                charged,
+                filled: 0,
+                spent: false,
+                last: None,
+            },
+            of: PhantomData,
+        }
+    }
+
+    /// What is known of every strand.
+    pub fn facts(&self)
+        ensures { IsKnown B.batch self.now }
+    {
+        let _number = self.parts.number;
+    }
+
+    /// The query, window and budget that it was started with.
+    pub fn task(&self) -> Task
+        ensures { result ≡ record { query = self.now.strand.query; from = self.now.from; to = self.now.to; budget = self.now.strand.budget } }
+    {
+        Task {
+            query: self.parts.query,
+            from: self.parts.from,
+            to: self.parts.to,
+            budget: self.parts.budget,
+        }
+    }
+
+    /// Its number among the strands of the batch.
+    pub fn number(&self) -> u32
+        ensures { result ≡ self.now.number }
+    {
+        self.parts.number
+    }
+
+    /// The query that it serves.
+    pub fn query(&self) -> Query
+        ensures { result ≡ self.now.strand.query }
+    {
+        self.parts.query
+    }
+
+    /// How many claims count towards its budget.
+    pub fn charged(&self) -> u32
+        ensures charged { result ≡ self.now.strand.charged }
+        ensures within { result ≤ self.now.strand.budget }
+    {
+        self.parts.charged
+    }
+
+    /// How many points it holds claimed.
+    pub fn held(&self) -> usize
+        ensures { result ≡ length self.now.strand.stack }
+    {
+        self.parts.stack.len()
+    }
+
+    /// How many points it has filled.
+    pub fn filled(&self) -> u32
+        ensures { result ≡ self.now.strand.filled }
+    {
+        self.parts.filled
+    }
+
+    /// Whether it was refused a point.
+    pub fn is_spent(&self) -> bool
+        ensures { result ≡ self.now.strand.spent }
+    {
+        self.parts.spent
+    }
+
+    /// The cell of the last root that it heard.
+    pub fn last(&self) -> Option<Cell>
+        ensures last { result ≡ self.now.last }
+        ensures right { IfSome result (IsRootCell B.batch.circuit self.now) }
+    {
+        self.parts.last
+    }
+
+    /// Hears base answers until a step is needed, and answers that step.
+    pub fn next_step(&mut self, design: &Design) -> Next
+        requires { design.now.circuit ≡ B.batch.circuit }
+        ensures next { result ≡ next self.new.strand }
+        ensures steps { Steps itself self.old self.new }
+    {
+        self.parts.settle(design);
+        self.parts.next(design)
+    }
+
+    /// Hears the cell of the point that it asks for.
+    pub fn heard(&mut self, design: &Design, cell: Cell)
+        requires design { design.now.circuit ≡ B.batch.circuit }
+        requires answer { IsAnswer B.batch.circuit self.old.strand cell }
+        ensures { Steps strands.heard self.old self.new }
+    {
+        self.parts.settle(design);
+        self.parts.hear(design, &cell);
+    }
+
+    /// Claims the point that it asks for, and is charged for it. Where memory runs out, it has heard base answers at most.
+    pub fn claimed(&mut self, design: &Design, p: Point) -> Result<(), OutOfMemory>
+        requires design { design.now.circuit ≡ B.batch.circuit }
+        requires asks { next self.old.strand ≡ Ask p }
+        requires room { self.old.strand.charged < self.old.strand.budget }
+        ensures ok { OnOk result (Steps (λ s. strands.claimed B.batch.circuit s p) self.old self.new) }
+        ensures err { OnErr result (Steps itself self.old self.new) }
+    {
+        self.parts.settle(design);
+        self.parts.claim(design, p)?;
+        Ok(())
+    }
+
+    /// It is refused the point that it asks for: its budget is spent.
+    pub fn give_up(&mut self)
+        requires { IsAsking self.old.strand }
+        ensures { Steps strands.given_up self.old self.new }
+    {
+        self.parts.spent = true;
+    }
+
+    /// The cell of the point on top of its stack.
+    pub fn top_cell(&self, design: &Design) -> Cell
+        requires design { design.now.circuit ≡ B.batch.circuit }
+        requires fills { IsFilling self.now.strand }
+        ensures { (p : Point) → next self.now.strand ≡ Fill p → result ≡ cell_at B.batch.circuit p }
+    {
+        self.parts.top_cell(design)
+    }
+
+    /// Ends the claim of the point on top of its stack; what lies under it hears the cell.
+    pub fn finish_top(&mut self, design: &Design) -> Cell
+        requires design { design.now.circuit ≡ B.batch.circuit }
+        requires fills { IsFilling self.old.strand }
+        ensures cell { (p : Point) → next self.old.strand ≡ Fill p → result ≡ cell_at B.batch.circuit p }
+        ensures steps { Steps strands.finished self.old self.new }
+    {
+        let _budget = self.parts.budget;
+        self.parts.finish(design)
+    }
+
+    /// Ends the claim of the point on top of its stack without a cell, and answers the point.
+    pub fn drop_top(&mut self) -> Point
+        requires { (p : Point) × (next self.old.strand ≡ Drop p) }
+        ensures point { next self.old.strand ≡ Drop result }
+        ensures steps { Steps strands.dropped self.old self.new }
+    {
+        match self.parts.stack.pop() {
+            Some(frame) => frame.point,
+            None => unreachable!(),
+        }
+    }
+}
+
+/// A strand that has ended and holds nothing, for the unused places of a small vector.
+impl<B: BatchName> MadeWith<Global> for Strand<B> {
+    fn made_with(alloc: Global) -> Strand<B> {
+        Strand {
+            parts: Parts {
+                number: 0,
+                query: Query {
+                    number: 0,
+                    signal: 0,
+                    from: 0,
+                    to: 0,
+                    budget: 0,
+                },
+                from: 0,
+                to: 0,
+                budget: 0,
+                root: 0,
+                stack: Stack::new(alloc),
+                charged: 0,
+                filled: 0,
+                spent: false,
+                last: None,
+            },
+            of: PhantomData,
+        }
+    }
+}

@@ -1,0 +1,137 @@
+-- What the accessors answer, by the driver of the signal.
+use Rattle.std.proofs.Common.{◌≡◌, ℕ, zero, suc, ◌+◌, ◌-◌, ◌<◌, ◌≤◌, min, max, Bool, true, false, cond, nat_lt, List, [], ◌∷◌, map, fold, take, length, get_or, Option, Some, None, IsSome, refl, sym, ap, ap₂, ◌∙◌, subst, arith, inl, inr, lt-ltb, le-ltb}
+use Rattle.std.specs.Prelude.{slice_get, option_map, IfSome}
+use Rattle.std.specs.Borrow.{Bor}
+use Rattle.std.specs.List.{range_with_len, AllByRecursion, All}
+use Rattle.std.proofs.lemmas.Bool.{cases_lt}
+use Rattle.std.proofs.lemmas.List.Elements.{recursion_from_All}
+use Rattle.std.proofs.Math.ListN.{length-map}
+use Rattle.std.proofs.lemmas.List.{get_or_default}
+use Rattle.std.proofs.lemmas.Option.{slice_get-get_or, slice_get-map, get_or_from_slice_get}
+use Rattle.gate_values.specs.declared.Value.{Value}
+use Rattle.gate_values.specs.declared.Value.TheVariants.{X}
+use Rattle.gate_values.specs.declared.Kind.{Kind}
+use Rattle.gate_values.specs.Gates.{gate_value, is_unknown, up_to_first, decides}
+use Rattle.gate_values.proofs.Unknown.{gate_value-unknown}
+use Rattle.gate_values.proofs.Looked.{cut_alike, map-up_to_first}
+use Rattle.valid_intervals.specs.declared.Cell.{Cell}
+use Rattle.valid_intervals.specs.declared.Point.{Point}
+use Rattle.valid_intervals.specs.Spans.{Span, from_to, meet, moved, cut_at, IsIn}
+use Rattle.flip_flops.specs.Edges.{shown_edge, flop_span}
+use Rattle.circuit_meaning.specs.declared.FlipFlop.{FlipFlop}
+use Rattle.circuit_meaning.specs.declared.Setting.{Setting}
+use Rattle.circuit_meaning.specs.declared.Pin.{Pin}
+use Rattle.circuit_meaning.specs.Circuit.{Driver, Input, Gate, Flop, Circuit, driver, IsCircuit, IsDriver, read_by}
+use Rattle.circuit_meaning.specs.Forward.{value, value_from, seen, flop_value, input_value, last_setting}
+use Rattle.circuit_meaning.specs.Cells.{span, span_from, least_delay, input_start, next_setting, looked, pin_span, gate_span}
+use Rattle.circuit_meaning.specs.Need.{IsEvaluable, HasSources}
+use Rattle.circuit_meaning.specs.Looks.{kind_of, source, flop_sources, sources_at, pin_sources, sees, looked_sources, no_pin, interval_at, pin_interval, met_interval}
+use Rattle.circuit_meaning.proofs.Equations.{value_is, span_is, map_same, all_imply}
+use Rattle.flip_flops.proofs.EdgeLemmas.{shown_edge-le}
+use Rattle.circuit_meaning.proofs.Steady.{seen-early, map_all, gate_span-early}
+use Rattle.circuit_meaning.proofs.Cover.{cell-covers}
+use Rattle.circuit_meaning.proofs.Meets.{met-all, gate-span, cut}
+use Rattle.circuit_meaning.proofs.Looking.{cut-take}
+use Rattle.design.specs.declared.rows.Source.TheVariants as row
+use Rattle.design.specs.Sources.{IsSourceOf, pins_with}
+use Rattle.design.specs.Pins.{cell_of, pin_at, heard_of}
+
+-- the pins as a whole
+pub signals-pins_with : (signals delays : List ℕ) → length delays ≡ length signals → map (λ (p : Pin). p.signal) (pins_with signals delays) ≡ signals
+signals-pins_with [] delays e = refl
+signals-pins_with (s ∷ signals) [] e = absurd (omega arith)
+signals-pins_with (s ∷ signals) (d ∷ delays) e = ap (λ rest. s ∷ rest) (signals-pins_with signals delays (omega arith))
+
+pub length-pins_with : (signals delays : List ℕ) → length delays ≡ length signals → length (pins_with signals delays) ≡ length signals
+length-pins_with [] delays e = refl
+length-pins_with (s ∷ signals) [] e = absurd (omega arith)
+length-pins_with (s ∷ signals) (d ∷ delays) e = ap suc (length-pins_with signals delays (omega arith))
+
+pub get_or-pins_with : (signals delays : List ℕ) (k : ℕ) (d : Pin) → length delays ≡ length signals → k < length signals
+    → get_or (pins_with signals delays) k d ≡ record { signal = get_or signals k 0; delay = get_or delays k 0 }
+get_or-pins_with [] delays k d e l = absurd (omega arith)
+get_or-pins_with (s ∷ signals) [] k d e l = absurd (omega arith)
+get_or-pins_with (s ∷ signals) (x ∷ delays) zero d e l = refl
+get_or-pins_with (s ∷ signals) (x ∷ delays) (suc k) d e l = get_or-pins_with signals delays k d (omega arith) (omega arith)
+
+-- the least delay is at most each
+fold-least : (m : ℕ) (pins : List Pin) → fold (λ m q. min m q.delay) m pins ≤ m × AllByRecursion (λ p. fold (λ m q. min m q.delay) m pins ≤ p.delay) pins
+fold-least m [] = (omega arith, tt)
+fold-least m (p ∷ pins) = let k = fold-least (min m p.delay) pins in (omega (arith, k.0), (omega (arith, k.0), k.1))
+
+least : (pins : List Pin) → AllByRecursion (λ p. least_delay pins ≤ p.delay) pins
+unfolding least_delay
+least [] = tt
+least (p ∷ pins) = fold-least p.delay pins
+
+cell-is : (x : Cell) (a : Span) (v : Value) → x.span ≡ a → x.value ≡ v → x ≡ record { span = a; value = v }
+cell-is x a v e f = ap₂ (λ (b : Span) (w : Value). record { span = b; value = w }) e f
+
+module _ (c : Circuit) (ok : IsCircuit c) (s t limit : ℕ) (top : limit ≡ c.horizon + 1) where
+  module _ (xs : Bor (List Setting)) (src : IsSourceOf c s (row.Input xs)) where
+    pub input-is : (cell : Cell) → cell.span ≡ from_to (input_start (last_setting xs.now t)) (next_setting xs.now t limit) → cell.value ≡ input_value (last_setting xs.now t) → cell ≡ cell_of c s t
+    input-is cell e v =
+        let there : cell.span ≡ span c s t = e ∙ ap (λ n. from_to (input_start (last_setting xs.now t)) (next_setting xs.now t n)) top ∙ sym (span_is c ok s t ∙ ap (span_from c (span c) t) src.driver) in
+        let shown : cell.value ≡ value c s t = v ∙ sym (value_is c ok s t ∙ ap (value_from (value c) t) src.driver) in
+        cell-is cell (span c s t) (value c s t) there shown
+
+    pub input-asks : IsEvaluable c s t → ⊥
+    input-asks h = subst (HasSources t) src.driver h
+
+    pub input-reads : (n : ℕ) → n < length (read_by (driver c s)) → ⊥
+    input-reads n h = let k : n < length (read_by (Input xs.now)) = subst (λ d. n < length (read_by d)) src.driver h in omega arith
+
+  module _ (kind : Kind) (signals delays : Bor (List ℕ)) (m : ℕ) (src : IsSourceOf c s (row.Gate kind signals delays m)) where
+    abbrev pins : List Pin
+    pins = pins_with signals.now delays.now
+
+    pub gate-early : t < m → (cell : Cell) → cell ≡ record { span = from_to 0 (min m limit); value = X } → cell ≡ cell_of c s t
+    gate-early l cell e =
+        let l' : t < least_delay pins = subst (λ n. t < n) src.fits.1 l in
+        let early : AllByRecursion (λ p. is_unknown (seen (value c) t p) ≡ true) pins =
+        all_imply (λ p. least_delay pins ≤ p.delay) (λ p. is_unknown (seen (value c) t p) ≡ true) (λ p h. ap is_unknown (seen-early (value c) t p (omega arith))) pins (least pins) in
+        let shown : value c s t ≡ X = value_is c ok s t ∙ ap (value_from (value c) t) src.driver
+        ∙ gate_value-unknown kind (map (seen (value c) t) pins) (map_all (λ v. is_unknown v ≡ true) (seen (value c) t) pins early) (rw length-map src.sound.some) in
+        let there : span c s t ≡ from_to 0 (min m (c.horizon + 1)) = span_is c ok s t ∙ ap (span_from c (span c) t) src.driver
+        ∙ gate_span-early (c.horizon + 1) t (least_delay pins) (map (pin_span (span c) t) (looked c t kind pins)) l' ∙ ap (λ n. from_to 0 (min n (c.horizon + 1))) (sym src.fits.1) in
+        e ∙ cell-is (record { span = from_to 0 (min m limit); value = X }) (span c s t) (value c s t) (ap (λ n. from_to 0 (min m n)) top ∙ sym there) (sym shown)
+
+    pub gate-rests : t < m → IsEvaluable c s t → ⊥
+    gate-rests l h = let k : least_delay pins ≤ t = subst (HasSources t) src.driver h in let e = src.fits.1 in omega (arith, e, k, l)
+
+    pub gate-asks : m ≤ t → IsEvaluable c s t
+    gate-asks l = subst (HasSources t) (sym src.driver) (subst (λ n. n ≤ t) src.fits.1 l)
+
+    pub gate-reads : read_by (driver c s) ≡ signals.now
+    gate-reads = ap read_by src.driver ∙ signals-pins_with signals.now delays.now src.fits.0
+
+  module _ (f : FlipFlop) (signals : Bor (List ℕ)) (src : IsSourceOf c s (row.Flop f signals)) where
+    pub flop-spans : span c s t ≡ flop_span (c.horizon + 1) f.delay f.clock (shown_edge f.clock f.delay t)
+    flop-spans = span_is c ok s t ∙ ap (span_from c (span c) t) src.driver
+
+    pub flop-idle : shown_edge f.clock f.delay t ≡ None → (cell : Cell) → cell ≡ record { span = flop_span limit f.delay f.clock None; value = f.initial } → cell ≡ cell_of c s t
+    flop-idle none cell e =
+        let shown : value c s t ≡ f.initial = value_is c ok s t ∙ ap (value_from (value c) t) src.driver ∙ ap (flop_value (value c) f) none in
+        let there : span c s t ≡ flop_span (c.horizon + 1) f.delay f.clock None = flop-spans ∙ ap (flop_span (c.horizon + 1) f.delay f.clock) none in
+        e ∙ cell-is (record { span = flop_span limit f.delay f.clock None; value = f.initial }) (span c s t) (value c s t) (ap (λ n. flop_span n f.delay f.clock None) top ∙ sym there) (sym shown)
+
+    pub flop-rests : shown_edge f.clock f.delay t ≡ None → IsEvaluable c s t → ⊥
+    flop-rests none h = let k : IsSome (shown_edge f.clock f.delay t) = subst (HasSources t) src.driver h in absurd (cc (subst IsSome none k))
+
+    pub flop-asks : IsSome (shown_edge f.clock f.delay t) → IsEvaluable c s t
+    flop-asks h = subst (HasSources t) (sym src.driver) h
+
+    pub flop-reads : read_by (driver c s) ≡ signals.now
+    flop-reads = ap read_by src.driver ∙ sym src.fits
+
+pub if_some : {A : Type 0} (P Q : A → Type 0) → ((x : A) → P x → Q x) → (o : Option A) → IfSome o P → IfSome o Q
+if_some P Q f None h = h
+if_some P Q f (Some x) h = f x h
+
+-- the signals of the pins are those of the circuit
+pub gate-signals : (c : Circuit) → IsCircuit c → (s : ℕ) (kind : Kind) (signals delays : Bor (List ℕ)) (m : ℕ) → IsSourceOf c s (row.Gate kind signals delays m) → (k d : ℕ) → k < length signals.now → get_or signals.now k d < length c.drivers
+gate-signals c ok s kind signals delays m src k d l =
+    let pins = pins_with signals.now delays.now in
+    let p : Pin = record { signal = 0; delay = 0 } in
+    let below = src.sound.signal k p (let h = length-pins_with signals.now delays.now src.fits.0 in omega (arith, h, l)) in
+    subst (λ n. n < length c.drivers) (ap (λ (q : Pin). q.signal) (get_or-pins_with signals.now delays.now k p src.fits.0 l) ∙ get_or_default signals.now k 0 d l) below

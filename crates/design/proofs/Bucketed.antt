@@ -1,0 +1,78 @@
+-- The settings of each signal, one row after another.
+use Rattle.std.proofs.Common.{◌≡◌, ℕ, zero, suc, ◌+◌, ◌<◌, ◌≤◌, Bool, true, false, cond, eqb-true, eq-eqb, le-leb, List, [], ◌∷◌, ◌++◌, length, take, get_or, set, map, filter, Option, Some, None, refl, sym, ap, ap₂, ◌∙◌, subst, arith, ◌⊎◌, inl, inr, length-set}
+use Rattle.std.specs.Prelude.{nat_eq, nat_le, replicate}
+use Rattle.std.specs.Global.{Vec}
+use Rattle.std.proofs.lemmas.List.{map-append, append-nil, map-set, get_or-set_same, get_or-set_other, length-map, length-replicate, get_or_default}
+use Rattle.std.proofs.Math.ListN.{get_or-map}
+use Rattle.circuit_meaning.specs.declared.Setting.{Setting}
+use Rattle.bench_reader.specs.Netlists as netlists
+use Rattle.stimulus_file.specs.declared.SetRow.{SetRow}
+use Rattle.design.specs.declared.fault.JoinFile.TheVariants as file
+use Rattle.design.specs.declared.fault.JoinCause.TheVariants.{NotInput, PastHorizon}
+use Rattle.design.specs.Join.{number, driver_at, is_input, is_signal, setting_of, fault_of, cause_of_set, set_fault, unless}
+use Rattle.design.specs.Said.{bucket_of, lists_in, HasSets}
+
+filter-push : {A : Type 0} (p : A → Bool) (xs : List A) (x : A) → filter p (xs ++ x ∷ []) ≡ filter p xs ++ cond (p x) (x ∷ []) []
+filter-push p [] x = refl
+filter-push {A} p (y ∷ ys) x = go (p y) (filter-push p ys x)
+  where
+    go : (b : Bool) → filter p (ys ++ x ∷ []) ≡ filter p ys ++ cond (p x) (x ∷ []) []
+        → ◌≡◌ {A = List A} (cond b (y ∷ filter p (ys ++ x ∷ [])) (filter p (ys ++ x ∷ []))) (cond b (y ∷ filter p ys) (filter p ys) ++ cond (p x) (x ∷ []) [])
+    go true h = ap (λ r. y ∷ r) h
+    go false h = h
+
+-- nothing is set at first
+pub sets-none : (netlist : netlists.Content) (buckets : List (Vec Setting)) → lists_in buckets ≡ replicate (length netlist.names) [] → HasSets netlist [] buckets
+sets-none netlist buckets e = record {
+  long = sym (length-map buckets (λ (b : Vec Setting). b.items)) ∙ ap length e ∙ length-replicate (length netlist.names) [];
+  each = λ s l. ap (λ xs. get_or xs s []) e ∙ nothing (length netlist.names) s;
+}
+  where
+    nothing : (n s : ℕ) → get_or {A = List Setting} (replicate n []) s [] ≡ []
+    nothing zero s = refl
+    nothing (suc n) zero = refl
+    nothing (suc n) (suc s) = nothing n s
+
+module _ (netlist : netlists.Content) (before : List SetRow) (row : SetRow) (n : ℕ) (is-number : number netlist row.name ≡ Some n) where
+  more : (s : ℕ) → bucket_of netlist (before ++ row ∷ []) s ≡ bucket_of netlist before s ++ cond (nat_eq n s) (setting_of row ∷ []) []
+  more s =
+      ap (map setting_of) (filter-push (λ (r : SetRow). is_signal s (number netlist r.name)) before row)
+      ∙ map-append setting_of (filter (λ (r : SetRow). is_signal s (number netlist r.name)) before) (cond (is_signal s (number netlist row.name)) (row ∷ []) [])
+      ∙ ap (λ (o : Option ℕ). bucket_of netlist before s ++ map setting_of (cond (is_signal s o) (row ∷ []) [])) is-number
+      ∙ ap (λ r. bucket_of netlist before s ++ r) (inner (nat_eq n s))
+    where
+      inner : (b : Bool) → map setting_of (cond b (row ∷ []) []) ≡ cond b (setting_of row ∷ []) []
+      inner true = refl
+      inner false = refl
+
+  -- one setting more
+  pub sets-more : (old : List (Vec Setting)) (w b : Vec Setting) → n < length netlist.names → w ≡ get_or old n w → b.items ≡ w.items ++ setting_of row ∷ [] → HasSets netlist before old → HasSets netlist (before ++ row ∷ []) (set old n b)
+  sets-more old w b l at put has = record {
+    long = length-set old n b ∙ has.long;
+    each = λ s m. go s m (nat_eq n s) refl;
+  }
+    where
+      mapped : lists_in (set old n b) ≡ set (lists_in old) n b.items
+      mapped = map-set (λ (v : Vec Setting). v.items) old n b
+
+      inside : n < length (lists_in old)
+      inside = let e = length-map old (λ (v : Vec Setting). v.items) in let k = has.long in omega (arith, e, k, l)
+
+      was : w.items ≡ get_or (lists_in old) n []
+      was = ap (λ (v : Vec Setting). v.items) at ∙ sym (get_or_default (lists_in old) n [] w.items inside ∙ get_or-map (λ (v : Vec Setting). v.items) old n w)
+
+      go : (s : ℕ) → s < length netlist.names → (c : Bool) → nat_eq n s ≡ c → get_or (lists_in (set old n b)) s [] ≡ bucket_of netlist (before ++ row ∷ []) s
+      go s m true h =
+          let same : n ≡ s = eqb-true n s h in
+          ap (λ xs. get_or xs s []) mapped ∙ ap (λ k. get_or (set (lists_in old) n b.items) k []) (sym same) ∙ get_or-set_same (lists_in old) n b.items [] inside
+          ∙ put ∙ ap (λ r. r ++ setting_of row ∷ []) (was ∙ ap (λ k. get_or (lists_in old) k []) same ∙ has.each s m)
+          ∙ sym (more s ∙ ap (λ c. bucket_of netlist before s ++ cond c (setting_of row ∷ []) []) h)
+      go s m false h =
+          ap (λ xs. get_or xs s []) mapped ∙ get_or-set_other (lists_in old) n s b.items [] (λ e. absurd (let k = sym h ∙ eq-eqb n s (sym e) in cc k)) ∙ has.each s m
+          ∙ sym (more s ∙ ap (λ c. bucket_of netlist before s ++ cond c (setting_of row ∷ []) []) h ∙ append-nil (bucket_of netlist before s))
+
+  -- a setting of an input within the horizon
+  pub set-passes : (horizon : ℕ) → is_input (driver_at netlist n) ≡ true → row.time ≤ horizon → set_fault netlist horizon row ≡ None
+  set-passes horizon input l =
+      ap (λ (o : Option ℕ). fault_of file.Stimulus row.line (cause_of_set netlist horizon o row.time)) is-number
+      ∙ ap₂ (λ (a : Bool) (b : Bool). fault_of file.Stimulus row.line (unless a NotInput (unless b PastHorizon None))) input (le-leb row.time horizon l)

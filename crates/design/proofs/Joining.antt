@@ -1,0 +1,382 @@
+-- What is kept of the three files is a design.
+use Rattle.std.proofs.Common.{◌≡◌, ℕ, zero, suc, ◌+◌, ◌<◌, ◌≤◌, ◌≢◌, Bool, true, false, ◌&&◌, not, cond, min, List, [], ◌∷◌, length, get_or, map, filter, fold, Option, Some, None, refl, sym, ap, ap₂, ◌∙◌, subst, arith, ◌⊎◌, inl, inr, leb-true, eqb-true}
+use Rattle.std.specs.Prelude.{All, AllPairs, IfSome, IsTrue, nat_eq, nat_le, unwrap_or, position, is_some, replicate}
+use Rattle.std.specs.Global.{Vec}
+use Rattle.std.specs.List.{range_with_len, AllByRecursion}
+use Rattle.std.specs.Str.{bytes_eq}
+use Rattle.std.proofs.lemmas.List.{length-map, get_or_default}
+use Rattle.std.proofs.lemmas.List.Elements.{recursion_from_All, All-from_recursion}
+use Rattle.std.proofs.lemmas.List.FromFn.{length-map-range_with_len, get_or-map-range_with_len, fill_by_all}
+use Rattle.gate_values.specs.declared.Kind.{Kind}
+use Rattle.gate_values.specs.declared.Kind.TheVariants.{And, Nand, Or, Nor, Xor, Xnor, Not, Buff, Dff}
+use Rattle.gate_values.specs.declared.Value.{Value}
+use Rattle.gate_values.specs.declared.Value.TheVariants.{X, Z}
+use Rattle.gate_values.specs.Gates.{is_unary}
+use Rattle.flip_flops.specs.declared.Clock.{Clock}
+use Rattle.flip_flops.specs.Edges.{IsClock}
+use Rattle.circuit_meaning.specs.declared.Setting.{Setting}
+use Rattle.circuit_meaning.specs.declared.Pin.{Pin}
+use Rattle.circuit_meaning.specs.Circuit as circuits
+use Rattle.circuit_meaning.specs.Circuit.{Circuit, IsCircuit, IsDriver}
+use Rattle.circuit_meaning.specs.Cells.{least_delay}
+use Rattle.bench_reader.specs.Netlists as netlists
+use Rattle.bench_reader.specs.Netlists.{Driver, Primary, Driven, pins_of, IsNetlist}
+use Rattle.timing_file.specs.Timing as timings
+use Rattle.timing_file.specs.Timing.{default_of, kind_delay}
+use Rattle.timing_file.specs.Subjects.{same_kind}
+use Rattle.timing_file.specs.Ranges.{IsTiming, IsDelay, IsWithin as IsWithinRange}
+use Rattle.timing_file.specs.declared.TimingRow.{TimingRow}
+use Rattle.timing_file.specs.declared.ClockRow.{ClockRow}
+use Rattle.timing_file.specs.declared.TimingWhat.{TimingWhat}
+use Rattle.timing_file.specs.declared.TimingWhat.TheVariants as what
+use Rattle.stimulus_file.specs.Stimulus as stimuli
+use Rattle.stimulus_file.specs.declared.SetRow.{SetRow}
+use Rattle.design.specs.declared.rows.Row.{Row}
+use Rattle.design.specs.declared.rows.Row.TheVariants as row
+use Rattle.design.specs.Joined.{Joined, IsDesign, AreLimits, IsWithin}
+use Rattle.design.specs.Sources.{Kept, IsKept, joined_of, circuit_of, driver_of, pins_with, InTimeOrder, Fits, FitsAt}
+use Rattle.design.specs.Sources as kept
+use Rattle.design.specs.Join.{number, driver_at, is_dff, or_else, last_said, when, said_of, rows_say, delay_said, pin_said, initial_said, clock_said, clock_named, clock_of_row, delay_of, pin_delay, pin_delays, flop_of, joined_driver, joined_gate, circuit_from, settings_of, in_time_order, is_signal, setting_of, is_input, fault_of, cause_of_set, set_fault, unless, first_fault, AreDifferent}
+use Rattle.design.specs.Said.{least_of, delays_of, gate_delays, row_of, gate_row, HasSets, lists_in}
+use Rattle.design.specs.declared.fault.JoinFault.{JoinFault}
+use Rattle.design.specs.declared.fault.JoinFile.TheVariants as file
+use Rattle.design.specs.declared.fault.JoinCause.TheVariants.{NotInput, PastHorizon}
+use Rattle.stimulus_file.specs.Ranges.{IsStimulus}
+use Rattle.bench_reader.proofs.Places.{same_names}
+use Rattle.std.proofs.lemmas.List.Quantifiers.{position-Some}
+use Rattle.design.proofs.Answered.{length-pins_with, get_or-pins_with, if_some}
+use Rattle.design.proofs.Kept.{driver-same, fits-same}
+use Rattle.design.proofs.Rowed.{row-sound}
+use Rattle.design.proofs.Timed.{Rises, Differ, in_order-all, in_order-rises, in_order-differ, order-from, different-from}
+
+-- the least delay of pins with these delays
+fold-least : (m : ℕ) (signals delays : List ℕ) → length delays ≡ length signals → fold (λ (n : ℕ) (p : Pin). min n p.delay) m (pins_with signals delays) ≡ fold min m delays
+fold-least m [] [] e = refl
+fold-least m [] (d ∷ delays) e = absurd (omega arith)
+fold-least m (s ∷ signals) [] e = absurd (omega arith)
+fold-least m (s ∷ signals) (d ∷ delays) e = fold-least (min m d) signals delays (omega arith)
+
+pub least-is : (signals delays : List ℕ) → length delays ≡ length signals → least_of delays ≡ least_delay (pins_with signals delays)
+unfolding least_delay
+least-is [] [] e = refl
+least-is [] (d ∷ delays) e = absurd (omega arith)
+least-is (s ∷ signals) [] e = absurd (omega arith)
+least-is (s ∷ signals) (d ∷ delays) e = sym (fold-least d signals delays (omega arith))
+
+length-pin_delays : (netlist : netlists.Content) (timing : timings.Content) (s : ℕ) (kind : Kind) (pins : List ℕ) → length (pin_delays netlist timing s kind pins) ≡ length pins
+length-pin_delays netlist timing s kind pins = length-map-range_with_len (pin_delay netlist timing s kind) 0 (length pins)
+
+-- what is kept stands for the joined driver
+module _ (netlist : netlists.Content) (timing : timings.Content) (sets : List SetRow) (s : ℕ) where
+  abbrev kept-row : Driver → Row
+  kept-row d = row_of netlist timing s d (delays_of netlist timing s d)
+
+  kept-gate : (b : Bool) (kind : Kind) (pins : List ℕ) (settings : List Setting)
+      → driver_of (gate_row netlist timing s b kind pins (gate_delays netlist timing s b kind pins)) pins (gate_delays netlist timing s b kind pins) settings ≡ joined_gate netlist timing s b kind pins
+  kept-gate true kind pins settings = refl
+  kept-gate false kind pins settings = refl
+
+  pub kept-driver : (d : Driver) → driver_of (kept-row d) (pins_of d) (delays_of netlist timing s d) (settings_of netlist sets s) ≡ joined_driver netlist timing sets s d
+  kept-driver Primary = refl
+  kept-driver (Driven kind pins) = kept-gate (is_dff kind) kind pins (settings_of netlist sets s)
+
+  fits-gate : (b : Bool) (kind : Kind) (pins : List ℕ) (settings : List Setting) → is_dff kind ≡ b → (IsTrue (is_unary kind) → length pins ≡ 1)
+      → Fits (gate_row netlist timing s b kind pins (gate_delays netlist timing s b kind pins)) pins (gate_delays netlist timing s b kind pins) settings
+  fits-gate true kind pins settings e one = single pins (one (dff-unary kind e))
+    where
+      dff-unary : (kind : Kind) → is_dff kind ≡ true → IsTrue (is_unary kind)
+      dff-unary Dff h = refl
+      dff-unary And h = absurd (cc h)
+      dff-unary Nand h = absurd (cc h)
+      dff-unary Or h = absurd (cc h)
+      dff-unary Nor h = absurd (cc h)
+      dff-unary Xor h = absurd (cc h)
+      dff-unary Xnor h = absurd (cc h)
+      dff-unary Not h = refl
+      dff-unary Buff h = refl
+
+      single : (pins : List ℕ) → length pins ≡ 1 → pins ≡ get_or pins 0 0 ∷ []
+      single [] h = absurd (omega arith)
+      single (p ∷ []) h = refl
+      single (p ∷ q ∷ more) h = absurd (omega arith)
+  fits-gate false kind pins settings e one = (length-pin_delays netlist timing s kind pins, least-is pins (pin_delays netlist timing s kind pins) (length-pin_delays netlist timing s kind pins))
+
+  pub kept-fits : (d : Driver) (n : ℕ) → netlists.IsDriver n d → (settings : List Setting) → InTimeOrder settings → Fits (kept-row d) (pins_of d) (delays_of netlist timing s d) settings
+  kept-fits Primary n ok settings order = order
+  kept-fits (Driven kind pins) n ok settings order = fits-gate (is_dff kind) kind pins settings refl ok.one
+
+-- what rows say is in range
+module _ {A : Type 0} (P : A → Type 0) where
+  or-some : (a b : Option A) → IfSome a P → IfSome b P → IfSome (or_else a b) P
+  or-some None b h k = k
+  or-some (Some x) b h k = h
+
+  when-some : (b : Bool) (a : Option A) → IfSome a P → IfSome (when b a) P
+  when-some true a h = h
+  when-some false a h = tt
+
+  last-some : {R : Type 0} (says : R → Option A) (rows : List R) → AllByRecursion (λ r. IfSome (says r) P) rows → IfSome (last_said says rows) P
+  last-some says [] h = tt
+  last-some says (r ∷ rows) h = or-some (last_said says rows) (says r) (last-some says rows h.1) h.0
+
+  unwrap-some : (a : Option A) (d : A) → IfSome a P → P d → P (unwrap_or a d)
+  unwrap-some None d h k = k
+  unwrap-some (Some x) d h k = h
+
+  pub rows-some : (netlist : netlists.Content) (rows : List TimingRow) (s : ℕ) (says : TimingWhat → Option A) → ((w : TimingWhat) → IsWithinRange w → IfSome (says w) P)
+      → AllByRecursion (λ (r : TimingRow). IsWithinRange r.what) rows → IfSome (rows_say netlist rows s says) P
+  rows-some netlist rows s says each h = last-some (said_of netlist s says) rows (every rows h)
+    where
+      every : (rows : List TimingRow) → AllByRecursion (λ (r : TimingRow). IsWithinRange r.what) rows → AllByRecursion (λ r. IfSome (said_of netlist s says r) P) rows
+      every [] h = tt
+      every (r ∷ rows) h = (when-some (is_signal s (number netlist r.name)) (says r.what) (each r.what h.0), every rows h.1)
+
+x-not_z : X ≢ Z
+x-not_z e = cc e
+
+module _ (netlist : netlists.Content) (timing : timings.Content) (ok : IsTiming timing) where
+  ranges : AllByRecursion (λ (r : TimingRow). IsWithinRange r.what) timing.rows
+  ranges = recursion_from_All (λ (r : TimingRow). IsWithinRange r.what) timing.rows ok.rows
+
+  kinds-some : (kind : Kind) (kinds : List (Kind × ℕ)) → AllByRecursion (λ (stated : Kind × ℕ). IsDelay stated.1) kinds → IfSome (kind_delay kind kinds) IsDelay
+  kinds-some kind [] h = tt
+  kinds-some kind (stated ∷ kinds) h = elim (same_kind stated.0 kind) as (λ b. IfSome (cond b (Some stated.1) (kind_delay kind kinds)) IsDelay) [ true ↦ h.0 | false ↦ kinds-some kind kinds h.1 ]
+
+  default-range : (kind : Kind) → IsDelay (default_of timing kind)
+  default-range kind = unwrap-some IsDelay (kind_delay kind timing.kinds) (unwrap_or timing.default 1) (kinds-some kind timing.kinds (recursion_from_All (λ (stated : Kind × ℕ). IsDelay stated.1) timing.kinds ok.kinds))
+      (unwrap-some IsDelay timing.default 1 ok.default (omega arith, omega arith))
+
+  delay-in : (w : TimingWhat) → IsWithinRange w → IfSome (delay_said w) IsDelay
+  delay-in (what.Delay d) h = h
+  delay-in (what.Init v) h = tt
+  delay-in (what.Pin k d) h = tt
+  delay-in (what.Clocked c) h = tt
+
+  pin-in : (k : ℕ) (w : TimingWhat) → IsWithinRange w → IfSome (pin_said k w) IsDelay
+  pin-in k (what.Delay d) h = tt
+  pin-in k (what.Init v) h = tt
+  pin-in k (what.Pin place d) h = when-some IsDelay (nat_eq place k) (Some d) h.1
+  pin-in k (what.Clocked c) h = tt
+
+  named-in : (name : List ℕ) → IfSome (clock_named timing name) IsClock
+  named-in name = last-some IsClock (clock_of_row name) timing.clocks (every timing.clocks (recursion_from_All (λ (r : ClockRow). IsClock r.clock) timing.clocks ok.clocks))
+    where
+      every : (rows : List ClockRow) → AllByRecursion (λ (r : ClockRow). IsClock r.clock) rows → AllByRecursion (λ r. IfSome (clock_of_row name r) IsClock) rows
+      every [] h = tt
+      every (r ∷ rows) h = (elim (bytes_eq name r.name) as (λ b. IfSome (cond b (Some r.clock) None) IsClock) [ true ↦ h.0 | false ↦ tt ], every rows h.1)
+
+  clock-in : (w : TimingWhat) → IsWithinRange w → IfSome (clock_said timing w) IsClock
+  clock-in (what.Delay d) h = tt
+  clock-in (what.Init v) h = tt
+  clock-in (what.Pin k d) h = tt
+  clock-in (what.Clocked name) h = named-in name
+
+  initial-in : (w : TimingWhat) → IsWithinRange w → IfSome (initial_said w) (λ v. v ≢ Z)
+  initial-in (what.Delay d) h = tt
+  initial-in (what.Init v) h = h
+  initial-in (what.Pin k d) h = tt
+  initial-in (what.Clocked c) h = tt
+
+  -- a flip-flop never shows z
+  pub initial-range : (s : ℕ) → unwrap_or (rows_say netlist timing.rows s initial_said) X ≢ Z
+  initial-range s = unwrap-some (λ v. v ≢ Z) (rows_say netlist timing.rows s initial_said) X (rows-some (λ v. v ≢ Z) netlist timing.rows s initial_said initial-in ranges) x-not_z
+
+  pub delay-range : (s : ℕ) (kind : Kind) → IsDelay (delay_of netlist timing s kind)
+  delay-range s kind = unwrap-some IsDelay (rows_say netlist timing.rows s delay_said) (default_of timing kind) (rows-some IsDelay netlist timing.rows s delay_said delay-in ranges) (default-range kind)
+
+  pub pin-range : (s : ℕ) (kind : Kind) (k : ℕ) → IsDelay (pin_delay netlist timing s kind k)
+  pin-range s kind k = unwrap-some IsDelay (rows_say netlist timing.rows s (pin_said k)) (delay_of netlist timing s kind) (rows-some IsDelay netlist timing.rows s (pin_said k) (pin-in k) ranges) (delay-range s kind)
+
+  pub clock-range : (s : ℕ) → IfSome (or_else (rows_say netlist timing.rows s (clock_said timing)) timing.clock) IsClock
+  clock-range s = or-some IsClock (rows_say netlist timing.rows s (clock_said timing)) timing.clock (rows-some IsClock netlist timing.rows s (clock_said timing) clock-in ranges) ok.clock
+
+-- the settings of a signal differ in their times, and are not after the horizon
+module _ (netlist : netlists.Content) (s : ℕ) where
+  signal-is : (o : Option ℕ) → is_signal s o ≡ true → o ≡ Some s
+  signal-is None h = absurd (cc h)
+  signal-is (Some n) h = ap Some (eqb-true n s h)
+
+  one-name : (a b : List ℕ) → number netlist a ≡ Some s → number netlist b ≡ Some s → a ≡ b
+  one-name a b e f =
+      same_names a (get_or netlist.names s []) ((position-Some (bytes_eq a) netlist.names s [] e).1) ∙ sym (same_names b (get_or netlist.names s []) ((position-Some (bytes_eq b) netlist.names s [] f).1))
+
+  kept-all : (P : Setting → Type 0) (sets : List SetRow) → AllByRecursion (λ (r : SetRow). is_signal s (number netlist r.name) ≡ true → P (setting_of r)) sets
+      → AllByRecursion P (map setting_of (filter (λ (r : SetRow). is_signal s (number netlist r.name)) sets))
+  kept-all P [] h = tt
+  kept-all P (r ∷ sets) h = go (is_signal s (number netlist r.name)) refl (kept-all P sets h.1)
+    where
+      go : (b : Bool) → is_signal s (number netlist r.name) ≡ b → AllByRecursion P (map setting_of (filter (λ (r : SetRow). is_signal s (number netlist r.name)) sets))
+          → AllByRecursion P (map setting_of (cond b (r ∷ filter (λ (r : SetRow). is_signal s (number netlist r.name)) sets) (filter (λ (r : SetRow). is_signal s (number netlist r.name)) sets)))
+      go true e k = (h.0 e, k)
+      go false e k = k
+
+  differ-bucket : (sets : List SetRow) → AreDifferent sets → Differ (map setting_of (filter (λ (r : SetRow). is_signal s (number netlist r.name)) sets))
+  differ-bucket [] h = tt
+  differ-bucket (r ∷ sets) h = go (is_signal s (number netlist r.name)) refl (differ-bucket sets (λ i j d l m. h (suc i) (suc j) d (omega arith) (omega arith)))
+    where
+      others : number netlist r.name ≡ Some s → AllByRecursion (λ (q : SetRow). is_signal s (number netlist q.name) ≡ true → r.time ≢ q.time) sets
+      others e = recursion_from_All (λ (q : SetRow). is_signal s (number netlist q.name) ≡ true → r.time ≢ q.time) sets
+          (λ i d l k. h 0 (suc i) d (omega arith) (omega arith) (one-name r.name (get_or sets i d).name e (signal-is (number netlist (get_or sets i d).name) k)))
+
+      go : (b : Bool) → is_signal s (number netlist r.name) ≡ b → Differ (map setting_of (filter (λ (r : SetRow). is_signal s (number netlist r.name)) sets))
+          → Differ (map setting_of (cond b (r ∷ filter (λ (r : SetRow). is_signal s (number netlist r.name)) sets) (filter (λ (r : SetRow). is_signal s (number netlist r.name)) sets)))
+      go true e k = (kept-all (λ y. r.time ≢ y.time) sets (others (signal-is (number netlist r.name) e)), k)
+      go false e k = k
+
+  within-bucket : (horizon : ℕ) (sets : List SetRow) → AllByRecursion (λ r. set_fault netlist horizon r ≡ None) sets → AllByRecursion (λ y. y.time ≤ horizon) (map setting_of (filter (λ (r : SetRow). is_signal s (number netlist r.name)) sets))
+  within-bucket horizon sets h = kept-all (λ y. y.time ≤ horizon) sets (every sets h)
+    where
+      in-time : (r : SetRow) → set_fault netlist horizon r ≡ None → number netlist r.name ≡ Some s → r.time ≤ horizon
+      in-time r none e = leb-true r.time horizon (passed (is_input (driver_at netlist s)) (nat_le r.time horizon) (ap (λ o. fault_of file.Stimulus r.line (cause_of_set netlist horizon o r.time)) (sym e) ∙ none))
+        where
+          passed : (a b : Bool) → fault_of file.Stimulus r.line (unless a NotInput (unless b PastHorizon None)) ≡ None → b ≡ true
+          passed true true h = refl
+          passed true false h = absurd (cc h)
+          passed false true h = refl
+          passed false false h = absurd (cc h)
+
+      every : (sets : List SetRow) → AllByRecursion (λ r. set_fault netlist horizon r ≡ None) sets → AllByRecursion (λ (r : SetRow). is_signal s (number netlist r.name) ≡ true → (setting_of r).time ≤ horizon) sets
+      every [] h = tt
+      every (r ∷ sets) h = ((λ k. in-time r h.0 (signal-is (number netlist r.name) k)), every sets h.1)
+
+no-faults : {R : Type 0} (fault : R → Option JoinFault) (rows : List R) → first_fault fault rows ≡ None → AllByRecursion (λ r. fault r ≡ None) rows
+no-faults fault [] h = tt
+no-faults {R} fault (r ∷ rows) h = go (λ k. no-faults fault rows k) (fault r) refl h
+  where
+    go : (first_fault fault rows ≡ None → AllByRecursion (λ r. fault r ≡ None) rows) → (o : Option JoinFault) → fault r ≡ o → or_else o (first_fault fault rows) ≡ None → (fault r ≡ None) × AllByRecursion (λ r. fault r ≡ None) rows
+    go again None e k = (e, again k)
+    go again (Some f) e k = absurd (cc k)
+
+module _ (netlist : netlists.Content) (timing : timings.Content) (stimulus : stimuli.Content) (n-ok : IsNetlist netlist) (t-ok : IsTiming timing) (s-ok : IsStimulus stimulus)
+    (apart : AreDifferent stimulus.sets) (none : first_fault (set_fault netlist stimulus.horizon) stimulus.sets ≡ None) where
+  abbrev n : ℕ
+  n = length netlist.names
+
+  abbrev joined : ℕ → circuits.Driver
+  joined s = joined_driver netlist timing stimulus.sets s (driver_at netlist s)
+
+  rises : (s : ℕ) → Rises (settings_of netlist stimulus.sets s)
+  rises s = in_order-rises (map setting_of (filter (λ (r : SetRow). is_signal s (number netlist r.name)) stimulus.sets))
+
+  differs : (s : ℕ) → Differ (settings_of netlist stimulus.sets s)
+  differs s = in_order-differ (map setting_of (filter (λ (r : SetRow). is_signal s (number netlist r.name)) stimulus.sets)) (differ-bucket netlist s stimulus.sets apart)
+
+  in-order : (s : ℕ) → InTimeOrder (settings_of netlist stimulus.sets s)
+  in-order s = order-from (settings_of netlist stimulus.sets s) (rises s) (differs s)
+
+  settings-sound : (s : ℕ) → circuits.AreSettings stimulus.horizon (settings_of netlist stimulus.sets s)
+  settings-sound s = record {
+    within = All-from_recursion (λ (y : Setting). y.time ≤ stimulus.horizon) (settings_of netlist stimulus.sets s)
+        (in_order-all (λ (y : Setting). y.time ≤ stimulus.horizon) (map setting_of (filter (λ (r : SetRow). is_signal s (number netlist r.name)) stimulus.sets))
+        (within-bucket netlist s stimulus.horizon stimulus.sets (no-faults (set_fault netlist stimulus.horizon) stimulus.sets none)));
+    different = different-from (settings_of netlist stimulus.sets s) (differs s);
+  }
+
+  gate-sound : (s : ℕ) (b : Bool) (kind : Kind) (pins : List ℕ) → netlists.ArePins n kind pins → IsDriver n stimulus.horizon (joined_gate netlist timing s b kind pins)
+  gate-sound s true kind pins ok = record {
+    pin = ok.signal 0 0 (omega (arith, ok.some));
+    delay = (delay-range netlist timing t-ok s Dff).0;
+    period = if_some IsClock (λ (clock : Clock). 1 ≤ clock.period) (λ clock k. k.some) (or_else (rows_say netlist timing.rows s (clock_said timing)) timing.clock) (clock-range netlist timing t-ok s);
+    initial = initial-range netlist timing t-ok s;
+  }
+  gate-sound s false kind pins ok =
+      let delays = pin_delays netlist timing s kind pins in
+      let long = length-pin_delays netlist timing s kind pins in
+      let same = length-pins_with pins delays long in
+      record {
+        some = omega (arith, same, ok.some);
+        few = omega (arith, same, ok.few);
+        one = λ u. same ∙ ok.one u;
+        signal = λ k d l. subst (λ (p : Pin). p.signal < n) (sym (get_or-pins_with pins delays k d long (omega (arith, same, l)))) (ok.signal k 0 (omega (arith, same, l)));
+        delay = λ k d l. subst (λ (p : Pin). 1 ≤ p.delay) (sym (get_or-pins_with pins delays k d long (omega (arith, same, l))))
+            (subst (λ x. 1 ≤ x) (sym (get_or-map-range_with_len (pin_delay netlist timing s kind) 0 (length pins) k k 0 (omega (arith, same, l)) (omega arith))) (pin-range netlist timing t-ok s kind k).0);
+      }
+
+  joined-sound : (s : ℕ) (d : Driver) → netlists.IsDriver n d → IsDriver n stimulus.horizon (joined_driver netlist timing stimulus.sets s d)
+  joined-sound s Primary ok = settings-sound s
+  joined-sound s (Driven kind pins) ok = gate-sound s (is_dff kind) kind pins ok
+
+  gate-within : (s : ℕ) (b : Bool) (kind : Kind) (pins : List ℕ) → IsWithin (joined_gate netlist timing s b kind pins)
+  gate-within s true kind pins = ((delay-range netlist timing t-ok s Dff).1, clock-range netlist timing t-ok s)
+  gate-within s false kind pins =
+      let delays = pin_delays netlist timing s kind pins in
+      let long = length-pin_delays netlist timing s kind pins in
+      let same = length-pins_with pins delays long in
+      λ k d l. subst (λ (p : Pin). p.delay ≤ 1000000) (sym (get_or-pins_with pins delays k d long (omega (arith, same, l))))
+      (subst (λ x. x ≤ 1000000) (sym (get_or-map-range_with_len (pin_delay netlist timing s kind) 0 (length pins) k k 0 (omega (arith, same, l)) (omega arith))) (pin-range netlist timing t-ok s kind k).1)
+
+  joined-within : (s : ℕ) (d : Driver) → IsWithin (joined_driver netlist timing stimulus.sets s d)
+  joined-within s Primary = tt
+  joined-within s (Driven kind pins) = gate-within s (is_dff kind) kind pins
+
+  all-range : (P : circuits.Driver → Type 0) → ((s : ℕ) → s < n → P (joined s)) → All P (map joined (range_with_len 0 n))
+  all-range P h i d l =
+      let m : i < n = let e = length-map-range_with_len joined 0 n in omega (arith, e, l) in
+      subst P (sym (get_or-map-range_with_len joined 0 n i i d m (omega arith))) (h i m)
+
+  from-design : IsDesign (record { netlist = netlist; circuit = circuit_from netlist timing stimulus })
+  from-design =
+      let long = length-map-range_with_len joined 0 n in
+      record {
+        circuit = all-range (IsDriver (length (map joined (range_with_len 0 n))) stimulus.horizon)
+            (λ s l. subst (λ m. IsDriver m stimulus.horizon (joined s)) (sym long) (joined-sound s (driver_at netlist s) (row-sound netlist n-ok s l)));
+        limits = record {
+          signals = omega (arith, long, n-ok.few);
+          horizon = s-ok.horizon;
+          numbers = all-range IsWithin (λ s l. joined-within s (driver_at netlist s));
+        };
+        signals = sym long;
+      }
+
+  module _ (h : ℕ) (rows : List Row) (delays : List (List ℕ)) (settings : List (List Setting)) (hh : h ≡ stimulus.horizon)
+      (rr : rows ≡ map (λ s. row_of netlist timing s (driver_at netlist s) (delays_of netlist timing s (driver_at netlist s))) (range_with_len 0 n))
+      (dd : delays ≡ map (λ s. delays_of netlist timing s (driver_at netlist s)) (range_with_len 0 n))
+      (ss : settings ≡ map (settings_of netlist stimulus.sets) (range_with_len 0 n)) where
+    abbrev keeps : Kept
+    keeps = record { horizon = h; netlist = netlist; rows = rows; delays = delays; settings = settings }
+
+    at-row : (s : ℕ) → s < n → get_or rows s row.Input ≡ row_of netlist timing s (driver_at netlist s) (delays_of netlist timing s (driver_at netlist s))
+    at-row s l = ap (λ xs. get_or xs s row.Input) rr ∙ get_or-map-range_with_len (λ s. row_of netlist timing s (driver_at netlist s) (delays_of netlist timing s (driver_at netlist s))) 0 n s s row.Input l (omega arith)
+
+    at-delays : (s : ℕ) → s < n → get_or delays s [] ≡ delays_of netlist timing s (driver_at netlist s)
+    at-delays s l = ap (λ xs. get_or xs s []) dd ∙ get_or-map-range_with_len (λ s. delays_of netlist timing s (driver_at netlist s)) 0 n s s [] l (omega arith)
+
+    at-settings : (s : ℕ) → s < n → get_or settings s [] ≡ settings_of netlist stimulus.sets s
+    at-settings s l = ap (λ xs. get_or xs s []) ss ∙ get_or-map-range_with_len (settings_of netlist stimulus.sets) 0 n s s [] l (omega arith)
+
+    at-driver : (s : ℕ) → s < n → kept.driver_at keeps s ≡ joined s
+    at-driver s l =
+        driver-same (get_or rows s row.Input) (row_of netlist timing s (driver_at netlist s) (delays_of netlist timing s (driver_at netlist s))) (pins_of (driver_at netlist s)) (pins_of (driver_at netlist s))
+        (get_or delays s []) (delays_of netlist timing s (driver_at netlist s)) (get_or settings s []) (settings_of netlist stimulus.sets s) (at-row s l) refl (at-delays s l) (at-settings s l)
+        ∙ kept-driver netlist timing stimulus.sets s (driver_at netlist s)
+
+    drivers-are : map (kept.driver_at keeps) (range_with_len 0 n) ≡ map joined (range_with_len 0 n)
+    drivers-are = fill_by_all joined (map (kept.driver_at keeps) (range_with_len 0 n)) n (circuits.Input []) (length-map-range_with_len (kept.driver_at keeps) 0 n)
+        (λ s l. get_or-map-range_with_len (kept.driver_at keeps) 0 n s s (circuits.Input []) l (omega arith) ∙ at-driver s l)
+
+    -- what is kept is the design of the three files
+    pub joined-is : joined_of keeps ≡ record { netlist = netlist; circuit = circuit_from netlist timing stimulus }
+    joined-is = ap₂ (λ (k : ℕ) (ds : List circuits.Driver). record { netlist = netlist; circuit = record { horizon = k; drivers = ds } }) hh drivers-are
+
+    pub is-kept : IsKept keeps
+    is-kept = record {
+      design = subst IsDesign (sym joined-is) from-design;
+      shapes = n-ok.rows;
+      rows = ap length rr ∙ length-map-range_with_len (λ s. row_of netlist timing s (driver_at netlist s) (delays_of netlist timing s (driver_at netlist s))) 0 n;
+      delays = ap length dd ∙ length-map-range_with_len (λ s. delays_of netlist timing s (driver_at netlist s)) 0 n;
+      settings = ap length ss ∙ length-map-range_with_len (settings_of netlist stimulus.sets) 0 n;
+      fits = λ s l. fits-same (row_of netlist timing s (driver_at netlist s) (delays_of netlist timing s (driver_at netlist s))) (get_or rows s row.Input) (pins_of (driver_at netlist s)) (pins_of (driver_at netlist s))
+          (delays_of netlist timing s (driver_at netlist s)) (get_or delays s []) (settings_of netlist stimulus.sets s) (get_or settings s []) (sym (at-row s l)) refl (sym (at-delays s l)) (sym (at-settings s l))
+          (kept-fits netlist timing stimulus.sets s (driver_at netlist s) n (row-sound netlist n-ok s l) (settings_of netlist stimulus.sets s) (in-order s));
+    }
+
+-- the settings of all signals, put in order
+pub ordered-are : (netlist : netlists.Content) (sets : List SetRow) (buckets : List (Vec Setting)) (lists : List (List Setting)) → HasSets netlist sets buckets
+    → lists ≡ map (λ (b : Vec Setting). in_time_order b.items) buckets → lists ≡ map (settings_of netlist sets) (range_with_len 0 (length netlist.names))
+ordered-are netlist sets buckets lists has e =
+    fill_by_all (settings_of netlist sets) lists (length netlist.names) [] (ap length e ∙ length-map buckets (λ (b : Vec Setting). in_time_order b.items) ∙ has.long) (λ s l. ap (λ xs. get_or xs s []) e ∙ at buckets s ∙ ap in_time_order (has.each s l))
+  where
+    at : (buckets : List (Vec Setting)) (s : ℕ) → get_or (map (λ (b : Vec Setting). in_time_order b.items) buckets) s [] ≡ in_time_order (get_or (lists_in buckets) s [])
+    at [] s = refl
+    at (b ∷ buckets) zero = refl
+    at (b ∷ buckets) (suc s) = at buckets s

@@ -1,0 +1,13 @@
+pub mod Kept
+pub mod Ordered
+pub mod Answered
+pub mod Pinned
+pub mod Overlap
+pub mod Walked
+pub mod Listed
+pub mod Rereads
+pub mod Timed
+pub mod Joining
+pub mod Rowed
+pub mod Bucketed
+pub mod Finished

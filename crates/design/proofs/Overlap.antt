@@ -1,0 +1,138 @@
+-- The interval of a cell, from what its looked pins have in common.
+use Rattle.std.proofs.Common.{◌≡◌, ℕ, zero, suc, ◌+◌, ◌-◌, ◌<◌, ◌≤◌, min, max, Bool, true, false, cond, nat_lt, List, [], ◌∷◌, map, fold, take, length, get_or, Option, Some, None, IsSome, IsNone, refl, sym, ap, ap₂, ◌∙◌, subst, arith, add-one}
+use Rattle.std.specs.Borrow.{Bor}
+use Rattle.std.specs.List.{range_with_len, AllByRecursion}
+use Rattle.std.proofs.lemmas.List.{length-map, take_all}
+use Rattle.gate_values.specs.declared.Value.{Value}
+use Rattle.gate_values.specs.declared.Value.TheVariants.{X}
+use Rattle.gate_values.specs.declared.Kind.{Kind}
+use Rattle.gate_values.specs.declared.Kind.TheVariants.{Dff}
+use Rattle.gate_values.specs.Gates.{up_to_first, decides}
+use Rattle.gate_values.proofs.Looked.{cut_alike, map-up_to_first}
+use Rattle.valid_intervals.specs.declared.Point.{Point}
+use Rattle.valid_intervals.specs.Spans.{Span, from_to, meet, cut_at}
+use Rattle.flip_flops.specs.Edges.{shown_edge, flop_span}
+use Rattle.circuit_meaning.specs.declared.FlipFlop.{FlipFlop}
+use Rattle.circuit_meaning.specs.declared.Pin.{Pin}
+use Rattle.circuit_meaning.specs.Circuit.{Driver, Input, Gate, Flop, Circuit, driver, IsCircuit}
+use Rattle.circuit_meaning.specs.Forward.{value, seen}
+use Rattle.circuit_meaning.specs.Cells.{span, least_delay, looked, pin_span}
+use Rattle.circuit_meaning.specs.Need.{IsEvaluable, HasSources}
+use Rattle.circuit_meaning.specs.Looks.{kind_of, source, flop_sources, sources_at, sees, looked_sources, no_pin, interval_at, pin_interval, met_interval}
+use Rattle.circuit_meaning.proofs.Cover.{cell-covers}
+use Rattle.circuit_meaning.proofs.Meets.{met-all, gate-span}
+use Rattle.circuit_meaning.proofs.Looking.{cut-take}
+use Rattle.design.specs.declared.rows.Source.TheVariants as row
+use Rattle.design.specs.Sources.{IsSourceOf, pins_with}
+
+all_of : {A : Type 0} (P : A → Type 0) → ((a : A) → P a) → (xs : List A) → AllByRecursion P xs
+all_of P h [] = tt
+all_of P h (x ∷ xs) = (h x, all_of P h xs)
+
+map-map : {A B C : Type 0} (f : B → C) (g : A → B) (xs : List A) → map f (map g xs) ≡ map (λ a. f (g a)) xs
+map-map f g [] = refl
+map-map f g (x ∷ xs) = ap (λ rest. f (g x) ∷ rest) (map-map f g xs)
+
+-- the elements by their places are the list
+module _ {A B : Type 0} (f : A → B) (d : A) where
+  by-place : (xs : List A) (g : ℕ → A) (a n : ℕ) → n ≤ length xs → ((k : ℕ) → g (a + k) ≡ get_or xs k d) → map (λ k. f (g k)) (range_with_len a n) ≡ map f (take n xs)
+  by-place xs g a zero l h = refl
+  by-place [] g a (suc n) l h = absurd (omega arith)
+  by-place (x ∷ xs) g a (suc n) l h =
+      ap₂ (λ (y : B) (ys : List B). y ∷ ys) (ap f (let e : a + 0 ≡ a = omega arith in subst (λ m. g m ≡ x) e (h 0)))
+      (by-place xs g (a + 1) n (omega arith) (λ k. let e : a + suc k ≡ a + 1 + k = omega arith in subst (λ m. g m ≡ get_or xs k d) e (h (suc k))))
+
+sees-source : (c : Circuit) (t : ℕ) (p : Pin) → sees c (source t p) ≡ seen (value c) t p
+sees-source c t p = elim (nat_lt t p.delay) as (λ b. sees c (cond b None (Some (record { signal = p.signal; time = t - p.delay }))) ≡ cond b X (value c p.signal (t - p.delay))) [ true ↦ refl | false ↦ refl ]
+
+length-cut : (c : Circuit) (t : ℕ) (kind : Kind) (pins : List Pin) → length (up_to_first (λ o. decides kind (sees c o)) (map (source t) pins)) ≡ length (looked c t kind pins)
+length-cut c t kind pins =
+    ap length (sym (map-up_to_first (λ o. decides kind (sees c o)) (source t) pins)) ∙ length-map (up_to_first (λ p. decides kind (sees c (source t p))) pins) (source t)
+    ∙ ap length (sym (cut_alike (decides kind) (λ p. sees c (source t p)) (seen (value c) t) pins (all_of (λ p. sees c (source t p) ≡ seen (value c) t p) (sees-source c t) (up_to_first (λ p. decides kind (sees c (source t p))) pins))))
+
+cut-le : {A : Type 0} (test : A → Bool) (xs : List A) → length (up_to_first test xs) ≤ length xs
+cut-le test [] = omega arith
+cut-le test (x ∷ xs) = elim (test x) as (λ b. length (x ∷ cond b [] (up_to_first test xs)) ≤ length (x ∷ xs)) [ true ↦ omega arith | false ↦ let k = cut-le test xs in omega arith ]
+
+-- the meet with all times adds nothing
+whole-first : (limit : ℕ) (x : Span) → limit ≤ 2000002 → meet (from_to 0 2000002) (cut_at limit x) ≡ cut_at limit x
+whole-first limit x l = ap₂ from_to (omega arith) (omega arith)
+
+met-parts : (m limit : ℕ) (xs : List Span) → limit ≤ 2000002 → 1 ≤ length xs → meet (fold meet (from_to 0 2000002) (map (cut_at limit) xs)) (from_to m limit) ≡ fold meet (from_to m limit) xs
+met-parts m limit [] l some = absurd (omega arith)
+met-parts m limit (x ∷ xs) l some = ap (λ a. meet (fold meet a (map (cut_at limit) xs)) (from_to m limit)) (whole-first limit x l) ∙ met-all m limit x xs
+
+cut-some : {A : Type 0} (test : A → Bool) (xs : List A) → 1 ≤ length xs → 1 ≤ length (up_to_first test xs)
+cut-some test [] l = l
+cut-some test (x ∷ xs) l = omega arith
+
+module _ (c : Circuit) (ok : IsCircuit c) (s t limit : ℕ) (top : limit ≡ c.horizon + 1) (small : limit ≤ 1000001) (within : t ≤ c.horizon) (asks : IsEvaluable c s t) where
+  module _ (kind : Kind) (signals delays : Bor (List ℕ)) (m : ℕ) (src : IsSourceOf c s (row.Gate kind signals delays m)) where
+    abbrev pins : List Pin
+    pins = pins_with signals.now delays.now
+
+    passed : m ≤ t
+    passed = let k : least_delay pins ≤ t = subst (HasSources t) src.driver asks in let e = src.fits.1 in omega (arith, e, k)
+
+    pub gate-passed : m ≤ t
+    gate-passed = passed
+
+    -- the intervals of the looked pins
+    parts : map (pin_interval c s t) (range_with_len 0 (length (looked_sources c s t))) ≡ map (cut_at (c.horizon + 1)) (map (pin_span (span c) t) (looked c t kind pins))
+    parts =
+        let cut = looked c t kind pins in
+        let n = length cut in
+        let part : Pin → Span = λ p. cut_at (c.horizon + 1) (pin_span (span c) t p) in
+        ap (λ d. map (interval_at c s t d) (range_with_len 0 (length (looked_sources c s t)))) src.driver
+        ∙ ap (λ l. map (λ k. part (get_or pins k no_pin)) (range_with_len 0 l)) (ap (λ d. length (up_to_first (λ o. decides (kind_of d) (sees c o)) (sources_at t d))) src.driver ∙ length-cut c t kind pins)
+        ∙ by-place part no_pin pins (λ k. get_or pins k no_pin) 0 n (cut-le (λ p. decides kind (seen (value c) t p)) pins) (λ k. ap (λ j. get_or pins j no_pin) (omega arith))
+        ∙ ap (map part) (sym (cut-take (λ p. decides kind (seen (value c) t p)) pins n (omega arith)))
+        ∙ ap (map part) (take_all n cut (omega arith))
+        ∙ sym (map-map (cut_at (c.horizon + 1)) (pin_span (span c) t) cut)
+
+    some-part : 1 ≤ length (map (pin_span (span c) t) (looked c t kind pins))
+    some-part = rw (length-map (looked c t kind pins) (pin_span (span c) t)) (cut-some (λ p. decides kind (seen (value c) t p)) pins src.sound.some)
+
+    gate-meets : meet (met_interval c s t (length (looked_sources c s t))) (from_to m limit) ≡ span c s t
+    gate-meets =
+        let spans = map (pin_span (span c) t) (looked c t kind pins) in
+        ap₂ (λ (xs : List Span) (n : ℕ). meet (fold meet (from_to 0 2000002) xs) (from_to m n)) parts top
+        ∙ met-parts m (c.horizon + 1) spans (omega (arith, top, small)) some-part
+        ∙ ap (λ n. fold meet (from_to n (c.horizon + 1)) spans) src.fits.1
+        ∙ sym (gate-span c ok s t kind pins src.driver (let e = src.fits.1 in let l = gate-passed in omega (arith, e, l)))
+
+    module _ (a b : Span) (e : a ≡ met_interval c s t (length (looked_sources c s t))) (f : b ≡ from_to m limit) where
+      pub gate-over : meet a b ≡ span c s t
+      gate-over = ap₂ meet e f ∙ gate-meets
+
+      pub gate-overlaps : (meet a b).stop ≤ (meet a b).start → ⊥
+      gate-overlaps h =
+          let inside = (cell-covers c ok t s within).inside in
+          let low = inside.low in
+          let high = inside.high in
+          let k : (span c s t).stop ≤ (span c s t).start = subst (λ (x : Span). x.stop ≤ x.start) gate-over h in
+          omega (arith, low, high, k)
+
+  module _ (f : FlipFlop) (signals : Bor (List ℕ)) (src : IsSourceOf c s (row.Flop f signals)) where
+    flop-one : (test : Option Point → Bool) (o : Option ℕ) → IsSome o → length (up_to_first test (flop_sources f.pin o)) ≡ 1
+    flop-one test None h = absurd (cc h)
+    flop-one test (Some e) h = go (test (Some here))
+      where
+        here : Point
+        here = record { signal = f.pin; time = e }
+
+        go : (b : Bool) → length {A = Option Point} (Some here ∷ cond b [] []) ≡ 1
+        go true = refl
+        go false = refl
+
+    pub flop-over : (a : Span) → a ≡ met_interval c s t (length (looked_sources c s t)) → a ≡ span c s t
+    flop-over a e =
+        let covered = (cell-covers c ok t s within).within in
+        e ∙ ap (met_interval c s t) (ap (λ d. length (up_to_first (λ o. decides (kind_of d) (sees c o)) (sources_at t d))) src.driver
+        ∙ flop-one (λ o. decides Dff (sees c o)) (shown_edge f.clock f.delay t) (subst (HasSources t) src.driver asks))
+        ∙ ap (λ d. meet (from_to 0 2000002) (interval_at c s t d 0)) src.driver
+        ∙ ap₂ from_to (omega arith) (omega (arith, covered, top, small))
+
+pub some_unless : {A : Type 0} (o : Option A) → (IsNone o → ⊥) → IsSome o
+some_unless None h = absurd (h refl)
+some_unless (Some a) h = refl

@@ -1,0 +1,155 @@
+-- What rows say, one row after another.
+use Rattle.std.proofs.Common.{◌≡◌, ℕ, suc, ◌+◌, ◌<◌, ◌≤◌, Bool, true, false, ◌&&◌, cond, not, eqb-true, eq-eqb, List, [], ◌∷◌, ◌++◌, length, take, drop, get_or, map, filter, Option, Some, None, refl, sym, ap, ap₂, ◌∙◌, subst, arith, ◌⊎◌, inl, inr}
+use Rattle.std.specs.Prelude.{nat_eq, Result, Ok, Err, OnOk, IfErr}
+use Rattle.std.specs.Global.{Vec}
+use Rattle.std.specs.Str.{bytes_eq}
+use Rattle.std.specs.Map.{lookup}
+use Rattle.std.proofs.lemmas.List.{drop_more, drop_all, take_all, take_more}
+use Rattle.std.proofs.lemmas.Cmp.{nat_list_eq_equiv}
+use Rattle.indexmap.specs.IndexMap.{insert_entry}
+use Rattle.flip_flops.specs.declared.Clock.{Clock}
+use Rattle.design.specs.Said.{KnowsClocks, HasStated, TakesRow}
+use Rattle.bench_reader.specs.Netlists as netlists
+use Rattle.timing_file.specs.Timing as timings
+use Rattle.timing_file.specs.declared.ClockRow.{ClockRow}
+use Rattle.timing_file.specs.declared.TimingRow.{TimingRow}
+use Rattle.timing_file.specs.declared.TimingWhat.{TimingWhat}
+use Rattle.timing_file.specs.declared.TimingWhat.TheVariants as what
+use Rattle.design.specs.declared.fault.JoinFault.{JoinFault}
+use Rattle.design.specs.declared.fault.JoinCause.{JoinCause}
+use Rattle.design.specs.declared.fault.JoinFile.TheVariants as file
+use Rattle.design.specs.declared.stated.Stated.{Stated}
+use Rattle.design.specs.Causes.{out_of_memory}
+use Rattle.design.specs.Join.{number, or_else, last_said, when, is_signal, said_of, rows_say, first_fault, clock_of_row, cause_of_what, cause_of_timing, driver_at, fault_of, timing_fault}
+
+or_else-none : {A : Type 0} (a : Option A) → or_else a None ≡ a
+or_else-none None = refl
+or_else-none (Some x) = refl
+
+or_else-again : {A : Type 0} (a b c : Option A) → or_else (or_else a b) c ≡ or_else a (or_else b c)
+or_else-again None b c = refl
+or_else-again (Some x) b c = refl
+
+-- one row more at the end says the last word
+pub last_said-push : {R A : Type 0} (says : R → Option A) (rows : List R) (row : R) → last_said says (rows ++ row ∷ []) ≡ or_else (says row) (last_said says rows)
+last_said-push says [] row = sym (or_else-none (says row))
+last_said-push says (r ∷ rows) row = ap (λ o. or_else o (says r)) (last_said-push says rows row) ∙ or_else-again (says row) (last_said says rows) (says r)
+
+unsaid : {A : Type 0} (b : Bool) (x : Option A) → or_else (when b None) x ≡ x
+unsaid true x = refl
+unsaid false x = refl
+
+said : {A : Type 0} (b : Bool) (v : A) (x : Option A) → cond b (Some v) x ≡ or_else (when b (Some v)) x
+said true v x = refl
+said false v x = refl
+
+said-twice : {A : Type 0} (b c : Bool) (v : A) (x : Option A) → cond (b && c) (Some v) x ≡ or_else (when b (when c (Some v))) x
+said-twice true true v x = refl
+said-twice true false v x = refl
+said-twice false c v x = refl
+
+module _ (netlist : netlists.Content) (before : List TimingRow) (row : TimingRow) (n : ℕ) (is-number : number netlist row.name ≡ Some n) (w : TimingWhat) (is : row.what ≡ w) where
+  more : {A : Type 0} (s : ℕ) (says : TimingWhat → Option A) → rows_say netlist (before ++ row ∷ []) s says ≡ or_else (when (nat_eq n s) (says w)) (rows_say netlist before s says)
+  more s says = last_said-push (said_of netlist s says) before row
+      ∙ ap₂ (λ (o : Option ℕ) (v : TimingWhat). or_else (when (is_signal s o) (says v)) (rows_say netlist before s says)) is-number is
+
+  -- the row says nothing of this
+  pub say-same : {A : Type 0} (s : ℕ) (says : TimingWhat → Option A) → says w ≡ None → (x : Option A) → x ≡ rows_say netlist before s says → x ≡ rows_say netlist (before ++ row ∷ []) s says
+  say-same s says none x e = e ∙ sym (more s says ∙ ap (λ o. or_else (when (nat_eq n s) o) (rows_say netlist before s says)) none ∙ unsaid (nat_eq n s) (rows_say netlist before s says))
+
+  -- the row says this
+  pub say-more : {A : Type 0} (s : ℕ) (says : TimingWhat → Option A) (v : A) → says w ≡ Some v → (x y : Option A) → y ≡ cond (nat_eq n s) (Some v) x → x ≡ rows_say netlist before s says → y ≡ rows_say netlist (before ++ row ∷ []) s says
+  say-more s says v some x y put e = put ∙ ap (cond (nat_eq n s) (Some v)) e ∙ said (nat_eq n s) v (rows_say netlist before s says)
+      ∙ sym (more s says ∙ ap (λ o. or_else (when (nat_eq n s) o) (rows_say netlist before s says)) some)
+
+  pub say-pin : {A : Type 0} (s : ℕ) (says : TimingWhat → Option A) (v : A) (c : Bool) → says w ≡ when c (Some v) → (x y : Option A) → y ≡ cond (nat_eq n s && c) (Some v) x → x ≡ rows_say netlist before s says → y ≡ rows_say netlist (before ++ row ∷ []) s says
+  say-pin s says v c some x y put e = put ∙ ap (cond (nat_eq n s && c) (Some v)) e ∙ said-twice (nat_eq n s) c v (rows_say netlist before s says)
+      ∙ sym (more s says ∙ ap (λ o. or_else (when (nat_eq n s) o) (rows_say netlist before s says)) some)
+
+-- the first fault is that of the rows left
+pub fault-passed : {R : Type 0} (fault : R → Option JoinFault) (rows : List R) (i : ℕ) (d : R) → i < length rows → fault (get_or rows i d) ≡ None → first_fault fault (drop i rows) ≡ first_fault fault (drop (i + 1) rows)
+fault-passed fault rows i d l none = ap (first_fault fault) (drop_more rows i d l) ∙ ap (λ o. or_else o (first_fault fault (drop (i + 1) rows))) none
+
+pub fault-found : {R : Type 0} (fault : R → Option JoinFault) (rows : List R) (i : ℕ) (d : R) (f : JoinFault) → i < length rows → fault (get_or rows i d) ≡ Some f → first_fault fault (drop i rows) ≡ Some f
+fault-found fault rows i d f l some = ap (first_fault fault) (drop_more rows i d l) ∙ ap (λ o. or_else o (first_fault fault (drop (i + 1) rows))) some
+
+pub fault-none : {R : Type 0} (fault : R → Option JoinFault) (rows : List R) (i : ℕ) → length rows ≤ i → first_fault fault (drop i rows) ≡ None
+fault-none fault rows i l = ap (first_fault fault) (drop_all i rows l)
+
+said-clock : (b : Bool) (v : Clock) (x : Option Clock) → cond b (Some v) x ≡ or_else (cond b (Some v) None) x
+said-clock true v x = refl
+said-clock false v x = refl
+
+module _ (eq : Vec ℕ → Vec ℕ → Bool) (eq-is : (a b : Vec ℕ) → eq a b ≡ bytes_eq a.items b.items) (name : List ℕ) where
+  abbrev by-name : Vec ℕ → Bool
+  by-name key = bytes_eq name key.items
+
+  -- a key that equals another is found by the same names
+  alike : (k e : Vec ℕ) → eq k e ≡ true → by-name e ≡ by-name k
+  alike k e h =
+      let laws = nat_list_eq_equiv in
+      laws.symm name e.items ∙ sym (laws.congr k.items e.items name (sym (eq-is k e) ∙ h)) ∙ laws.symm k.items name
+
+  apart-keys : (k e : Vec ℕ) → eq k e ≡ false → by-name e ≡ true → by-name k ≡ false
+  apart-keys k e h p = go (by-name k) refl
+    where
+      go : (b : Bool) → by-name k ≡ b → by-name k ≡ false
+      go false q = q
+      go true q =
+          let laws = nat_list_eq_equiv in
+          let yes : eq k e ≡ true = eq-is k e ∙ sym (laws.congr name k.items e.items q) ∙ p in
+          absurd (let k = sym h ∙ yes in cc k)
+
+  both-found : (c d : Bool) (w v : Clock) (rest : Option Clock) → c ≡ d → cond c (Some v) rest ≡ cond d (Some v) (cond c (Some w) rest)
+  both-found true true w v rest h = refl
+  both-found true false w v rest h = absurd (cc h)
+  both-found false true w v rest h = absurd (cc h)
+  both-found false false w v rest h = refl
+
+  lookup-insert : (es : List (Vec ℕ × Clock)) (k : Vec ℕ) (v : Clock) → lookup by-name (insert_entry eq es k v) ≡ cond (by-name k) (Some v) (lookup by-name es)
+  lookup-insert [] k v = refl
+  lookup-insert (e ∷ es) k v = go (lookup-insert es k v) (eq k e.0) refl (by-name e.0) refl
+    where
+      go : lookup by-name (insert_entry eq es k v) ≡ cond (by-name k) (Some v) (lookup by-name es) → (b : Bool) → eq k e.0 ≡ b → (c : Bool) → by-name e.0 ≡ c → lookup by-name (cond b ((e.0, v) ∷ es) (e ∷ insert_entry eq es k v)) ≡ cond (by-name k) (Some v) (cond (by-name e.0) (Some e.1) (lookup by-name es))
+      go again true h c q = both-found (by-name e.0) (by-name k) e.1 v (lookup by-name es) (alike k e.0 h)
+      go again false h true p =
+          ap (λ b. cond b (Some e.1) (lookup by-name (insert_entry eq es k v))) p
+          ∙ sym (ap₂ (λ (a : Bool) (b : Bool). cond a (Some v) (cond b (Some e.1) (lookup by-name es))) (apart-keys k e.0 h p) p)
+      go again false h false p =
+          ap (λ b. cond b (Some e.1) (lookup by-name (insert_entry eq es k v))) p ∙ again
+          ∙ sym (ap (λ b. cond (by-name k) (Some v) (cond b (Some e.1) (lookup by-name es))) p)
+
+-- the clocks of one row more
+pub clock-more : (eq : Vec ℕ → Vec ℕ → Bool) → ((a b : Vec ℕ) → eq a b ≡ bytes_eq a.items b.items) → (rows : List ClockRow) (i : ℕ) (row : ClockRow) → i < length rows → row ≡ get_or rows i row
+    → (old new : List (Vec ℕ × Clock)) (k : Vec ℕ) → new ≡ insert_entry eq old k row.clock → k.items ≡ row.name → KnowsClocks (take i rows) old → KnowsClocks (take (i + 1) rows) new
+clock-more eq eq-is rows i row l at old new k put key knows name =
+    ap (lookup (λ (q : Vec ℕ). bytes_eq name q.items)) put ∙ lookup-insert eq eq-is name old k row.clock
+    ∙ ap₂ (λ (q : List ℕ) (o : Option Clock). cond (bytes_eq name q) (Some row.clock) o) key (knows name) ∙ said-clock (bytes_eq name row.name) row.clock (last_said (clock_of_row name) (take i rows))
+    ∙ sym (ap (last_said (clock_of_row name)) (take_more rows i row l ∙ ap (λ r. take i rows ++ r ∷ []) (sym at)) ∙ last_said-push (clock_of_row name) (take i rows) row)
+
+-- a timing row without a cause
+pub row-passes : (netlist : netlists.Content) (timing : timings.Content) (row : TimingRow) (s : ℕ) → number netlist row.name ≡ Some s → (o : Option JoinCause) → o ≡ cause_of_what timing (driver_at netlist s) row.what → o ≡ None
+    → timing_fault netlist timing row ≡ None
+row-passes netlist timing row s n o e none = ap (λ (m : Option ℕ). fault_of file.Timing row.line (cause_of_timing netlist timing m row.what)) n ∙ ap (fault_of file.Timing row.line) (sym e ∙ none)
+
+pub takes-row : (netlist : netlists.Content) (timing : timings.Content) (before : List TimingRow) (row : TimingRow) (stated : Stated) (r : Result (Unit {0}) JoinFault)
+    → timing_fault netlist timing row ≡ None → OnOk r (HasStated netlist timing (before ++ row ∷ []) stated) → IfErr r (λ fault. fault ≡ out_of_memory) → TakesRow netlist timing before row stated r
+takes-row netlist timing before row stated (Ok x) none has oom = (none, has)
+takes-row netlist timing before row stated (Err fault) none has oom = inl oom
+
+pub on-ok : {T E : Type 0} (P Q : Type 0) → (P → Q) → (r : Result T E) → OnOk r P → OnOk r Q
+on-ok P Q f (Ok x) h = f h
+on-ok P Q f (Err e) h = tt
+
+-- the first row at fault, or none so far
+pub refused-at : {R : Type 0} (fault : R → Option JoinFault) (rows : List R) (i : ℕ) (row : R) (f : JoinFault) → i < length rows → row ≡ get_or rows i row → first_fault fault rows ≡ first_fault fault (drop i rows)
+    → (f ≡ out_of_memory) ⊎ (fault row ≡ Some f) → (f ≡ out_of_memory) ⊎ (first_fault fault rows ≡ Some f)
+refused-at fault rows i row f l at e (inl h) = inl h
+refused-at fault rows i row f l at e (inr h) = inr (e ∙ fault-found fault rows i row f l (ap fault (sym at) ∙ h))
+
+pub passed-at : {R : Type 0} (fault : R → Option JoinFault) (rows : List R) (i : ℕ) (row : R) → i < length rows → row ≡ get_or rows i row → first_fault fault rows ≡ first_fault fault (drop i rows)
+    → fault row ≡ None → first_fault fault rows ≡ first_fault fault (drop (i + 1) rows)
+passed-at fault rows i row l at e none = e ∙ fault-passed fault rows i row l (ap fault (sym at) ∙ none)
+
+pub taken-at : {R : Type 0} (rows : List R) (i : ℕ) (row : R) → i < length rows → row ≡ get_or rows i row → take i rows ++ row ∷ [] ≡ take (i + 1) rows
+taken-at rows i row l at = sym (take_more rows i row l ∙ ap (λ r. take i rows ++ r ∷ []) (sym at))

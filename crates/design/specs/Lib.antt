@@ -1,0 +1,9 @@
+pub mod Joined
+pub mod Sources
+pub mod Pins
+pub mod Lists
+pub mod Given
+pub mod Walk
+pub mod Causes
+pub mod Join
+pub mod Said

@@ -1,0 +1,65 @@
+//! Fan-in cones, by a walk back through the pins.
+
+ghost use Rattle.std.specs.Prelude.{◌≡◌, ◌<◌, ◌↔◌, ◌∷◌, [], length, All, IsTrue, OnOk, IfOk};
+ghost use Rattle.circuit_meaning.specs.Need.{IsInCone};
+ghost use Rattle.design.specs.Walk.{Marks};
+
+use crate::design::Design;
+use backsim_io::OutOfMemory;
+use std::alloc::{AllocError, Global};
+
+/// A walk: for each signal whether it is marked, and the marked signals that still lie ahead.
+#[derive(Drop)]
+struct Walk {
+    marks: Vec<bool>,
+    ahead: Vec<u32>,
+}
+
+impl Walk {
+    /// Marks a signal; if it was not marked, it comes ahead.
+    fn mark(&mut self, signal: u32) -> Result<(), AllocError>
+        requires { signal < length self.old.marks.items }
+        ensures { OnOk result (Marks (signal ∷ []) self.old.marks.items self.new.marks.items self.old.ahead.items self.new.ahead.items) }
+    {
+        if !self.marks[signal as usize] {
+            self.marks[signal as usize] = true;
+            self.ahead.push(signal)?;
+        }
+        Ok(())
+    }
+
+    /// Marks these signals; those that were not marked come ahead.
+    fn mark_all(&mut self, signals: &[u32]) -> Result<(), AllocError>
+        requires { All (λ x. x < length self.old.marks.items) signals.now }
+        ensures { OnOk result (Marks signals.now self.old.marks.items self.new.marks.items self.old.ahead.items self.new.ahead.items) }
+    {
+        for signal in signals {
+            self.mark(*signal)?;
+        }
+        Ok(())
+    }
+}
+
+impl Design {
+    /// Whether `signal` is reached from `root` back through pins; a signal is reached from itself.
+    ///
+    /// It takes a flag for each signal, and at most the time to look at each pin once.
+    pub fn in_cone(&self, alloc: Global, root: u32, signal: u32) -> Result<bool, OutOfMemory>
+        requires root { root < length self.now.circuit.drivers }
+        requires signal { signal < length self.now.circuit.drivers }
+        ensures { IfOk result (λ inside. IsTrue inside ↔ IsInCone self.now.circuit root signal) }
+    {
+        let mut walk = Walk {
+            marks: vec![in alloc; false; self.signals() as usize]?,
+            ahead: Vec::new(alloc),
+        };
+        walk.mark(root)?;
+        while !walk.marks[signal as usize] {
+            match walk.ahead.pop() {
+                None => return Ok(false),
+                Some(next) => walk.mark_all(self.reads(next))?,
+            }
+        }
+        Ok(true)
+    }
+}

@@ -1,0 +1,228 @@
+//! A design and what it says of its points.
+
+ghost use Rattle.std.specs.Prelude.{◌≡◌, ◌+◌, ◌<◌, ◌≤◌, length, All, slice_get, Some, IfSome, OnSome, IfNone, option_map};
+ghost use Rattle.circuit_meaning.specs.Circuit.{driver, read_by};
+ghost use Rattle.circuit_meaning.specs.Cells.{span};
+ghost use Rattle.circuit_meaning.specs.Need.{IsEvaluable};
+ghost use Rattle.circuit_meaning.specs.Looks.{kind_of, pin_sources, looked_sources, pin_interval, met_interval};
+ghost use Rattle.design.specs.Join.{Answers, AreDifferent, design_of};
+ghost use Rattle.design.specs.Joined.{IsDesign};
+ghost use Rattle.design.specs.Pins.{cell_of, pin_at, heard_of};
+ghost use Rattle.design.specs.Sources.{IsSourceOf};
+
+use crate::cells::{early_gate, flop_span, idle_flop, input_cell, later_span, shown_edge, span_of};
+use crate::fault::JoinFault;
+use crate::lists::Lists;
+use crate::rows::{Row, Source, signals_of};
+use crate::settings;
+use crate::stated::{Rows, Stated};
+use bench_reader::Netlist;
+use circuit_meaning::Setting;
+use gate_values::Kind;
+use std::alloc::Global;
+use std::marker::Model;
+use stimulus_file::Stimulus;
+use timing_file::Timing;
+use valid_intervals::{Cell, Span};
+
+/// A netlist joined with delays, clocks and settings.
+#[derive(Drop)]
+pub struct Design {
+    netlist: Netlist,
+    horizon: u32,
+    rows: Vec<Row>,
+    delays: Lists<u32>,
+    settings: Lists<Setting>,
+}
+
+impl Model for Design {
+    ghost use Rattle.design.specs.Joined.{Joined};
+
+    ghost Value = { Joined };
+
+    ghost use Rattle.design.specs.Sources.{joined_of, IsKept};
+
+    ghost view = { λ d. joined_of (record { horizon = d.horizon; netlist = d.netlist; rows = d.rows.items; delays = d.delays; settings = d.settings }) };
+
+    ghost invariant = { λ d. IsKept (record { horizon = d.horizon; netlist = d.netlist; rows = d.rows.items; delays = d.delays; settings = d.settings }) };
+}
+
+impl Design {
+    /// The design that a netlist makes with the rows of a timing file and of a stimulus file, or the first row at fault.
+    /// The rows of the timing file come before those of the stimulus file.
+    pub fn join(
+        alloc: Global,
+        netlist: Netlist,
+        timing: &Timing,
+        stimulus: &Stimulus,
+    ) -> Result<Design, JoinFault>
+        requires different { AreDifferent stimulus.now.sets }
+        ensures { Answers result (design_of netlist timing.now stimulus.now) }
+    {
+        netlist.facts();
+        timing.facts();
+        stimulus.facts();
+        let stated = Stated::read(alloc, &netlist, timing)?;
+        let settings = settings::read(alloc, &netlist, stimulus.horizon(), stimulus.sets())?;
+        let settings = settings::in_order(alloc, settings)?;
+        let Rows { rows, delays } = stated.rows(alloc, &netlist, timing)?;
+        Ok(Design {
+            netlist,
+            horizon: stimulus.horizon(),
+            rows,
+            delays,
+            settings,
+        })
+    }
+
+    /// What holds of every design.
+    pub fn facts(&self)
+        ensures { IsDesign self.now }
+    {
+        let _horizon = self.horizon;
+    }
+
+    /// The netlist, with the names of the signals.
+    pub fn netlist(&self) -> &Netlist
+        ensures { result.now ≡ self.now.netlist }
+    {
+        &self.netlist
+    }
+
+    /// The last time.
+    pub fn horizon(&self) -> u32
+        ensures horizon { result ≡ self.now.circuit.horizon }
+        ensures limit { result ≤ 1000000 }
+    {
+        self.horizon
+    }
+
+    /// The first time after the last.
+    fn limit(&self) -> u32
+        ensures limit { result ≡ self.now.circuit.horizon + 1 }
+        ensures small { result ≤ 1000001 }
+    {
+        self.horizon + 1
+    }
+
+    /// What is kept of a signal.
+    fn source(&self, signal: u32) -> Source<'_>
+        requires { signal < length self.now.circuit.drivers }
+        ensures source { IsSourceOf self.now.circuit signal result }
+        ensures design { IsDesign self.now }
+    {
+        match self.rows[signal as usize] {
+            Row::Input => Source::Input(self.settings.list(signal)),
+            Row::Gate { kind, least } => Source::Gate {
+                kind,
+                signals: signals_of(&self.netlist, signal),
+                delays: self.delays.list(signal),
+                least,
+            },
+            Row::Flop(flop) => Source::Flop {
+                flop,
+                signals: signals_of(&self.netlist, signal),
+            },
+        }
+    }
+
+    /// How many signals there are.
+    pub(crate) fn signals(&self) -> u32
+        ensures { result ≡ length self.now.circuit.drivers }
+    {
+        self.rows.len() as u32
+    }
+
+    /// The signals that a signal reads.
+    pub(crate) fn reads(&self, signal: u32) -> &[u32]
+        requires { signal < length self.now.circuit.drivers }
+        ensures reads { result.now ≡ read_by (driver self.now.circuit signal) }
+        ensures signals { All (λ read. read < length self.now.circuit.drivers) result.now }
+    {
+        match self.source(signal) {
+            Source::Input(_) => &[],
+            Source::Gate { signals, .. } => signals,
+            Source::Flop { signals, .. } => signals,
+        }
+    }
+
+    /// The cell at a point, where it needs no evaluation.
+    pub fn base(&self, signal: u32, time: u32) -> Option<Cell>
+        requires signal { signal < length self.now.circuit.drivers }
+        requires time { time ≤ self.now.circuit.horizon }
+        ensures cell { IfSome result (λ cell. cell ≡ cell_of self.now.circuit signal time) }
+        ensures some { OnSome result (IsEvaluable self.now.circuit signal time → ⊥) }
+        ensures none { IfNone result (IsEvaluable self.now.circuit signal time) }
+    {
+        let limit = self.limit();
+        match self.source(signal) {
+            Source::Input(settings) => Some(input_cell(settings, time, limit)),
+            Source::Gate { least, .. } => early_gate(least, time, limit),
+            Source::Flop { flop, .. } => idle_flop(&flop, time, limit),
+        }
+    }
+
+    /// The kind and the pins of a gate; a flip-flop has the kind DFF and one pin.
+    pub fn gate_of(&self, signal: u32) -> (Kind, &[u32])
+        requires signal { signal < length self.now.circuit.drivers }
+        requires driven { 1 ≤ length (read_by (driver self.now.circuit signal)) }
+        ensures kind { result.0 ≡ kind_of (driver self.now.circuit signal) }
+        ensures pins { result.1.now ≡ read_by (driver self.now.circuit signal) }
+    {
+        match self.source(signal) {
+            Source::Input(_) => unreachable!(),
+            Source::Gate { kind, signals, .. } => (kind, signals),
+            Source::Flop { signals, .. } => (Kind::Dff, signals),
+        }
+    }
+
+    /// The time at which a point looks at one of its pins; None where that is before time 0.
+    pub fn child_time(&self, signal: u32, time: u32, pin: u32) -> Option<u32>
+        requires signal { signal < length self.now.circuit.drivers }
+        requires time { time ≤ self.now.circuit.horizon }
+        requires evaluable { IsEvaluable self.now.circuit signal time }
+        requires pin { pin < length (read_by (driver self.now.circuit signal)) }
+        ensures source { slice_get (pin_sources self.now.circuit signal time) pin ≡ Some (option_map (pin_at self.now.circuit signal pin) result) }
+        ensures earlier { IfSome result (λ child. child < time) }
+    {
+        match self.source(signal) {
+            Source::Input(_) => unreachable!(),
+            Source::Gate { delays, .. } => time.checked_sub(delays[pin as usize]),
+            Source::Flop { flop, .. } => shown_edge(&flop, time),
+        }
+    }
+
+    /// The times about `time` at which a pin of a point sees what it sees there, from the interval of the pin's cell at the
+    /// child time, where there is one.
+    pub fn pin_span(&self, signal: u32, time: u32, pin: u32, heard: Option<Span>) -> Span
+        requires signal { signal < length self.now.circuit.drivers }
+        requires time { time ≤ self.now.circuit.horizon }
+        requires evaluable { IsEvaluable self.now.circuit signal time }
+        requires pin { pin < length (read_by (driver self.now.circuit signal)) }
+        requires heard { heard ≡ heard_of self.now.circuit signal time pin }
+        ensures { result ≡ pin_interval self.now.circuit signal time pin }
+    {
+        let limit = self.limit();
+        match self.source(signal) {
+            Source::Input(_) => unreachable!(),
+            Source::Gate { delays, .. } => later_span(delays[pin as usize], heard, time, limit),
+            Source::Flop { flop, .. } => flop_span(&flop, shown_edge(&flop, time), time, limit),
+        }
+    }
+
+    /// The interval of the cell at a point, from what its looked pins have in common.
+    pub fn span_over(&self, signal: u32, time: u32, looked: Span) -> Span
+        requires signal { signal < length self.now.circuit.drivers }
+        requires time { time ≤ self.now.circuit.horizon }
+        requires evaluable { IsEvaluable self.now.circuit signal time }
+        requires looked { looked ≡ met_interval self.now.circuit signal time (length (looked_sources self.now.circuit signal time)) }
+        ensures { result ≡ span self.now.circuit signal time }
+    {
+        let limit = self.limit();
+        match self.source(signal) {
+            Source::Input(_) => unreachable!(),
+            Source::Gate { least, .. } => looked.meet(span_of(least, limit)).unwrap(),
+            Source::Flop { .. } => looked,
+        }
+    }
+}

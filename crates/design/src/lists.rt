@@ -1,0 +1,66 @@
+//! Many short lists in one array.
+
+ghost use Rattle.std.specs.Prelude.{◌≡◌, ◌<◌, ◌++◌, [], ◌∷◌, length, slice_get, Some, OnOk};
+
+use std::alloc::{AllocError, Global};
+use std::marker::Model;
+
+/// Where a list stands.
+#[derive(Clone, Copy)]
+pub struct Range {
+    pub start: usize,
+    pub length: usize,
+}
+
+/// A list of lists, one behind another in one array.
+#[derive(Drop)]
+pub struct Lists<T: Copy> {
+    ranges: Vec<Range>,
+    items: Vec<T>,
+}
+
+impl<T: Copy> Model for Lists<T> {
+    ghost use Rattle.std.specs.Prelude.{List};
+    ghost use Rattle.design.specs.Lists.{pieces, ArePieces};
+
+    ghost Value = { List (List T) };
+
+    ghost view = { λ l. pieces l.ranges.items l.items.items };
+
+    ghost invariant = { λ l. ArePieces l.ranges.items l.items.items };
+}
+
+impl<T: Copy> Lists<T> {
+    /// The list at a place.
+    pub fn list(&self, place: u32) -> &[T]
+        requires { place < length self.now }
+        ensures { slice_get self.now place ≡ Some result.now }
+    {
+        let range = self.ranges[place as usize];
+        &self.items[range.start..range.start + range.length]
+    }
+
+    pub fn new(alloc: Global) -> Lists<T>
+        ensures { result ≡ [] }
+    {
+        Lists {
+            ranges: Vec::new(alloc),
+            items: Vec::new(alloc),
+        }
+    }
+
+    /// Adds a list behind the others.
+    pub fn push(&mut self, list: &[T]) -> Result<(), AllocError>
+        ensures { OnOk result (self.new ≡ self.old ++ list.now ∷ []) }
+    {
+        let range = Range {
+            start: self.items.len(),
+            length: list.len(),
+        };
+        for item in list {
+            self.items.push(*item)?;
+        }
+        self.ranges.push(range)?;
+        Ok(())
+    }
+}

@@ -1,0 +1,46 @@
+//! What is kept of a signal.
+
+ghost use Rattle.std.specs.Prelude.{◌≡◌, ◌<◌, length, get_or};
+ghost use Rattle.bench_reader.specs.Netlists as netlists;
+ghost use Rattle.bench_reader.specs.Netlists.{pins_of};
+
+use bench_reader::{Netlist, Row as NetlistRow};
+use circuit_meaning::{FlipFlop, Setting};
+use gate_values::Kind;
+
+/// What a signal is. The signals that it reads stand in the netlist, delays and settings in lists of their own.
+#[derive(Clone, Copy)]
+pub enum Row {
+    Input,
+    /// A gate and the least delay of its pins.
+    Gate { kind: Kind, least: u32 },
+    Flop(FlipFlop),
+}
+
+/// All that is kept of a signal.
+#[derive(Clone, Copy)]
+pub enum Source<'a> {
+    /// Its settings in the order of time.
+    Input(&'a [Setting]),
+    Gate {
+        kind: Kind,
+        signals: &'a [u32],
+        delays: &'a [u32],
+        least: u32,
+    },
+    Flop {
+        flop: FlipFlop,
+        signals: &'a [u32],
+    },
+}
+
+/// The signals that a signal reads.
+pub fn signals_of(netlist: &Netlist, signal: u32) -> &[u32]
+    requires { signal < length netlist.now.names }
+    ensures { result.now ≡ pins_of (get_or netlist.now.rows signal netlists.Primary) }
+{
+    match netlist.row(signal) {
+        NetlistRow::Input => &[],
+        NetlistRow::Gate { pins, .. } => pins,
+    }
+}

@@ -1,0 +1,370 @@
+//! What the rows of a timing file say, by signal.
+
+ghost use Rattle.std.specs.Prelude.{◌≡◌, ◌++◌, ◌∷◌, [], ◌<◌, List, Some, IfOk, IfErr, OnOk, length, map};
+ghost use Rattle.std.specs.List.{range_with_len};
+ghost use Rattle.bench_reader.specs.Netlists as netlists;
+ghost use Rattle.bench_reader.specs.Kept.{driver_of_row};
+ghost use Rattle.timing_file.specs.Timing as timings;
+ghost use Rattle.timing_file.specs.declared.TimingRow.{TimingRow as RowOf};
+ghost use Rattle.design.specs.declared.fault.JoinFile.TheVariants as file;
+ghost use Rattle.design.specs.Causes.{out_of_memory};
+ghost use Rattle.design.specs.Join as join;
+ghost use Rattle.design.specs.Join.{number, cause_of_what, clock_named, flop_of};
+ghost use Rattle.design.specs.Said as said;
+ghost use Rattle.design.specs.Said.{KnowsClocks, HasStated, TakesRow, TakesRows, KeepsRows, delays_of, row_of};
+
+use crate::fault::{JoinCause, JoinFault, JoinFile};
+use crate::lists::Lists;
+use crate::rows::Row;
+use bench_reader::{Netlist, Row as NetlistRow};
+use circuit_meaning::FlipFlop;
+use flip_flops::Clock;
+use gate_values::{Kind, Value};
+use indexmap::IndexMap;
+use std::alloc::{AllocError, Global};
+use std::collections::HashMap;
+use timing_file::{ClockRow, Timing, TimingRow, TimingWhat};
+
+/// What is said of signals, or of pins of signals by their places.
+#[derive(Drop)]
+pub struct Stated {
+    pub delays: HashMap<u32, u32>,
+    pub pins: HashMap<(u32, u32), u32>,
+    pub initials: HashMap<u32, Value>,
+    pub clocks: HashMap<u32, Clock>,
+}
+
+/// The clocks with names.
+#[derive(Drop)]
+pub struct NamedClocks {
+    pub clocks: IndexMap<Vec<u8>, Clock>,
+}
+
+impl NamedClocks {
+    fn read(alloc: Global, rows: &[ClockRow]) -> Result<NamedClocks, JoinFault>
+        ensures ok { IfOk result (λ named. KnowsClocks rows.now named.clocks.entries) }
+        ensures err { IfErr result (λ fault. fault ≡ out_of_memory) }
+    {
+        let mut clocks = IndexMap::new(alloc);
+        for row in rows {
+            clocks.insert(row.name.bytes().to_vec(alloc)?, row.clock)?;
+        }
+        Ok(NamedClocks { clocks })
+    }
+
+    fn named(&self, name: &[u8]) -> Option<Clock>
+        ensures { (timing : timings.Content) → KnowsClocks timing.clocks self.now.clocks.entries → result ≡ clock_named timing name.now }
+    {
+        self.clocks.get(name).copied()
+    }
+}
+
+fn refused(cause: JoinCause, row: &TimingRow) -> JoinFault
+    ensures { result ≡ record { cause = cause; file = file.Timing; line = row.now.line } }
+{
+    JoinFault {
+        cause,
+        file: JoinFile::Timing,
+        line: row.line,
+    }
+}
+
+/// What drives a signal.
+fn row_at(netlist: &Netlist, signal: u32) -> NetlistRow<'_>
+    requires { signal < length netlist.now.names }
+    ensures driver { driver_of_row result ≡ join.driver_at netlist.now signal }
+    ensures sound { netlists.IsDriver (length netlist.now.names) (driver_of_row result) }
+{
+    netlist.facts();
+    netlist.row(signal)
+}
+
+/// Whether a signal is an input.
+pub fn is_input(netlist: &Netlist, signal: u32) -> bool
+    requires { signal < length netlist.now.names }
+    ensures { result ≡ join.is_input (join.driver_at netlist.now signal) }
+{
+    match row_at(netlist, signal) {
+        NetlistRow::Input => true,
+        NetlistRow::Gate { .. } => false,
+    }
+}
+
+/// Whether a signal is a flip-flop.
+fn is_flop(netlist: &Netlist, signal: u32) -> bool
+    requires { signal < length netlist.now.names }
+    ensures { result ≡ join.is_flop (join.driver_at netlist.now signal) }
+{
+    match row_at(netlist, signal) {
+        NetlistRow::Input => false,
+        NetlistRow::Gate { kind, .. } => is_dff(kind),
+    }
+}
+
+fn is_dff(kind: Kind) -> bool
+    ensures { result ≡ join.is_dff kind }
+{
+    matches!(kind, Kind::Dff)
+}
+
+/// Whether a signal is a gate with this pin.
+fn has_pin(netlist: &Netlist, signal: u32, place: u32) -> bool
+    requires { signal < length netlist.now.names }
+    ensures { result ≡ join.has_pin (join.driver_at netlist.now signal) place }
+{
+    match row_at(netlist, signal) {
+        NetlistRow::Input => false,
+        NetlistRow::Gate { kind, pins } => !is_dff(kind) && (place as usize) < pins.len(),
+    }
+}
+
+/// The cause of a row that says this of a signal, if it is at fault.
+fn cause_of(
+    netlist: &Netlist,
+    clocks: &NamedClocks,
+    signal: u32,
+    what: &TimingWhat,
+) -> Option<JoinCause>
+    requires { signal < length netlist.now.names }
+    ensures { (timing : timings.Content) → KnowsClocks timing.clocks clocks.now.clocks.entries → result ≡ cause_of_what timing (join.driver_at netlist.now signal) what.now }
+{
+    match what {
+        TimingWhat::Delay(_) => {
+            if is_input(netlist, signal) {
+                Some(JoinCause::NotGate)
+            } else {
+                None
+            }
+        }
+        TimingWhat::Init(_) => {
+            if is_flop(netlist, signal) {
+                None
+            } else {
+                Some(JoinCause::NotFlop)
+            }
+        }
+        TimingWhat::Pin(place, _) => {
+            if has_pin(netlist, signal, *place) {
+                None
+            } else {
+                Some(JoinCause::NotPin)
+            }
+        }
+        TimingWhat::Clocked(clock) => {
+            if !is_flop(netlist, signal) {
+                Some(JoinCause::NotFlop)
+            } else if clocks.named(clock.bytes()).is_none() {
+                Some(JoinCause::NoClock)
+            } else {
+                None
+            }
+        }
+    }
+}
+
+impl Stated {
+    fn new(alloc: Global) -> Stated
+        ensures { (netlist : netlists.Content) (timing : timings.Content) → HasStated netlist timing [] result }
+    {
+        Stated {
+            delays: HashMap::new(alloc),
+            pins: HashMap::new(alloc),
+            initials: HashMap::new(alloc),
+            clocks: HashMap::new(alloc),
+        }
+    }
+
+    /// Keeps what a row says of a signal.
+    fn keep(
+        &mut self,
+        clocks: &NamedClocks,
+        signal: u32,
+        what: &TimingWhat,
+    ) -> Result<(), JoinFault>
+        ensures ok { OnOk result ((netlist : netlists.Content) (timing : timings.Content) (before : List RowOf) (row : RowOf)
+            → KnowsClocks timing.clocks clocks.now.clocks.entries → number netlist row.name ≡ Some signal → row.what ≡ what.now
+            → HasStated netlist timing before self.old → HasStated netlist timing (before ++ row ∷ []) self.new) }
+        ensures err { IfErr result (λ fault. fault ≡ out_of_memory) }
+    {
+        match what {
+            TimingWhat::Delay(delay) => {
+                self.delays.insert(signal, *delay)?;
+            }
+            TimingWhat::Init(value) => {
+                self.initials.insert(signal, *value)?;
+            }
+            TimingWhat::Pin(place, delay) => {
+                self.pins.insert((signal, *place), *delay)?;
+            }
+            TimingWhat::Clocked(name) => {
+                if let Some(clock) = clocks.named(name.bytes()) {
+                    self.clocks.insert(signal, clock)?;
+                }
+            }
+        }
+        Ok(())
+    }
+
+    /// Reads one row.
+    fn take(
+        &mut self,
+        netlist: &Netlist,
+        clocks: &NamedClocks,
+        row: &TimingRow,
+    ) -> Result<(), JoinFault>
+        ensures { (timing : timings.Content) (before : List RowOf) → KnowsClocks timing.clocks clocks.now.clocks.entries
+            → HasStated netlist.now timing before self.old → TakesRow netlist.now timing before row.now self.new result }
+    {
+        let signal = match netlist.id_of(row.name.bytes()) {
+            None => return Err(refused(JoinCause::UnknownName, row)),
+            Some(signal) => signal,
+        };
+        if let Some(cause) = cause_of(netlist, clocks, signal, &row.what) {
+            return Err(refused(cause, row));
+        }
+        self.keep(clocks, signal, &row.what)
+    }
+
+    /// Reads all rows of a timing file.
+    pub fn read(alloc: Global, netlist: &Netlist, timing: &Timing) -> Result<Stated, JoinFault>
+        ensures { TakesRows netlist.now timing.now result }
+    {
+        let clocks = NamedClocks::read(alloc, timing.clocks())?;
+        let mut stated = Stated::new(alloc);
+        let rows = timing.rows();
+        for row in rows {
+            stated.take(netlist, &clocks, row)?;
+        }
+        Ok(stated)
+    }
+
+    /// The delay of a gate or flip-flop.
+    fn delay_of(&self, timing: &Timing, signal: u32, kind: Kind) -> u32
+        ensures { (netlist : netlists.Content) → HasStated netlist timing.now timing.now.rows self.now → result ≡ join.delay_of netlist timing.now signal kind }
+    {
+        self.delays
+            .get(&signal)
+            .copied()
+            .unwrap_or(timing.default_of(kind))
+    }
+
+    /// The delay of a pin.
+    fn pin_delay(&self, timing: &Timing, signal: u32, kind: Kind, place: u32) -> u32
+        ensures { (netlist : netlists.Content) → HasStated netlist timing.now timing.now.rows self.now → result ≡ join.pin_delay netlist timing.now signal kind place }
+    {
+        self.pins
+            .get(&(signal, place))
+            .copied()
+            .unwrap_or(self.delay_of(timing, signal, kind))
+    }
+
+    fn flop_of(&self, timing: &Timing, signal: u32, pins: &[u32]) -> FlipFlop
+        requires { length pins.now ≡ 1 }
+        ensures { (netlist : netlists.Content) → HasStated netlist timing.now timing.now.rows self.now → result ≡ flop_of netlist timing.now signal pins.now }
+    {
+        FlipFlop {
+            pin: pins[0],
+            delay: self.delay_of(timing, signal, Kind::Dff),
+            clock: self.clocks.get(&signal).copied().or(timing.clock()),
+            initial: self.initials.get(&signal).copied().unwrap_or(Value::X),
+        }
+    }
+
+    /// The delays of the first pins of a gate.
+    fn pin_delays(
+        &self,
+        alloc: Global,
+        timing: &Timing,
+        signal: u32,
+        kind: Kind,
+        count: u32,
+    ) -> Result<Vec<u32>, AllocError>
+        ensures { IfOk result (λ delays. (netlist : netlists.Content) → HasStated netlist timing.now timing.now.rows self.now
+            → delays.items ≡ map (join.pin_delay netlist timing.now signal kind) (range_with_len 0 count)) }
+    {
+        let mut delays = Vec::with_capacity(alloc, count as usize)?;
+        for place in 0..count {
+            delays.push(self.pin_delay(timing, signal, kind, place))?;
+        }
+        Ok(delays)
+    }
+
+    /// The delays of the pins of a gate; none for an input or a flip-flop.
+    fn delays_of(
+        &self,
+        alloc: Global,
+        netlist: &Netlist,
+        timing: &Timing,
+        signal: u32,
+    ) -> Result<Vec<u32>, AllocError>
+        requires { signal < length netlist.now.names }
+        ensures { IfOk result (λ delays. HasStated netlist.now timing.now timing.now.rows self.now → delays.items ≡ delays_of netlist.now timing.now signal (join.driver_at netlist.now signal)) }
+    {
+        match row_at(netlist, signal) {
+            NetlistRow::Input => Ok(Vec::new(alloc)),
+            NetlistRow::Gate { kind, pins } => {
+                if is_dff(kind) {
+                    Ok(Vec::new(alloc))
+                } else {
+                    self.pin_delays(alloc, timing, signal, kind, pins.len() as u32)
+                }
+            }
+        }
+    }
+
+    /// What a signal is, where the pins of a gate have these delays.
+    fn row_of(&self, netlist: &Netlist, timing: &Timing, signal: u32, delays: &[u32]) -> Row
+        requires { signal < length netlist.now.names }
+        ensures { HasStated netlist.now timing.now timing.now.rows self.now → result ≡ row_of netlist.now timing.now signal (join.driver_at netlist.now signal) delays.now }
+    {
+        match row_at(netlist, signal) {
+            NetlistRow::Input => Row::Input,
+            NetlistRow::Gate { kind, pins } => {
+                if is_dff(kind) {
+                    Row::Flop(self.flop_of(timing, signal, pins))
+                } else {
+                    Row::Gate {
+                        kind,
+                        least: least_of(delays),
+                    }
+                }
+            }
+        }
+    }
+
+    /// The rows of all signals and the delays of their pins.
+    pub fn rows(
+        &self,
+        alloc: Global,
+        netlist: &Netlist,
+        timing: &Timing,
+    ) -> Result<Rows, AllocError>
+        ensures { IfOk result (λ kept. HasStated netlist.now timing.now timing.now.rows self.now → KeepsRows netlist.now timing.now (length netlist.now.names) kept) }
+    {
+        let mut rows = Vec::new(alloc);
+        let mut delays = Lists::new(alloc);
+        for signal in 0..netlist.signals() {
+            let of_pins = self.delays_of(alloc, netlist, timing, signal)?;
+            rows.push(self.row_of(netlist, timing, signal, &of_pins))?;
+            delays.push(&of_pins)?;
+        }
+        Ok(Rows { rows, delays })
+    }
+}
+
+/// What is kept of all signals beside their settings.
+#[derive(Drop)]
+pub struct Rows {
+    pub rows: Vec<Row>,
+    pub delays: Lists<u32>,
+}
+
+/// The least of some delays.
+fn least_of(delays: &[u32]) -> u32
+    ensures { result ≡ said.least_of delays.now }
+{
+    match delays {
+        [] => 0,
+        [first, more @ ..] => more.iter().fold(*first, |least, delay| least.min(*delay)),
+    }
+}
