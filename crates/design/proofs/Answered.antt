@@ -27,7 +27,6 @@ use Rattle.circuit_meaning.specs.Cells.{span, span_from, least_delay, input_star
 use Rattle.circuit_meaning.specs.Need.{IsEvaluable, HasSources}
 use Rattle.circuit_meaning.specs.Looks.{kind_of, source, flop_sources, sources_at, pin_sources, sees, looked_sources, no_pin, interval_at, pin_interval, met_interval}
 use Rattle.circuit_meaning.proofs.Equations.{value_is, span_is, map_same, all_imply}
-use Rattle.flip_flops.proofs.EdgeLemmas.{shown_edge-le}
 use Rattle.circuit_meaning.proofs.Steady.{seen-early, map_all, gate_span-early}
 use Rattle.circuit_meaning.proofs.Cover.{cell-covers}
 use Rattle.circuit_meaning.proofs.Meets.{met-all, gate-span, cut}

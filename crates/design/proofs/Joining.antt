@@ -36,18 +36,16 @@ use Rattle.design.specs.declared.rows.Row.TheVariants as row
 use Rattle.design.specs.Joined.{Joined, IsDesign, AreLimits, IsWithin}
 use Rattle.design.specs.Sources.{Kept, IsKept, joined_of, circuit_of, driver_of, pins_with, InTimeOrder, Fits, FitsAt}
 use Rattle.design.specs.Sources as kept
-use Rattle.design.specs.Join.{number, driver_at, is_dff, or_else, last_said, when, said_of, rows_say, delay_said, pin_said, initial_said, clock_said, clock_named, clock_of_row, delay_of, pin_delay, pin_delays, flop_of, joined_driver, joined_gate, circuit_from, settings_of, in_time_order, is_signal, setting_of, is_input, fault_of, cause_of_set, set_fault, unless, first_fault, AreDifferent}
+use Rattle.design.specs.Join.{number, driver_at, is_dff, or_else, last_said, when, said_of, rows_say, delay_said, pin_said, initial_said, clock_said, clock_named, clock_of_row, delay_of, pin_delay, pin_delays, flop_of, joined_driver, joined_gate, circuit_from, settings_of, is_signal, setting_of, is_input, fault_of, cause_of_set, set_fault, unless, first_fault, scheduled}
 use Rattle.design.specs.Said.{least_of, delays_of, gate_delays, row_of, gate_row, HasSets, lists_in}
 use Rattle.design.specs.declared.fault.JoinFault.{JoinFault}
 use Rattle.design.specs.declared.fault.JoinFile.TheVariants as file
 use Rattle.design.specs.declared.fault.JoinCause.TheVariants.{NotInput, PastHorizon}
 use Rattle.stimulus_file.specs.Ranges.{IsStimulus}
-use Rattle.bench_reader.proofs.Places.{same_names}
-use Rattle.std.proofs.lemmas.List.Quantifiers.{position-Some}
 use Rattle.design.proofs.Answered.{length-pins_with, get_or-pins_with, if_some}
 use Rattle.design.proofs.Kept.{driver-same, fits-same}
 use Rattle.design.proofs.Rowed.{row-sound}
-use Rattle.design.proofs.Timed.{Rises, Differ, in_order-all, in_order-rises, in_order-differ, order-from, different-from}
+use Rattle.design.proofs.Timed.{scheduled-order, order-differs, scheduled-all}
 
 -- the least delay of pins with these delays
 fold-least : (m : ℕ) (signals delays : List ℕ) → length delays ≡ length signals → fold (λ (n : ℕ) (p : Pin). min n p.delay) m (pins_with signals delays) ≡ fold min m delays
@@ -131,9 +129,6 @@ module _ {A : Type 0} (P : A → Type 0) where
       every [] h = tt
       every (r ∷ rows) h = (when-some (is_signal s (number netlist r.name)) (says r.what) (each r.what h.0), every rows h.1)
 
-x-not_z : X ≢ Z
-x-not_z e = cc e
-
 module _ (netlist : netlists.Content) (timing : timings.Content) (ok : IsTiming timing) where
   ranges : AllByRecursion (λ (r : TimingRow). IsWithinRange r.what) timing.rows
   ranges = recursion_from_All (λ (r : TimingRow). IsWithinRange r.what) timing.rows ok.rows
@@ -177,9 +172,8 @@ module _ (netlist : netlists.Content) (timing : timings.Content) (ok : IsTiming 
   initial-in (what.Pin k d) h = tt
   initial-in (what.Clocked c) h = tt
 
-  -- a flip-flop never shows z
   pub initial-range : (s : ℕ) → unwrap_or (rows_say netlist timing.rows s initial_said) X ≢ Z
-  initial-range s = unwrap-some (λ v. v ≢ Z) (rows_say netlist timing.rows s initial_said) X (rows-some (λ v. v ≢ Z) netlist timing.rows s initial_said initial-in ranges) x-not_z
+  initial-range s = unwrap-some (λ (v : Value). v ≢ Z) (rows_say netlist timing.rows s initial_said) X (rows-some (λ (v : Value). v ≢ Z) netlist timing.rows s initial_said initial-in ranges) (λ e. cc e)
 
   pub delay-range : (s : ℕ) (kind : Kind) → IsDelay (delay_of netlist timing s kind)
   delay-range s kind = unwrap-some IsDelay (rows_say netlist timing.rows s delay_said) (default_of timing kind) (rows-some IsDelay netlist timing.rows s delay_said delay-in ranges) (default-range kind)
@@ -190,15 +184,11 @@ module _ (netlist : netlists.Content) (timing : timings.Content) (ok : IsTiming 
   pub clock-range : (s : ℕ) → IfSome (or_else (rows_say netlist timing.rows s (clock_said timing)) timing.clock) IsClock
   clock-range s = or-some IsClock (rows_say netlist timing.rows s (clock_said timing)) timing.clock (rows-some IsClock netlist timing.rows s (clock_said timing) clock-in ranges) ok.clock
 
--- the settings of a signal differ in their times, and are not after the horizon
+-- the settings of a signal are not after the horizon
 module _ (netlist : netlists.Content) (s : ℕ) where
   signal-is : (o : Option ℕ) → is_signal s o ≡ true → o ≡ Some s
   signal-is None h = absurd (cc h)
   signal-is (Some n) h = ap Some (eqb-true n s h)
-
-  one-name : (a b : List ℕ) → number netlist a ≡ Some s → number netlist b ≡ Some s → a ≡ b
-  one-name a b e f =
-      same_names a (get_or netlist.names s []) ((position-Some (bytes_eq a) netlist.names s [] e).1) ∙ sym (same_names b (get_or netlist.names s []) ((position-Some (bytes_eq b) netlist.names s [] f).1))
 
   kept-all : (P : Setting → Type 0) (sets : List SetRow) → AllByRecursion (λ (r : SetRow). is_signal s (number netlist r.name) ≡ true → P (setting_of r)) sets
       → AllByRecursion P (map setting_of (filter (λ (r : SetRow). is_signal s (number netlist r.name)) sets))
@@ -208,19 +198,6 @@ module _ (netlist : netlists.Content) (s : ℕ) where
       go : (b : Bool) → is_signal s (number netlist r.name) ≡ b → AllByRecursion P (map setting_of (filter (λ (r : SetRow). is_signal s (number netlist r.name)) sets))
           → AllByRecursion P (map setting_of (cond b (r ∷ filter (λ (r : SetRow). is_signal s (number netlist r.name)) sets) (filter (λ (r : SetRow). is_signal s (number netlist r.name)) sets)))
       go true e k = (h.0 e, k)
-      go false e k = k
-
-  differ-bucket : (sets : List SetRow) → AreDifferent sets → Differ (map setting_of (filter (λ (r : SetRow). is_signal s (number netlist r.name)) sets))
-  differ-bucket [] h = tt
-  differ-bucket (r ∷ sets) h = go (is_signal s (number netlist r.name)) refl (differ-bucket sets (λ i j d l m. h (suc i) (suc j) d (omega arith) (omega arith)))
-    where
-      others : number netlist r.name ≡ Some s → AllByRecursion (λ (q : SetRow). is_signal s (number netlist q.name) ≡ true → r.time ≢ q.time) sets
-      others e = recursion_from_All (λ (q : SetRow). is_signal s (number netlist q.name) ≡ true → r.time ≢ q.time) sets
-          (λ i d l k. h 0 (suc i) d (omega arith) (omega arith) (one-name r.name (get_or sets i d).name e (signal-is (number netlist (get_or sets i d).name) k)))
-
-      go : (b : Bool) → is_signal s (number netlist r.name) ≡ b → Differ (map setting_of (filter (λ (r : SetRow). is_signal s (number netlist r.name)) sets))
-          → Differ (map setting_of (cond b (r ∷ filter (λ (r : SetRow). is_signal s (number netlist r.name)) sets) (filter (λ (r : SetRow). is_signal s (number netlist r.name)) sets)))
-      go true e k = (kept-all (λ y. r.time ≢ y.time) sets (others (signal-is (number netlist r.name) e)), k)
       go false e k = k
 
   within-bucket : (horizon : ℕ) (sets : List SetRow) → AllByRecursion (λ r. set_fault netlist horizon r ≡ None) sets → AllByRecursion (λ y. y.time ≤ horizon) (map setting_of (filter (λ (r : SetRow). is_signal s (number netlist r.name)) sets))
@@ -248,28 +225,21 @@ no-faults {R} fault (r ∷ rows) h = go (λ k. no-faults fault rows k) (fault r)
     go again (Some f) e k = absurd (cc k)
 
 module _ (netlist : netlists.Content) (timing : timings.Content) (stimulus : stimuli.Content) (n-ok : IsNetlist netlist) (t-ok : IsTiming timing) (s-ok : IsStimulus stimulus)
-    (apart : AreDifferent stimulus.sets) (none : first_fault (set_fault netlist stimulus.horizon) stimulus.sets ≡ None) where
+    (none : first_fault (set_fault netlist stimulus.horizon) stimulus.sets ≡ None) where
   abbrev n : ℕ
   n = length netlist.names
 
   abbrev joined : ℕ → circuits.Driver
   joined s = joined_driver netlist timing stimulus.sets s (driver_at netlist s)
 
-  rises : (s : ℕ) → Rises (settings_of netlist stimulus.sets s)
-  rises s = in_order-rises (map setting_of (filter (λ (r : SetRow). is_signal s (number netlist r.name)) stimulus.sets))
-
-  differs : (s : ℕ) → Differ (settings_of netlist stimulus.sets s)
-  differs s = in_order-differ (map setting_of (filter (λ (r : SetRow). is_signal s (number netlist r.name)) stimulus.sets)) (differ-bucket netlist s stimulus.sets apart)
-
   in-order : (s : ℕ) → InTimeOrder (settings_of netlist stimulus.sets s)
-  in-order s = order-from (settings_of netlist stimulus.sets s) (rises s) (differs s)
+  in-order s = scheduled-order (map setting_of (filter (λ (r : SetRow). is_signal s (number netlist r.name)) stimulus.sets))
 
   settings-sound : (s : ℕ) → circuits.AreSettings stimulus.horizon (settings_of netlist stimulus.sets s)
   settings-sound s = record {
-    within = All-from_recursion (λ (y : Setting). y.time ≤ stimulus.horizon) (settings_of netlist stimulus.sets s)
-        (in_order-all (λ (y : Setting). y.time ≤ stimulus.horizon) (map setting_of (filter (λ (r : SetRow). is_signal s (number netlist r.name)) stimulus.sets))
-        (within-bucket netlist s stimulus.horizon stimulus.sets (no-faults (set_fault netlist stimulus.horizon) stimulus.sets none)));
-    different = different-from (settings_of netlist stimulus.sets s) (differs s);
+    within = scheduled-all (λ (y : Setting). y.time ≤ stimulus.horizon) (map setting_of (filter (λ (r : SetRow). is_signal s (number netlist r.name)) stimulus.sets))
+        (within-bucket netlist s stimulus.horizon stimulus.sets (no-faults (set_fault netlist stimulus.horizon) stimulus.sets none));
+    different = order-differs (settings_of netlist stimulus.sets s) (in-order s);
   }
 
   gate-sound : (s : ℕ) (b : Bool) (kind : Kind) (pins : List ℕ) → netlists.ArePins n kind pins → IsDriver n stimulus.horizon (joined_gate netlist timing s b kind pins)
@@ -372,11 +342,11 @@ module _ (netlist : netlists.Content) (timing : timings.Content) (stimulus : sti
 
 -- the settings of all signals, put in order
 pub ordered-are : (netlist : netlists.Content) (sets : List SetRow) (buckets : List (Vec Setting)) (lists : List (List Setting)) → HasSets netlist sets buckets
-    → lists ≡ map (λ (b : Vec Setting). in_time_order b.items) buckets → lists ≡ map (settings_of netlist sets) (range_with_len 0 (length netlist.names))
+    → lists ≡ map (λ (b : Vec Setting). scheduled b.items) buckets → lists ≡ map (settings_of netlist sets) (range_with_len 0 (length netlist.names))
 ordered-are netlist sets buckets lists has e =
-    fill_by_all (settings_of netlist sets) lists (length netlist.names) [] (ap length e ∙ length-map buckets (λ (b : Vec Setting). in_time_order b.items) ∙ has.long) (λ s l. ap (λ xs. get_or xs s []) e ∙ at buckets s ∙ ap in_time_order (has.each s l))
+    fill_by_all (settings_of netlist sets) lists (length netlist.names) [] (ap length e ∙ length-map buckets (λ (b : Vec Setting). scheduled b.items) ∙ has.long) (λ s l. ap (λ xs. get_or xs s []) e ∙ at buckets s ∙ ap scheduled (has.each s l))
   where
-    at : (buckets : List (Vec Setting)) (s : ℕ) → get_or (map (λ (b : Vec Setting). in_time_order b.items) buckets) s [] ≡ in_time_order (get_or (lists_in buckets) s [])
+    at : (buckets : List (Vec Setting)) (s : ℕ) → get_or (map (λ (b : Vec Setting). scheduled b.items) buckets) s [] ≡ scheduled (get_or (lists_in buckets) s [])
     at [] s = refl
     at (b ∷ buckets) zero = refl
     at (b ∷ buckets) (suc s) = at buckets s

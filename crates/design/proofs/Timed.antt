@@ -1,7 +1,8 @@
 -- A stable sort by time is the order of time.
 use Rattle.std.proofs.Common.{◌≡◌, ℕ, zero, suc, ◌+◌, ◌<◌, ◌≤◌, ◌≢◌, Bool, true, false, ◌&&◌, not, cond, ltb, leb, eqb, eq-eqb, nat_cmp, lt-ltb, le-ltb, le-leb, leb-true, leb-false, List, [], ◌∷◌, length, get_or, map, filter, refl, sym, ap, ap₂, ◌∙◌, subst, arith, ◌⊎◌, inl, inr}
 use Rattle.std.specs.Prelude.{nat_lt, nat_eq, AllPairs, All}
-use Rattle.std.specs.List.{AllByRecursion}
+use Rattle.std.specs.List.{AllByRecursion, dedup, dedup_from}
+use Rattle.std.proofs.lemmas.List.Filters.{All-dedup}
 use Rattle.std.specs.List.Sorted.{ties, IsNonDecreasingBy, IsStableByKey}
 use Rattle.std.specs.Ordering.{is_lt}
 use Rattle.std.specs.declared.cmp.Ordering.TheVariants.{Equal, Greater}
@@ -9,7 +10,7 @@ use Rattle.std.proofs.lemmas.Bool.{cases_lt, lt-leb}
 use Rattle.std.proofs.lemmas.List.Elements.{recursion_from_All, All-from_recursion}
 use Rattle.circuit_meaning.specs.declared.Setting.{Setting}
 use Rattle.design.specs.Sources.{InTimeOrder}
-use Rattle.design.specs.Join.{placed, in_time_order}
+use Rattle.design.specs.Join.{placed, in_time_order, is_at_one_time, scheduled}
 
 abbrev pub time_of : Setting → ℕ
 time_of s = s.time
@@ -37,10 +38,6 @@ same-high x y h = ap₂ (λ (p : Bool) (q : Bool). not p && not q) (before-no x.
 abbrev pub Rises : List Setting → Type 0
 Rises [] = Unit {0}
 Rises (x ∷ xs) = AllByRecursion (λ y. x.time ≤ y.time) xs × Rises xs
-
-abbrev pub Differ : List Setting → Type 0
-Differ [] = Unit {0}
-Differ (x ∷ xs) = AllByRecursion (λ y. x.time ≢ y.time) xs × Differ xs
 
 rises-from : (xs : List Setting) → IsNonDecreasingBy time_of xs → Rises xs
 rises-from [] h = tt
@@ -144,32 +141,47 @@ in_order-stable z (x ∷ xs) = placed-stable z x (in_time_order xs) ∙ ap (λ r
 pub sorted-is : (xs ys : List Setting) → IsNonDecreasingBy time_of ys → IsStableByKey time_of nat_cmp xs ys → ys ≡ in_time_order xs
 sorted-is xs ys up stable = rise-alike ys (in_time_order xs) (rises-from ys up) (in_order-rises xs) (λ z. stable z ∙ sym (in_order-stable z xs))
 
-placed-differ : (s : Setting) (xs : List Setting) → AllByRecursion (λ y. s.time ≢ y.time) xs → Differ xs → Differ (placed s xs)
-placed-differ s [] h d = (tt, tt)
-placed-differ s (x ∷ xs) h d = elim (leb s.time x.time) as (λ b. Differ (cond b (s ∷ x ∷ xs) (x ∷ placed s xs))) [
-  | true ↦ (h, d)
-  | false ↦ (placed-all (λ y. x.time ≢ y.time) s xs (λ e. h.0 (sym e)) d.0, placed-differ s xs h.1 d.1)
+-- each setting is later than those before it
+abbrev pub Climbs : List Setting → Type 0
+Climbs [] = Unit {0}
+Climbs (x ∷ xs) = AllByRecursion (λ y. x.time < y.time) xs × Climbs xs
+
+dedup-all : (P : Setting → Type 0) (k : Setting) (xs : List Setting) → P k → AllByRecursion P xs → AllByRecursion P (dedup_from is_at_one_time k xs)
+dedup-all P k [] p h = (p, tt)
+dedup-all P k (x ∷ xs) p h = elim (is_at_one_time x k) as (λ b. AllByRecursion P (cond b (dedup_from is_at_one_time k xs) (k ∷ dedup_from is_at_one_time x xs))) [
+  | true ↦ dedup-all P k xs p h.1
+  | false ↦ (p, dedup-all P x xs h.0 h.1)
 ]
 
-pub in_order-differ : (xs : List Setting) → Differ xs → Differ (in_time_order xs)
-in_order-differ [] d = tt
-in_order-differ (x ∷ xs) d = placed-differ x (in_time_order xs) (in_order-all (λ y. x.time ≢ y.time) xs d.0) (in_order-differ xs d.1)
-
--- what rises and differs is in the order of time
-pub order-from : (xs : List Setting) → Rises xs → Differ xs → InTimeOrder xs
-order-from [] up d i j e l m = absurd (omega arith)
-order-from (x ∷ xs) up d i zero e l m = absurd (omega arith)
-order-from (x ∷ xs) up d zero (suc j) e l m =
-    let low = All-from_recursion (λ (y : Setting). x.time ≤ y.time) xs up.0 j e (omega arith) in
-    let apart = All-from_recursion (λ (y : Setting). x.time ≢ y.time) xs d.0 j e (omega arith) in
-    below x.time (get_or xs j e).time low apart
+dedup-climbs : (k : Setting) (xs : List Setting) → AllByRecursion (λ y. k.time ≤ y.time) xs → Rises xs → Climbs (dedup_from is_at_one_time k xs)
+dedup-climbs k [] h up = (tt, tt)
+dedup-climbs k (x ∷ xs) h up = go (is_at_one_time x k) refl (dedup-climbs k xs h.1 up.1) (dedup-climbs x xs up.0 up.1)
   where
-    below : (a b : ℕ) → a ≤ b → a ≢ b → a < b
-    below a b l n = grind arith
-order-from (x ∷ xs) up d (suc i) (suc j) e l m = order-from xs up.1 d.1 i j e (omega arith) (omega arith)
+    less : is_at_one_time x k ≡ false → k.time < x.time
+    less e = elim (cases_lt k.time x.time) [
+      | inl l ↦ l
+      | inr l ↦ absurd (let low = h.0 in let same : x.time ≡ k.time = omega (arith, low, l) in let yes = eq-eqb x.time k.time same in let k = sym e ∙ yes in cc k)
+    ]
 
-pub different-from : (xs : List Setting) → Differ xs → AllPairs (λ a b. a.time ≢ b.time) xs
-different-from [] d i j e l m = absurd (omega arith)
-different-from (x ∷ xs) d i zero e l m = absurd (omega arith)
-different-from (x ∷ xs) d zero (suc j) e l m = All-from_recursion (λ (y : Setting). x.time ≢ y.time) xs d.0 j e (omega arith)
-different-from (x ∷ xs) d (suc i) (suc j) e l m = different-from xs d.1 i j e (omega arith) (omega arith)
+    go : (b : Bool) → is_at_one_time x k ≡ b → Climbs (dedup_from is_at_one_time k xs) → Climbs (dedup_from is_at_one_time x xs) → Climbs (cond b (dedup_from is_at_one_time k xs) (k ∷ dedup_from is_at_one_time x xs))
+    go true e same next = same
+    go false e same next = (dedup-all (λ y. k.time < y.time) x xs (less e) (all-later k x xs (less e) up.0), next)
+
+climbs : (xs : List Setting) → Rises xs → Climbs (dedup is_at_one_time xs)
+climbs [] up = tt
+climbs (x ∷ xs) up = dedup-climbs x xs up.0 up.1
+
+order-from : (xs : List Setting) → Climbs xs → InTimeOrder xs
+order-from [] up i j e l m = absurd (omega arith)
+order-from (x ∷ xs) up i zero e l m = absurd (omega arith)
+order-from (x ∷ xs) up zero (suc j) e l m = All-from_recursion (λ (y : Setting). x.time < y.time) xs up.0 j e (omega arith)
+order-from (x ∷ xs) up (suc i) (suc j) e l m = order-from xs up.1 i j e (omega arith) (omega arith)
+
+pub scheduled-order : (xs : List Setting) → InTimeOrder (scheduled xs)
+scheduled-order xs = order-from (scheduled xs) (climbs (in_time_order xs) (in_order-rises xs))
+
+pub order-differs : (xs : List Setting) → InTimeOrder xs → AllPairs (λ a b. a.time ≢ b.time) xs
+order-differs xs h i j d l m = λ e. let k = h i j d l m in omega (arith, k, e)
+
+pub scheduled-all : (P : Setting → Type 0) (xs : List Setting) → AllByRecursion P xs → All P (scheduled xs)
+scheduled-all P xs h = All-dedup is_at_one_time P (in_time_order xs) (All-from_recursion P (in_time_order xs) (in_order-all P xs h))

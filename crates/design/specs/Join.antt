@@ -1,6 +1,6 @@
 -- What a netlist, a timing file and a stimulus file make: a design, or the first row at fault.
-use Rattle.std.specs.Prelude.{◌≡◌, ◌≢◌, AllPairs, ℕ, ◌+◌, Bool, true, false, not, ◌&&◌, nat_eq, nat_lt, nat_le, List, [], ◌∷◌, length, map, filter, get_or, Option, Some, None, is_some, unwrap_or, Result, Ok, Err, if◌then◌else◌, ◌⊎◌, position}
-use Rattle.std.specs.List.{range_with_len}
+use Rattle.std.specs.Prelude.{◌≡◌, ℕ, ◌+◌, Bool, true, false, not, ◌&&◌, nat_eq, nat_lt, nat_le, List, [], ◌∷◌, length, map, filter, get_or, Option, Some, None, is_some, unwrap_or, Result, Ok, Err, if◌then◌else◌, ◌⊎◌, position}
+use Rattle.std.specs.List.{range_with_len, dedup}
 use Rattle.std.specs.Str.{bytes_eq}
 use Rattle.gate_values.specs.declared.Value.{Value}
 use Rattle.gate_values.specs.declared.Value.TheVariants.{X}
@@ -170,9 +170,15 @@ in_time_order (setting ∷ more) = placed setting (in_time_order more)
 abbrev pub setting_of : SetRow → Setting
 setting_of row = record { time = row.time; value = row.value }
 
--- the settings of an input, in the order of their times
+abbrev pub is_at_one_time : Setting → Setting → Bool
+is_at_one_time a b = nat_eq a.time b.time
+
+-- in the order of time; of several at one time, which no stimulus file has, the first counts
+abbrev pub scheduled : List Setting → List Setting
+scheduled settings = dedup is_at_one_time (in_time_order settings)
+
 abbrev pub settings_of : netlists.Content → List SetRow → ℕ → List Setting
-settings_of netlist sets s = in_time_order (map setting_of (filter (λ row. is_signal s (number netlist row.name)) sets))
+settings_of netlist sets s = scheduled (map setting_of (filter (λ row. is_signal s (number netlist row.name)) sets))
 
 abbrev pub joined_gate : netlists.Content → timings.Content → ℕ → Bool → Kind → List ℕ → circuits.Driver
 joined_gate netlist timing s true kind pins = circuits.Flop (flop_of netlist timing s pins)
@@ -197,10 +203,6 @@ unfoldable pub design_of : netlists.Content → timings.Content → stimuli.Cont
 design_of netlist timing stimulus =
     unless_fault (or_else (first_fault (timing_fault netlist timing) timing.rows) (first_fault (set_fault netlist stimulus.horizon) stimulus.sets))
     (record { netlist = netlist; circuit = circuit_from netlist timing stimulus })
-
--- no two settings of a name have one time
-abbrev pub AreDifferent : List SetRow → Type 0
-AreDifferent sets = AllPairs (λ (a : SetRow) (b : SetRow). a.name ≡ b.name → a.time ≢ b.time) sets
 
 -- the answer is this one, unless memory ran out
 abbrev pub Answers : Result Joined JoinFault → Result Joined JoinFault → Type 0

@@ -5,7 +5,7 @@ ghost use Rattle.circuit_meaning.specs.Circuit.{driver, read_by};
 ghost use Rattle.circuit_meaning.specs.Cells.{span};
 ghost use Rattle.circuit_meaning.specs.Need.{IsEvaluable};
 ghost use Rattle.circuit_meaning.specs.Looks.{kind_of, pin_sources, looked_sources, pin_interval, met_interval};
-ghost use Rattle.design.specs.Join.{Answers, AreDifferent, design_of};
+ghost use Rattle.design.specs.Join.{Answers, design_of};
 ghost use Rattle.design.specs.Joined.{IsDesign};
 ghost use Rattle.design.specs.Pins.{cell_of, pin_at, heard_of};
 ghost use Rattle.design.specs.Sources.{IsSourceOf};
@@ -56,7 +56,6 @@ impl Design {
         timing: &Timing,
         stimulus: &Stimulus,
     ) -> Result<Design, JoinFault>
-        requires different { AreDifferent stimulus.now.sets }
         ensures { Answers result (design_of netlist timing.now stimulus.now) }
     {
         netlist.facts();

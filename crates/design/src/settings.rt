@@ -3,7 +3,7 @@
 ghost use Rattle.std.specs.Prelude.{◌≡◌, List, [], IfOk, map, length, replicate, vec_len};
 ghost use Rattle.design.specs.declared.fault.JoinFile.TheVariants as file;
 ghost use Rattle.stimulus_file.specs.declared.SetRow.{SetRow as RowOf};
-ghost use Rattle.design.specs.Join.{in_time_order};
+ghost use Rattle.design.specs.Join as join;
 ghost use Rattle.design.specs.Said.{HasSets, TakesSet, TakesSets};
 
 use crate::fault::{JoinCause, JoinFault, JoinFile};
@@ -78,21 +78,22 @@ pub fn read(
     Ok(settings)
 }
 
-/// The settings in the order of time.
-fn sorted(mut settings: Vec<Setting>) -> Result<Vec<Setting>, AllocError>
-    ensures { IfOk result (λ sorted. sorted.items ≡ in_time_order settings.items) }
+/// The settings in the order of time; of several at one time the first counts.
+fn scheduled(mut settings: Vec<Setting>) -> Result<Vec<Setting>, AllocError>
+    ensures { IfOk result (λ list. list.items ≡ join.scheduled settings.items) }
 {
     settings.sort_by_key(|setting| setting.time)?;
+    settings.dedup_by_key(|setting| setting.time);
     Ok(settings)
 }
 
 /// The settings of each signal, in the order of time.
 pub fn in_order(alloc: Global, settings: Vec<Vec<Setting>>) -> Result<Lists<Setting>, AllocError>
-    ensures { IfOk result (λ lists. lists ≡ map (λ list. in_time_order list.items) settings.items) }
+    ensures { IfOk result (λ lists. lists ≡ map (λ list. join.scheduled list.items) settings.items) }
 {
     let mut lists = Lists::new(alloc);
     for list in settings {
-        lists.push(&sorted(list)?)?;
+        lists.push(&scheduled(list)?)?;
     }
     Ok(lists)
 }

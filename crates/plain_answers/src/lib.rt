@@ -11,3 +11,5 @@
 mod cells;
 mod reply;
 mod run;
+
+pub use reply::reply_of;

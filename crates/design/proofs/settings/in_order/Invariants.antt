@@ -1,6 +1,6 @@
 use Rattle.std.proofs.Common.{◌≡◌, map}
-use Rattle.design.specs.Join.{in_time_order}
+use Rattle.design.specs.Join.{scheduled}
 use Rattle.design.proofs.settings.in_order.Given as goal
 
 abbrev pub invariant-loop-list : goal.invariant-loop-list
-invariant-loop-list l = l.lists ≡ map (λ list. in_time_order list.items) l.yielded
+invariant-loop-list l = l.lists ≡ map (λ list. scheduled list.items) l.yielded

@@ -31,7 +31,7 @@ invariant_of-result c =
     let none = none-at netlist timing stimulus c.horizon.result c.sets.result.now c.horizon.ensures c.sets.ensures c.in_ok-settings.ensures.0 in
     let kept = c.in_ok-rows.ensures c.in_ok-stated.ensures.1 in
     let has = subst (λ sets. HasSets netlist sets c.in_ok-settings.settings.items) c.sets.ensures c.in_ok-settings.ensures.1 in
-    is-kept netlist timing stimulus c.facts.ensures c.facts-2.ensures c.facts-3.ensures c.requires.different none c.horizon-2.result c.in_ok-rows.field-0.rows.items c.in_ok-rows.field-0.delays c.in_ok-settings-2.settings
+    is-kept netlist timing stimulus c.facts.ensures c.facts-2.ensures c.facts-3.ensures none c.horizon-2.result c.in_ok-rows.field-0.rows.items c.in_ok-rows.field-0.delays c.in_ok-settings-2.settings
     c.horizon-2.ensures kept.rows kept.delays (ordered-are netlist stimulus.sets c.in_ok-settings.settings.items c.in_ok-settings-2.settings has c.in_ok-settings-2.ensures)
 
 pub returns : goal.returns
@@ -43,5 +43,5 @@ returns c =
     let kept = c.in_ok-rows.ensures c.in_ok-stated.ensures.1 in
     let has = subst (λ sets. HasSets netlist sets c.in_ok-settings.settings.items) c.sets.ensures c.in_ok-settings.ensures.1 in
     accepted netlist timing stimulus _ c.in_ok-stated.ensures.0 none
-    (joined-is netlist timing stimulus c.facts.ensures c.facts-2.ensures c.facts-3.ensures c.requires.different none c.horizon-2.result c.in_ok-rows.field-0.rows.items c.in_ok-rows.field-0.delays c.in_ok-settings-2.settings
+    (joined-is netlist timing stimulus c.facts.ensures c.facts-2.ensures c.facts-3.ensures none c.horizon-2.result c.in_ok-rows.field-0.rows.items c.in_ok-rows.field-0.delays c.in_ok-settings-2.settings
     c.horizon-2.ensures kept.rows kept.delays (ordered-are netlist stimulus.sets c.in_ok-settings.settings.items c.in_ok-settings-2.settings has c.in_ok-settings-2.ensures))
