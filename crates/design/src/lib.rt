@@ -12,6 +12,3 @@ mod stated;
 
 pub use design::Design;
 pub use fault::{JoinCause, JoinFault, JoinFile};
-
-#[cfg(test)]
-mod tests;

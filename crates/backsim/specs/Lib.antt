@@ -1,0 +1,4 @@
+pub mod Cause
+pub mod Statuses
+pub mod Stops
+pub mod Script

@@ -1,0 +1,112 @@
+//! What is refused, and why a session stops before its script's end.
+
+ghost use Rattle.std.specs.Prelude.{◌≡◌};
+ghost use Rattle.backsim.specs.Stops.{IsQuiet};
+ghost use Rattle.backsim.specs.declared.refusal.Stop.TheVariants.{OutOfMemory as out_of_memory};
+
+use crate::status::Place;
+use backsim_io::OutOfMemory;
+use bench_reader::{BenchCause, BenchFault};
+use design::{JoinCause, JoinFault, JoinFile};
+use std::alloc::{AllocError, Global};
+use stimulus_file::{StimulusCause, StimulusFault};
+use timing_file::{TimingCause, TimingFault};
+
+/// What is refused, and why.
+#[derive(Clone, Copy, Debug, PartialEq, Eq)]
+pub enum Refusal {
+    /// The file or script has more bytes than its limit.
+    TooLong(Place),
+    /// A line, counted from 1, and the number of its cause. Of a file that ends too early the line is 0.
+    Line { file: Place, line: u32, cause: u32 },
+}
+
+impl Refusal {
+    /// The line that tells of it.
+    pub fn text(&self, alloc: Global) -> Result<String, AllocError> {
+        match *self {
+            Refusal::TooLong(file) => {
+                let name = file.name();
+                format!(in alloc; "refused {name} too long\n")
+            }
+            Refusal::Line { file, line, cause } => {
+                let name = file.name();
+                format!(in alloc; "refused {name} line {line} cause {cause}\n")
+            }
+        }
+    }
+}
+
+/// Why a session stops before the end of its script.
+#[derive(Clone, Copy, Debug, PartialEq, Eq)]
+pub enum Stop {
+    Refused(Refusal),
+    ReadFault(Place),
+    WriteFault(Place),
+    FileFault(Place),
+    OutOfMemory,
+}
+
+/// A line of a file is refused.
+fn refused(file: Place, line: u32, cause: u32) -> Stop
+    ensures { IsQuiet result }
+{
+    Stop::Refused(Refusal::Line { file, line, cause })
+}
+
+impl From<BenchFault> for Stop {
+    ghost from_gives = { λ _ stop. IsQuiet stop };
+
+    fn from(fault: BenchFault) -> Stop {
+        match fault.cause {
+            BenchCause::OutOfMemory => Stop::OutOfMemory,
+            cause => refused(Place::Netlist, fault.line, cause.number()),
+        }
+    }
+}
+
+impl From<TimingFault> for Stop {
+    ghost from_gives = { λ _ stop. IsQuiet stop };
+
+    fn from(fault: TimingFault) -> Stop {
+        match fault.cause {
+            TimingCause::OutOfMemory => Stop::OutOfMemory,
+            cause => refused(Place::Timing, fault.line, cause.number() as u32),
+        }
+    }
+}
+
+impl From<StimulusFault> for Stop {
+    ghost from_gives = { λ _ stop. IsQuiet stop };
+
+    fn from(fault: StimulusFault) -> Stop {
+        match fault.cause {
+            StimulusCause::OutOfMemory => Stop::OutOfMemory,
+            cause => refused(Place::Stimulus, fault.line, cause.number() as u32),
+        }
+    }
+}
+
+/// The causes of the join are numbered from 11 on, behind those of the readers.
+impl From<JoinFault> for Stop {
+    ghost from_gives = { λ _ stop. IsQuiet stop };
+
+    fn from(fault: JoinFault) -> Stop {
+        let file = match fault.file {
+            JoinFile::Timing => Place::Timing,
+            JoinFile::Stimulus => Place::Stimulus,
+        };
+        match fault.cause {
+            JoinCause::OutOfMemory => Stop::OutOfMemory,
+            cause => refused(file, fault.line, cause.number() as u32 + 10),
+        }
+    }
+}
+
+impl From<OutOfMemory> for Stop {
+    ghost from_gives = { λ _ stop. stop ≡ out_of_memory };
+
+    fn from(_: OutOfMemory) -> Stop {
+        Stop::OutOfMemory
+    }
+}
