@@ -1,5 +1,5 @@
-ghost use Rattle.std.specs.Prelude.{◌≡◌, All, IfErr, IfSome, IsSome, None, OnErr, OnOk, Some, []};
-ghost use Rattle.claim_waiters.specs.Claims.{claim_at, first_of, holder_of, waiters_of, with_claim, with_waiter, without, IsAtMost};
+ghost use Rattle.std.specs.Prelude.{◌≡◌, ◌↔◌, length, IsTrue, All, IfErr, IfSome, IsSome, None, OnErr, OnOk, Some, []};
+ghost use Rattle.claim_waiters.specs.Claims.{claim_at, first_of, holder_of, waiters_of, with_claim, with_waiter, without, IsAtMost, IsInOrder};
 
 use crate::waiter::Waiter;
 use backsim_io::OutOfMemory;
@@ -41,6 +41,21 @@ impl<W: Waiter> ClaimTable<W> {
             map: BTreeMap::new(alloc),
             alloc,
         }
+    }
+
+    /// How many points are claimed.
+    pub fn len(&self) -> usize
+        ensures len { result ≡ length self.now }
+        ensures in_order { IsInOrder self.now }
+    {
+        self.map.len()
+    }
+
+    /// Whether nothing is claimed.
+    pub fn is_empty(&self) -> bool
+        ensures { IsTrue result ↔ (self.now ≡ []) }
+    {
+        self.map.is_empty()
     }
 
     /// Claims a point for a query. Nobody waits for it yet.
