@@ -4,4 +4,5 @@ pub mod Units
 pub mod Reading
 pub mod Laws
 pub mod Runs
+pub mod Walks
 pub mod Replies

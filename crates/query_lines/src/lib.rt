@@ -29,7 +29,9 @@
 //! ```
 //!
 //! An item's `Reply` is a waveform, as its maximal `Runs`, or says why there is
-//! none; `reply_text` writes it, and `specs/Replies` is the format.
+//! none; `reply_text` writes it, and `specs/Replies` is the format. A
+//! `WindowWalk` goes over a window from cell to cell and gathers its runs: once
+//! the window is walked, they are its waveform (`specs/Walks`).
 //!
 //! A byte costs constant time, and memory is taken only for an item's name, for
 //! pending items and for units. A line is read in time in proportion to its
@@ -46,6 +48,7 @@ mod reply;
 mod script;
 mod text;
 mod unit;
+mod walk;
 
 pub use batcher::Batcher;
 pub use circuit_meaning::Run;
@@ -56,6 +59,7 @@ pub use reply::{Reply, Runs};
 pub use script::{ScriptReader, read_script};
 pub use text::{reply_text, stats_text, trimmed_text};
 pub use unit::{Item, ItemList, Unit, UnitList};
+pub use walk::WindowWalk;
 
 #[cfg(test)]
 mod tests;

@@ -72,18 +72,21 @@ impl Runs {
         }
     }
 
+    /// These runs.
     pub fn from_vec(runs: Vec<Run>) -> Runs
         ensures { result ≡ runs.items }
     {
         Runs { runs }
     }
 
+    /// The runs, in order.
     pub fn as_slice(&self) -> &[Run]
         ensures { result.now ≡ self.now }
     {
         &self.runs
     }
 
+    /// The runs as a vector.
     pub fn into_vec(self) -> Vec<Run>
         ensures { result.items ≡ self }
     {

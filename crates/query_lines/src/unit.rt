@@ -29,18 +29,21 @@ impl Model for ItemList {
 }
 
 impl ItemList {
+    /// The list of these items.
     pub fn from_vec(items: Vec<Item>) -> ItemList
         ensures { result ≡ items.items }
     {
         ItemList { items }
     }
 
+    /// The items, in order.
     pub fn as_slice(&self) -> &[Item]
         ensures { result.now ≡ self.now }
     {
         &self.items
     }
 
+    /// The items as a vector.
     pub fn into_vec(self) -> Vec<Item>
         ensures { result.items ≡ self }
     {
@@ -75,18 +78,21 @@ impl Model for UnitList {
 }
 
 impl UnitList {
+    /// The list of these units.
     pub fn from_vec(units: Vec<Unit>) -> UnitList
         ensures { result ≡ units.items }
     {
         UnitList { units }
     }
 
+    /// The units, in order.
     pub fn as_slice(&self) -> &[Unit]
         ensures { result.now ≡ self.now }
     {
         &self.units
     }
 
+    /// The units as a vector.
     pub fn into_vec(self) -> Vec<Unit>
         ensures { result.items ≡ self }
     {
