@@ -1,39 +1,30 @@
 -- What the accessors answer, by the driver of the signal.
-use Rattle.std.proofs.Common.{◌≡◌, ℕ, zero, suc, ◌+◌, ◌-◌, ◌<◌, ◌≤◌, min, max, Bool, true, false, cond, nat_lt, List, [], ◌∷◌, map, fold, take, length, get_or, Option, Some, None, IsSome, refl, sym, ap, ap₂, ◌∙◌, subst, arith, inl, inr, lt-ltb, le-ltb}
-use Rattle.std.specs.Prelude.{slice_get, option_map, IfSome}
+use Rattle.std.proofs.Common.{◌≡◌, ℕ, zero, suc, ◌+◌, ◌<◌, ◌≤◌, min, true, List, [], ◌∷◌, map, fold, length, get_or, Option, Some, None, IsSome, refl, sym, ap, ap₂, ◌∙◌, subst, arith}
+use Rattle.std.specs.Prelude.{IfSome}
 use Rattle.std.specs.Borrow.{Bor}
-use Rattle.std.specs.List.{range_with_len, AllByRecursion, All}
-use Rattle.std.proofs.lemmas.Bool.{cases_lt}
-use Rattle.std.proofs.lemmas.List.Elements.{recursion_from_All}
+use Rattle.std.specs.List.{AllByRecursion}
 use Rattle.std.proofs.Math.ListN.{length-map}
 use Rattle.std.proofs.lemmas.List.{get_or_default}
-use Rattle.std.proofs.lemmas.Option.{slice_get-get_or, slice_get-map, get_or_from_slice_get}
 use Rattle.gate_values.specs.declared.Value.{Value}
 use Rattle.gate_values.specs.declared.Value.TheVariants.{X}
 use Rattle.gate_values.specs.declared.Kind.{Kind}
-use Rattle.gate_values.specs.Gates.{gate_value, is_unknown, up_to_first, decides}
+use Rattle.gate_values.specs.Gates.{is_unknown}
 use Rattle.gate_values.proofs.Unknown.{gate_value-unknown}
-use Rattle.gate_values.proofs.Looked.{cut_alike, map-up_to_first}
 use Rattle.valid_intervals.specs.declared.Cell.{Cell}
-use Rattle.valid_intervals.specs.declared.Point.{Point}
-use Rattle.valid_intervals.specs.Spans.{Span, from_to, meet, moved, cut_at, IsIn}
+use Rattle.valid_intervals.specs.Spans.{Span, from_to}
 use Rattle.flip_flops.specs.Edges.{shown_edge, flop_span}
 use Rattle.circuit_meaning.specs.declared.FlipFlop.{FlipFlop}
 use Rattle.circuit_meaning.specs.declared.Setting.{Setting}
 use Rattle.circuit_meaning.specs.declared.Pin.{Pin}
-use Rattle.circuit_meaning.specs.Circuit.{Driver, Input, Gate, Flop, Circuit, driver, IsCircuit, IsDriver, read_by}
+use Rattle.circuit_meaning.specs.Circuit.{Input, Circuit, driver, IsCircuit, read_by}
 use Rattle.circuit_meaning.specs.Forward.{value, value_from, seen, flop_value, input_value, last_setting}
-use Rattle.circuit_meaning.specs.Cells.{span, span_from, least_delay, input_start, next_setting, looked, pin_span, gate_span}
+use Rattle.circuit_meaning.specs.Cells.{span, span_from, least_delay, input_start, next_setting, looked, pin_span}
 use Rattle.circuit_meaning.specs.Need.{IsEvaluable, HasSources}
-use Rattle.circuit_meaning.specs.Looks.{kind_of, source, flop_sources, sources_at, pin_sources, sees, looked_sources, no_pin, interval_at, pin_interval, met_interval}
-use Rattle.circuit_meaning.proofs.Equations.{value_is, span_is, map_same, all_imply}
+use Rattle.circuit_meaning.proofs.Equations.{value_is, span_is, all_imply}
 use Rattle.circuit_meaning.proofs.Steady.{seen-early, map_all, gate_span-early}
-use Rattle.circuit_meaning.proofs.Cover.{cell-covers}
-use Rattle.circuit_meaning.proofs.Meets.{met-all, gate-span, cut}
-use Rattle.circuit_meaning.proofs.Looking.{cut-take}
 use Rattle.design.specs.declared.rows.Source.TheVariants as row
 use Rattle.design.specs.Sources.{IsSourceOf, pins_with}
-use Rattle.design.specs.Pins.{cell_of, pin_at, heard_of}
+use Rattle.design.specs.Pins.{cell_of}
 
 -- the pins as a whole
 pub signals-pins_with : (signals delays : List ℕ) → length delays ≡ length signals → map (λ (p : Pin). p.signal) (pins_with signals delays) ≡ signals

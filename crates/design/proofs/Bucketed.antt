@@ -1,6 +1,6 @@
 -- The settings of each signal, one row after another.
-use Rattle.std.proofs.Common.{◌≡◌, ℕ, zero, suc, ◌+◌, ◌<◌, ◌≤◌, Bool, true, false, cond, eqb-true, eq-eqb, le-leb, List, [], ◌∷◌, ◌++◌, length, take, get_or, set, map, filter, Option, Some, None, refl, sym, ap, ap₂, ◌∙◌, subst, arith, ◌⊎◌, inl, inr, length-set}
-use Rattle.std.specs.Prelude.{nat_eq, nat_le, replicate}
+use Rattle.std.proofs.Common.{◌≡◌, ℕ, zero, suc, ◌<◌, ◌≤◌, Bool, true, false, cond, eqb-true, eq-eqb, le-leb, List, [], ◌∷◌, ◌++◌, length, get_or, set, map, filter, Option, Some, None, refl, sym, ap, ap₂, ◌∙◌, arith, length-set}
+use Rattle.std.specs.Prelude.{nat_eq, replicate}
 use Rattle.std.specs.Global.{Vec}
 use Rattle.std.proofs.lemmas.List.{map-append, append-nil, map-set, get_or-set_same, get_or-set_other, length-map, length-replicate, get_or_default}
 use Rattle.std.proofs.Math.ListN.{get_or-map}

@@ -1,6 +1,6 @@
 -- The answer of a join, from what its parts answer.
-use Rattle.std.proofs.Common.{◌≡◌, ℕ, List, Option, Some, None, refl, sym, ap, ap₂, ◌∙◌, subst, ◌⊎◌, inl, inr}
-use Rattle.std.specs.Prelude.{Result, Ok, Err}
+use Rattle.std.proofs.Common.{◌≡◌, ℕ, List, Option, Some, None, sym, ap, ap₂, ◌∙◌, ◌⊎◌, inl, inr}
+use Rattle.std.specs.Prelude.{Ok, Err}
 use Rattle.bench_reader.specs.Netlists as netlists
 use Rattle.timing_file.specs.Timing as timings
 use Rattle.stimulus_file.specs.Stimulus as stimuli

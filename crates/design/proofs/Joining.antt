@@ -1,11 +1,11 @@
 -- What is kept of the three files is a design.
-use Rattle.std.proofs.Common.{◌≡◌, ℕ, zero, suc, ◌+◌, ◌<◌, ◌≤◌, ◌≢◌, Bool, true, false, ◌&&◌, not, cond, min, List, [], ◌∷◌, length, get_or, map, filter, fold, Option, Some, None, refl, sym, ap, ap₂, ◌∙◌, subst, arith, ◌⊎◌, inl, inr, leb-true, eqb-true}
-use Rattle.std.specs.Prelude.{All, AllPairs, IfSome, IsTrue, nat_eq, nat_le, unwrap_or, position, is_some, replicate}
+use Rattle.std.proofs.Common.{◌≡◌, ℕ, zero, suc, ◌+◌, ◌<◌, ◌≤◌, ◌≢◌, Bool, true, false, cond, min, List, [], ◌∷◌, length, get_or, map, filter, fold, Option, Some, None, refl, sym, ap, ap₂, ◌∙◌, subst, arith, leb-true, eqb-true}
+use Rattle.std.specs.Prelude.{All, IfSome, IsTrue, sum_by, nat_eq, nat_le, unwrap_or}
 use Rattle.std.specs.Global.{Vec}
 use Rattle.std.specs.List.{range_with_len, AllByRecursion}
 use Rattle.std.specs.Str.{bytes_eq}
-use Rattle.std.proofs.lemmas.List.{length-map, get_or_default}
-use Rattle.std.proofs.lemmas.List.Elements.{recursion_from_All, All-from_recursion}
+use Rattle.std.proofs.lemmas.List.{length-map}
+use Rattle.std.proofs.lemmas.List.Elements.{recursion_from_All}
 use Rattle.std.proofs.lemmas.List.FromFn.{length-map-range_with_len, get_or-map-range_with_len, fill_by_all}
 use Rattle.gate_values.specs.declared.Kind.{Kind}
 use Rattle.gate_values.specs.declared.Kind.TheVariants.{And, Nand, Or, Nor, Xor, Xnor, Not, Buff, Dff}
@@ -17,14 +17,14 @@ use Rattle.flip_flops.specs.Edges.{IsClock}
 use Rattle.circuit_meaning.specs.declared.Setting.{Setting}
 use Rattle.circuit_meaning.specs.declared.Pin.{Pin}
 use Rattle.circuit_meaning.specs.Circuit as circuits
-use Rattle.circuit_meaning.specs.Circuit.{Circuit, IsCircuit, IsDriver}
+use Rattle.circuit_meaning.specs.Circuit.{Circuit, IsCircuit, IsDriver, AreDriverLimits, pin_count, read_by}
 use Rattle.circuit_meaning.specs.Cells.{least_delay}
 use Rattle.bench_reader.specs.Netlists as netlists
 use Rattle.bench_reader.specs.Netlists.{Driver, Primary, Driven, pins_of, IsNetlist}
 use Rattle.timing_file.specs.Timing as timings
 use Rattle.timing_file.specs.Timing.{default_of, kind_delay}
 use Rattle.timing_file.specs.Subjects.{same_kind}
-use Rattle.timing_file.specs.Ranges.{IsTiming, IsDelay, IsWithin as IsWithinRange}
+use Rattle.timing_file.specs.Ranges.{IsTiming, IsDelay, IsWithin}
 use Rattle.timing_file.specs.declared.TimingRow.{TimingRow}
 use Rattle.timing_file.specs.declared.ClockRow.{ClockRow}
 use Rattle.timing_file.specs.declared.TimingWhat.{TimingWhat}
@@ -33,10 +33,10 @@ use Rattle.stimulus_file.specs.Stimulus as stimuli
 use Rattle.stimulus_file.specs.declared.SetRow.{SetRow}
 use Rattle.design.specs.declared.rows.Row.{Row}
 use Rattle.design.specs.declared.rows.Row.TheVariants as row
-use Rattle.design.specs.Joined.{Joined, IsDesign, AreLimits, IsWithin}
+use Rattle.design.specs.Joined.{IsDesign}
 use Rattle.design.specs.Sources.{Kept, IsKept, joined_of, circuit_of, driver_of, pins_with, InTimeOrder, Fits, FitsAt}
 use Rattle.design.specs.Sources as kept
-use Rattle.design.specs.Join.{number, driver_at, is_dff, or_else, last_said, when, said_of, rows_say, delay_said, pin_said, initial_said, clock_said, clock_named, clock_of_row, delay_of, pin_delay, pin_delays, flop_of, joined_driver, joined_gate, circuit_from, settings_of, is_signal, setting_of, is_input, fault_of, cause_of_set, set_fault, unless, first_fault, scheduled}
+use Rattle.design.specs.Join.{number, driver_at, is_dff, or_else, last_said, when, said_of, rows_say, delay_said, pin_said, initial_said, clock_said, clock_named, clock_of_row, delay_of, pin_delay, pin_delays, joined_driver, joined_gate, circuit_from, settings_of, is_signal, setting_of, is_input, fault_of, cause_of_set, set_fault, unless, first_fault, scheduled}
 use Rattle.design.specs.Said.{least_of, delays_of, gate_delays, row_of, gate_row, HasSets, lists_in}
 use Rattle.design.specs.declared.fault.JoinFault.{JoinFault}
 use Rattle.design.specs.declared.fault.JoinFile.TheVariants as file
@@ -64,6 +64,31 @@ least-is (s ∷ signals) (d ∷ delays) e = sym (fold-least d signals delays (om
 length-pin_delays : (netlist : netlists.Content) (timing : timings.Content) (s : ℕ) (kind : Kind) (pins : List ℕ) → length (pin_delays netlist timing s kind pins) ≡ length pins
 length-pin_delays netlist timing s kind pins = length-map-range_with_len (pin_delay netlist timing s kind) 0 (length pins)
 
+dff-unary : (kind : Kind) → is_dff kind ≡ true → IsTrue (is_unary kind)
+dff-unary Dff h = refl
+dff-unary And h = absurd (cc h)
+dff-unary Nand h = absurd (cc h)
+dff-unary Or h = absurd (cc h)
+dff-unary Nor h = absurd (cc h)
+dff-unary Xor h = absurd (cc h)
+dff-unary Xnor h = absurd (cc h)
+dff-unary Not h = refl
+dff-unary Buff h = refl
+
+single : (pins : List ℕ) → length pins ≡ 1 → pins ≡ get_or pins 0 0 ∷ []
+single [] h = absurd (omega arith)
+single (p ∷ []) h = refl
+single (p ∷ q ∷ more) h = absurd (omega arith)
+
+-- sums whose terms are equal
+same-sums : {A B : Type 0} (f : A → ℕ) (g : B → ℕ) (a : A) (b : B) (m : ℕ) (xs : List A) (ys : List B) → length xs ≡ length ys → ((k : ℕ) → k < length xs → f (get_or xs k a) ≡ g (get_or ys k b))
+    → fold (λ n x. n + f x) m xs ≡ fold (λ n y. n + g y) m ys
+same-sums f g a b m [] [] e h = refl
+same-sums f g a b m [] (y ∷ ys) e h = absurd (omega arith)
+same-sums f g a b m (x ∷ xs) [] e h = absurd (omega arith)
+same-sums f g a b m (x ∷ xs) (y ∷ ys) e h =
+    ap (λ n. fold (λ n x. n + f x) (m + n) xs) (h 0 (omega arith)) ∙ same-sums f g a b (m + g y) xs ys (omega arith) (λ k l. h (suc k) (omega arith))
+
 -- what is kept stands for the joined driver
 module _ (netlist : netlists.Content) (timing : timings.Content) (sets : List SetRow) (s : ℕ) where
   abbrev kept-row : Driver → Row
@@ -81,22 +106,6 @@ module _ (netlist : netlists.Content) (timing : timings.Content) (sets : List Se
   fits-gate : (b : Bool) (kind : Kind) (pins : List ℕ) (settings : List Setting) → is_dff kind ≡ b → (IsTrue (is_unary kind) → length pins ≡ 1)
       → Fits (gate_row netlist timing s b kind pins (gate_delays netlist timing s b kind pins)) pins (gate_delays netlist timing s b kind pins) settings
   fits-gate true kind pins settings e one = single pins (one (dff-unary kind e))
-    where
-      dff-unary : (kind : Kind) → is_dff kind ≡ true → IsTrue (is_unary kind)
-      dff-unary Dff h = refl
-      dff-unary And h = absurd (cc h)
-      dff-unary Nand h = absurd (cc h)
-      dff-unary Or h = absurd (cc h)
-      dff-unary Nor h = absurd (cc h)
-      dff-unary Xor h = absurd (cc h)
-      dff-unary Xnor h = absurd (cc h)
-      dff-unary Not h = refl
-      dff-unary Buff h = refl
-
-      single : (pins : List ℕ) → length pins ≡ 1 → pins ≡ get_or pins 0 0 ∷ []
-      single [] h = absurd (omega arith)
-      single (p ∷ []) h = refl
-      single (p ∷ q ∷ more) h = absurd (omega arith)
   fits-gate false kind pins settings e one = (length-pin_delays netlist timing s kind pins, least-is pins (pin_delays netlist timing s kind pins) (length-pin_delays netlist timing s kind pins))
 
   pub kept-fits : (d : Driver) (n : ℕ) → netlists.IsDriver n d → (settings : List Setting) → InTimeOrder settings → Fits (kept-row d) (pins_of d) (delays_of netlist timing s d) settings
@@ -121,17 +130,17 @@ module _ {A : Type 0} (P : A → Type 0) where
   unwrap-some None d h k = k
   unwrap-some (Some x) d h k = h
 
-  pub rows-some : (netlist : netlists.Content) (rows : List TimingRow) (s : ℕ) (says : TimingWhat → Option A) → ((w : TimingWhat) → IsWithinRange w → IfSome (says w) P)
-      → AllByRecursion (λ (r : TimingRow). IsWithinRange r.what) rows → IfSome (rows_say netlist rows s says) P
+  pub rows-some : (netlist : netlists.Content) (rows : List TimingRow) (s : ℕ) (says : TimingWhat → Option A) → ((w : TimingWhat) → IsWithin w → IfSome (says w) P)
+      → AllByRecursion (λ (r : TimingRow). IsWithin r.what) rows → IfSome (rows_say netlist rows s says) P
   rows-some netlist rows s says each h = last-some (said_of netlist s says) rows (every rows h)
     where
-      every : (rows : List TimingRow) → AllByRecursion (λ (r : TimingRow). IsWithinRange r.what) rows → AllByRecursion (λ r. IfSome (said_of netlist s says r) P) rows
+      every : (rows : List TimingRow) → AllByRecursion (λ (r : TimingRow). IsWithin r.what) rows → AllByRecursion (λ r. IfSome (said_of netlist s says r) P) rows
       every [] h = tt
       every (r ∷ rows) h = (when-some (is_signal s (number netlist r.name)) (says r.what) (each r.what h.0), every rows h.1)
 
 module _ (netlist : netlists.Content) (timing : timings.Content) (ok : IsTiming timing) where
-  ranges : AllByRecursion (λ (r : TimingRow). IsWithinRange r.what) timing.rows
-  ranges = recursion_from_All (λ (r : TimingRow). IsWithinRange r.what) timing.rows ok.rows
+  ranges : AllByRecursion (λ (r : TimingRow). IsWithin r.what) timing.rows
+  ranges = recursion_from_All (λ (r : TimingRow). IsWithin r.what) timing.rows ok.rows
 
   kinds-some : (kind : Kind) (kinds : List (Kind × ℕ)) → AllByRecursion (λ (stated : Kind × ℕ). IsDelay stated.1) kinds → IfSome (kind_delay kind kinds) IsDelay
   kinds-some kind [] h = tt
@@ -141,13 +150,13 @@ module _ (netlist : netlists.Content) (timing : timings.Content) (ok : IsTiming 
   default-range kind = unwrap-some IsDelay (kind_delay kind timing.kinds) (unwrap_or timing.default 1) (kinds-some kind timing.kinds (recursion_from_All (λ (stated : Kind × ℕ). IsDelay stated.1) timing.kinds ok.kinds))
       (unwrap-some IsDelay timing.default 1 ok.default (omega arith, omega arith))
 
-  delay-in : (w : TimingWhat) → IsWithinRange w → IfSome (delay_said w) IsDelay
+  delay-in : (w : TimingWhat) → IsWithin w → IfSome (delay_said w) IsDelay
   delay-in (what.Delay d) h = h
   delay-in (what.Init v) h = tt
   delay-in (what.Pin k d) h = tt
   delay-in (what.Clocked c) h = tt
 
-  pin-in : (k : ℕ) (w : TimingWhat) → IsWithinRange w → IfSome (pin_said k w) IsDelay
+  pin-in : (k : ℕ) (w : TimingWhat) → IsWithin w → IfSome (pin_said k w) IsDelay
   pin-in k (what.Delay d) h = tt
   pin-in k (what.Init v) h = tt
   pin-in k (what.Pin place d) h = when-some IsDelay (nat_eq place k) (Some d) h.1
@@ -160,13 +169,13 @@ module _ (netlist : netlists.Content) (timing : timings.Content) (ok : IsTiming 
       every [] h = tt
       every (r ∷ rows) h = (elim (bytes_eq name r.name) as (λ b. IfSome (cond b (Some r.clock) None) IsClock) [ true ↦ h.0 | false ↦ tt ], every rows h.1)
 
-  clock-in : (w : TimingWhat) → IsWithinRange w → IfSome (clock_said timing w) IsClock
+  clock-in : (w : TimingWhat) → IsWithin w → IfSome (clock_said timing w) IsClock
   clock-in (what.Delay d) h = tt
   clock-in (what.Init v) h = tt
   clock-in (what.Pin k d) h = tt
   clock-in (what.Clocked name) h = named-in name
 
-  initial-in : (w : TimingWhat) → IsWithinRange w → IfSome (initial_said w) (λ v. v ≢ Z)
+  initial-in : (w : TimingWhat) → IsWithin w → IfSome (initial_said w) (λ v. v ≢ Z)
   initial-in (what.Delay d) h = tt
   initial-in (what.Init v) h = h
   initial-in (what.Pin k d) h = tt
@@ -266,7 +275,7 @@ module _ (netlist : netlists.Content) (timing : timings.Content) (stimulus : sti
   joined-sound s Primary ok = settings-sound s
   joined-sound s (Driven kind pins) ok = gate-sound s (is_dff kind) kind pins ok
 
-  gate-within : (s : ℕ) (b : Bool) (kind : Kind) (pins : List ℕ) → IsWithin (joined_gate netlist timing s b kind pins)
+  gate-within : (s : ℕ) (b : Bool) (kind : Kind) (pins : List ℕ) → AreDriverLimits (joined_gate netlist timing s b kind pins)
   gate-within s true kind pins = ((delay-range netlist timing t-ok s Dff).1, clock-range netlist timing t-ok s)
   gate-within s false kind pins =
       let delays = pin_delays netlist timing s kind pins in
@@ -275,9 +284,27 @@ module _ (netlist : netlists.Content) (timing : timings.Content) (stimulus : sti
       λ k d l. subst (λ (p : Pin). p.delay ≤ 1000000) (sym (get_or-pins_with pins delays k d long (omega (arith, same, l))))
       (subst (λ x. x ≤ 1000000) (sym (get_or-map-range_with_len (pin_delay netlist timing s kind) 0 (length pins) k k 0 (omega (arith, same, l)) (omega arith))) (pin-range netlist timing t-ok s kind k).1)
 
-  joined-within : (s : ℕ) (d : Driver) → IsWithin (joined_driver netlist timing stimulus.sets s d)
+  joined-within : (s : ℕ) (d : Driver) → AreDriverLimits (joined_driver netlist timing stimulus.sets s d)
   joined-within s Primary = tt
   joined-within s (Driven kind pins) = gate-within s (is_dff kind) kind pins
+
+  -- a joined driver has the pins of its row
+  gate-count : (s : ℕ) (b : Bool) (kind : Kind) (pins : List ℕ) → is_dff kind ≡ b → netlists.ArePins n kind pins → pin_count (joined_gate netlist timing s b kind pins) ≡ length pins
+  gate-count s true kind pins e ok = sym (ok.one (dff-unary kind e))
+  gate-count s false kind pins e ok =
+      let delays = pin_delays netlist timing s kind pins in
+      length-map (pins_with pins delays) (λ p. p.signal) ∙ length-pins_with pins delays (length-pin_delays netlist timing s kind pins)
+
+  joined-count : (s : ℕ) (d : Driver) → netlists.IsDriver n d → pin_count (joined_driver netlist timing stimulus.sets s d) ≡ length (pins_of d)
+  joined-count s Primary ok = refl
+  joined-count s (Driven kind pins) ok = gate-count s (is_dff kind) kind pins refl ok
+
+  all-count : sum_by pin_count (map joined (range_with_len 0 n)) ≡ sum_by (λ d. length (pins_of d)) netlist.rows
+  all-count =
+      let long = length-map-range_with_len joined 0 n in
+      same-sums pin_count (λ d. length (pins_of d)) (circuits.Input []) Primary 0 (map joined (range_with_len 0 n)) netlist.rows (long ∙ sym n-ok.rows)
+      (λ k l. let m : k < n = omega (arith, long, l) in
+      ap pin_count (get_or-map-range_with_len joined 0 n k k (circuits.Input []) m (omega arith)) ∙ joined-count k (driver_at netlist k) (row-sound netlist n-ok k m))
 
   all-range : (P : circuits.Driver → Type 0) → ((s : ℕ) → s < n → P (joined s)) → All P (map joined (range_with_len 0 n))
   all-range P h i d l =
@@ -293,7 +320,8 @@ module _ (netlist : netlists.Content) (timing : timings.Content) (stimulus : sti
         limits = record {
           signals = omega (arith, long, n-ok.few);
           horizon = s-ok.horizon;
-          numbers = all-range IsWithin (λ s l. joined-within s (driver_at netlist s));
+          pins = omega (arith, all-count, n-ok.pins);
+          drivers = all-range AreDriverLimits (λ s l. joined-within s (driver_at netlist s));
         };
         signals = sym long;
       }

@@ -1,22 +1,20 @@
 -- What is kept of a signal stands for its driver.
-use Rattle.std.proofs.Common.{◌≡◌, ℕ, ◌<◌, ◌≤◌, List, [], ◌∷◌, map, length, get_or, sym, ap, ◌∙◌, subst, arith, refl, Some}
+use Rattle.std.proofs.Common.{◌≡◌, ℕ, ◌<◌, List, [], length, get_or, sym, ◌∙◌, subst, arith, refl, Some}
 use Rattle.std.specs.Prelude.{slice_get}
 use Rattle.std.specs.Borrow.{Bor}
-use Rattle.std.specs.List.{range_with_len}
 use Rattle.std.proofs.lemmas.List.{get_or_read}
 use Rattle.std.proofs.lemmas.Option.{get_or_from_slice_get}
 use Rattle.std.proofs.lemmas.List.FromFn.{length-map-range_with_len, get_or-map-range_with_len}
 use Rattle.gate_values.specs.declared.Kind.{Kind}
 use Rattle.circuit_meaning.specs.declared.FlipFlop.{FlipFlop}
 use Rattle.circuit_meaning.specs.declared.Setting.{Setting}
-use Rattle.circuit_meaning.specs.Circuit.{Driver, Input, Gate, Flop, Circuit, driver, IsCircuit, IsDriver}
-use Rattle.circuit_meaning.specs.Cells.{least_delay}
+use Rattle.circuit_meaning.specs.Circuit.{Input, driver, IsDriver, AreDriverLimits}
 use Rattle.circuit_meaning.proofs.Equations.{driver_fits}
 use Rattle.design.specs.declared.rows.Row.{Row}
 use Rattle.design.specs.declared.rows.Row.TheVariants as row
 use Rattle.design.specs.declared.rows.Source.{Source as SourceRow}
 use Rattle.design.specs.declared.rows.Source.TheVariants as source
-use Rattle.design.specs.Joined.{Joined, IsDesign, IsWithin}
+use Rattle.design.specs.Joined.{Joined}
 use Rattle.design.specs.Sources.{Kept, IsKept, joined_of, circuit_of, driver_at, driver_of, signals_of, driver_from, FitsFrom, Fits, FitsAt, IsSourceOf}
 
 module _ (k : Kept) (ok : IsKept k) (s : ℕ) where
@@ -33,7 +31,7 @@ module _ (k : Kept) (ok : IsKept k) (s : ℕ) where
       record {
         driver = is;
         sound = subst (IsDriver (length c.drivers) c.horizon) is (driver_fits c ok.design.circuit s);
-        within = subst IsWithin is (ok.design.limits.numbers s (Input []) l);
+        within = subst AreDriverLimits is (ok.design.limits.drivers s (Input []) l);
         fits = fits;
       }
 

@@ -1,9 +1,8 @@
 -- The interval of a cell, from what its looked pins have in common.
-use Rattle.std.proofs.Common.{◌≡◌, ℕ, zero, suc, ◌+◌, ◌-◌, ◌<◌, ◌≤◌, min, max, Bool, true, false, cond, nat_lt, List, [], ◌∷◌, map, fold, take, length, get_or, Option, Some, None, IsSome, IsNone, refl, sym, ap, ap₂, ◌∙◌, subst, arith, add-one}
+use Rattle.std.proofs.Common.{◌≡◌, ℕ, zero, suc, ◌+◌, ◌-◌, ◌≤◌, Bool, true, false, cond, nat_lt, List, [], ◌∷◌, map, fold, take, length, get_or, Option, Some, None, IsSome, IsNone, refl, sym, ap, ap₂, ◌∙◌, subst, arith}
 use Rattle.std.specs.Borrow.{Bor}
 use Rattle.std.specs.List.{range_with_len, AllByRecursion}
 use Rattle.std.proofs.lemmas.List.{length-map, take_all}
-use Rattle.gate_values.specs.declared.Value.{Value}
 use Rattle.gate_values.specs.declared.Value.TheVariants.{X}
 use Rattle.gate_values.specs.declared.Kind.{Kind}
 use Rattle.gate_values.specs.declared.Kind.TheVariants.{Dff}
@@ -11,10 +10,10 @@ use Rattle.gate_values.specs.Gates.{up_to_first, decides}
 use Rattle.gate_values.proofs.Looked.{cut_alike, map-up_to_first}
 use Rattle.valid_intervals.specs.declared.Point.{Point}
 use Rattle.valid_intervals.specs.Spans.{Span, from_to, meet, cut_at}
-use Rattle.flip_flops.specs.Edges.{shown_edge, flop_span}
+use Rattle.flip_flops.specs.Edges.{shown_edge}
 use Rattle.circuit_meaning.specs.declared.FlipFlop.{FlipFlop}
 use Rattle.circuit_meaning.specs.declared.Pin.{Pin}
-use Rattle.circuit_meaning.specs.Circuit.{Driver, Input, Gate, Flop, Circuit, driver, IsCircuit}
+use Rattle.circuit_meaning.specs.Circuit.{Circuit, IsCircuit}
 use Rattle.circuit_meaning.specs.Forward.{value, seen}
 use Rattle.circuit_meaning.specs.Cells.{span, least_delay, looked, pin_span}
 use Rattle.circuit_meaning.specs.Need.{IsEvaluable, HasSources}

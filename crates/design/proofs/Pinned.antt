@@ -1,17 +1,16 @@
 -- What a point looks at through one of its pins, by the driver of the signal.
-use Rattle.std.proofs.Common.{◌≡◌, ℕ, zero, suc, ◌+◌, ◌-◌, ◌<◌, ◌≤◌, min, max, Bool, true, false, cond, nat_lt, List, [], ◌∷◌, map, fold, take, length, get_or, Option, Some, None, IsSome, refl, sym, ap, ap₂, ◌∙◌, subst, arith, inl, inr, lt-ltb, le-ltb}
+use Rattle.std.proofs.Common.{◌≡◌, ℕ, ◌+◌, ◌-◌, ◌<◌, ◌≤◌, cond, List, length, get_or, Option, Some, None, IsSome, refl, sym, ap, ap₂, ◌∙◌, subst, arith, inl, inr, lt-ltb, le-ltb}
 use Rattle.std.specs.Prelude.{slice_get, option_map, IfSome}
 use Rattle.std.specs.Option.{SomeIff}
 use Rattle.std.specs.Borrow.{Bor}
-use Rattle.std.specs.List.{range_with_len, AllByRecursion, All}
 use Rattle.std.proofs.lemmas.Bool.{cases_lt}
 use Rattle.std.proofs.lemmas.Option.{slice_get-get_or, slice_get-map, get_or_from_slice_get}
 use Rattle.valid_intervals.specs.declared.Point.{Point}
-use Rattle.valid_intervals.specs.Spans.{Span, from_to, meet, moved, cut_at, IsIn}
+use Rattle.valid_intervals.specs.Spans.{Span, from_to, moved, cut_at}
 use Rattle.flip_flops.specs.Edges.{shown_edge, flop_span}
 use Rattle.circuit_meaning.specs.declared.FlipFlop.{FlipFlop}
 use Rattle.circuit_meaning.specs.declared.Pin.{Pin}
-use Rattle.circuit_meaning.specs.Circuit.{Driver, Input, Gate, Flop, Circuit, driver, IsCircuit, IsDriver, read_by}
+use Rattle.circuit_meaning.specs.Circuit.{Circuit, driver, IsCircuit, read_by}
 use Rattle.gate_values.specs.declared.Kind.{Kind}
 use Rattle.circuit_meaning.specs.Cells.{span, pin_span}
 use Rattle.circuit_meaning.specs.Need.{IsEvaluable, HasSources}
@@ -19,11 +18,10 @@ use Rattle.circuit_meaning.specs.Looks.{source, flop_sources, sources_at, pin_so
 use Rattle.flip_flops.proofs.EdgeLemmas.{shown_edge-le}
 use Rattle.circuit_meaning.proofs.Cover.{cell-covers}
 use Rattle.design.specs.declared.rows.Source.TheVariants as row
-use Rattle.design.specs.Joined.{IsWithin}
 use Rattle.design.specs.Sources.{IsSourceOf, pins_with}
 use Rattle.design.specs.Pins.{pin_at, heard_of}
 use Rattle.design.specs.Given.{later_of}
-use Rattle.design.proofs.Answered.{get_or-pins_with, length-pins_with, gate-reads, flop-reads, flop-spans}
+use Rattle.design.proofs.Answered.{get_or-pins_with, length-pins_with, gate-reads, flop-spans}
 
 module _ (c : Circuit) (ok : IsCircuit c) (s t k limit : ℕ) (top : limit ≡ c.horizon + 1) (within : t ≤ c.horizon) where
   module _ (kind : Kind) (signals delays : Bor (List ℕ)) (m : ℕ) (src : IsSourceOf c s (row.Gate kind signals delays m)) (l : k < length (read_by (driver c s))) where
@@ -120,6 +118,6 @@ module _ (c : Circuit) (ok : IsCircuit c) (s t k limit : ℕ) (top : limit ≡ c
     flop-earlier None e = tt
     flop-earlier (Some u) e = let low = shown_edge-le f.clock f.delay t u (sym e) in let some = src.sound.delay in omega (arith, low, some)
 
-    pub flop-sees : (a : Span) (o : Option ℕ) → o ≡ shown_edge f.clock f.delay t → a ≡ flop_span limit f.delay f.clock o → a ≡ pin_interval c s t k
-    flop-sees a o e is =
-        is ∙ ap₂ (λ (n : ℕ) (q : Option ℕ). flop_span n f.delay f.clock q) top e ∙ sym (flop-spans c ok s t limit top f signals src) ∙ ap (λ d. interval_at c s t d k) (sym src.driver)
+    pub flop-sees : (a : Span) → a ≡ flop_span limit f.delay f.clock (shown_edge f.clock f.delay t) → a ≡ pin_interval c s t k
+    flop-sees a is =
+        is ∙ ap (λ n. flop_span n f.delay f.clock (shown_edge f.clock f.delay t)) top ∙ sym (flop-spans c ok s t limit top f signals src) ∙ ap (λ d. interval_at c s t d k) (sym src.driver)

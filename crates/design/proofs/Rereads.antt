@@ -1,10 +1,10 @@
 -- What rows say, one row after another.
-use Rattle.std.proofs.Common.{◌≡◌, ℕ, suc, ◌+◌, ◌<◌, ◌≤◌, Bool, true, false, ◌&&◌, cond, not, eqb-true, eq-eqb, List, [], ◌∷◌, ◌++◌, length, take, drop, get_or, map, filter, Option, Some, None, refl, sym, ap, ap₂, ◌∙◌, subst, arith, ◌⊎◌, inl, inr}
+use Rattle.std.proofs.Common.{◌≡◌, ℕ, ◌+◌, ◌<◌, ◌≤◌, Bool, true, false, ◌&&◌, cond, List, [], ◌∷◌, ◌++◌, length, take, drop, get_or, Option, Some, None, refl, sym, ap, ap₂, ◌∙◌, ◌⊎◌, inl, inr}
 use Rattle.std.specs.Prelude.{nat_eq, Result, Ok, Err, OnOk, IfErr}
 use Rattle.std.specs.Global.{Vec}
 use Rattle.std.specs.Str.{bytes_eq}
 use Rattle.std.specs.Map.{lookup}
-use Rattle.std.proofs.lemmas.List.{drop_more, drop_all, take_all, take_more}
+use Rattle.std.proofs.lemmas.List.{drop_more, drop_all, take_more}
 use Rattle.std.proofs.lemmas.Cmp.{nat_list_eq_equiv}
 use Rattle.indexmap.specs.IndexMap.{insert_entry}
 use Rattle.flip_flops.specs.declared.Clock.{Clock}
@@ -14,7 +14,6 @@ use Rattle.timing_file.specs.Timing as timings
 use Rattle.timing_file.specs.declared.ClockRow.{ClockRow}
 use Rattle.timing_file.specs.declared.TimingRow.{TimingRow}
 use Rattle.timing_file.specs.declared.TimingWhat.{TimingWhat}
-use Rattle.timing_file.specs.declared.TimingWhat.TheVariants as what
 use Rattle.design.specs.declared.fault.JoinFault.{JoinFault}
 use Rattle.design.specs.declared.fault.JoinCause.{JoinCause}
 use Rattle.design.specs.declared.fault.JoinFile.TheVariants as file

@@ -1,5 +1,5 @@
 -- The cells that need no evaluation, by what is kept of a signal.
-use Rattle.std.specs.Prelude.{ℕ, zero, suc, ◌≤◌, ◌<◌, List, Option, Some, None, slice_get}
+use Rattle.std.specs.Prelude.{ℕ, zero, suc, List, Option, Some, None, slice_get}
 use Rattle.std.specs.Option.{option_map_or}
 use Rattle.valid_intervals.specs.Spans.{Span, from_to, moved}
 use Rattle.circuit_meaning.specs.declared.Setting.{Setting}

@@ -1,11 +1,11 @@
 -- What a netlist, a timing file and a stimulus file make: a design, or the first row at fault.
-use Rattle.std.specs.Prelude.{◌≡◌, ℕ, ◌+◌, Bool, true, false, not, ◌&&◌, nat_eq, nat_lt, nat_le, List, [], ◌∷◌, length, map, filter, get_or, Option, Some, None, is_some, unwrap_or, Result, Ok, Err, if◌then◌else◌, ◌⊎◌, position}
+use Rattle.std.specs.Prelude.{◌≡◌, ℕ, Bool, true, false, not, ◌&&◌, nat_eq, nat_lt, nat_le, List, [], ◌∷◌, length, map, filter, get_or, Option, Some, None, is_some, unwrap_or, Result, Ok, Err, if◌then◌else◌, ◌⊎◌, position}
 use Rattle.std.specs.List.{range_with_len, dedup}
 use Rattle.std.specs.Str.{bytes_eq}
 use Rattle.gate_values.specs.declared.Value.{Value}
 use Rattle.gate_values.specs.declared.Value.TheVariants.{X}
 use Rattle.gate_values.specs.declared.Kind.{Kind}
-use Rattle.gate_values.specs.declared.Kind.TheVariants.{And, Nand, Or, Nor, Xor, Xnor, Not, Buff, Dff}
+use Rattle.gate_values.specs.declared.Kind.TheVariants.{Dff}
 use Rattle.flip_flops.specs.declared.Clock.{Clock}
 use Rattle.circuit_meaning.specs.declared.Setting.{Setting}
 use Rattle.circuit_meaning.specs.declared.FlipFlop.{FlipFlop}

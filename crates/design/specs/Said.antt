@@ -1,14 +1,12 @@
 -- What is kept of the rows of the two files while they are read.
-use Rattle.std.specs.Prelude.{◌≡◌, ℕ, Bool, ◌&&◌, nat_eq, List, [], ◌∷◌, ◌++◌, length, map, filter, get_or, Option, Some, None, Result, Ok, Err, ◌⊎◌, ◌<◌, true, false, fold, min}
+use Rattle.std.specs.Prelude.{◌≡◌, ℕ, Bool, ◌&&◌, nat_eq, List, [], ◌∷◌, ◌++◌, length, map, filter, get_or, Some, None, Result, Ok, Err, ◌⊎◌, ◌<◌, true, false, fold, min}
 use Rattle.std.specs.Global.{Vec}
 use Rattle.std.specs.Str.{bytes_eq}
 use Rattle.std.specs.HashMap as hash
 use Rattle.std.specs.Map.{lookup}
-use Rattle.gate_values.specs.declared.Value.{Value}
 use Rattle.gate_values.specs.declared.Kind.{Kind}
 use Rattle.flip_flops.specs.declared.Clock.{Clock}
 use Rattle.circuit_meaning.specs.declared.Setting.{Setting}
-use Rattle.circuit_meaning.specs.Cells.{least_delay}
 use Rattle.bench_reader.specs.Netlists as netlists
 use Rattle.bench_reader.specs.Netlists.{Driver, Primary, Driven}
 use Rattle.timing_file.specs.Timing as timings
@@ -22,7 +20,7 @@ use Rattle.design.specs.declared.stated.Stated.{Stated}
 use Rattle.design.specs.declared.stated.Rows.{Rows}
 use Rattle.std.specs.List.{range_with_len}
 use Rattle.design.specs.Causes.{out_of_memory}
-use Rattle.design.specs.Join.{number, driver_at, is_dff, clock_of_row, last_said, rows_say, delay_said, pin_said, initial_said, clock_said, timing_fault, set_fault, first_fault, is_signal, setting_of, in_time_order, settings_of, pin_delays, flop_of}
+use Rattle.design.specs.Join.{number, driver_at, is_dff, clock_of_row, last_said, rows_say, delay_said, pin_said, initial_said, clock_said, timing_fault, set_fault, first_fault, is_signal, setting_of, pin_delays, flop_of}
 
 -- the clocks of these rows, by their names
 abbrev pub KnowsClocks : List ClockRow → List (Vec ℕ × Clock) → Type 0

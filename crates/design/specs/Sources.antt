@@ -1,18 +1,16 @@
 -- What is kept of a signal, and the driver that it stands for.
-use Rattle.std.specs.Prelude.{◌≡◌, ℕ, ◌≤◌, ◌<◌, List, [], ◌∷◌, length, map, get_or, AllPairs}
+use Rattle.std.specs.Prelude.{◌≡◌, ℕ, ◌<◌, List, [], ◌∷◌, length, map, get_or, AllPairs}
 use Rattle.std.specs.List.{range_with_len}
-use Rattle.gate_values.specs.declared.Kind.{Kind}
 use Rattle.bench_reader.specs.Netlists.{Primary, Content, pins_of}
 use Rattle.circuit_meaning.specs.declared.Setting.{Setting}
 use Rattle.circuit_meaning.specs.declared.Pin.{Pin}
-use Rattle.circuit_meaning.specs.declared.FlipFlop.{FlipFlop}
-use Rattle.circuit_meaning.specs.Circuit.{Driver, Input, Gate, Flop, Circuit, IsCircuit, IsDriver, driver}
+use Rattle.circuit_meaning.specs.Circuit.{Driver, Input, Gate, Flop, Circuit, IsDriver, AreDriverLimits, driver}
 use Rattle.circuit_meaning.specs.Cells.{least_delay}
 use Rattle.design.specs.declared.rows.Row.{Row}
 use Rattle.design.specs.declared.rows.Row.TheVariants as row
 use Rattle.design.specs.declared.rows.Source.{Source as SourceRow}
 use Rattle.design.specs.declared.rows.Source.TheVariants as source
-use Rattle.design.specs.Joined.{Joined, IsDesign, AreLimits, IsWithin}
+use Rattle.design.specs.Joined.{Joined, IsDesign}
 
 -- the pins that read these signals after these delays
 abbrev pub pins_with : List ℕ → List ℕ → List Pin
@@ -81,5 +79,5 @@ FitsFrom (source.Flop f signals) = signals.now ≡ f.pin ∷ []
 pub record IsSourceOf (c : Circuit) (s : ℕ) (r : SourceRow) : Type 0 where
   pub driver : driver c s ≡ driver_from r
   pub sound : IsDriver (length c.drivers) c.horizon (driver_from r)
-  pub within : IsWithin (driver_from r)
+  pub within : AreDriverLimits (driver_from r)
   pub fits : FitsFrom r

@@ -5,10 +5,10 @@ ghost use Rattle.std.specs.List.{AllWithin};
 ghost use Rattle.valid_intervals.specs.Spans.{from_to, cut_at, IsSpan};
 ghost use Rattle.flip_flops.specs.Edges as edges;
 ghost use Rattle.gate_values.specs.declared.Value.TheVariants.{X};
+ghost use Rattle.circuit_meaning.specs.Circuit.{AreFlopLimits};
 ghost use Rattle.circuit_meaning.specs.Forward as forward;
 ghost use Rattle.circuit_meaning.specs.Forward.{input_value};
 ghost use Rattle.circuit_meaning.specs.Cells.{next_setting, input_start};
-ghost use Rattle.design.specs.Joined.{IsFlopWithin};
 ghost use Rattle.design.specs.Sources.{InTimeOrder};
 ghost use Rattle.design.specs.Given.{last_of, next_of, later_of};
 
@@ -100,7 +100,7 @@ pub fn early_gate(least: u32, time: u32, limit: u32) -> Option<Cell>
 /// The edge that a flip-flop shows at `time`.
 pub fn shown_edge(flop: &FlipFlop, time: u32) -> Option<u32>
     requires delay { 1 ≤ flop.now.delay }
-    requires within { IsFlopWithin flop.now }
+    requires limits { AreFlopLimits flop.now }
     requires time { time ≤ 1000000 }
     ensures { result ≡ edges.shown_edge flop.now.clock flop.now.delay time }
 {
@@ -110,28 +110,27 @@ pub fn shown_edge(flop: &FlipFlop, time: u32) -> Option<u32>
     }
 }
 
-/// The interval of a flip-flop that shows this edge at a time before `limit`.
-pub fn flop_span(flop: &FlipFlop, shown: Option<u32>, time: u32, limit: u32) -> Span
+/// The interval of a flip-flop at a time before `limit`.
+pub fn flop_span(flop: &FlipFlop, time: u32, limit: u32) -> Span
     requires delay { 1 ≤ flop.now.delay }
-    requires within { IsFlopWithin flop.now }
+    requires limits { AreFlopLimits flop.now }
     requires time { time < limit }
     requires limit { limit ≤ 1000001 }
-    requires shown { shown ≡ edges.shown_edge flop.now.clock flop.now.delay time }
-    ensures { result ≡ edges.flop_span limit flop.now.delay flop.now.clock shown }
+    ensures { result ≡ edges.flop_span limit flop.now.delay flop.now.clock (edges.shown_edge flop.now.clock flop.now.delay time) }
 {
-    let Some(clock) = flop.clock else {
-        return span_of(0, limit);
-    };
-    match shown {
-        None => span_of(0, (clock.first + flop.delay).min(limit)),
-        Some(edge) => shown_span(edge + flop.delay, clock.period, limit),
+    match flop.clock {
+        None => span_of(0, limit),
+        Some(clock) => {
+            let (start, end) = flip_flops::flop_span(&clock, flop.delay, time, limit);
+            span_of(start, end)
+        }
     }
 }
 
 /// The cell of a flip-flop before the first edge that it shows.
 pub fn idle_flop(flop: &FlipFlop, time: u32, limit: u32) -> Option<Cell>
     requires delay { 1 ≤ flop.now.delay }
-    requires within { IsFlopWithin flop.now }
+    requires limits { AreFlopLimits flop.now }
     requires time { time < limit }
     requires limit { limit ≤ 1000001 }
     ensures some { IfSome result (λ cell. (edges.shown_edge flop.now.clock flop.now.delay time ≡ None) × (cell ≡ record { span = edges.flop_span limit flop.now.delay flop.now.clock None; value = flop.now.initial })) }
@@ -140,7 +139,7 @@ pub fn idle_flop(flop: &FlipFlop, time: u32, limit: u32) -> Option<Cell>
     match shown_edge(flop, time) {
         Some(_) => None,
         None => Some(Cell {
-            span: flop_span(flop, None, time, limit),
+            span: flop_span(flop, time, limit),
             value: flop.initial,
         }),
     }
@@ -158,14 +157,4 @@ pub fn later_span(delay: u32, heard: Option<Span>, time: u32, limit: u32) -> Spa
         None => span_of(0, delay.min(limit)),
         Some(source) => source.moved(delay, limit).unwrap(),
     }
-}
-
-/// From `start` on for one period of the clock, before `limit`.
-fn shown_span(start: u32, period: u32, limit: u32) -> Span
-    requires start { start < limit }
-    requires period { (1 ≤ period) × (period ≤ 1000000) }
-    requires limit { limit ≤ 1000001 }
-    ensures { result ≡ from_to start (min (start + period) limit) }
-{
-    span_of(start, (start + period).min(limit))
 }

@@ -205,7 +205,7 @@ impl Design {
         match self.source(signal) {
             Source::Input(_) => unreachable!(),
             Source::Gate { delays, .. } => later_span(delays[pin as usize], heard, time, limit),
-            Source::Flop { flop, .. } => flop_span(&flop, shown_edge(&flop, time), time, limit),
+            Source::Flop { flop, .. } => flop_span(&flop, time, limit),
         }
     }
 

@@ -1,4 +1,4 @@
-use Rattle.std.proofs.Common.{◌≡◌, ap, sym, ◌∙◌, ap₂}
+use Rattle.std.proofs.Common.{ap, sym, ◌∙◌, ap₂}
 use Rattle.std.proofs.lemmas.List.Elements.{recursion_from_All}
 use Rattle.valid_intervals.specs.Spans.{from_to}
 use Rattle.circuit_meaning.specs.Forward.{input_value}

@@ -1,4 +1,4 @@
-use Rattle.std.proofs.Common.{◌≡◌, sym, subst, length}
+use Rattle.std.proofs.Common.{sym, subst, length}
 use Rattle.bench_reader.specs.Netlists as netlists
 use Rattle.design.proofs.Rowed.{row-is, row-sound}
 use Rattle.design.proofs.stated.row_at.Goals as goal

@@ -1,4 +1,3 @@
-use Rattle.std.proofs.Common.{◌≡◌}
 use Rattle.design.proofs.Answered.{input-is, gate-early, flop-idle, if_some}
 use Rattle.design.proofs.design.Design.base.Goals as goal
 

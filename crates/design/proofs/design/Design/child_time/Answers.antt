@@ -1,4 +1,4 @@
-use Rattle.std.proofs.Common.{◌≡◌, sym, refl}
+use Rattle.std.proofs.Common.{refl}
 use Rattle.design.proofs.Pinned.{gate-pin, gate-source, gate-earlier, flop-source, flop-earlier}
 use Rattle.design.proofs.design.Design.child_time.Goals as goal
 

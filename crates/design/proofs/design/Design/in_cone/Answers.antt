@@ -1,4 +1,4 @@
-use Rattle.std.proofs.Common.{◌≡◌, sym, ◌∙◌, refl, arith, false}
+use Rattle.std.proofs.Common.{sym, arith}
 use Rattle.design.proofs.Walked.{walked-start, next-within, walked-step, walked-missed, empty-list, unmarked-read}
 use Rattle.design.proofs.design.Design.in_cone.Goals as goal
 

@@ -1,4 +1,4 @@
-use Rattle.std.proofs.Common.{◌≡◌, refl, ap, ◌∙◌, sym, subst, inl, Err}
+use Rattle.std.proofs.Common.{ap, ◌∙◌, sym, subst, inl, Err}
 use Rattle.std.proofs.lemmas.Result.{err_from_is_err_and}
 use Rattle.design.specs.Join.{Answers, design_of}
 use Rattle.design.specs.Said.{HasSets}

@@ -1,4 +1,4 @@
-use Rattle.std.proofs.Common.{◌≡◌, sym, refl}
+use Rattle.std.proofs.Common.{refl}
 use Rattle.design.proofs.Pinned.{gate-pin, gate-delay, heard-starts, gate-sees, flop-sees}
 use Rattle.design.proofs.design.Design.pin_span.Goals as goal
 
@@ -25,4 +25,4 @@ returns-in-Gate c =
 pub returns-in-Flop : goal.returns-in-Flop
 returns-in-Flop c =
     flop-sees c.args.self.now.circuit c.source.ensures.design.circuit c.args.signal c.args.time c.args.pin c.limit-limit.result c.limit-limit.ensures.limit c.requires.time
-    c.in-Flop.flop c.in-Flop.signals c.in-Flop.ensures.source c.requires.pin c.requires.evaluable c.flop_span.result c.shown_edge.result c.shown_edge.ensures c.flop_span.ensures
+    c.in-Flop.flop c.in-Flop.signals c.in-Flop.ensures.source c.requires.pin c.requires.evaluable c.flop_span.result c.flop_span.ensures

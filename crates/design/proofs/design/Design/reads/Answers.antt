@@ -1,4 +1,4 @@
-use Rattle.std.proofs.Common.{◌≡◌, sym, refl}
+use Rattle.std.proofs.Common.{sym, refl}
 use Rattle.design.proofs.Answered.{gate-reads, gate-signals}
 use Rattle.design.proofs.design.Design.reads.Goals as goal
 

@@ -1,5 +1,3 @@
-use Rattle.std.proofs.Common.{◌≡◌}
-use Rattle.design.specs.Sources.{Kept}
 use Rattle.design.proofs.Kept.{input-source, gate-source, flop-source}
 use Rattle.design.proofs.design.Design.source.Goals as goal
 

@@ -1,6 +1,5 @@
-use Rattle.std.proofs.Common.{◌≡◌, sym, ap, ◌∙◌}
-use Rattle.std.specs.Prelude.{IfSome}
-use Rattle.valid_intervals.specs.Spans.{Span, meet}
+use Rattle.std.proofs.Common.{◌≡◌, ◌∙◌}
+use Rattle.valid_intervals.specs.Spans.{meet}
 use Rattle.design.proofs.Overlap.{gate-over, gate-overlaps, flop-over, some_unless}
 use Rattle.design.proofs.design.Design.span_over.Goals as goal
 

@@ -1,4 +1,4 @@
-use Rattle.std.proofs.Common.{◌≡◌, refl, ◌∙◌}
+use Rattle.std.proofs.Common.{refl, ◌∙◌}
 use Rattle.design.proofs.Rereads.{clock-more}
 use Rattle.design.proofs.stated.NamedClocks.read.Goals as goal
 

@@ -1,4 +1,4 @@
-use Rattle.std.proofs.Common.{◌≡◌, refl, sym, ◌∙◌, ap, Some, None}
+use Rattle.std.proofs.Common.{refl, sym, ◌∙◌, ap}
 use Rattle.design.specs.Join.{delay_said, pin_said, initial_said, clock_said, clock_named}
 use Rattle.design.proofs.Rereads.{say-same, say-more, say-pin}
 use Rattle.std.specs.Prelude.{nat_eq}

@@ -1,4 +1,4 @@
-use Rattle.std.proofs.Common.{◌≡◌, refl, ap, ◌∙◌, sym, subst, inl, Err, ◌⊎◌, Some}
+use Rattle.std.proofs.Common.{◌≡◌, ap, ◌∙◌, sym, subst, inl, Err, ◌⊎◌, Some}
 use Rattle.std.proofs.lemmas.Result.{err_from_is_err_and}
 use Rattle.design.specs.Causes.{out_of_memory}
 use Rattle.design.specs.Join.{timing_fault, first_fault}

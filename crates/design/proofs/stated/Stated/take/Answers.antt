@@ -1,4 +1,4 @@
-use Rattle.std.proofs.Common.{◌≡◌, refl, sym, ap, ◌∙◌}
+use Rattle.std.proofs.Common.{refl, sym, ap, ◌∙◌}
 use Rattle.design.specs.Join.{number}
 use Rattle.design.proofs.Rereads.{row-passes, takes-row, on-ok}
 use Rattle.design.proofs.stated.Stated.take.Goals as goal

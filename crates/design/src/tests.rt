@@ -1,0 +1,416 @@
+ghost use Rattle.std.specs.Prelude.{◌≤◌, length};
+
+use super::*;
+use bench_reader::read_bench;
+use gate_values::{Kind, Value};
+use std::alloc::Global;
+use std::test::Fail;
+use stimulus_file::read_stimulus;
+use timing_file::read_timing;
+use valid_intervals::Span;
+
+/// A netlist, a timing file and a stimulus file.
+#[derive(Clone, Copy)]
+struct Files {
+    netlist: &'static str,
+    timing: &'static str,
+    stimulus: &'static str,
+}
+
+const INVERTER: &str = "INPUT(a)\nOUTPUT(y)\ny = NOT(a)\n";
+
+const AND: &str = "INPUT(a)\nINPUT(b)\nOUTPUT(y)\ny = AND(a, b)\n";
+
+const FLIP_FLOP: &str = "INPUT(a)\nOUTPUT(q)\nq = DFF(a)\n";
+
+const FLIP_FLOPS: &str = "INPUT(a)\nq = DFF(a)\nr = DFF(a)\n";
+
+const PULSE: &str = "horizon 10\nset a 5 1\nset a 0 0\n";
+
+const INVERTED_PULSE: Files = Files {
+    netlist: INVERTER,
+    timing: "default 3\n",
+    stimulus: PULSE,
+};
+
+// the greatest delay and the greatest horizon
+const LATEST_EDGE: Files = Files {
+    netlist: INVERTER,
+    timing: "default 1000000\n",
+    stimulus: "horizon 1000000\nset a 0 0\n",
+};
+
+// a delay by name is preferred to the delays of its kind and of all kinds
+const DELAYS: Files = Files {
+    netlist: "INPUT(a)\nv = BUFF(a)\nw = BUFF(a)\ny = NOT(a)\n",
+    timing: "default BUFF 4\ndelay v 5\ndefault 3\n",
+    stimulus: "horizon 20\nset a 0 0\nset a 7 1\nset a 8 0\n",
+};
+
+// a gate that reads itself
+const RING: Files = Files {
+    netlist: "INPUT(en)\nOUTPUT(y)\ny = NAND(en, y)\n",
+    timing: "default 2\n",
+    stimulus: "horizon 12\nset en 0 0\nset en 4 1\n",
+};
+
+const PINS: Files = Files {
+    netlist: AND,
+    timing: "version 2\ndelay y 2\npin y 1 5\n",
+    stimulus: "horizon 10\nset a 0 1\nset b 0 1\nset a 6 0\n",
+};
+
+const FLOATING: Files = Files {
+    netlist: AND,
+    timing: "",
+    stimulus: "horizon 5\nset a 0 z\nset b 0 1\n",
+};
+
+const CLOCKED: Files = Files {
+    netlist: FLIP_FLOP,
+    timing: "clock 10 10\n",
+    stimulus: "horizon 30\nset a 0 0\nset a 10 1\n",
+};
+
+const UNCLOCKED: Files = Files {
+    netlist: FLIP_FLOP,
+    timing: "",
+    stimulus: "horizon 30\nset a 0 0\nset a 10 1\n",
+};
+
+// a clock by name beside the common one
+const CLOCKS: Files = Files {
+    netlist: FLIP_FLOPS,
+    timing: "version 2\nclock 10 10\nclock fast 3 4\nclocked r fast\ninit r 0\n",
+    stimulus: "horizon 20\nset a 0 0\nset a 5 1\n",
+};
+
+/// The text, where it is short.
+fn short(text: &str) -> &[u8]
+    ensures { length result.now ≤ 1000 }
+{
+    let bytes = text.as_bytes();
+    if bytes.len() > 1000 { &[] } else { bytes }
+}
+
+/// The design of three files, or the row at fault.
+fn joined(alloc: Global, files: &Files) -> Result<Result<Design, JoinFault>, Fail> {
+    let netlist = read_bench(alloc, short(files.netlist))?;
+    let timing = read_timing(alloc, short(files.timing))?;
+    let stimulus = read_stimulus(alloc, short(files.stimulus))?;
+    Ok(Design::join(alloc, netlist, &timing, &stimulus))
+}
+
+/// The cell that a point has at once: its start, its end and its value.
+fn base_of(design: &Design, name: &str, time: u32) -> Option<(u32, u32, Value)> {
+    design.facts();
+    let signal = design.netlist().id_of(name.as_bytes())?;
+    if time > design.horizon() {
+        return None;
+    }
+    let cell = design.base(signal, time)?;
+    Some((cell.span.start(), cell.span.end(), cell.value))
+}
+
+#[test]
+fn points_with_a_cell_at_once(rt: HostRuntime) -> Result<(), Fail> {
+    let rows = [
+        (INVERTED_PULSE, "a", 4, Some((0, 5, Value::Zero))),
+        (INVERTED_PULSE, "a", 5, Some((5, 11, Value::One))),
+        (INVERTED_PULSE, "y", 2, Some((0, 3, Value::X))),
+        (INVERTED_PULSE, "y", 3, None),
+        (LATEST_EDGE, "y", 999_999, Some((0, 1_000_000, Value::X))),
+        (
+            LATEST_EDGE,
+            "a",
+            1_000_000,
+            Some((0, 1_000_001, Value::Zero)),
+        ),
+        (DELAYS, "v", 4, Some((0, 5, Value::X))),
+        (DELAYS, "w", 3, Some((0, 4, Value::X))),
+        (DELAYS, "y", 2, Some((0, 3, Value::X))),
+        (DELAYS, "a", 7, Some((7, 8, Value::One))),
+        (RING, "y", 1, Some((0, 2, Value::X))),
+        (PINS, "y", 1, Some((0, 2, Value::X))),
+        (PINS, "y", 4, None),
+        (FLOATING, "a", 0, Some((0, 6, Value::Z))),
+        (CLOCKED, "q", 10, Some((0, 11, Value::X))),
+        (CLOCKED, "q", 11, None),
+        (UNCLOCKED, "q", 30, Some((0, 31, Value::X))),
+        (CLOCKS, "q", 10, Some((0, 11, Value::X))),
+        (CLOCKS, "r", 3, Some((0, 4, Value::Zero))),
+        (CLOCKS, "r", 4, None),
+    ];
+    for (files, name, time, cell) in rows {
+        let design = joined(rt.alloc(), &files)??;
+        assert_eq!(rt; base_of(&design, name, time), cell, "{name} at {time}");
+    }
+    Ok(())
+}
+
+/// What a pin of an evaluable point reads and when; the times about the point at which it sees what it sees there; and
+/// those of the point's cell, where that has no other pin.
+#[derive(Clone, Copy, Debug, PartialEq, Eq)]
+struct Look {
+    kind: Kind,
+    reads: Option<u32>,
+    sees: (u32, u32),
+    cell: Option<(u32, u32)>,
+}
+
+fn times_of(span: Span) -> (u32, u32) {
+    (span.start(), span.end())
+}
+
+/// The look of an evaluable point through a pin that reads a point with a cell at once.
+fn looked_at(design: &Design, name: &str, time: u32, pin: u32) -> Option<Look> {
+    design.facts();
+    let signal = design.netlist().id_of(name.as_bytes())?;
+    if time > design.horizon() {
+        return None;
+    }
+    if design.base(signal, time).is_some() {
+        return None;
+    }
+    let (kind, pins) = design.gate_of(signal);
+    if pin as usize >= pins.len() {
+        return None;
+    }
+    let reads = design.child_time(signal, time, pin);
+    let heard = match reads {
+        None => None,
+        Some(child) => Some(design.base(pins[pin as usize], child)?.span),
+    };
+    let sees = design.pin_span(signal, time, pin, heard);
+    let cell = if pins.len() == 1 {
+        Some(times_of(design.span_over(signal, time, sees)))
+    } else {
+        None
+    };
+    Some(Look {
+        kind,
+        reads,
+        sees: times_of(sees),
+        cell,
+    })
+}
+
+fn only_pin(kind: Kind, reads: u32, start: u32, end: u32) -> Look {
+    Look {
+        kind,
+        reads: Some(reads),
+        sees: (start, end),
+        cell: Some((start, end)),
+    }
+}
+
+fn one_of_pins(kind: Kind, reads: Option<u32>, start: u32, end: u32) -> Look {
+    Look {
+        kind,
+        reads,
+        sees: (start, end),
+        cell: None,
+    }
+}
+
+#[test]
+fn pins_of_evaluable_points(rt: HostRuntime) -> Result<(), Fail> {
+    let (not, buff, and, nand, dff) = (Kind::Not, Kind::Buff, Kind::And, Kind::Nand, Kind::Dff);
+    let rows = [
+        (INVERTED_PULSE, "y", 3, 0, only_pin(not, 0, 3, 8)),
+        (INVERTED_PULSE, "y", 8, 0, only_pin(not, 5, 8, 11)),
+        (
+            LATEST_EDGE,
+            "y",
+            1_000_000,
+            0,
+            only_pin(not, 0, 1_000_000, 1_000_001),
+        ),
+        (DELAYS, "v", 5, 0, only_pin(buff, 0, 5, 12)),
+        (DELAYS, "v", 12, 0, only_pin(buff, 7, 12, 13)),
+        (DELAYS, "v", 20, 0, only_pin(buff, 15, 13, 21)),
+        (DELAYS, "w", 11, 0, only_pin(buff, 7, 11, 12)),
+        (DELAYS, "y", 10, 0, only_pin(not, 7, 10, 11)),
+        (RING, "y", 2, 0, one_of_pins(nand, Some(0), 2, 6)),
+        (RING, "y", 3, 1, one_of_pins(nand, Some(1), 2, 4)),
+        (PINS, "y", 4, 0, one_of_pins(and, Some(2), 2, 8)),
+        (PINS, "y", 4, 1, one_of_pins(and, None, 0, 5)),
+        (PINS, "y", 8, 0, one_of_pins(and, Some(6), 8, 11)),
+        (PINS, "y", 8, 1, one_of_pins(and, Some(3), 5, 11)),
+        (FLOATING, "y", 3, 0, one_of_pins(and, Some(2), 1, 6)),
+        (CLOCKED, "q", 20, 0, only_pin(dff, 10, 11, 21)),
+        (CLOCKED, "q", 21, 0, only_pin(dff, 20, 21, 31)),
+        (CLOCKS, "q", 11, 0, only_pin(dff, 10, 11, 21)),
+        (CLOCKS, "r", 4, 0, only_pin(dff, 3, 4, 8)),
+        (CLOCKS, "r", 8, 0, only_pin(dff, 7, 8, 12)),
+        (CLOCKS, "r", 20, 0, only_pin(dff, 19, 20, 21)),
+    ];
+    for (files, name, time, pin, want) in rows {
+        let design = joined(rt.alloc(), &files)??;
+        assert_eq!(rt;
+            looked_at(&design, name, time, pin),
+            Some(want),
+            "{name} at {time}"
+        );
+    }
+    Ok(())
+}
+
+/// The file and the line of the row at fault, and the number of the cause.
+fn fault_of(alloc: Global, files: &Files) -> Result<Option<(JoinFile, u32, u8)>, Fail> {
+    match joined(alloc, files)? {
+        Ok(_) => Ok(None),
+        Err(fault) => Ok(Some((fault.file, fault.line, fault.cause.number()))),
+    }
+}
+
+#[test]
+fn rows_at_fault(rt: HostRuntime) -> Result<(), Fail> {
+    let late = "horizon 10\nset a 0 0\nset a 10 1\nset a 11 0\n";
+    let rows = [
+        (
+            INVERTER,
+            "default 3\ndelay a 2\n",
+            PULSE,
+            JoinFile::Timing,
+            2,
+            2,
+        ),
+        (
+            INVERTER,
+            "default 3\ndelay b 2\n",
+            PULSE,
+            JoinFile::Timing,
+            2,
+            1,
+        ),
+        (INVERTER, "init y 0\n", PULSE, JoinFile::Timing, 1, 4),
+        (
+            AND,
+            "version 2\ndelay y 2\npin y 2 5\n",
+            PULSE,
+            JoinFile::Timing,
+            3,
+            8,
+        ),
+        (
+            FLIP_FLOPS,
+            "version 2\npin q 0 5\n",
+            PULSE,
+            JoinFile::Timing,
+            2,
+            8,
+        ),
+        (
+            FLIP_FLOPS,
+            "version 2\nclock fast 3 4\nclocked r slow\n",
+            PULSE,
+            JoinFile::Timing,
+            3,
+            9,
+        ),
+        (
+            FLIP_FLOPS,
+            "version 2\nclock fast 3 4\nclocked a fast\n",
+            PULSE,
+            JoinFile::Timing,
+            3,
+            4,
+        ),
+        (
+            FLIP_FLOPS,
+            "version 2\nclocked a slow\n",
+            PULSE,
+            JoinFile::Timing,
+            2,
+            4,
+        ),
+        (INVERTER, "", late, JoinFile::Stimulus, 4, 5),
+        (
+            INVERTER,
+            "",
+            "horizon 10\nset y 11 0\n",
+            JoinFile::Stimulus,
+            2,
+            3,
+        ),
+        (
+            INVERTER,
+            "",
+            "horizon 10\nset b 11 0\n",
+            JoinFile::Stimulus,
+            2,
+            1,
+        ),
+        // the rows of the timing file come first
+        (
+            INVERTER,
+            "\n\n\n\ndelay a 2\n",
+            late,
+            JoinFile::Timing,
+            5,
+            2,
+        ),
+    ];
+    for (netlist, timing, stimulus, file, line, number) in rows {
+        let files = Files {
+            netlist,
+            timing,
+            stimulus,
+        };
+        let fault = fault_of(rt.alloc(), &files)?;
+        assert_eq!(rt; fault, Some((file, line, number)), "{timing}{stimulus}");
+    }
+    Ok(())
+}
+
+// c17 of ISCAS'85
+const C17: &str =
+    "INPUT(1)\nINPUT(2)\nINPUT(3)\nINPUT(6)\nINPUT(7)\nOUTPUT(22)\nOUTPUT(23)\n10 = NAND(1, 3)\n11 = NAND(3, 6)\n16 = NAND(2, 11)\n19 = NAND(11, 7)\n22 = NAND(10, 16)\n23 = NAND(16, 19)\n";
+
+// s27 of ISCAS'89
+const S27: &str =
+    "INPUT(G0)\nINPUT(G1)\nINPUT(G2)\nINPUT(G3)\nOUTPUT(G17)\nG5 = DFF(G10)\nG6 = DFF(G11)\nG7 = DFF(G13)\nG14 = NOT(G0)\nG17 = NOT(G11)\nG8 = AND(G14, G6)\nG15 = OR(G12, G8)\nG16 = OR(G3, G8)\nG9 = NAND(G16, G15)\nG10 = NOR(G14, G11)\nG11 = NOR(G5, G9)\nG12 = NOR(G1, G7)\nG13 = NOR(G2, G12)\n";
+
+/// Whether a signal lies in the fan-in cone of another.
+fn reaches(alloc: Global, design: &Design, root: &str, name: &str) -> Result<Option<bool>, Fail> {
+    design.facts();
+    let Some(root) = design.netlist().id_of(root.as_bytes()) else {
+        return Ok(None);
+    };
+    let Some(signal) = design.netlist().id_of(name.as_bytes()) else {
+        return Ok(None);
+    };
+    Ok(Some(design.in_cone(alloc, root, signal)?))
+}
+
+#[test]
+fn cones_of_signals(rt: HostRuntime) -> Result<(), Fail> {
+    let rows = [
+        (C17, "22", "22", true),
+        (C17, "22", "11", true),
+        (C17, "22", "3", true),
+        (C17, "22", "7", false),
+        (C17, "22", "19", false),
+        (C17, "22", "23", false),
+        (C17, "3", "22", false),
+        // a cone goes on behind a flip-flop, and may lead back to its signal
+        (S27, "G13", "G7", true),
+        (S27, "G13", "G1", true),
+        (S27, "G13", "G0", false),
+        (S27, "G17", "G0", true),
+        (S27, "G17", "G17", true),
+        (S27, "G11", "G17", false),
+    ];
+    for (netlist, root, name, inside) in rows {
+        let files = Files {
+            netlist,
+            timing: "",
+            stimulus: "horizon 10\n",
+        };
+        let design = joined(rt.alloc(), &files)??;
+        let reached = reaches(rt.alloc(), &design, root, name)?;
+        assert_eq!(rt; reached, Some(inside), "{root} and {name}");
+    }
+    Ok(())
+}
