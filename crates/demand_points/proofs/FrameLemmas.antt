@@ -1,5 +1,5 @@
 -- A frame that looks at its pins one after another comes to the cell of its point.
-use Rattle.std.proofs.Common.{◌≡◌, ℕ, zero, suc, ◌+◌, ◌-◌, ◌<◌, ◌≤◌, ◌||◌, nat_lt, Bool, true, false, cond, IsTrue, List, [], ◌∷◌, ◌++◌, length, map, filter, take, drop, get_or, fold, min, max, refl, ap, sym, ◌∙◌, subst, arith, inl, inr, Option, Some, None, IsSome, All, lt-ltb, le-ltb, nat_eq, slice_get, option_map}
+use Rattle.std.proofs.Common.{◌≡◌, ℕ, zero, suc, ◌+◌, ◌-◌, ◌<◌, ◌≤◌, ◌||◌, Bool, true, false, IsTrue, List, [], ◌∷◌, ◌++◌, length, map, take, get_or, fold, refl, ap, sym, ◌∙◌, subst, arith, inl, inr, Option, Some, None, IsSome, nat_eq, slice_get, option_map}
 use Rattle.std.specs.List.{AllByRecursion, list_any, range_with_len}
 use Rattle.std.proofs.lemmas.Bool.{cases_Bool, cases_lt}
 use Rattle.std.proofs.lemmas.Bool.Decides.{eqb_tells}
@@ -9,18 +9,17 @@ use Rattle.std.proofs.lemmas.List.Sums.{fold-append}
 use Rattle.std.proofs.lemmas.List.FromFn.{length-map-range_with_len, take-map-range_with_len, get_or-map-range_with_len}
 use Rattle.std.proofs.Math.ListN.{get_or-map, length-map}
 use Rattle.gate_values.specs.declared.Value.{Value}
-use Rattle.gate_values.specs.declared.Kind.{Kind}
 use Rattle.gate_values.specs.declared.Evaluation.{Evaluation}
 use Rattle.gate_values.specs.Gates.{gate_value, decides, is_unary, up_to_first}
 use Rattle.valid_intervals.specs.declared.Point.{Point}
-use Rattle.valid_intervals.specs.Spans.{Span, IsIn, from_to, meet, moved, cut_at}
+use Rattle.valid_intervals.specs.Spans.{Span, IsIn, from_to, meet, cut_at}
 use Rattle.flip_flops.specs.Edges.{shown_edge}
 use Rattle.circuit_meaning.specs.declared.Pin.{Pin}
 use Rattle.circuit_meaning.specs.Circuit.{Circuit, Driver, Input, Gate, Flop, driver, read_by, IsCircuit, IsDriver}
 use Rattle.circuit_meaning.specs.Forward.{value}
 use Rattle.circuit_meaning.specs.Cells.{span, pin_span}
 use Rattle.circuit_meaning.specs.Need.{HasSources, IsEvaluable}
-use Rattle.circuit_meaning.specs.Looks.{kind_of, source, flop_sources, sources_at, pin_sources, sees, looked_sources, interval_at, pin_interval, met_interval, no_pin}
+use Rattle.circuit_meaning.specs.Looks.{kind_of, source, flop_sources, sources_at, sees, interval_at, pin_interval, met_interval, no_pin}
 use Rattle.circuit_meaning.proofs.Equations.{driver_fits}
 use Rattle.circuit_meaning.proofs.Steady.{in_meet, pin_span-early, pin_span-late}
 use Rattle.circuit_meaning.proofs.Cover.{cell-covers}

@@ -1,5 +1,5 @@
 -- What every strand of a batch keeps, at each of its steps.
-use Rattle.std.proofs.Common.{◌≡◌, ℕ, ◌+◌, ◌<◌, ◌≤◌, ◌^◌, List, [], length, map, refl, ap, sym, ◌∙◌, subst, arith, Option, Some, None, MatchOption, IfSome, false}
+use Rattle.std.proofs.Common.{◌≡◌, ℕ, ◌+◌, ◌<◌, ◌≤◌, ◌^◌, List, [], length, refl, sym, subst, arith, Option, Some, None, MatchOption, IfSome, false}
 use Rattle.std.proofs.Math.ListN.{length-map}
 use Rattle.valid_intervals.specs.declared.Cell.{Cell}
 use Rattle.valid_intervals.specs.declared.Point.{Point}
@@ -9,13 +9,13 @@ use Rattle.journal_meaning.specs.declared.Query.{Query}
 use Rattle.journal_meaning.specs.Batch.{Batch, window_of}
 use Rattle.strand_meaning.specs.declared.Next.TheVariants.{Ask, Fill}
 use Rattle.strand_meaning.specs.Batches.{IsLawful, IsQueryOf}
-use Rattle.strand_meaning.specs.Strands.{Strand, IsStrand, next, heard, claimed, started}
+use Rattle.strand_meaning.specs.Strands.{Strand, IsStrand, next, heard, claimed}
 use Rattle.strand_meaning.proofs.Stacks.{heard-keeps, claimed-keeps, length-heard, length-rest, fill-top}
 use Rattle.strand_meaning.proofs.Started.{started-right, query-within}
 use Rattle.demand_points.specs.declared.frame.Frame.{Frame}
 use Rattle.demand_points.specs.declared.parts.Parts.{Parts}
 use Rattle.demand_points.specs.Frames.{shown}
-use Rattle.demand_points.specs.Demands.{IsLast, IsRootCell, demand_of, strand_of, itself, StepsBy, IsDemand, IsRunning}
+use Rattle.demand_points.specs.Demands.{IsLast, IsRootCell, demand_of, strand_of, itself, StepsBy, IsDemand}
 use Rattle.demand_points.proofs.PartLemmas.{steps-on}
 
 -- the counts of a strand fit

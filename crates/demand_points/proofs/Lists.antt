@@ -1,12 +1,12 @@
 -- What is left of the children of a claimed point, and of the roots of a window.
-use Rattle.std.proofs.Common.{◌≡◌, ℕ, zero, suc, ◌+◌, ◌-◌, ◌<◌, ◌≤◌, ◌⊎◌, nat_lt, Bool, true, false, cond, List, [], ◌∷◌, length, filter, drop, get_or, refl, ap, sym, ◌∙◌, subst, arith, inl, inr, Option, Some, None, IsSome, is_some, le-leb, lt-ltb, le-ltb}
+use Rattle.std.proofs.Common.{◌≡◌, ℕ, zero, suc, ◌+◌, ◌-◌, ◌<◌, ◌≤◌, true, false, cond, List, [], ◌∷◌, length, filter, drop, refl, ap, sym, ◌∙◌, arith, inl, inr, Option, Some, None, le-leb, lt-ltb, le-ltb}
 use Rattle.std.proofs.lemmas.Bool.{cases_Bool, cases_lt}
 use Rattle.std.proofs.Math.Seq.{drop-cons}
 use Rattle.valid_intervals.specs.declared.Point.{Point}
 use Rattle.circuit_meaning.specs.declared.Window.{Window}
 use Rattle.circuit_meaning.specs.Circuit.{Circuit, Driver, Input, Gate, Flop, driver, IsCircuit}
 use Rattle.circuit_meaning.specs.Cells.{span}
-use Rattle.circuit_meaning.specs.Need.{HasSources, IsEvaluable, children}
+use Rattle.circuit_meaning.specs.Need.{HasSources, IsEvaluable}
 use Rattle.circuit_meaning.specs.Looks.{somes}
 use Rattle.circuit_meaning.proofs.Cover.{cell-covers}
 use Rattle.circuit_meaning.proofs.Looking.{children-somes}

@@ -1,16 +1,15 @@
 -- The parts of a strand at each of its steps.
-use Rattle.std.proofs.Common.{◌≡◌, ℕ, zero, suc, ◌+◌, ◌-◌, ◌<◌, ◌≤◌, ◌⊎◌, if◌then◌else◌, nat_lt, nat_eq, Bool, true, false, cond, List, [], ◌∷◌, length, map, get_or, refl, ap, sym, ◌∙◌, subst, arith, inl, inr, Option, Some, None, MatchOption, lt-ltb, le-ltb, ltb-true}
-use Rattle.std.proofs.lemmas.Bool.{cases_Bool, cases_lt, eqb-true}
+use Rattle.std.proofs.Common.{◌≡◌, ℕ, zero, suc, ◌+◌, ◌-◌, ◌<◌, ◌≤◌, if◌then◌else◌, Bool, true, false, List, [], ◌∷◌, length, map, get_or, refl, ap, sym, ◌∙◌, subst, arith, inl, inr, Option, Some, None, MatchOption, lt-ltb, le-ltb}
+use Rattle.std.proofs.lemmas.Bool.{cases_Bool, cases_lt}
 use Rattle.std.proofs.Math.ListN.{get_or-map, length-map}
 use Rattle.valid_intervals.specs.declared.Cell.{Cell}
 use Rattle.valid_intervals.specs.declared.Point.{Point}
 use Rattle.flip_flops.specs.Edges.{shown_edge}
 use Rattle.flip_flops.proofs.EdgeLemmas.{shown_edge-le}
-use Rattle.circuit_meaning.specs.declared.Pin.{Pin}
 use Rattle.circuit_meaning.specs.Circuit.{Circuit, Driver, Input, Gate, Flop, driver, IsCircuit, IsDriver}
 use Rattle.circuit_meaning.specs.Cells.{span}
 use Rattle.circuit_meaning.specs.Need.{IsEvaluable, IsRoot, Next}
-use Rattle.circuit_meaning.specs.Looks.{source, flop_sources, sources_at, pin_sources, no_pin}
+use Rattle.circuit_meaning.specs.Looks.{source, flop_sources, sources_at, no_pin}
 use Rattle.circuit_meaning.proofs.Equations.{driver_fits}
 use Rattle.circuit_meaning.proofs.Cover.{cell-covers}
 use Rattle.journal_meaning.specs.Batch.{cell_at, window_of}
@@ -20,9 +19,9 @@ use Rattle.strand_meaning.specs.Strands as strands
 use Rattle.strand_meaning.specs.Strands.{Strand, ask_or, next, next_in, heard, claimed, dropped, finished, rest, sources_of}
 use Rattle.demand_points.specs.declared.frame.Frame.{Frame}
 use Rattle.demand_points.specs.declared.parts.Parts.{Parts}
-use Rattle.demand_points.specs.Stacks.{IsTop, with_top}
-use Rattle.demand_points.specs.Frames.{cell_there, shown, left_after, looked_at, all_sources, next_source, IsPoint, IsFrame, IsLooking, IsReady, LooksOn, Advances}
-use Rattle.demand_points.specs.Demands.{window_in, root_point, roots_left, strand_of, IsReadyIn, IsReadyAt, WaitsFor, AreFrames, IsLast, IsRunning, IsRootKnown, IsAnswer, IsFilling, StepsBy, itself}
+use Rattle.demand_points.specs.Stacks.{IsTop}
+use Rattle.demand_points.specs.Frames.{cell_there, shown, left_after, looked_at, next_source, IsPoint, IsFrame, IsLooking, IsReady, LooksOn, Advances}
+use Rattle.demand_points.specs.Demands.{window_in, root_point, roots_left, strand_of, IsReadyIn, IsReadyAt, WaitsFor, AreFrames, IsRunning, IsRootKnown, IsAnswer, StepsBy, itself}
 use Rattle.demand_points.proofs.FrameLemmas.{looking-below, next-among}
 use Rattle.demand_points.proofs.Lists.{left-done, left-all, left-ask, looked-left, no-roots, root-base, root-ask}
 

@@ -1,5 +1,5 @@
 -- A strand in hand: what contracts see of it, and what it keeps.
-use Rattle.std.specs.Prelude.{◌≡◌, ℕ, ◌+◌, ◌-◌, ◌≤◌, ◌<◌, Bool, true, false, if◌then◌else◌, nat_lt, nat_eq, List, [], ◌∷◌, length, filter, map, Option, Some, None, MatchOption}
+use Rattle.std.specs.Prelude.{◌≡◌, ℕ, ◌+◌, ◌-◌, ◌≤◌, ◌<◌, false, List, [], ◌∷◌, length, filter, map, Option, Some, MatchOption}
 use Rattle.valid_intervals.specs.declared.Cell.{Cell}
 use Rattle.valid_intervals.specs.declared.Point.{Point}
 use Rattle.circuit_meaning.specs.declared.Window.{Window}
@@ -7,10 +7,9 @@ use Rattle.circuit_meaning.specs.Circuit.{Circuit}
 use Rattle.circuit_meaning.specs.Need.{IsRoot, IsEvaluable}
 use Rattle.journal_meaning.specs.declared.Query.{Query}
 use Rattle.journal_meaning.specs.Batch.{Batch, window_of, cell_at}
-use Rattle.strand_meaning.specs.declared.Next.{Next}
-use Rattle.strand_meaning.specs.declared.Next.TheVariants.{Ask, Fill, Drop, Done}
+use Rattle.strand_meaning.specs.declared.Next.TheVariants.{Ask, Fill}
 use Rattle.strand_meaning.specs.Batches.{IsLawful}
-use Rattle.strand_meaning.specs.Strands.{Strand, IsStrand, is_evaluable, roots_from, next, heard}
+use Rattle.strand_meaning.specs.Strands.{Strand, IsStrand, is_evaluable, roots_from, next}
 use Rattle.demand_points.specs.declared.frame.Frame.{Frame}
 use Rattle.demand_points.specs.declared.parts.Parts.{Parts}
 use Rattle.demand_points.specs.Frames.{IsFrame, IsLooking, IsReady, next_source, shown}
@@ -135,10 +134,16 @@ pub record IsRootCell (c : Circuit) (s : Demand) (cell : Cell) : Type 0 where
   pub before : time < s.to
   pub right : cell ≡ cell_at c (record { signal = s.strand.query.signal; time = time })
 
+-- The next root is where the window begins while none was heard, and then the end of the cell that was heard last.
+abbrev pub IsHeardTo : Circuit → Demand → Type 0
+IsHeardTo c s = MatchOption s.last (s.root ≡ s.from) (IsLast c s.strand.query s.from s.to s.root)
+
 -- what is known of every strand
 pub record IsKnown (b : Batch) (s : Demand) : Type 0 where
   pub lawful : 0 < s.to → IsLawful b
   pub strand : 0 < s.to → IsStrand b s.strand
+  pub roots : s.strand.roots ≡ roots_left b.circuit (record { signal = s.strand.query.signal; start = s.from; stop = s.to }) s.root
+  pub last : IsHeardTo b.circuit s
   pub charge : s.strand.charged ≤ s.strand.budget
   pub claims : length s.strand.stack + s.strand.filled ≤ s.strand.charged
 

@@ -10,7 +10,7 @@
 //! A strand is of the batch that its parameter B names ([`BatchName`]), a name of meanings alone. By its type, every point that it asks for or
 //! holds is needed by its query, and it has charged at most its budget.
 //!
-//! A claimed point takes 28 bytes on the stack. A step takes constant time, but for the base answers that it hears: each is a
+//! A claimed point takes 24 bytes on the stack. A step takes constant time, but for the base answers that it hears: each is a
 //! look-up in the design. Only `claimed` takes memory.
 //!
 //! ```
@@ -31,7 +31,11 @@ mod names;
 mod parts;
 mod stack;
 mod strand;
+#[cfg(test)]
+mod tests;
 
+pub use journal_meaning::{Entry, Query};
 pub use names::BatchName;
 pub use strand::{Strand, Task};
 pub use strand_meaning::Next;
+pub use valid_intervals::Point;

@@ -3,7 +3,7 @@
 ghost use Rattle.std.specs.Prelude.{◌≡◌, ◌≤◌, ◌<◌, [], length, None, IfSome, OnOk, OnErr};
 ghost use Rattle.circuit_meaning.specs.Need.{IsRoot};
 ghost use Rattle.journal_meaning.specs.Batch.{cell_at, window_of};
-ghost use Rattle.strand_meaning.specs.declared.Next.TheVariants.{Ask, Fill, Drop};
+ghost use Rattle.strand_meaning.specs.declared.Next.TheVariants.{Ask, Fill, Drop, Done};
 ghost use Rattle.strand_meaning.specs.Batches.{IsLawful, IsQueryOf};
 ghost use Rattle.strand_meaning.specs.Strands as strands;
 ghost use Rattle.strand_meaning.specs.Strands.{next, started};
@@ -236,6 +236,8 @@ impl<B: BatchName> Strand<B> {
 
 /// A strand that has ended and holds nothing, for the unused places of a small vector.
 impl<B: BatchName> MadeWith<Global> for Strand<B> {
+    ghost is_made_with = { λ s. (next s.strand ≡ Done) × (s.strand.stack ≡ []) };
+
     fn made_with(alloc: Global) -> Strand<B> {
         Strand {
             parts: Parts {

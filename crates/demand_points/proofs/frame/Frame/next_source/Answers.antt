@@ -1,6 +1,4 @@
-use Rattle.std.proofs.Common.{ap, sym, ◌∙◌, subst, length, ◌<◌, Option, None}
-use Rattle.std.specs.Option.{option_map}
-use Rattle.design.specs.Pins.{pin_at}
+use Rattle.std.proofs.Common.{sym, ◌∙◌, subst, length, ◌<◌, None}
 use Rattle.demand_points.proofs.FrameLemmas.{pin-below, next-read, read-is, read-point}
 use Rattle.demand_points.proofs.frame.Frame.next_source.Goals as goal
 

@@ -1,4 +1,4 @@
-use Rattle.std.proofs.Common.{ap, sym, ◌∙◌, ◌<◌, rules, arith}
+use Rattle.std.proofs.Common.{ap, ◌∙◌, ◌<◌, rules}
 use Rattle.valid_intervals.specs.Spans.{meet}
 use Rattle.demand_points.specs.Frames.{next_source}
 use Rattle.demand_points.proofs.FrameLemmas.{pin-below, few-looked, heard-there, heard-value, some-time, looks-on, sees-more}

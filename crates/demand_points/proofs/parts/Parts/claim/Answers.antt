@@ -1,4 +1,4 @@
-use Rattle.std.proofs.Common.{◌≡◌, ◌+◌, List, ◌∷◌, sym, subst, refl}
+use Rattle.std.proofs.Common.{◌+◌, List, sym, subst, refl}
 use Rattle.strand_meaning.specs.Strands.{claimed}
 use Rattle.demand_points.specs.declared.frame.Frame.{Frame}
 use Rattle.demand_points.specs.declared.parts.Parts.{Parts}

@@ -1,4 +1,3 @@
-use Rattle.std.proofs.Common.{◌≡◌}
 use Rattle.demand_points.proofs.PartLemmas.{filling-top, popped-running, popped-ready, popped-answer, popped-finishes}
 use Rattle.demand_points.proofs.parts.Parts.finish.Goals as goal
 

@@ -1,4 +1,4 @@
-use Rattle.std.proofs.Common.{◌≡◌, ◌<◌, sym, subst, rules}
+use Rattle.std.proofs.Common.{◌≡◌, sym, subst, rules}
 use Rattle.strand_meaning.specs.declared.Next.TheVariants.{Fill}
 use Rattle.strand_meaning.specs.Strands.{next}
 use Rattle.demand_points.specs.Demands.{Demand, strand_of}
