@@ -1,2 +1,5 @@
-pub mod FilledLemmas
+pub mod CellLemmas
+pub mod ProgressLemmas
+pub mod ReplyLemmas
 pub mod RootLemmas
+pub mod SuitsLemmas

@@ -1,9 +1,8 @@
 -- A batch of one query.
-use Rattle.std.specs.Prelude.{◌≡◌, ℕ, ◌+◌, ◌≤◌, ◌<◌, [], ◌∷◌, None, length}
+use Rattle.std.specs.Prelude.{◌≡◌, ◌+◌, ◌≤◌, ◌<◌, [], ◌∷◌, None, length}
 use Rattle.circuit_meaning.specs.Circuit.{Circuit}
 use Rattle.journal_meaning.specs.declared.Query.{Query}
 use Rattle.journal_meaning.specs.Batch.{Batch}
-use Rattle.strand_meaning.specs.Strands.{Strand}
 use Rattle.demand_points.specs.Demands.{Demand}
 
 abbrev pub alone : Circuit → Query → Batch

@@ -1,3 +1,4 @@
-pub mod Filled
 pub mod Alone
+pub mod Filled
 pub mod Replies
+pub mod Progress

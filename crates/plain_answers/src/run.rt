@@ -1,12 +1,15 @@
 //! A strand that is run to its end.
 
-ghost use Rattle.std.specs.Prelude.{◌≡◌, ◌<◌, true, IfOk};
-ghost use Rattle.strand_meaning.specs.declared.Next.TheVariants.{Ask};
+ghost use Rattle.std.specs.Prelude.{◌≡◌, ◌<◌, true, false, IfOk, OnOk};
+ghost use Rattle.journal_meaning.specs.Batch.{window_of};
+ghost use Rattle.strand_meaning.specs.declared.Next.TheVariants.{Ask, Done};
 ghost use Rattle.strand_meaning.specs.Batches.{IsLawful};
 ghost use Rattle.strand_meaning.specs.Strands.{next};
 ghost use Rattle.plan_machine.specs.Bounds.{turns_left};
 ghost use Rattle.plain_answers.specs.Alone.{SameTask};
-ghost use Rattle.valid_intervals.specs.declared.Point.{Point};
+ghost use Rattle.plain_answers.specs.Filled.{Extends};
+ghost use Rattle.plain_answers.specs.Progress.{Goes};
+ghost use Rattle.valid_intervals.specs.declared.Point.{Point as PointRecord};
 
 use crate::cells::FilledCells;
 use backsim_io::OutOfMemory;
@@ -23,10 +26,14 @@ fn ask<B: BatchName>(
 ) -> Result<(), OutOfMemory>
     requires design { design.now.circuit ≡ B.batch.circuit }
     requires lawful { IsLawful B.batch }
+    requires live { 0 < strand.old.to }
     requires asks { next strand.old.strand ≡ Ask p }
     ensures same { SameTask strand.old strand.new }
     ensures less { IfOk result (λ u. turns_left B.batch 1 strand.new.strand < turns_left B.batch 1 strand.old.strand) }
+    ensures goes { (root : PointRecord) → Goes B.batch.circuit (window_of strand.old.strand.query) root cells.now strand.old.strand
+        → OnOk result (Goes B.batch.circuit (window_of strand.old.strand.query) root cells.now strand.new.strand) }
 {
+    strand.facts();
     if let Some(cell) = cells.find(p) {
         strand.heard(design, cell);
         return Ok(());
@@ -50,6 +57,10 @@ fn step<B: BatchName>(
     requires live { 0 < strand.old.to }
     ensures same { SameTask strand.old strand.new }
     ensures less { IfOk result (λ more. more ≡ true → turns_left B.batch 1 strand.new.strand < turns_left B.batch 1 strand.old.strand) }
+    ensures last { IfOk result (λ more. more ≡ false → next strand.new.strand ≡ Done) }
+    ensures grows { OnOk result (Extends cells.old cells.new) }
+    ensures goes { (root : PointRecord) → Goes B.batch.circuit (window_of strand.old.strand.query) root cells.old strand.old.strand
+        → OnOk result (Goes B.batch.circuit (window_of strand.old.strand.query) root cells.new strand.new.strand) }
 {
     strand.facts();
     match strand.next_step(design) {
@@ -79,7 +90,11 @@ pub fn run<B: BatchName>(
     requires design { design.now.circuit ≡ B.batch.circuit }
     requires lawful { IsLawful B.batch }
     requires live { 0 < strand.old.to }
-    ensures { SameTask strand.old strand.new }
+    ensures same { SameTask strand.old strand.new }
+    ensures last { OnOk result (next strand.new.strand ≡ Done) }
+    ensures grows { OnOk result (Extends cells.old cells.new) }
+    ensures goes { (root : PointRecord) → Goes B.batch.circuit (window_of strand.old.strand.query) root cells.old strand.old.strand
+        → OnOk result (Goes B.batch.circuit (window_of strand.old.strand.query) root cells.new strand.new.strand) }
 {
     'steps: while step(strand, cells, design)? {}
     Ok(())
