@@ -1,2 +1,9 @@
 pub mod Taken
 pub mod Explained
+pub mod Orders
+pub mod Answered
+pub mod Served
+pub mod Stopped
+pub mod Designed
+pub mod Begun
+pub mod Sessions

@@ -1,4 +1,9 @@
 pub mod Cause
 pub mod Statuses
 pub mod Stops
+pub mod Orders
+pub mod Texts
+pub mod Files
+pub mod Session
+pub mod Refused
 pub mod Script

@@ -5,6 +5,7 @@ use Rattle.backsim.specs.Cause.{Counts, Calm, Explains}
 use Rattle.backsim.specs.declared.status.Place.TheVariants.{Script, Replies}
 use Rattle.backsim.specs.declared.status.Status.{Status}
 use Rattle.backsim.specs.declared.status.Status.TheVariants as statuses
+use Rattle.backsim.specs.declared.refusal.Refusal.{Refusal}
 use Rattle.backsim.specs.declared.refusal.Stop.{Stop}
 use Rattle.backsim.specs.declared.refusal.Stop.TheVariants.{Refused, ReadFault, WriteFault, FileFault, OutOfMemory}
 
@@ -23,6 +24,20 @@ status_after (Err stop) = status_of stop
 -- a stop that no fault made
 abbrev pub IsQuiet : Stop → Type 0
 IsQuiet stop = (old new : Counts) → Calm old new → Explains old new (status_of stop)
+
+-- a stop that refuses something refuses this
+abbrev pub RefusesOnly : Refusal → Stop → Type 0
+RefusesOnly refusal (Refused given) = given ≡ refusal
+RefusesOnly refusal (ReadFault place) = ⊤
+RefusesOnly refusal (WriteFault place) = ⊤
+RefusesOnly refusal (FileFault place) = ⊤
+RefusesOnly refusal OutOfMemory = ⊤
+
+-- what a fault with this refusal makes, unless it is a lack of memory
+pub record IsStopOf (refusal : Refusal) (no_memory : Type 0) (stop : Stop) : Type 0 where
+  pub quiet : IsQuiet stop
+  pub refuses : RefusesOnly refusal stop
+  pub memory : no_memory → stop ≡ OutOfMemory
 
 -- what the faults of the replies' sink tell of a stop
 abbrev pub RepliesExplain : ℕ → ℕ → Stop → Type 0

@@ -1,8 +1,9 @@
 //! The three files that make a design.
 
-ghost use Rattle.std.specs.Prelude.{◌≡◌, ◌≤◌, ℕ, IfErr, OnOk, length};
-ghost use Rattle.backsim.specs.Cause.{Explains};
-ghost use Rattle.backsim.specs.Stops.{IsQuiet, status_after};
+ghost use Rattle.std.specs.Prelude.{◌≡◌, ◌≤◌, ◌+◌, ℕ, List, Some, IfOk, OnOk, vec_len};
+ghost use Rattle.backsim.specs.Cause.{Explains, IsTurn};
+ghost use Rattle.backsim.specs.Files.{Answers, AnswersText, design_of_files, limited};
+ghost use Rattle.backsim.specs.Stops.{status_after};
 
 use crate::refusal::{Refusal, Stop};
 use crate::status::Place;
@@ -15,7 +16,7 @@ use timing_file::read_timing;
 
 const FILE_LIMIT: u32 = 67_108_864;
 
-/// Reads the three files, in this order, and joins them.
+/// Reads the three files, in this order, and joins them. Each is parsed before the next is read.
 pub fn read_design<F: Files>(
     alloc: Global,
     netlist: &str,
@@ -31,40 +32,43 @@ pub fn read_design<F: Files>(
     ensures calm_file { OnOk result (F.file_faults files.new ≡ F.file_faults files.old) }
     ensures calm_read { OnOk result (F.read_faults files.new ≡ F.read_faults files.old) }
     ensures calm_write { OnOk result (F.write_faults files.new ≡ F.write_faults files.old) }
+    ensures design { (first second third : List ℕ)
+        → F.held files.old netlist.now ≡ Some first
+        → F.held files.old timing.now ≡ Some second
+        → F.held files.old stimulus.now ≡ Some third
+        → Answers result (design_of_files first second third) }
 {
-    let netlist = match read_file(alloc, files, netlist, FILE_LIMIT) {
-        Ok(text) => text,
-        Err(ReadFile::NotOpened) => return Err(Stop::FileFault(Place::Netlist)),
-        Err(ReadFile::Failed) => return Err(Stop::ReadFault(Place::Netlist)),
-        Err(ReadFile::TooLong) => return Err(Stop::Refused(Refusal::TooLong(Place::Netlist))),
-        Err(ReadFile::OutOfMemory) => return Err(Stop::OutOfMemory),
-    };
-    let timing = match read_file(alloc, files, timing, FILE_LIMIT) {
-        Ok(text) => text,
-        Err(ReadFile::NotOpened) => return Err(Stop::FileFault(Place::Timing)),
-        Err(ReadFile::Failed) => return Err(Stop::ReadFault(Place::Timing)),
-        Err(ReadFile::TooLong) => return Err(Stop::Refused(Refusal::TooLong(Place::Timing))),
-        Err(ReadFile::OutOfMemory) => return Err(Stop::OutOfMemory),
-    };
-    let stimulus = match read_file(alloc, files, stimulus, FILE_LIMIT) {
-        Ok(text) => text,
-        Err(ReadFile::NotOpened) => return Err(Stop::FileFault(Place::Stimulus)),
-        Err(ReadFile::Failed) => return Err(Stop::ReadFault(Place::Stimulus)),
-        Err(ReadFile::TooLong) => return Err(Stop::Refused(Refusal::TooLong(Place::Stimulus))),
-        Err(ReadFile::OutOfMemory) => return Err(Stop::OutOfMemory),
-    };
-    join(alloc, &netlist, &timing, &stimulus)
+    let netlist = read_bench(alloc, &read_text(alloc, files, netlist, Place::Netlist)?)?;
+    let timing = read_timing(alloc, &read_text(alloc, files, timing, Place::Timing)?)?;
+    let stimulus = read_stimulus(alloc, &read_text(alloc, files, stimulus, Place::Stimulus)?)?;
+    Ok(Design::join(alloc, netlist, &timing, &stimulus)?)
 }
 
-/// Joins three texts, which are parsed in their order.
-fn join(alloc: Global, netlist: &[u8], timing: &[u8], stimulus: &[u8]) -> Result<Design, Stop>
-    requires netlist { length netlist.now ≤ 67108864 }
-    requires timing { length timing.now ≤ 67108864 }
-    requires stimulus { length stimulus.now ≤ 67108864 }
-    ensures { IfErr result IsQuiet }
+/// Reads one of the three files when it is its turn.
+fn read_text<F: Files>(
+    alloc: Global,
+    files: &mut F,
+    name: &str,
+    place: Place,
+) -> Result<Vec<u8>, Stop>
+    requires { IsTurn place (F.started files.old) }
+    ensures cause { (queries replies : ℕ) → Explains
+        (record { queries = queries; replies = replies; file = F.file_faults files.old; read = F.read_faults files.old; write = F.write_faults files.old; started = F.started files.old; files = F.files files.old })
+        (record { queries = queries; replies = replies; file = F.file_faults files.new; read = F.read_faults files.new; write = F.write_faults files.new; started = F.started files.new; files = F.files files.new })
+        (status_after result) }
+    ensures calm_file { OnOk result (F.file_faults files.new ≡ F.file_faults files.old) }
+    ensures calm_read { OnOk result (F.read_faults files.new ≡ F.read_faults files.old) }
+    ensures calm_write { OnOk result (F.write_faults files.new ≡ F.write_faults files.old) }
+    ensures started { OnOk result (F.started files.new ≡ F.started files.old + 1) }
+    ensures held { F.held files.new ≡ F.held files.old }
+    ensures within { IfOk result (λ text. vec_len text ≤ 67108864) }
+    ensures text { (bytes : List ℕ) → F.held files.old name.now ≡ Some bytes → AnswersText (λ text. text.items) result (limited place bytes) }
 {
-    let netlist = read_bench(alloc, netlist)?;
-    let timing = read_timing(alloc, timing)?;
-    let stimulus = read_stimulus(alloc, stimulus)?;
-    Ok(Design::join(alloc, netlist, &timing, &stimulus)?)
+    match read_file(alloc, files, name, FILE_LIMIT) {
+        Ok(text) => Ok(text),
+        Err(ReadFile::NotOpened) => Err(Stop::FileFault(place)),
+        Err(ReadFile::Failed) => Err(Stop::ReadFault(place)),
+        Err(ReadFile::TooLong) => Err(Stop::Refused(Refusal::TooLong(place))),
+        Err(ReadFile::OutOfMemory) => Err(Stop::OutOfMemory),
+    }
 }

@@ -1,8 +1,14 @@
 //! What is refused, and why a session stops before its script's end.
 
-ghost use Rattle.std.specs.Prelude.{◌≡◌};
-ghost use Rattle.backsim.specs.Stops.{IsQuiet};
+ghost use Rattle.std.specs.Prelude.{◌≡◌, IfOk, string_bytes};
+ghost use Rattle.backsim.specs.Files.{refused_netlist, refused_timing, refused_stimulus, refused_join};
+ghost use Rattle.backsim.specs.Stops.{IsQuiet, IsStopOf};
+ghost use Rattle.backsim.specs.Texts.{refusal_text};
 ghost use Rattle.backsim.specs.declared.refusal.Stop.TheVariants.{OutOfMemory as out_of_memory};
+ghost use Rattle.bench_reader.specs.Netlists as netlist;
+ghost use Rattle.timing_file.specs.Causes as timing;
+ghost use Rattle.stimulus_file.specs.Causes as stimulus;
+ghost use Rattle.design.specs.Causes as join;
 
 use crate::status::Place;
 use backsim_io::OutOfMemory;
@@ -23,7 +29,9 @@ pub enum Refusal {
 
 impl Refusal {
     /// The line that tells of it.
-    pub fn text(&self, alloc: Global) -> Result<String, AllocError> {
+    pub fn text(&self, alloc: Global) -> Result<String, AllocError>
+        ensures { IfOk result (λ text. string_bytes text ≡ refusal_text self.now) }
+    {
         match *self {
             Refusal::TooLong(file) => {
                 let name = file.name();
@@ -49,13 +57,14 @@ pub enum Stop {
 
 /// A line of a file is refused.
 fn refused(file: Place, line: u32, cause: u32) -> Stop
-    ensures { IsQuiet result }
+    ensures quiet { IsQuiet result }
+    ensures stop { result ≡ Stop.Refused (Refusal.Line file line cause) }
 {
     Stop::Refused(Refusal::Line { file, line, cause })
 }
 
 impl From<BenchFault> for Stop {
-    ghost from_gives = { λ _ stop. IsQuiet stop };
+    ghost from_gives = { λ fault stop. IsStopOf (refused_netlist fault) (fault ≡ netlist.out_of_memory) stop };
 
     fn from(fault: BenchFault) -> Stop {
         match fault.cause {
@@ -66,7 +75,7 @@ impl From<BenchFault> for Stop {
 }
 
 impl From<TimingFault> for Stop {
-    ghost from_gives = { λ _ stop. IsQuiet stop };
+    ghost from_gives = { λ fault stop. IsStopOf (refused_timing fault) (fault ≡ timing.out_of_memory) stop };
 
     fn from(fault: TimingFault) -> Stop {
         match fault.cause {
@@ -77,7 +86,7 @@ impl From<TimingFault> for Stop {
 }
 
 impl From<StimulusFault> for Stop {
-    ghost from_gives = { λ _ stop. IsQuiet stop };
+    ghost from_gives = { λ fault stop. IsStopOf (refused_stimulus fault) (fault ≡ stimulus.out_of_memory) stop };
 
     fn from(fault: StimulusFault) -> Stop {
         match fault.cause {
@@ -89,7 +98,7 @@ impl From<StimulusFault> for Stop {
 
 /// The causes of the join are numbered from 11 on, behind those of the readers.
 impl From<JoinFault> for Stop {
-    ghost from_gives = { λ _ stop. IsQuiet stop };
+    ghost from_gives = { λ fault stop. IsStopOf (refused_join fault) (fault ≡ join.out_of_memory) stop };
 
     fn from(fault: JoinFault) -> Stop {
         let file = match fault.file {

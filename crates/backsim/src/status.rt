@@ -2,6 +2,7 @@
 
 ghost use Rattle.std.specs.Prelude.{◌≡◌};
 ghost use Rattle.backsim.specs.Statuses.{number_of};
+ghost use Rattle.backsim.specs.Texts.{name_of};
 
 /// Where a fault was met.
 #[derive(Clone, Copy, Debug, PartialEq, Eq)]
@@ -16,7 +17,9 @@ pub enum Place {
 
 impl Place {
     /// The name of the place in what the program prints.
-    pub fn name(self) -> &'static str {
+    pub fn name(self) -> &'static str
+        ensures { result.now ≡ name_of self }
+    {
         match self {
             Place::Netlist => "netlist",
             Place::Timing => "timing",

@@ -1,6 +1,6 @@
 use crate::serve::serve;
 use crate::status::{Place, Status};
-use backsim_io::{MemFiles, MemSink, MemSource, Text};
+use backsim_io::{MemFiles, MemSink, MemSource, SureFiles, SureSink, SureSource, Text};
 use std::alloc::Global;
 use std::test::Fail;
 
@@ -49,7 +49,7 @@ fn session(alloc: Global, case: &Case) -> Result<(Status, Vec<u8>), Fail> {
     Ok((status, out.bytes().to_vec(alloc)?))
 }
 
-const WAVES: [Case; 15] = [
+const WAVES: [Case; 18] = [
     Case {
         netlist: INVERTER,
         timing: DELAY_3,
@@ -96,6 +96,30 @@ const WAVES: [Case; 15] = [
         script: "wave q 0 31\n",
         written: "wave q 0 31\n0 x\n11 1\nend\n",
     },
+    // a flip-flop without a clock
+    Case {
+        netlist: "INPUT(a)\nOUTPUT(q)\nq = DFF(a)\n",
+        timing: "",
+        stimulus: "horizon 30\nset a 0 0\nset a 10 1\n",
+        script: "wave q 0 31\n",
+        written: "wave q 0 31\n0 x\nend\n",
+    },
+    // every delay is 1 unless the timing file says another
+    Case {
+        netlist: INVERTER,
+        timing: "",
+        stimulus: PULSE,
+        script: "wave y 0 11\n",
+        written: "wave y 0 11\n0 x\n1 1\n6 0\nend\n",
+    },
+    // the greatest delay and the greatest horizon
+    Case {
+        netlist: INVERTER,
+        timing: "default 1000000\n",
+        stimulus: "horizon 1000000\nset a 0 0\n",
+        script: "wave y 0 1000001\n",
+        written: "wave y 0 1000001\n0 x\n1000000 1\nend\n",
+    },
     // windows without an instant
     Case {
         netlist: INVERTER,
@@ -111,13 +135,13 @@ const WAVES: [Case; 15] = [
         script: "wave y 0 12\nat y 11\nat y 4294967294\nwave q 0 99\n",
         written: "past y 0 12\npast y 11 12\npast y 4294967294 4294967295\nunknown q\n",
     },
-    // budgets: the second is just enough, the third isn't needed
+    // budgets: the third is just enough, the last isn't needed
     Case {
         netlist: CHAIN,
         timing: "",
         stimulus: "horizon 10\nset a 0 1\n",
-        script: "at n3 5 2\nat n3 5 3\nat n3 0 0\n",
-        written: "budget n3 2\nat n3 5 1\nat n3 0 x\n",
+        script: "at n3 5 1\nat n3 5 2\nat n3 5 3\nat n3 0 0\n",
+        written: "budget n3 1\nbudget n3 2\nat n3 5 1\nat n3 0 x\n",
     },
     Case {
         netlist: INVERTER,
@@ -177,7 +201,15 @@ fn replies_to_queries(rt: HostRuntime) -> Result<(), Fail> {
     Ok(())
 }
 
-const REFUSALS: [Case; 11] = [
+const REFUSALS: [Case; 12] = [
+    // the netlist is parsed before the others
+    Case {
+        netlist: "y = AND(a,",
+        timing: "default 0\n",
+        stimulus: "",
+        script: "",
+        written: "refused netlist line 1 cause 1\n",
+    },
     Case {
         netlist: INVERTER,
         timing: "default 3\ndelay y 0\n",
@@ -268,6 +300,27 @@ fn refusals_of_files_and_scripts(rt: HostRuntime) -> Result<(), Fail> {
     Ok(())
 }
 
+/// A fault of the netlist is refused before the timing file is looked for.
+#[test]
+fn faulty_netlist_without_timing(rt: HostRuntime) -> Result<(), Fail> {
+    let alloc = rt.alloc();
+    let mut held = Vec::new(alloc);
+    held.push(file(alloc, "n", "y = AND(a,")?)?;
+    let mut files = MemFiles::new(alloc, held, Vec::new(alloc));
+    let mut queries = MemSource::new(Vec::new(alloc), 7, Vec::new(alloc));
+    let mut out = MemSink::new(alloc, 5, Vec::new(alloc));
+    let status = serve(
+        alloc,
+        &["n", "t", "s", "j"],
+        &mut files,
+        &mut queries,
+        &mut out,
+    );
+    assert_eq!(rt; status, Status::Refused);
+    assert_eq!(rt; out.bytes(), "refused netlist line 1 cause 1\n".as_bytes());
+    Ok(())
+}
+
 /// A session whose calls of these numbers fail, of the files, of the script's source in pieces of 10
 /// bytes, and of the replies' sink in pieces of 4 bytes; where a name is missing, the files don't hold it.
 struct Faulty {
@@ -349,6 +402,30 @@ fn faults_end_a_session(rt: HostRuntime) -> Result<(), Fail> {
         let (status, written) = faulty_session(rt.alloc(), case)?;
         assert_eq!(rt; status, case.status);
         assert_eq!(rt; written.as_slice(), case.written.as_bytes());
+    }
+    Ok(())
+}
+
+/// A session over objects that never fail, the last of which keeps the first bytes alone.
+fn sure_session(alloc: Global, case: &Case, room: usize) -> Result<(Status, Vec<u8>), Fail> {
+    let mut held = Vec::new(alloc);
+    held.push(file(alloc, "n", case.netlist)?)?;
+    held.push(file(alloc, "t", case.timing)?)?;
+    held.push(file(alloc, "s", case.stimulus)?)?;
+    let mut files = SureFiles::new(alloc, held, 0)?;
+    let mut queries = SureSource::new(case.script.as_bytes().to_vec(alloc)?);
+    let mut out = SureSink::new(alloc, room)?;
+    let words = ["n", "t", "s", "j"];
+    let status = serve(alloc, &words, &mut files, &mut queries, &mut out);
+    Ok((status, out.bytes().to_vec(alloc)?))
+}
+
+#[test]
+fn sure_objects_end_well(rt: HostRuntime) -> Result<(), Fail> {
+    for (room, kept) in [(100, WAVES[0].written), (4, "wave")] {
+        let (status, written) = sure_session(rt.alloc(), &WAVES[0], room)?;
+        assert_eq!(rt; status, Status::Ended);
+        assert_eq!(rt; written.as_slice(), kept.as_bytes());
     }
     Ok(())
 }

@@ -1,13 +1,107 @@
-use Rattle.std.proofs.Common.{refl, ◌∙◌}
-use Rattle.backsim.proofs.Explained.{quiet_explains_result}
+use Rattle.std.proofs.Common.{ℕ, List, Option, refl, ap, ◌∙◌}
+use Rattle.std.proofs.lemmas.Result.{err_from_is_err_and}
+use Rattle.backsim.proofs.Explained.{explains_later}
+use Rattle.backsim.proofs.Designed.{refuses, netlist_stops, netlist_refused, netlist_read, timing_stops, timing_refused, timing_read, stimulus_stops, stimulus_refused, stimulus_read, files_stop_netlist, files_stop_timing, files_stop_stimulus, netlist_faulty, timing_faulty, stimulus_faulty, join_refused, files_joined}
 use Rattle.backsim.proofs.inputs.read_design.Goals as goal
 
--- the three files were read without a fault
-pub returns-clause-cause : goal.returns-clause-cause
-returns-clause-cause g c queries replies =
-    let first = c.in-Ok.ensures in
-    let second = c.in-Ok-read_file.ensures in
-    let third = c.in-Ok-read_file-2.ensures in
-    quiet_explains_result _ _ c.join.result
-    (record { queries = refl; replies = refl; file = third.calm ∙ second.calm ∙ first.calm; read = third.calm_read ∙ second.calm_read ∙ first.calm_read; write = third.write_faults ∙ second.write_faults ∙ first.write_faults })
-    c.join.ensures
+-- the netlist: its text, and what it says
+pub returns-in_err-read_text-clause-cause : goal.returns-in_err-read_text-clause-cause
+returns-in_err-read_text-clause-cause g c queries replies =
+    let p = err_from_is_err_and c.from_residual.result c.from_residual.ensures.1 in
+    rw (p.1, p.2) (c.in_err-read_text.ensures.cause queries replies)
+
+pub returns-in_err-read_text-clause-design : goal.returns-in_err-read_text-clause-design
+returns-in_err-read_text-clause-design g c first second third held_first held_second held_third =
+    let p = err_from_is_err_and c.from_residual.result c.from_residual.ensures.1 in
+    rw (p.1, p.2) (files_stop_netlist first second third _ (netlist_stops first _ (c.in_err-read_text.ensures.text first held_first)))
+
+pub returns-in_err-netlist-clause-cause : goal.returns-in_err-netlist-clause-cause
+returns-in_err-netlist-clause-cause g c queries replies =
+    let first = c.in_ok-read_text.ensures in
+    let p = err_from_is_err_and c.from_residual-in_err-netlist.result c.from_residual-in_err-netlist.ensures.1 in
+    rw p.1 (p.2.quiet _ _ (record { queries = refl; replies = refl; file = first.calm_file; read = first.calm_read; write = first.calm_write }))
+
+pub returns-in_err-netlist-clause-design : goal.returns-in_err-netlist-clause-design
+returns-in_err-netlist-clause-design g c first second third held_first held_second held_third =
+    let p = err_from_is_err_and c.from_residual-in_err-netlist.result c.from_residual-in_err-netlist.ensures.1 in
+    rw p.1 (refuses _ _ p.0 _ p.2 (netlist_faulty first second third _ _ (netlist_refused first _ _ c.in_err-netlist.field-0.0 (c.in_ok-read_text.ensures.text first held_first) c.deref.ensures.value c.in_err-netlist.ensures)))
+
+-- the timing file
+pub returns-in_err-read_text-2-clause-cause : goal.returns-in_err-read_text-2-clause-cause
+returns-in_err-read_text-2-clause-cause g c queries replies =
+    let first = c.in_ok-read_text.ensures in
+    let p = err_from_is_err_and c.from_residual-in_err-read_text-2.result c.from_residual-in_err-read_text-2.ensures.1 in
+    rw (p.1, p.2) (explains_later _ _ _ _ (record { queries = refl; replies = refl; file = first.calm_file; read = first.calm_read; write = first.calm_write }) (c.in_err-read_text-2.ensures.cause queries replies))
+
+pub returns-in_err-read_text-2-clause-design : goal.returns-in_err-read_text-2-clause-design
+returns-in_err-read_text-2-clause-design g c first second third held_first held_second held_third =
+    let p = err_from_is_err_and c.from_residual-in_err-read_text-2.result c.from_residual-in_err-read_text-2.ensures.1 in
+    rw (p.1, p.2) (files_stop_timing first second third _ _ (netlist_read first _ _ _ (c.in_ok-read_text.ensures.text first held_first) c.deref.ensures.value c.in_ok-netlist.ensures)
+    (timing_stops second _ (c.in_err-read_text-2.ensures.text second (ap (λ (h : List ℕ → Option (List ℕ)). h c.args.timing.now) c.in_ok-read_text.ensures.held ∙ held_second))))
+
+pub returns-in_err-timing-clause-cause : goal.returns-in_err-timing-clause-cause
+returns-in_err-timing-clause-cause g c queries replies =
+    let first = c.in_ok-read_text.ensures in
+    let second = c.in_ok-read_text-2.ensures in
+    let p = err_from_is_err_and c.from_residual-in_err-timing.result c.from_residual-in_err-timing.ensures.1 in
+    rw p.1 (p.2.quiet _ _ (record { queries = refl; replies = refl; file = second.calm_file ∙ first.calm_file; read = second.calm_read ∙ first.calm_read; write = second.calm_write ∙ first.calm_write }))
+
+pub returns-in_err-timing-clause-design : goal.returns-in_err-timing-clause-design
+returns-in_err-timing-clause-design g c first second third held_first held_second held_third =
+    let p = err_from_is_err_and c.from_residual-in_err-timing.result c.from_residual-in_err-timing.ensures.1 in
+    rw p.1 (refuses _ _ p.0 _ p.2 (timing_faulty first second third _ _ _ (netlist_read first _ _ _ (c.in_ok-read_text.ensures.text first held_first) c.deref.ensures.value c.in_ok-netlist.ensures)
+    (timing_refused second _ _ c.in_err-timing.field-0.0 (c.in_ok-read_text-2.ensures.text second (ap (λ (h : List ℕ → Option (List ℕ)). h c.args.timing.now) c.in_ok-read_text.ensures.held ∙ held_second)) c.deref-2.ensures.value c.in_err-timing.ensures)))
+
+-- the stimulus file
+pub returns-in_err-read_text-3-clause-cause : goal.returns-in_err-read_text-3-clause-cause
+returns-in_err-read_text-3-clause-cause g c queries replies =
+    let first = c.in_ok-read_text.ensures in
+    let second = c.in_ok-read_text-2.ensures in
+    let p = err_from_is_err_and c.from_residual-in_err-read_text-3.result c.from_residual-in_err-read_text-3.ensures.1 in
+    rw (p.1, p.2) (explains_later _ _ _ _ (record { queries = refl; replies = refl; file = second.calm_file ∙ first.calm_file; read = second.calm_read ∙ first.calm_read; write = second.calm_write ∙ first.calm_write }) (c.in_err-read_text-3.ensures.cause queries replies))
+
+pub returns-in_err-read_text-3-clause-design : goal.returns-in_err-read_text-3-clause-design
+returns-in_err-read_text-3-clause-design g c first second third held_first held_second held_third =
+    let p = err_from_is_err_and c.from_residual-in_err-read_text-3.result c.from_residual-in_err-read_text-3.ensures.1 in
+    rw (p.1, p.2) (files_stop_stimulus first second third _ _ _ (netlist_read first _ _ _ (c.in_ok-read_text.ensures.text first held_first) c.deref.ensures.value c.in_ok-netlist.ensures)
+    (timing_read second _ _ _ (c.in_ok-read_text-2.ensures.text second (ap (λ (h : List ℕ → Option (List ℕ)). h c.args.timing.now) c.in_ok-read_text.ensures.held ∙ held_second)) c.deref-2.ensures.value c.in_ok-timing.ensures)
+    (stimulus_stops third _ (c.in_err-read_text-3.ensures.text third (ap (λ (h : List ℕ → Option (List ℕ)). h c.args.stimulus.now) (c.in_ok-read_text-2.ensures.held ∙ c.in_ok-read_text.ensures.held) ∙ held_third))))
+
+pub returns-in_err-stimulus-clause-cause : goal.returns-in_err-stimulus-clause-cause
+returns-in_err-stimulus-clause-cause g c queries replies =
+    let first = c.in_ok-read_text.ensures in
+    let second = c.in_ok-read_text-2.ensures in
+    let third = c.in_ok-read_text-3.ensures in
+    let p = err_from_is_err_and c.from_residual-in_err-stimulus.result c.from_residual-in_err-stimulus.ensures.1 in
+    rw p.1 (p.2.quiet _ _ (record { queries = refl; replies = refl; file = third.calm_file ∙ second.calm_file ∙ first.calm_file; read = third.calm_read ∙ second.calm_read ∙ first.calm_read; write = third.calm_write ∙ second.calm_write ∙ first.calm_write }))
+
+pub returns-in_err-stimulus-clause-design : goal.returns-in_err-stimulus-clause-design
+returns-in_err-stimulus-clause-design g c first second third held_first held_second held_third =
+    let p = err_from_is_err_and c.from_residual-in_err-stimulus.result c.from_residual-in_err-stimulus.ensures.1 in
+    rw p.1 (refuses _ _ p.0 _ p.2 (stimulus_faulty first second third _ _ _ _ (netlist_read first _ _ _ (c.in_ok-read_text.ensures.text first held_first) c.deref.ensures.value c.in_ok-netlist.ensures)
+    (timing_read second _ _ _ (c.in_ok-read_text-2.ensures.text second (ap (λ (h : List ℕ → Option (List ℕ)). h c.args.timing.now) c.in_ok-read_text.ensures.held ∙ held_second)) c.deref-2.ensures.value c.in_ok-timing.ensures)
+    (stimulus_refused third _ _ c.in_err-stimulus.field-0.0 (c.in_ok-read_text-3.ensures.text third (ap (λ (h : List ℕ → Option (List ℕ)). h c.args.stimulus.now) (c.in_ok-read_text-2.ensures.held ∙ c.in_ok-read_text.ensures.held) ∙ held_third)) c.deref-3.ensures.value c.in_err-stimulus.ensures)))
+
+-- the join
+pub returns-in_err-join-clause-cause : goal.returns-in_err-join-clause-cause
+returns-in_err-join-clause-cause g c queries replies =
+    let first = c.in_ok-read_text.ensures in
+    let second = c.in_ok-read_text-2.ensures in
+    let third = c.in_ok-read_text-3.ensures in
+    let p = err_from_is_err_and c.from_residual-in_err-join.result c.from_residual-in_err-join.ensures.1 in
+    rw p.1 (p.2.quiet _ _ (record { queries = refl; replies = refl; file = third.calm_file ∙ second.calm_file ∙ first.calm_file; read = third.calm_read ∙ second.calm_read ∙ first.calm_read; write = third.calm_write ∙ second.calm_write ∙ first.calm_write }))
+
+pub returns-in_err-join-clause-design : goal.returns-in_err-join-clause-design
+returns-in_err-join-clause-design g c first second third held_first held_second held_third =
+    let p = err_from_is_err_and c.from_residual-in_err-join.result c.from_residual-in_err-join.ensures.1 in
+    rw p.1 (refuses _ _ p.0 _ p.2 (join_refused first second third _ _ _ c.in_err-join.field-0.0 (netlist_read first _ _ _ (c.in_ok-read_text.ensures.text first held_first) c.deref.ensures.value c.in_ok-netlist.ensures)
+    (timing_read second _ _ _ (c.in_ok-read_text-2.ensures.text second (ap (λ (h : List ℕ → Option (List ℕ)). h c.args.timing.now) c.in_ok-read_text.ensures.held ∙ held_second)) c.deref-2.ensures.value c.in_ok-timing.ensures)
+    (stimulus_read third _ _ _ (c.in_ok-read_text-3.ensures.text third (ap (λ (h : List ℕ → Option (List ℕ)). h c.args.stimulus.now) (c.in_ok-read_text-2.ensures.held ∙ c.in_ok-read_text.ensures.held) ∙ held_third)) c.deref-3.ensures.value c.in_ok-stimulus.ensures)
+    c.in_err-join.ensures))
+
+pub returns-clause-design : goal.returns-clause-design
+returns-clause-design g c first second third held_first held_second held_third =
+    files_joined first second third _ _ _ _ (netlist_read first _ _ _ (c.in_ok-read_text.ensures.text first held_first) c.deref.ensures.value c.in_ok-netlist.ensures)
+    (timing_read second _ _ _ (c.in_ok-read_text-2.ensures.text second (ap (λ (h : List ℕ → Option (List ℕ)). h c.args.timing.now) c.in_ok-read_text.ensures.held ∙ held_second)) c.deref-2.ensures.value c.in_ok-timing.ensures)
+    (stimulus_read third _ _ _ (c.in_ok-read_text-3.ensures.text third (ap (λ (h : List ℕ → Option (List ℕ)). h c.args.stimulus.now) (c.in_ok-read_text-2.ensures.held ∙ c.in_ok-read_text.ensures.held) ∙ held_third)) c.deref-3.ensures.value c.in_ok-stimulus.ensures)
+    c.in_ok-join.ensures
