@@ -1,5 +1,5 @@
 #!/usr/bin/env bash
-# Measures read_bench against a plain Rust reader of the same lines, on a netlist of 1,000,000
+# Measures read_bench against wc -l and a plain Rust reader of the same lines, on a netlist of 1,000,000
 # gates of two pins and on one at the limits (1,048,576 signals, 4,190,112 pins).
 #
 #     bench/netlist/run.sh
@@ -9,7 +9,7 @@
 set -euo pipefail
 
 here=$(cd "$(dirname "$0")" && pwd)
-top=$(cd "$here/../.." && pwd)
+. "$here/../common.sh"
 out=$top/bench/out/netlist
 mkdir -p "$out"
 
@@ -21,13 +21,9 @@ bin=$out/target/release
 # A program of its own, beside copies of the crates that it stands on.
 work=$(mktemp -d)
 trap 'rm -rf "$work"' EXIT
+copy_crates "$work" gate_values text_rules bench_lines bench_reader
 mkdir -p "$work/crates/netlist_time/src"
-for crate in gate_values text_rules bench_lines bench_reader; do
-    mkdir -p "$work/crates/$crate"
-    (cd "$top/crates/$crate" && tar cf - --exclude=./out .) | (cd "$work/crates/$crate" && tar xf -)
-done
 cp "$here/program.txt" "$work/crates/netlist_time/src/main.rt"
-grep -E '^(gate_values|text_rules|bench_lines|bench_reader):' "$top/crates.txt" >"$work/crates.txt"
 echo "netlist_time: bench_reader anyhow" >>"$work/crates.txt"
 (cd "$work/crates/netlist_time" && rt run -- "$out/million.bench" >/dev/null)
 proved=$work/crates/netlist_time/out/netlist_time
@@ -42,6 +38,8 @@ measure() {
 
 for file in million limit; do
     for _ in 1 2 3; do
+        echo "== $file: wc -l"
+        measure wc -l "$out/$file.bench"
         echo "== $file: plain Rust"
         measure "$bin/read" "$out/$file.bench"
         echo "== $file: read_bench"

@@ -1,0 +1,25 @@
+# What the measurements share; each reads this file. A program of a measurement is built beside copies of the crates that it
+# stands on, since the gate takes no source outside crates/.
+top=$(cd "$(dirname "${BASH_SOURCE[0]}")/.." && pwd)
+
+# copy_crates FOLDER CRATE..: a repository in FOLDER that has these crates, without what was built of them.
+copy_crates() {
+    local folder=$1 crate
+    shift
+    mkdir -p "$folder/crates"
+    cp "$top/HANDLES" "$folder/"
+    for crate in "$@"; do
+        (cd "$top/crates" && tar cf - --exclude="$crate/out" "$crate") | (cd "$folder/crates" && tar xf -)
+        grep -E "^$crate( [^:]*)?:" "$top/crates.txt" >>"$folder/crates.txt"
+    done
+}
+
+# in_turn PLAIN OWN: runs the program in plain Rust and that of this repository three times, one after the other.
+in_turn() {
+    for _ in 1 2 3; do
+        echo "plain Rust:"
+        "$1"
+        echo "this repository:"
+        "$2"
+    done
+}
