@@ -14,6 +14,13 @@ copy_crates() {
     done
 }
 
+# begin FOLDER: makes a scratch folder, $copy, that goes with the script, and builds FOLDER's program in plain Rust there.
+begin() {
+    copy=$(mktemp -d)
+    trap 'rm -rf "$copy"' EXIT
+    rustc -O -o "$copy/plain" "$1/plain.rs"
+}
+
 # in_turn PLAIN OWN: runs the program in plain Rust and that of this repository three times, one after the other.
 in_turn() {
     for _ in 1 2 3; do

@@ -5,9 +5,7 @@
 set -euo pipefail
 here=$(cd "$(dirname "$0")" && pwd)
 . "$here/../common.sh"
-copy=$(mktemp -d)
-trap 'rm -rf "$copy"' EXIT
-rustc -O -o "$copy/plain" "$here/plain.rs"
+begin "$here"
 copy_crates "$copy/repository" backsim_io gate_values valid_intervals cell_store
 echo "cell_store_time: backsim_io gate_values valid_intervals cell_store" >>"$copy/repository/crates.txt"
 program=$copy/repository/crates/cell_store_time

@@ -3,9 +3,7 @@
 set -euo pipefail
 here=$(cd "$(dirname "$0")" && pwd)
 . "$here/../common.sh"
-copy=$(mktemp -d)
-trap 'rm -rf "$copy"' EXIT
-rustc -O -o "$copy/plain" "$here/plain.rs"
+begin "$here"
 copy_crates "$copy/repository" backsim_io gate_values valid_intervals flip_flops circuit_meaning journal_meaning journal_text
 echo "journal_text_time: backsim_io gate_values valid_intervals circuit_meaning journal_meaning journal_text" >>"$copy/repository/crates.txt"
 program=$copy/repository/crates/journal_text_time
