@@ -7,3 +7,5 @@ pub mod Stopped
 pub mod Designed
 pub mod Begun
 pub mod Sessions
+pub mod Untouched
+pub mod Firsts

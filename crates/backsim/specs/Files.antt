@@ -86,3 +86,14 @@ Answers (Err stop) said = ⊤
 abbrev pub AnswersText : {T : Type 0} → (T → List ℕ) → Result T Stop → Result (List ℕ) Refusal → Type 0
 AnswersText bytes (Ok text) said = said ≡ Ok (bytes text)
 AnswersText bytes (Err stop) said = Answers (Err stop) said
+
+-- Where this is refused, the answer is its refusal, unless a fault, or a lack of memory, came before. Nothing is said of what comes behind.
+abbrev pub AnswersFirst : {A B : Type 0} → Result A Stop → Result B Refusal → Type 0
+AnswersFirst result (Ok b) = ⊤
+AnswersFirst (Ok a) (Err refusal) = ⊥
+AnswersFirst (Err (Refused given)) (Err refusal) = given ≡ refusal
+AnswersFirst (Err stop) (Err refusal) = ⊤
+
+-- the netlist and then the timing file
+abbrev pub first_two : List ℕ → List ℕ → Result timings.Content Refusal
+first_two netlist timing = netlist_of netlist >>= λ content. delays_of timing

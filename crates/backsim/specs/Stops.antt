@@ -2,7 +2,8 @@
 use Rattle.std.specs.Prelude.{ℕ, ◌≡◌, ⊤, Result, Ok, Err}
 use Rattle.backsim_io.specs.Counts.{Rose}
 use Rattle.backsim.specs.Cause.{Counts, Calm, Explains}
-use Rattle.backsim.specs.declared.status.Place.TheVariants.{Script, Replies}
+use Rattle.backsim.specs.declared.status.Place.{Place}
+use Rattle.backsim.specs.declared.status.Place.TheVariants.{Netlist, Timing, Stimulus, Journal, Script, Replies}
 use Rattle.backsim.specs.declared.status.Status.{Status}
 use Rattle.backsim.specs.declared.status.Status.TheVariants as statuses
 use Rattle.backsim.specs.declared.refusal.Refusal.{Refusal}
@@ -57,3 +58,30 @@ ScriptExplains queries queries_after old new (WriteFault Replies) = Rose old new
 ScriptExplains queries queries_after old new (WriteFault place) = ⊥
 ScriptExplains queries queries_after old new (FileFault place) = ⊥
 ScriptExplains queries queries_after old new OutOfMemory = ⊤
+
+-- what is known where the place is one of the three files
+abbrev pub IfFile : Type 0 → Place → Type 0
+IfFile says Netlist = says
+IfFile says Timing = says
+IfFile says Stimulus = says
+IfFile says Journal = ⊤
+IfFile says Script = ⊤
+IfFile says Replies = ⊤
+
+-- What is known of a stop by a fault of one of the three files. Of other stops nothing is said here.
+abbrev pub IfFileStop : Type 0 → Stop → Type 0
+IfFileStop says (ReadFault place) = IfFile says place
+IfFileStop says (FileFault place) = IfFile says place
+IfFileStop says (Refused refusal) = ⊤
+IfFileStop says (WriteFault place) = ⊤
+IfFileStop says OutOfMemory = ⊤
+
+-- the same of the status that a session ends with
+abbrev pub IfFileStatus : Type 0 → Status → Type 0
+IfFileStatus says (statuses.ReadFault place) = IfFile says place
+IfFileStatus says (statuses.FileFault place) = IfFile says place
+IfFileStatus says statuses.Ended = ⊤
+IfFileStatus says statuses.Words = ⊤
+IfFileStatus says statuses.Refused = ⊤
+IfFileStatus says (statuses.WriteFault place) = ⊤
+IfFileStatus says statuses.OutOfMemory = ⊤

@@ -2,7 +2,7 @@
 
 ghost use Rattle.std.specs.Prelude.{◌≡◌, ◌≤◌, ◌+◌, ℕ, List, Some, IfOk, OnOk, vec_len};
 ghost use Rattle.backsim.specs.Cause.{Explains, IsTurn};
-ghost use Rattle.backsim.specs.Files.{Answers, AnswersText, design_of_files, limited};
+ghost use Rattle.backsim.specs.Files.{Answers, AnswersFirst, AnswersText, netlist_of, first_two, design_of_files, limited};
 ghost use Rattle.backsim.specs.Stops.{status_after};
 
 use crate::refusal::{Refusal, Stop};
@@ -32,6 +32,12 @@ pub fn read_design<F: Files>(
     ensures calm_file { OnOk result (F.file_faults files.new ≡ F.file_faults files.old) }
     ensures calm_read { OnOk result (F.read_faults files.new ≡ F.read_faults files.old) }
     ensures calm_write { OnOk result (F.write_faults files.new ≡ F.write_faults files.old) }
+    ensures files { F.files files.new ≡ F.files files.old }
+    ensures first { (first : List ℕ) → F.held files.old netlist.now ≡ Some first → AnswersFirst result (netlist_of first) }
+    ensures second { (first second : List ℕ)
+        → F.held files.old netlist.now ≡ Some first
+        → F.held files.old timing.now ≡ Some second
+        → AnswersFirst result (first_two first second) }
     ensures design { (first second third : List ℕ)
         → F.held files.old netlist.now ≡ Some first
         → F.held files.old timing.now ≡ Some second
@@ -61,6 +67,7 @@ fn read_text<F: Files>(
     ensures calm_write { OnOk result (F.write_faults files.new ≡ F.write_faults files.old) }
     ensures started { OnOk result (F.started files.new ≡ F.started files.old + 1) }
     ensures held { F.held files.new ≡ F.held files.old }
+    ensures files { F.files files.new ≡ F.files files.old }
     ensures within { IfOk result (λ text. vec_len text ≤ 67108864) }
     ensures text { (bytes : List ℕ) → F.held files.old name.now ≡ Some bytes → AnswersText (λ text. text.items) result (limited place bytes) }
 {

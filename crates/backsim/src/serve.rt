@@ -1,12 +1,12 @@
 //! One session, from the words to the status.
 
 ghost use Rattle.std.specs.Prelude.{◌≡◌, ◌⊎◌, [], ◌∷◌, true, false, map, IfErr, OnErr, OnOk};
-ghost use Rattle.backsim_io.specs.Counts.{Grows, GrowsByPrefix};
+ghost use Rattle.backsim_io.specs.Counts.{Grows, GrowsByPrefix, Stays};
 ghost use Rattle.backsim.specs.Cause.{Explains};
 ghost use Rattle.backsim.specs.Refused.{EndsRefused, IsWhole, IsBegun};
 ghost use Rattle.backsim.specs.Script.{Refuses, IfUnread, may_cut, cuts};
 ghost use Rattle.backsim.specs.Session.{Given, AreGiven, IsServed, IsServedUntil, Front, Writes};
-ghost use Rattle.backsim.specs.Stops.{status_after};
+ghost use Rattle.backsim.specs.Stops.{status_after, IfFileStop, IfFileStatus};
 ghost use Rattle.backsim.specs.Texts.{is_command, usage};
 
 use crate::inputs::read_design;
@@ -62,6 +62,7 @@ pub fn serve<F: Files, Q: Source, S: Sink>(
         → AreGiven (F.held files.old) (Q.left queries.old) (map (λ word. word.now) words.now) given
         → result ≡ Status.ReadFault Place.Script
         → Writes (IsServedUntil given (Q.left queries.new)) (S.written out.old) (S.written out.new) }
+    ensures untouched { IfFileStatus (Stays (S.written out.old) (S.written out.new) × (Q.left queries.new ≡ Q.left queries.old) × (F.files files.new ≡ F.files files.old)) result }
 {
     let (true, &[netlist, timing, stimulus, _journal]) = (are_names(words), words) else {
         return match write_all(out, USAGE) {
@@ -113,6 +114,7 @@ fn session<F: Files, Q: Source, S: Sink>(
     ensures unread { (given : Given)
         → AreGiven (F.held files.old) (Q.left queries.old) (netlist.now ∷ timing.now ∷ stimulus.now ∷ []) given
         → IfErr result (IfUnread (Writes (IsServedUntil given (Q.left queries.new)) (S.written out.old) (S.written out.new))) }
+    ensures untouched { IfErr result (IfFileStop (Stays (S.written out.old) (S.written out.new) × (Q.left queries.new ≡ Q.left queries.old) × (F.files files.new ≡ F.files files.old))) }
 {
     let design = read_design(alloc, netlist, timing, stimulus, files)?;
     serve_script(alloc, &design, queries, out)

@@ -83,3 +83,8 @@ module _ {W R : Type 0} (items : R → List W) where
       All-cons (λ (c : Point × Claim W). IsAtMost p c.0) (e.0, claim_of items e.1) (claims_of items es)
       (point_le-numbers p e.0 (All-head (λ q. is_gt (point_cmp p q) ≡ false) e.0 (keys_of es) all))
       (least-claims p es (All-tail (λ q. is_gt (point_cmp p q) ≡ false) e.0 (keys_of es) all))
+
+  -- the claimed points are the keys
+  pub keys_of-claims : (es : List (Point × Holding R)) → keys_of (claims_of items es) ≡ keys_of es
+  keys_of-claims [] = refl
+  keys_of-claims (e ∷ es) = ap (λ (l : List Point). e.0 ∷ l) (keys_of-claims es)

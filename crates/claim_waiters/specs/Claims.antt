@@ -2,7 +2,8 @@
 use Rattle.std.specs.Prelude.{ℕ, ◌≡◌, ◌<◌, ◌≤◌, ◌⊎◌, Bool, List, [], ◌∷◌, ◌++◌, Option, Some, None, option_map, if◌then◌else◌}
 use Rattle.std.specs.declared.cmp.Ordering.{Ordering}
 use Rattle.std.specs.BTreeMap.{insert_entry, is_at}
-use Rattle.std.specs.Map.{lookup, remove_entry}
+use Rattle.std.specs.List.Sorted.{IsStrictlySortedBy}
+use Rattle.std.specs.Map.{keys_of, lookup, remove_entry}
 use Rattle.std.specs.Ordering.{ordering_then, nat_cmp}
 use Rattle.valid_intervals.specs.declared.Point.{Point}
 
@@ -22,6 +23,10 @@ abbrev pub IsAtMost : Point → Point → Type 0
 IsAtMost a b = (a.signal < b.signal) ⊎ ((a.signal ≡ b.signal) × (a.time ≤ b.time))
 
 module _ {W : Type 0} where
+  -- each claimed point comes before all later ones, so none is claimed twice
+  abbrev pub IsInOrder : Claims W → Type 0
+  IsInOrder claims = IsStrictlySortedBy point_cmp (keys_of claims)
+
   -- the claim of a point
   abbrev pub claim_at : Claims W → Point → Option (Claim W)
   claim_at claims p = lookup (is_at (point_cmp p)) claims
@@ -31,6 +36,14 @@ module _ {W : Type 0} where
 
   abbrev pub waiters_of : Claims W → Point → Option (List W)
   waiters_of claims p = option_map (λ c. c.waiters) (claim_at claims p)
+
+  -- those that wait at a point, and at one that is not claimed there are none
+  abbrev pub waiting_in : Option (Claim W) → List W
+  waiting_in None = []
+  waiting_in (Some c) = c.waiters
+
+  abbrev pub waiters_at : Claims W → Point → List W
+  waiters_at claims p = waiting_in (claim_at claims p)
 
   -- the first claimed point, with its query
   abbrev pub first_of : Claims W → Option (ℕ × Point)

@@ -1,5 +1,5 @@
-ghost use Rattle.std.specs.Prelude.{◌≡◌, All, IfErr, IfSome, IsSome, None, OnErr, OnOk, Some, []};
-ghost use Rattle.claim_waiters.specs.Claims.{claim_at, first_of, holder_of, waiters_of, with_claim, with_waiter, without, IsAtMost};
+ghost use Rattle.std.specs.Prelude.{◌≡◌, ◌↔◌, length, IsTrue, All, IfErr, IfSome, IsSome, None, OnErr, OnOk, Some, []};
+ghost use Rattle.claim_waiters.specs.Claims.{claim_at, first_of, holder_of, waiters_of, with_claim, with_waiter, without, IsAtMost, IsInOrder};
 
 use crate::waiter::Waiter;
 use backsim_io::OutOfMemory;
@@ -41,6 +41,27 @@ impl<W: Waiter> ClaimTable<W> {
             map: BTreeMap::new(alloc),
             alloc,
         }
+    }
+
+    /// What is known of every table: its points are in order, so none is claimed twice.
+    pub fn facts(&self)
+        ensures { IsInOrder self.now }
+    {
+        let _len = self.map.len();
+    }
+
+    /// How many points are claimed.
+    pub fn len(&self) -> usize
+        ensures { result ≡ length self.now }
+    {
+        self.map.len()
+    }
+
+    /// Whether nothing is claimed.
+    pub fn is_empty(&self) -> bool
+        ensures { IsTrue result ↔ (self.now ≡ []) }
+    {
+        self.map.is_empty()
     }
 
     /// Claims a point for a query. Nobody waits for it yet.

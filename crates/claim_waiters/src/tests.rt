@@ -39,11 +39,12 @@ fn point(signal: u32, time: u32) -> Point
 #[test]
 fn waiters_come_back_in_their_order(rt: HostRuntime) -> Result<(), Fail> {
     let mut claims: ClaimTable<Ticket> = ClaimTable::new(rt.alloc());
-    assert!(rt; claims.first().is_none());
+    assert!(rt; claims.first().is_none() && claims.is_empty());
     claims.claim(4, point(3, 4))?;
     if claims.holder(point(2, 9)).is_none() {
         claims.claim(5, point(2, 9))?;
     }
+    assert_eq!(rt; claims.len(), 2);
     assert_eq!(rt; claims.holder(point(3, 4)), Some(4));
     assert_eq!(rt; claims.holder(point(3, 5)), None);
     assert_eq!(rt; claims.first(), Some((5, point(2, 9))));

@@ -54,14 +54,15 @@ module _ (b : Batch) (d : Circuit) (e : d ≡ b.circuit) (old middle new : Parts
       (λ s. heard-keeps b (strand_of b.circuit old) s)
       (record { charge = fits.charge; claims = omega arith })
 
-  pub claimed-demand : (p : Point) → next (strand_of b.circuit old) ≡ Ask p → old.charged < old.budget → StepsBy d (λ x. claimed d x p) middle new → IsDemand b new
-  claimed-demand p asks room h =
-      let fits = fits-of b old is in
-      let claims = fits.claims in
-      let f : Circuit → Strand → Strand = λ x s. claimed x s p in
-      demand-steps b old new (f b.circuit) is (subst (λ x. StepsBy x (f x) old new) e (steps-on d (f d) old middle new settled h))
-      (λ s. claimed-keeps b (strand_of b.circuit old) s p asks room)
-      (record { charge = omega arith; claims = omega arith })
+pub claimed-demand : (b : Batch) (d : Circuit) → d ≡ b.circuit → (old new : Parts) → IsDemand b old → (p : Point) → next (strand_of b.circuit old) ≡ Ask p → old.charged < old.budget
+    → StepsBy d (λ x. claimed d x p) old new → IsDemand b new
+claimed-demand b d e old new is p asks room h =
+    let fits = fits-of b old is in
+    let claims = fits.claims in
+    let f : Circuit → Strand → Strand = λ x s. claimed x s p in
+    demand-steps b old new (f b.circuit) is (subst (λ x. StepsBy x (f x) old new) e h)
+    (λ s. claimed-keeps b (strand_of b.circuit old) s p asks room)
+    (record { charge = omega arith; claims = omega arith })
 
 -- a fill is counted
 pub fill-room : (b : Batch) (s : Parts) → IsDemand b s → (p : Point) → next (strand_of b.circuit s) ≡ Fill p → s.budget < 2 ^ 32 → s.filled + 1 < 2 ^ 32

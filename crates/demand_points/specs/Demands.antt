@@ -12,6 +12,7 @@ use Rattle.strand_meaning.specs.Batches.{IsLawful}
 use Rattle.strand_meaning.specs.Strands.{Strand, IsStrand, is_evaluable, roots_from, next}
 use Rattle.demand_points.specs.declared.frame.Frame.{Frame}
 use Rattle.demand_points.specs.declared.parts.Parts.{Parts}
+use Rattle.demand_points.specs.Stacks.{IsTop, with_top}
 use Rattle.demand_points.specs.Frames.{IsFrame, IsLooking, IsReady, next_source, shown}
 
 -- What contracts see: its number, the window that it serves, the time of the root that it hears next, the cell of the root that it
@@ -119,6 +120,11 @@ pub record StepsBy (c : Circuit) (f : Strand → Strand) (old new : Parts) : Typ
   pub to : new.to ≡ old.to
   pub strand : strand_of c new ≡ f (strand_of c old)
 
+-- Base answers were heard; with the old root, last cell and top it is the old one again.
+pub record IsUndone (old new : Parts) : Type 0 where
+  pub empty : old.stack ≡ [] → new.stack ≡ []
+  pub top : (f : Frame) → IsTop old.stack f → with_top f new.stack ≡ old.stack
+
 -- What every strand of a batch keeps. One whose window is empty from the start, at time 0, may be of no batch.
 pub record IsDemand (b : Batch) (s : Parts) : Type 0 where
   pub lawful : 0 < s.to → IsLawful b
@@ -144,6 +150,7 @@ pub record IsKnown (b : Batch) (s : Demand) : Type 0 where
   pub strand : 0 < s.to → IsStrand b s.strand
   pub roots : s.strand.roots ≡ roots_left b.circuit (record { signal = s.strand.query.signal; start = s.from; stop = s.to }) s.root
   pub last : IsHeardTo b.circuit s
+  pub busy : 0 < length s.strand.stack → s.root < s.to
   pub charge : s.strand.charged ≤ s.strand.budget
   pub claims : length s.strand.stack + s.strand.filled ≤ s.strand.charged
 

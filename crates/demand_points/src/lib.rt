@@ -34,6 +34,7 @@ mod strand;
 #[cfg(test)]
 mod tests;
 
+pub use frame::Frame;
 pub use journal_meaning::{Entry, Query};
 pub use names::BatchName;
 pub use strand::{Strand, Task};

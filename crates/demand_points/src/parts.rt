@@ -5,7 +5,7 @@ ghost use Rattle.journal_meaning.specs.Batch.{cell_at};
 ghost use Rattle.strand_meaning.specs.Strands.{next, heard, claimed, finished};
 ghost use Rattle.strand_meaning.specs.declared.Next.TheVariants.{Ask, Fill};
 ghost use Rattle.valid_intervals.specs.declared.Point.{Point};
-ghost use Rattle.demand_points.specs.Demands.{strand_of, itself, IsRunning, IsReadyAt, IsRootReady, IsRootKnown, IsAnswer, IsFilling, StepsBy};
+ghost use Rattle.demand_points.specs.Demands.{strand_of, itself, IsRunning, IsReadyAt, IsRootReady, IsRootKnown, IsAnswer, IsFilling, IsUndone, StepsBy};
 
 use crate::frame::Frame;
 use crate::stack::Stack;
@@ -78,6 +78,7 @@ impl Parts {
         requires { IsRunning design.now.circuit self.old }
         ensures steps { StepsBy design.now.circuit itself self.old self.new }
         ensures ready { IsReadyAt design.now.circuit self.new }
+        ensures undone { IsUndone self.old self.new }
     {
         design.facts();
         match self.stack.top() {
@@ -135,8 +136,8 @@ impl Parts {
         }
     }
 
-    /// Claims the point that it asks for.
-    pub fn claim(&mut self, design: &Design, p: Point) -> Result<(), AllocError>
+    /// Claims the point that it asks for. Base answers are heard.
+    fn push(&mut self, design: &Design, p: Point) -> Result<(), AllocError>
         requires running { IsRunning design.now.circuit self.old }
         requires ready { IsReadyAt design.now.circuit self.old }
         requires asks { next (strand_of design.now.circuit self.old) ≡ Ask p }
@@ -148,6 +149,34 @@ impl Parts {
         self.stack.push(Frame::new(design, p))?;
         self.charged += 1;
         Ok(())
+    }
+
+    /// Claims the point that it asks for, or stays as it was.
+    pub fn claim(&mut self, design: &Design, p: Point) -> Result<(), AllocError>
+        requires running { IsRunning design.now.circuit self.old }
+        requires asks { next (strand_of design.now.circuit self.old) ≡ Ask p }
+        requires room { self.old.charged < self.old.budget }
+        ensures ok { OnOk result (StepsBy design.now.circuit (λ s. claimed design.now.circuit s p) self.old self.new) }
+        ensures err { OnErr result (self.new ≡ self.old) }
+    {
+        let root = self.root;
+        let last = self.last;
+        let top = self.stack.top();
+        self.settle(design);
+        match self.push(design, p) {
+            Ok(()) => Ok(()),
+            Err(error) => {
+                self.root = root;
+                self.last = last;
+                match top {
+                    Some(frame) => {
+                        self.stack.set_top(frame);
+                        Err(error)
+                    }
+                    None => Err(error),
+                }
+            }
+        }
     }
 
     /// The cell of the point on top, whose children are all heard.

@@ -14,8 +14,10 @@ use crate::names::BatchName;
 use crate::parts::Parts;
 use crate::stack::Stack;
 use backsim_io::OutOfMemory;
+use claim_waiters::Waiter;
 use design::Design;
 use journal_meaning::Query;
+use smallvec::SmallVec;
 use std::alloc::Global;
 use std::default::MadeWith;
 use std::marker::{Model, PhantomData};
@@ -180,15 +182,14 @@ impl<B: BatchName> Strand<B> {
         self.parts.hear(design, &cell);
     }
 
-    /// Claims the point that it asks for, and is charged for it. Where memory runs out, it has heard base answers at most.
+    /// Claims the point that it asks for, and is charged for it. Where memory runs out, it stays as it was.
     pub fn claimed(&mut self, design: &Design, p: Point) -> Result<(), OutOfMemory>
         requires design { design.now.circuit ≡ B.batch.circuit }
         requires asks { next self.old.strand ≡ Ask p }
         requires room { self.old.strand.charged < self.old.strand.budget }
         ensures ok { OnOk result (Steps (λ s. strands.claimed B.batch.circuit s p) self.old self.new) }
-        ensures err { OnErr result (Steps itself self.old self.new) }
+        ensures err { OnErr result (self.new ≡ self.old) }
     {
-        self.parts.settle(design);
         self.parts.claim(design, p)?;
         Ok(())
     }
@@ -230,6 +231,27 @@ impl<B: BatchName> Strand<B> {
         match self.parts.stack.pop() {
             Some(frame) => frame.point,
             None => unreachable!(),
+        }
+    }
+}
+
+/// Strands wait for a point in a small vector with room for two.
+impl<B: BatchName> Waiter for Strand<B> {
+    type Room = SmallVec<Strand<B>, 2>;
+
+    ghost items = { λ room. room.items };
+
+    fn none(alloc: Global) -> SmallVec<Strand<B>, 2> {
+        SmallVec::new(alloc)
+    }
+
+    fn wait(
+        room: &mut SmallVec<Strand<B>, 2>,
+        waiter: Strand<B>,
+    ) -> Result<(), (Strand<B>, OutOfMemory)> {
+        match room.push(waiter) {
+            Ok(()) => Ok(()),
+            Err(refused) => Err((refused.value, OutOfMemory)),
         }
     }
 }

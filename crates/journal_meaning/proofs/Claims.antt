@@ -73,6 +73,26 @@ without-other (c ∷ claims) p r h = elim (cases_point p c.point) [
   ])
 ]
 
+-- the holders after a claim, and after one has ended, point by point
+pub holder-claimed : (claims : List Claim) (q : ℕ) (p x : Point) → holder (record { query = q; point = p } ∷ claims) x ≡ cond (same_point p x) (Some q) (holder claims x)
+holder-claimed claims q p x = elim (cases_point p x) [
+  | inl e ↦ subst (λ z. holder (record { query = q; point = p } ∷ claims) z ≡ cond (same_point p z) (Some q) (holder claims z)) e.1 (claim-here claims p q ∙ rw (subst (λ z. same_point p z ≡ true) (sym e.1) e.0) refl)
+  | inr e ↦ claim-other claims p x q (λ k. e.1 (sym k)) ∙ rw e.0 refl
+]
+
+pub holder-ended : (claims : List Claim) (p x : Point) → holder (without claims p) x ≡ cond (same_point p x) None (holder claims x)
+holder-ended claims p x = elim (cases_point p x) [
+  | inl e ↦ subst (λ z. holder (without claims p) z ≡ None) e.1 (holder-without claims p) ∙ rw e.0 refl
+  | inr e ↦ without-other claims p x (λ k. e.1 (sym k)) ∙ rw e.0 refl
+]
+
+-- where no point is claimed there are no claims
+pub no-claims : (claims : List Claim) → ((p : Point) → holder claims p ≡ None) → claims ≡ []
+no-claims [] f = refl
+no-claims (c ∷ claims) f =
+    let h : holder (c ∷ claims) c.point ≡ Some c.query = rw (same_point-itself c.point) refl in
+    absurd (cc (h, f c.point))
+
 -- a point's own cell covers it
 pub own-covers : (c : Circuit) → IsCircuit c → (p : Point) → p.time ≤ c.horizon → covers p (cell_for p (cell_at c p)) ≡ true
 own-covers c ok p h =

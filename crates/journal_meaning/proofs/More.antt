@@ -16,6 +16,7 @@ use Rattle.journal_meaning.specs.States.{State, is_stored}
 use Rattle.journal_meaning.specs.Table.{Needs, after}
 use Rattle.valid_intervals.specs.Cells.{same_stored, cell_for, covers, to_front}
 use Rattle.journal_meaning.specs.Batch.{Batch, IsAllowed, IsRight, cell_at}
+use Rattle.journal_meaning.specs.Counts.{booked, is_booked}
 use Rattle.journal_meaning.specs.Replay.{replay, IsLegal}
 use Rattle.journal_meaning.proofs.Same.{same_stored-true, same_stored-itself}
 use Rattle.journal_meaning.proofs.Lists.{Each, Differ, each-filter, differ-front, test-false}
@@ -131,3 +132,13 @@ right-answers c ok p x r h =
     let cell = right-within c ok x r p.time (record { low = leb-true x.cell.span.start p.time l.1; high = ltb-true p.time x.cell.span.stop k.1 }) in
     let of : ℕ → Cell → SignalCell = λ s z. record { signal = s; cell = z } in
     ap₂ of signal (cell ∙ ap (λ s. cell_at c (record { signal = s; time = p.time })) signal)
+
+-- entries of claims and fills add up
+pub booked-append : (es fs : List Entry) → booked (es ++ fs) ≡ booked es + booked fs
+booked-append [] fs = omega arith
+booked-append (e ∷ es) fs =
+    let k = booked-append es fs in
+    elim (is_booked e) as (λ t. length (cond t (e ∷ filter is_booked (es ++ fs)) (filter is_booked (es ++ fs))) ≡ length (cond t (e ∷ filter is_booked es) (filter is_booked es)) + booked fs) [
+      | true ↦ omega (arith, k)
+      | false ↦ k
+    ]

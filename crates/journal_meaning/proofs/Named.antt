@@ -1,15 +1,18 @@
 -- Each point that an entry names is needed by its query.
-use Rattle.std.proofs.Common.{ℕ, not, List, [], ◌∷◌}
+use Rattle.std.proofs.Common.{◌≡◌, ℕ, ◌%◌, not, List, [], ◌∷◌, Contains, Some, None, refl}
+use Rattle.std.proofs.lemmas.List.Elements.{All-contains, All-from_recursion}
 use Rattle.valid_intervals.specs.declared.Point.{Point}
 use Rattle.journal_meaning.specs.declared.Entry.{Entry}
 use Rattle.journal_meaning.specs.declared.Entry.TheVariants.{Told, Claimed, Filled, Evicted, Dropped, Spent}
-use Rattle.journal_meaning.specs.States.{State}
+use Rattle.valid_intervals.specs.declared.Cell.{Cell}
+use Rattle.journal_meaning.specs.States.{State, Claim, holder}
 use Rattle.journal_meaning.specs.Table.{Needs, after}
 use Rattle.valid_intervals.specs.Cells.{same_point}
 use Rattle.journal_meaning.specs.Batch.{Batch, IsNeededBy, OfQuery, IsAt, IsAllowed}
-use Rattle.journal_meaning.specs.Replay.{IsLegal}
+use Rattle.journal_meaning.specs.Replay.{IsLegal, replay}
 use Rattle.journal_meaning.proofs.Lists.{Each, each-filter}
 use Rattle.journal_meaning.proofs.Claims.{holder-each}
+use Rattle.journal_meaning.proofs.Same.{same_point-itself}
 
 module _ (b : Batch) where
   -- the query with this number needs the point
@@ -51,3 +54,23 @@ module _ (b : Batch) where
     pub all_named : (es : List Entry) (s : State) → ClaimsOurs s → IsLegal b shard s es → Each Named es
     all_named [] s h l = tt
     all_named (e ∷ es) s h l = (names s e h l.0 l.1, all_named es (after s e) (still_ours s e h l.1) l.2)
+
+    -- so what is claimed at its end is needed, and of the shard
+    pub claims_ours : (es : List Entry) (s : State) → ClaimsOurs s → IsLegal b shard s es → ClaimsOurs (replay s es)
+    claims_ours [] s h l = h
+    claims_ours (e ∷ es) s h l = claims_ours es (after s e) (still_ours s e h l.1) l.2
+
+    pub claim_ours : (es : List Entry) (s : State) → ClaimsOurs s → IsLegal b shard s es → (p : Point) (q : ℕ) → holder (replay s es).claims p ≡ Some q → Ours q p
+    claim_ours es s h l p q k = holder-each Ours (replay s es).claims p q (claims_ours es s h l) k
+
+    -- where no point of the shard has a holder, there is no claim
+    pub none_ours : (claims : List Claim) → Each (λ c. Ours c.query c.point) claims → ((p : Point) → p.signal % b.shards ≡ shard → holder claims p ≡ None) → claims ≡ []
+    none_ours [] h none = refl
+    none_ours (c ∷ claims) h none =
+        let k = none c.point h.0.0.0 in
+        let m : holder (c ∷ claims) c.point ≡ Some c.query = rw (same_point-itself c.point) refl in
+        absurd (cc (k, m))
+
+    -- a filled point is needed by a query of the batch with the entry's number
+    pub filled_needed : (es : List Entry) (s : State) → ClaimsOurs s → IsLegal b shard s es → (q : ℕ) (p : Point) (x : Cell) → Contains es (Filled q p x) → Needed q p
+    filled_needed es s h l q p x known = (All-contains Named es (Filled q p x) (All-from_recursion Named es (all_named es s h l)) known).1

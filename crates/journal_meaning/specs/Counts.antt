@@ -1,9 +1,9 @@
 -- How often points are evaluated, and cells evicted.
-use Rattle.std.specs.Prelude.{ℕ, ◌+◌, nat_eq, Bool, false, not, ◌&&◌, if◌then◌else◌, List, [], ◌∷◌, length, filter, filter_map, flat_map, Option, Some, None}
+use Rattle.std.specs.Prelude.{ℕ, ◌+◌, nat_eq, Bool, true, false, not, ◌&&◌, if◌then◌else◌, List, [], ◌∷◌, length, filter, filter_map, flat_map, Option, Some, None}
 use Rattle.std.specs.List.{list_any, range_with_len}
 use Rattle.valid_intervals.specs.declared.Point.{Point}
 use Rattle.journal_meaning.specs.declared.Entry.{Entry}
-use Rattle.journal_meaning.specs.declared.Entry.TheVariants.{Filled, Evicted}
+use Rattle.journal_meaning.specs.declared.Entry.TheVariants.{Claimed, Filled, Evicted}
 use Rattle.valid_intervals.specs.Cells.{same_point}
 use Rattle.journal_meaning.specs.Sections.{Section, joined}
 
@@ -53,3 +53,12 @@ is_eviction_of signal start e = false
 
 abbrev pub evictions_of : List Entry → ℕ → ℕ → ℕ
 evictions_of es signal start = length (filter (is_eviction_of signal start) es)
+
+-- how many entries are of a claim that begins, or of a point that is filled
+abbrev pub is_booked : Entry → Bool
+is_booked (Claimed q p) = true
+is_booked (Filled q p x) = true
+is_booked e = false
+
+abbrev pub booked : List Entry → ℕ
+booked es = length (filter is_booked es)

@@ -1,5 +1,5 @@
 -- Worked examples: plans of one shard, computed from the definitions.
-use Rattle.std.proofs.Common.{◌≡◌, ℕ, ◌+◌, ◌<◌, ◌≤◌, ◌≢◌, refl, subst, arith, inl, map, false, List, [], ◌∷◌, get_or, None, Contains}
+use Rattle.std.proofs.Common.{◌≡◌, ℕ, ◌+◌, ◌<◌, ◌≤◌, ◌≢◌, refl, subst, arith, inl, map, true, false, List, [], ◌∷◌, get_or, None, Contains}
 use Rattle.std.specs.List.{AllByRecursion}
 use Rattle.std.proofs.lemmas.List.Elements.{All-from_recursion}
 use Rattle.std.proofs.lemmas.List.Kept.{AllPairs-cons}
@@ -29,6 +29,8 @@ use Rattle.plan_machine.specs.Plans.{Plan, no_shard, new_plan, ready}
 use Rattle.plan_machine.specs.Steps.{turned}
 use Rattle.plan_machine.specs.Turns.{turn, run, turns}
 use Rattle.plan_machine.specs.Bounds.{bound}
+use Rattle.plan_machine.specs.Alone.{run_alone}
+use Rattle.plan_machine.specs.Settling.{run_of, settle}
 use Rattle.plan_machine.specs.Sound.{IsSound, IsFresh}
 use Rattle.plan_machine.proofs.Turns.{run-sound}
 use Rattle.plan_machine.proofs.New.{new-sound}
@@ -244,3 +246,58 @@ shared-sound : (numbers : List ℕ) → IsSound shared no-cells (run shared (pla
 shared-sound numbers =
     let starts : AllByRecursion (IsStart shared) (whole poor ∷ whole rich ∷ []) = (start-right poor (0, omega arith, refl), (start-right rich (1, omega arith, refl), tt)) in
     run-sound shared shared-lawful no-cells (plan chain poor rich) (new-sound shared shared-lawful no-cells (whole poor ∷ whole rich ∷ []) (no_shard ∷ []) starts shared-fresh) numbers
+
+-- the first alone: its budget is spent at once, and it drops what it holds
+alone-poor : (shard (run_alone shared 0 10 (plan chain poor rich))).journal ≡ entries.Claimed 1 (point 1 5) ∷ entries.Spent 1 (point 3 4) 1 ∷ entries.Dropped 1 (point 1 5) ∷ []
+unfolding sources_of roots_from children value span row_at rows_below last_setting next_setting least_delay
+alone-poor = refl
+
+-- the second alone
+alone-rich : (shard (run_alone shared 1 10 (plan chain poor rich))).journal
+    ≡ entries.Claimed 2 (point 1 5) ∷ entries.Claimed 2 (point 3 4) ∷ entries.Claimed 2 (point 2 3)
+    ∷ entries.Filled 2 (point 2 3) (cell 1 11 One) ∷ entries.Filled 2 (point 3 4) (cell 2 11 One) ∷ entries.Filled 2 (point 1 5) (cell 3 11 One) ∷ []
+unfolding sources_of roots_from children value span row_at rows_below last_setting next_setting least_delay
+alone-rich = refl
+
+-- settlement without workers: the first is refused, the second evaluates all three points
+settled-none : (settle shared (no_shard ∷ [])).refused ≡ true ∷ false ∷ []
+unfolding sources_of roots_from children value span row_at rows_below last_setting next_setting least_delay run_of
+settled-none = refl
+
+settled-journal : (get_or (settle shared (no_shard ∷ [])).shards 0 no_shard).journal
+    ≡ entries.Claimed 1 (point 1 5) ∷ entries.Spent 1 (point 3 4) 1 ∷ entries.Dropped 1 (point 1 5)
+    ∷ entries.Claimed 2 (point 1 5) ∷ entries.Claimed 2 (point 3 4) ∷ entries.Claimed 2 (point 2 3)
+    ∷ entries.Filled 2 (point 2 3) (cell 1 11 One) ∷ entries.Filled 2 (point 3 4) (cell 2 11 One) ∷ entries.Filled 2 (point 1 5) (cell 3 11 One) ∷ []
+unfolding sources_of roots_from children value span row_at rows_below last_setting next_setting least_delay run_of
+settled-journal = refl
+
+-- after the workers' turns above, in which the first was spent: nothing is missing, and neither is refused
+settled-after : (settle shared (run shared (plan chain poor rich) schedule).shards).refused ≡ false ∷ false ∷ []
+unfolding sources_of roots_from children value span row_at rows_below last_setting next_setting least_delay run_of
+settled-after = refl
+
+settled-nothing : (get_or (settle shared (run shared (plan chain poor rich) schedule).shards).shards 0 no_shard).journal
+    ≡ entries.Claimed 1 (point 1 5) ∷ entries.Dropped 1 (point 1 5) ∷ entries.Claimed 2 (point 1 5) ∷ entries.Claimed 2 (point 3 4) ∷ entries.Claimed 2 (point 2 3)
+    ∷ entries.Filled 2 (point 2 3) (cell 1 11 One) ∷ entries.Filled 2 (point 3 4) (cell 2 11 One) ∷ entries.Filled 2 (point 1 5) (cell 3 11 One) ∷ []
+unfolding sources_of roots_from children value span row_at rows_below last_setting next_setting least_delay run_of
+settled-nothing = refl
+
+-- a query alone, whose budget of 2 is spent as the workers run and again in settlement
+abbrev short : Query
+short = query 1 1 5 2
+
+abbrev lone : Batch
+lone = record { circuit = chain; shards = 1; capacity = 4; queries = short ∷ []; site = None }
+
+abbrev lone_end : Plan
+lone_end = run lone (new_plan lone (whole short ∷ []) (no_shard ∷ [])) (0 ∷ 0 ∷ 0 ∷ 0 ∷ 0 ∷ [])
+
+lone-refused : (settle lone lone_end.shards).refused ≡ true ∷ []
+unfolding sources_of roots_from children value span row_at rows_below last_setting next_setting least_delay run_of
+lone-refused = refl
+
+lone-journal : (get_or (settle lone lone_end.shards).shards 0 no_shard).journal
+    ≡ entries.Claimed 1 (point 1 5) ∷ entries.Claimed 1 (point 3 4) ∷ entries.Dropped 1 (point 3 4) ∷ entries.Dropped 1 (point 1 5)
+    ∷ entries.Claimed 1 (point 1 5) ∷ entries.Claimed 1 (point 3 4) ∷ entries.Spent 1 (point 2 3) 2 ∷ entries.Dropped 1 (point 3 4) ∷ entries.Dropped 1 (point 1 5) ∷ []
+unfolding sources_of roots_from children value span row_at rows_below last_setting next_setting least_delay run_of
+lone-journal = refl

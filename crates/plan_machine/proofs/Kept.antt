@@ -1,5 +1,5 @@
 -- What is kept follows the turns of the plan.
-use Rattle.std.proofs.Common.{◌≡◌, ℕ, zero, suc, ◌<◌, ◌≤◌, ◌%◌, ◌⊎◌, true, false, cond, List, [], ◌∷◌, ◌++◌, length, map, get_or, slice_get, slice_set, refl, ap, sym, ◌∙◌, subst, arith, inl, inr, Option, Some, None}
+use Rattle.std.proofs.Common.{◌≡◌, ℕ, zero, suc, ◌<◌, ◌≤◌, ◌%◌, ◌⊎◌, false, List, [], ◌∷◌, ◌++◌, length, map, get_or, slice_get, slice_set, refl, ap, sym, ◌∙◌, subst, arith, inl, inr, Option, Some, None}
 use Rattle.std.specs.List.{AllByRecursion}
 use Rattle.std.proofs.Math.ListN.{length-set, length-map, get_or-map}
 use Rattle.std.proofs.lemmas.List.{get_or-set_same, get_or-set_other, map-set}
@@ -12,7 +12,7 @@ use Rattle.strand_meaning.specs.Strands.{Strand, next, waiting, awake}
 use Rattle.plan_machine.specs.Shards.{Shard}
 use Rattle.plan_machine.specs.Plans.{Plan, no_shard, shard_of, woken, with_shard}
 use Rattle.plan_machine.specs.Parts.{Waiter, IsAmong, AreParts, put_back, with_waiters, strands_from}
-use Rattle.plan_machine.specs.Kept.{Parked, Memo, no_memo, waiting_at, parked_but, memo_of, waiters, all_waiters, shards_of, plan_of, IsKept}
+use Rattle.plan_machine.specs.Kept.{Parked, Memo, no_memo, waiting_at, memo_of, waiters, all_waiters, shards_of, plan_of, IsKept}
 use Rattle.journal_meaning.proofs.Claims.{cases_point}
 use Rattle.plan_machine.proofs.Parts.{strands-are, put-parts, wait-parts, wake-parts, put-get}
 
@@ -117,43 +117,6 @@ module _ (memos : List Memo) (p : Point) (m : Memo) (some : 1 ≤ length memos) 
         | inr e ↦ rw (get_or-set_other memos (p.signal % length memos) n m no_memo e) (homes n h)
       ])
 
--- what waits at a point, before and after
-park-here : (ks : List Parked) (p : Point) (w : Waiter) → waiting_at (ks ++ record { point = p; waiter = w } ∷ []) p ≡ waiting_at ks p ++ w ∷ []
-park-here [] p w = elim (cases_point p p) [ inl l ↦ rw l.0 refl | inr l ↦ absurd (l.1 refl) ]
-park-here (k ∷ ks) p w = elim (cases_Bool (same_point k.point p)) [
-  | inl t ↦ rw t (ap (λ ws. k.waiter ∷ ws) (park-here ks p w))
-  | inr f ↦ rw f (park-here ks p w)
-]
-
-park-other : (ks : List Parked) (p x : Point) (w : Waiter) → (p ≡ x → ⊥) → waiting_at (ks ++ record { point = p; waiter = w } ∷ []) x ≡ waiting_at ks x
-park-other [] p x w ne = elim (cases_point p x) [ inl l ↦ absurd (ne l.1) | inr l ↦ rw l.0 refl ]
-park-other (k ∷ ks) p x w ne = ap (λ ws. cond (same_point k.point x) (k.waiter ∷ ws) ws) (park-other ks p x w ne)
-
-but-here : (ks : List Parked) (p : Point) → waiting_at (parked_but ks p) p ≡ []
-but-here [] p = refl
-but-here (k ∷ ks) p = elim (cases_Bool (same_point k.point p)) [
-  | inl t ↦ rw t (but-here ks p)
-  | inr f ↦ rw f (rw f (but-here ks p))
-]
-
-but-other : (ks : List Parked) (p x : Point) → (p ≡ x → ⊥) → waiting_at (parked_but ks p) x ≡ waiting_at ks x
-but-other [] p x ne = refl
-but-other (k ∷ ks) p x ne = elim (cases_point k.point p) [
-  | inl l ↦ elim (cases_point k.point x) [
-    | inl r ↦ absurd (ne (sym l.1 ∙ r.1))
-    | inr r ↦ rw (l.0, r.0) (but-other ks p x ne)
-  ]
-  | inr l ↦ rw l.0 (ap (λ ws. cond (same_point k.point x) (k.waiter ∷ ws) ws) (but-other ks p x ne))
-]
-
-park-all : (P : Parked → Type 0) (ks : List Parked) (k : Parked) → AllByRecursion P ks → P k → AllByRecursion P (ks ++ k ∷ [])
-park-all P [] k h pk = (pk, tt)
-park-all P (x ∷ ks) k h pk = (h.0, park-all P ks k h.1 pk)
-
-but-all : (P : Parked → Type 0) (ks : List Parked) (p : Point) → AllByRecursion P ks → AllByRecursion P (parked_but ks p)
-but-all P [] p h = tt
-but-all P (k ∷ ks) p h = elim (same_point k.point p) as (λ t. AllByRecursion P (cond t (parked_but ks p) (k ∷ parked_but ks p))) [ true ↦ but-all P ks p h.1 | false ↦ (h.0, but-all P ks p h.1) ]
-
 plan-is : (a b : Plan) → a.strands ≡ b.strands → a.shards ≡ b.shards → a ≡ b
 plan-is a b e f = let at : List Strand → List Shard → Plan = λ xs hs. record { strands = xs; shards = hs } in ap (λ xs. at xs a.shards) e ∙ ap (at b.strands) f
 
@@ -189,36 +152,31 @@ module _ (places : List (Option Strand)) (memos : List Memo) (xs : List Strand) 
         homes = homes-after memos p m kept.some kept.homes (subst (AllByRecursion (λ (k : Parked). k.point.signal % length memos ≡ p.signal % length memos)) (sym same) all);
       }
 
-  -- the strand stays with the shard
-  pub kept-wait : (h : Shard) → next s ≡ Ask p
-      → IsKept (slice_set places i None) (slice_set memos (p.signal % length memos) (record { shard = h; parked = (memo_of memos p).parked ++ record { point = p; waiter = record { number = i; strand = s } } ∷ [] })) (slice_set xs i (waiting s))
+  -- the strand stays with the shard, behind those that wait at the point
+  pub kept-wait : (m : Memo) → next s ≡ Ask p → waiting_at m.parked p ≡ waiters memos p ++ record { number = i; strand = s } ∷ [] → ((x : Point) → (p ≡ x → ⊥) → waiting_at m.parked x ≡ waiting_at (memo_of memos p).parked x)
+      → AllByRecursion (λ (k : Parked). k.point.signal % length memos ≡ p.signal % length memos) m.parked
+      → IsKept (slice_set places i None) (slice_set memos (p.signal % length memos) m) (slice_set xs i (waiting s))
   unfolding next_memos
-  kept-wait h asks =
+  kept-wait m asks here other home =
       let w : Waiter = record { number = i; strand = s } in
-      let ks = (memo_of memos p).parked in
-      let m : Memo = record { shard = h; parked = ks ++ record { point = p; waiter = w } ∷ [] } in
-      let low : p.signal % length memos < length memos = omega (arith, kept.some) in
-      let all = kept.homes (p.signal % length memos) low in
       record {
         some = rw (length-set memos (p.signal % length memos) m) kept.some;
         parts = same-parts (slice_set places i None) (waiters (slice_set memos (p.signal % length memos) m)) (with_waiters (waiters memos) p (waiters memos p ++ w ∷ [])) (slice_set xs i (waiting s))
-            (waiters-after memos p m kept.some (waiters memos p ++ w ∷ []) (park-here ks p w) (λ x ne. park-other ks p x w ne))
+            (waiters-after memos p m kept.some (waiters memos p ++ w ∷ []) here other)
             (wait-parts places (waiters memos) xs kept.parts i s at p asks);
-        homes = homes-after memos p m kept.some kept.homes (park-all (λ (k : Parked). k.point.signal % length memos ≡ p.signal % length memos) ks (record { point = p; waiter = w }) all refl);
+        homes = homes-after memos p m kept.some kept.homes home;
       }
 
   -- all that waited at the point go back, and the strand too
-  pub kept-wake : (f : Strand → Strand) → ((o : Strand) → o.waits ≡ false → (f o).waits ≡ false) → ((o : Strand) → o.waits ≡ false → awake (f (waiting o)) ≡ f o) → (t : Strand) (h : Shard) → t.waits ≡ false
-      → IsKept (slice_set (put_back f places (waiters memos p)) i (Some t)) (slice_set memos (p.signal % length memos) (record { shard = h; parked = parked_but (memo_of memos p).parked p })) (slice_set (map (woken f p) xs) i t)
+  pub kept-wake : (f : Strand → Strand) → ((o : Strand) → o.waits ≡ false → (f o).waits ≡ false) → ((o : Strand) → o.waits ≡ false → awake (f (waiting o)) ≡ f o) → (t : Strand) (m : Memo) → t.waits ≡ false
+      → waiting_at m.parked p ≡ [] → ((x : Point) → (p ≡ x → ⊥) → waiting_at m.parked x ≡ waiting_at (memo_of memos p).parked x)
+      → AllByRecursion (λ (k : Parked). k.point.signal % length memos ≡ p.signal % length memos) m.parked
+      → IsKept (slice_set (put_back f places (waiters memos p)) i (Some t)) (slice_set memos (p.signal % length memos) m) (slice_set (map (woken f p) xs) i t)
   unfolding next_memos
-  kept-wake f quiet fits t h calm =
-      let ks = (memo_of memos p).parked in
-      let m : Memo = record { shard = h; parked = parked_but ks p } in
-      let low : p.signal % length memos < length memos = omega (arith, kept.some) in
-      let all = kept.homes (p.signal % length memos) low in
+  kept-wake f quiet fits t m calm here other home =
       let back = put_back f places (waiters memos p) in
       let woke = wake-parts places (waiters memos) xs kept.parts f quiet fits p in
-      let here : slice_get back i ≡ Some (Some s) = elim (put-get f places (waiters memos p) (λ w k. slice_get_within places w.number None (kept.parts.waiter p w k).0) i) [
+      let there : slice_get back i ≡ Some (Some s) = elim (put-get f places (waiters memos p) (λ w k. slice_get_within places w.number None (kept.parts.waiter p w k).0) i) [
         | inl k ↦
             let l = (kept.parts.waiter p k.waiter k.among).0 in
             let e : slice_get places k.waiter.number ≡ Some (Some s) = ap (slice_get places) k.number ∙ at in
@@ -228,7 +186,7 @@ module _ (places : List (Option Strand)) (memos : List Memo) (xs : List Strand) 
       record {
         some = rw (length-set memos (p.signal % length memos) m) kept.some;
         parts = same-parts (slice_set back i (Some t)) (waiters (slice_set memos (p.signal % length memos) m)) (with_waiters (waiters memos) p []) (slice_set (map (woken f p) xs) i t)
-            (waiters-after memos p m kept.some [] (but-here ks p) (λ x ne. but-other ks p x ne))
-            (put-parts back (with_waiters (waiters memos) p []) (map (woken f p) xs) woke i s here t calm);
-        homes = homes-after memos p m kept.some kept.homes (but-all (λ (k : Parked). k.point.signal % length memos ≡ p.signal % length memos) ks p all);
+            (waiters-after memos p m kept.some [] here other)
+            (put-parts back (with_waiters (waiters memos) p []) (map (woken f p) xs) woke i s there t calm);
+        homes = homes-after memos p m kept.some kept.homes home;
       }

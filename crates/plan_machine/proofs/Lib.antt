@@ -11,3 +11,11 @@ pub mod Examples
 pub mod Facts
 pub mod Parts
 pub mod Kept
+pub mod Journals
+pub mod Underway
+pub mod GivingUp
+pub mod Alone
+pub mod AloneRuns
+pub mod Settle
+pub mod Settling
+pub mod Freed

@@ -1,21 +1,23 @@
 -- A shard stays a shard at each entry.
-use Rattle.std.proofs.Common.{◌≡◌, ℕ, zero, suc, ◌-◌, ◌<◌, ◌≤◌, Bool, true, false, List, [], ◌∷◌, ◌++◌, length, take, find, slice_get, refl, ap, sym, ◌∙◌, subst, arith, inl, inr, Option, Some, None, true≢false, length-take, length-append}
+use Rattle.std.proofs.Common.{◌≡◌, ℕ, zero, suc, ◌+◌, ◌-◌, ◌&&◌, not, nat_eq, cond, ◌<◌, ◌≤◌, Bool, true, false, List, [], ◌∷◌, ◌++◌, length, take, find, slice_get, refl, ap, sym, ◌∙◌, subst, arith, inl, inr, Option, Some, None, true≢false, length-take, length-append}
 use Rattle.std.specs.List.{AllByRecursion, list_any}
 use Rattle.std.proofs.lemmas.Bool.{cases_Bool, or_parts}
 use Rattle.std.proofs.lemmas.Bool.Decides.{eqb_tells}
+use Rattle.valid_intervals.specs.declared.Cell.{Cell}
 use Rattle.valid_intervals.specs.declared.Point.{Point}
 use Rattle.valid_intervals.specs.declared.SignalCell.{SignalCell}
 use Rattle.valid_intervals.specs.Cells.{covers, cell_for, same_stored, all_but_last}
 use Rattle.circuit_meaning.specs.Circuit.{IsCircuit}
 use Rattle.journal_meaning.specs.declared.Entry.{Entry}
-use Rattle.journal_meaning.specs.declared.Entry.TheVariants.{Told, Claimed, Filled, Evicted, Dropped}
+use Rattle.journal_meaning.specs.declared.Entry.TheVariants.{Told, Claimed, Filled, Evicted, Dropped, Spent}
 use Rattle.journal_meaning.specs.States.{fresh, is_stored, holder, without, IsLast}
+use Rattle.journal_meaning.specs.Counts.{booked}
 use Rattle.journal_meaning.specs.Table.{Needs, after}
 use Rattle.journal_meaning.specs.Batch.{Batch, IsAt, IsNeededBy, OfQuery, IsAllowed, IsRight, cell_at}
 use Rattle.journal_meaning.specs.Replay.{replay, IsLegal}
 use Rattle.journal_meaning.proofs.Lists.{Stands, Here, There, each-stands, stands-any, front-snoc, snoc_cases}
 use Rattle.journal_meaning.proofs.Same.{same_stored-itself}
-use Rattle.journal_meaning.proofs.More.{replay-more, legal-more, still-right, still-fits, right-answers}
+use Rattle.journal_meaning.proofs.More.{replay-more, legal-more, booked-append, still-right, still-fits, right-answers}
 use Rattle.plan_machine.specs.Shards.{Shard, stored_at, last_cell, recorded, evicted, with_room, filled_shard, IsShard}
 
 -- what a search finds
@@ -70,6 +72,23 @@ any-take test zero cells h = refl
 any-take test (suc n) [] h = refl
 any-take test (suc n) (x ∷ cells) h = let k = or_parts (test x) (list_any test cells) h in rw k.0 (any-take test n cells k.1)
 
+-- a fill is one more entry of a claim or fill
+booked-evicted : (o : Option SignalCell) (h : Shard) → booked (evicted o h).journal ≡ booked h.journal
+booked-evicted None h = refl
+booked-evicted (Some x) h = let k = booked-append h.journal (Evicted x.signal x.cell.span.start ∷ []) in omega (arith, k)
+
+booked-room : (capacity : ℕ) (x : SignalCell) (h : Shard) → booked (with_room capacity x h).journal ≡ booked h.journal
+booked-room capacity x h = elim (not (is_stored h.state x) && nat_eq (length h.state.cells) capacity) as (λ t. booked (cond t (evicted (last_cell h.state.cells) h) h).journal ≡ booked h.journal) [
+  | true ↦ booked-evicted (last_cell h.state.cells) h
+  | false ↦ refl
+]
+
+pub booked-filled : (capacity q : ℕ) (p : Point) (cell : Cell) (h : Shard) → booked (filled_shard capacity q p cell h).journal ≡ booked h.journal + 1
+booked-filled capacity q p cell h =
+    let k = booked-append (with_room capacity (cell_for p cell) h).journal (Filled q p cell ∷ []) in
+    let l = booked-room capacity (cell_for p cell) h in
+    omega (arith, k, l)
+
 module _ (b : Batch) (n : ℕ) (opening : List SignalCell) where
   -- a shard, perhaps with a place just made
   record Keeps (h : Shard) : Type 0 where
@@ -107,6 +126,10 @@ module _ (b : Batch) (n : ℕ) (opening : List SignalCell) where
     pub claimed-shard : OfQuery b q (λ y. IsNeededBy b y p) → stored_at h.state.cells p ≡ None → holder h.state.claims p ≡ None → IsShard b n opening (recorded (Claimed q p) h)
     claimed-shard wanted none free =
         whole (recorded (Claimed q p) h) (recorded-keeps h (Claimed q p) (keeps h is) (is.made, not-found (covers p) h.state.cells none, free) (here, wanted)) is.made
+
+    pub spent-shard : (held : ℕ) → OfQuery b q (λ y. IsNeededBy b y p) → stored_at h.state.cells p ≡ None → holder h.state.claims p ≡ None → IsShard b n opening (recorded (Spent q p held) h)
+    spent-shard held wanted none free =
+        whole (recorded (Spent q p held) h) (recorded-keeps h (Spent q p held) (keeps h is) (is.made, not-found (covers p) h.state.cells none, free) (here, wanted)) is.made
 
     pub dropped-shard : OfQuery b q (λ y. Unit {0}) → holder h.state.claims p ≡ Some q → IsShard b n opening (recorded (Dropped q p) h)
     dropped-shard known claim = whole (recorded (Dropped q p) h) (recorded-keeps h (Dropped q p) (keeps h is) (is.made, claim) (here, known)) is.made

@@ -64,17 +64,15 @@ module _ (f : Strand → Strand) (p : Point) (o : Strand) where
 
 -- claims of a plan with another shard
 module _ (plan : Plan) (strands : List Strand) (p : Point) (h : Shard) (some : 1 ≤ length plan.shards) where
-  next_plan : Plan
+  abbrev pub next_plan : Plan
   next_plan = record { strands = strands; shards = slice_set plan.shards (home plan p) h }
 
-  claims-here : claim_of next_plan p ≡ holder h.state.claims p
-  unfolding next_plan
+  pub claims-here : claim_of next_plan p ≡ holder h.state.claims p
   claims-here =
       let low : home plan p < length plan.shards = omega arith in
       rw (length-set plan.shards (home plan p) h, get_or-set_same plan.shards (home plan p) h no_shard low) refl
 
-  claims-same : (x : Point) → holder h.state.claims x ≡ holder (shard_of plan p).state.claims x → claim_of next_plan x ≡ claim_of plan x
-  unfolding next_plan
+  pub claims-same : (x : Point) → holder h.state.claims x ≡ holder (shard_of plan p).state.claims x → claim_of next_plan x ≡ claim_of plan x
   claims-same x e =
       let low : home plan p < length plan.shards = omega arith in
       rw (length-set plan.shards (home plan p) h) (elim (cases_eq (home plan x) (home plan p)) [
@@ -85,28 +83,28 @@ module _ (plan : Plan) (strands : List Strand) (p : Point) (h : Shard) (some : 1
 module _ (b : Batch) (lawful : IsLawful b) (opening : ℕ → List SignalCell) (plan : Plan) (sound : IsSound b opening plan)
     (i : ℕ) (s : Strand) (at : slice_get plan.strands i ≡ Some s) (ready : s.waits ≡ false) where
   -- the point is wanted by the strand's query
-  abbrev Wanted : Point → Type 0
+  abbrev pub Wanted : Point → Type 0
   Wanted p = OfQuery b s.query.number (λ y. IsNeededBy b y p)
 
-  asked-wanted : (p : Point) → next s ≡ Ask p → Wanted p
+  pub asked-wanted : (p : Point) → next s ≡ Ask p → Wanted p
   asked-wanted p e = ((asks-needed b lawful s (sound.strands i s at)).asked p e).needed
 
-  held-wanted : (p : Point) → IsHeld s.stack p → Wanted p
+  pub held-wanted : (p : Point) → IsHeld s.stack p → Wanted p
   held-wanted p h = ((asks-needed b lawful s (sound.strands i s at)).held p h).needed
 
-  known : (p : Point) → Wanted p → OfQuery b s.query.number (λ y. Unit {0})
+  pub known : (p : Point) → Wanted p → OfQuery b s.query.number (λ y. Unit {0})
   known p w = (w.0, w.1, w.2, tt)
 
-  here-of : (p : Point) → Wanted p → IsAt b (home plan p) p
+  pub here-of : (p : Point) → Wanted p → IsAt b (home plan p) p
   here-of p w = (ap (λ n. p.signal % n) (sym sound.count), wanted-time b lawful s.query.number p w)
 
-  home-shard : (p : Point) → IsShard b (home plan p) (opening (home plan p)) (shard_of plan p)
+  pub home-shard : (p : Point) → IsShard b (home plan p) (opening (home plan p)) (shard_of plan p)
   home-shard p =
       let n = sound.count in
       let k = lawful.some_shard in
       sound.shards (home plan p) (omega arith)
 
-  shards-after : (p : Point) (h : Shard) → IsShard b (home plan p) (opening (home plan p)) h → (n : ℕ) → n < b.shards → IsShard b n (opening n) (get_or (slice_set plan.shards (home plan p) h) n no_shard)
+  pub shards-after : (p : Point) (h : Shard) → IsShard b (home plan p) (opening (home plan p)) h → (n : ℕ) → n < b.shards → IsShard b n (opening n) (get_or (slice_set plan.shards (home plan p) h) n no_shard)
   shards-after p h is n low =
       let count = sound.count in
       let within : home plan p < length plan.shards = omega (arith, lawful.some_shard) in
@@ -145,7 +143,6 @@ module _ (b : Batch) (lawful : IsLawful b) (opening : ℕ → List SignalCell) (
       }
 
   pub told-sound : (p : Point) (x : SignalCell) → next s ≡ Ask p → stored_at (shard_of plan p).state.cells p ≡ Some x → IsSound b opening (stepped b plan i s (steps.Tell p x))
-  unfolding next_plan
   told-sound p x e found =
       let is = sound.strands i s at in
       let a = asked-wanted p e in
@@ -163,7 +160,7 @@ module _ (b : Batch) (lawful : IsLawful b) (opening : ℕ → List SignalCell) (
             (same-linking new (heard s) (λ y. claims-same plan ys p h some y refl) refl (held-heard s.stack) (heard-held s.stack) (λ w. absurd (cc (w, ready))));
       }
 
-  some-shard : 1 ≤ length plan.shards
+  pub some-shard : 1 ≤ length plan.shards
   some-shard = let count = sound.count in omega (arith, lawful.some_shard)
 
   -- a plan with one other shard is sound where its parts are
@@ -179,7 +176,7 @@ module _ (b : Batch) (lawful : IsLawful b) (opening : ℕ → List SignalCell) (
   }
 
   -- a plan with one other strand and the same shards
-  strand-sound : (t : Strand) → IsStrand b t → IsLinking (claim_of plan) (claim_of plan) plan.strands i s t (λ o. o) → IsSound b opening (with_strand plan i t)
+  pub strand-sound : (t : Strand) → IsStrand b t → IsLinking (claim_of plan) (claim_of plan) plan.strands i s t (λ o. o) → IsSound b opening (with_strand plan i t)
   strand-sound t is linking =
       let ys = slice_set plan.strands i t in
       let change : IsChange plan.strands ys i s t (λ o. o) = one-change plan.strands i s t at in
@@ -227,7 +224,6 @@ module _ (b : Batch) (lawful : IsLawful b) (opening : ℕ → List SignalCell) (
       }
 
   pub claimed-sound : (p : Point) → next s ≡ Ask p → stored_at (shard_of plan p).state.cells p ≡ None → claim_of plan p ≡ None → s.charged < s.budget → IsSound b opening (stepped b plan i s (steps.Claim p))
-  unfolding next_plan
   claimed-sound p e none free room =
       let a = asked-wanted p e in
       let h = recorded (Claimed s.query.number p) (shard_of plan p) in
@@ -270,7 +266,6 @@ module _ (b : Batch) (lawful : IsLawful b) (opening : ℕ → List SignalCell) (
       }
 
   pub dropped-sound : (p : Point) → next s ≡ Drop p → IsSound b opening (stepped b plan i s (steps.GiveBack p))
-  unfolding next_plan
   dropped-sound p e =
       let is = sound.strands i s at in
       let top = drop-top s p e in
@@ -288,7 +283,6 @@ module _ (b : Batch) (lawful : IsLawful b) (opening : ℕ → List SignalCell) (
       refl ready (λ x k. k) (λ x k. k) (λ o. refl) (λ o x k. k) (λ o x k. k))
 
   pub filled-sound : (p : Point) → next s ≡ Fill p → IsSound b opening (stepped b plan i s (steps.Finish p))
-  unfolding next_plan
   filled-sound p e =
       let is = sound.strands i s at in
       let top = fill-top s p e in

@@ -24,10 +24,6 @@ abbrev pub waiting_at : List Parked → Point → List Waiter
 waiting_at [] p = []
 waiting_at (k ∷ ks) p = if same_point k.point p then k.waiter ∷ waiting_at ks p else waiting_at ks p
 
-abbrev pub parked_but : List Parked → Point → List Parked
-parked_but [] p = []
-parked_but (k ∷ ks) p = if same_point k.point p then parked_but ks p else k ∷ parked_but ks p
-
 abbrev pub memo_of : List Memo → Point → Memo
 memo_of memos p = get_or memos (p.signal % length memos) no_memo
 

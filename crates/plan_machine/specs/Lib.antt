@@ -7,3 +7,7 @@ pub mod Sound
 pub mod Laws
 pub mod Parts
 pub mod Kept
+pub mod Journals
+pub mod Alone
+pub mod Settle
+pub mod Settling

@@ -28,7 +28,7 @@
 //! and others are computed in `proofs/Examples`.
 #![tactic(auto)]
 
-ghost use Rattle.plan_machine.specs.Laws.{NewIsSound, TurnsKeepSound, RunsKeepSound, SoundIsSafe, ReadyStrandsMove, EndsLetOut, IsNeverStuck, NoneReadyEnds, TurnsAreFew, TurnsAreBounded};
+ghost use Rattle.plan_machine.specs.Laws.{NewIsSound, TurnsKeepSound, RunsKeepSound, SoundIsSafe, ReadyStrandsMove, EndsLetOut, IsNeverStuck, NoneReadyEnds, TurnsAreFew, TurnsAreBounded, TurnsAdd, RunsAdd, TasksStay, AloneBegins, AloneGoes, AloneEnds, SettlesBatch, SettledAnswers};
 
 /// What one turn of a strand came to.
 #[derive(Clone, Copy, Debug, PartialEq, Eq)]
@@ -85,4 +85,24 @@ pub fn never_stuck()
 pub fn turns_are_few()
     ensures left { TurnsAreFew }
     ensures bounded { TurnsAreBounded }
+{}
+
+/// Turns add entries for the queries of their strands behind the journals, and each strand keeps its query and its budget.
+pub fn turns_add_entries()
+    ensures turn { TurnsAdd }
+    ensures run { RunsAdd }
+    ensures tasks { TasksStay }
+{}
+
+/// A strand that runs alone in a plan without claims never waits, and ends with its roots covered, or refused for its budget.
+pub fn strands_run_alone()
+    ensures begins { AloneBegins }
+    ensures goes { AloneGoes }
+    ensures ends { AloneEnds }
+{}
+
+/// Settlement answers every query of a batch: it is closed, or it was refused once, with its cause.
+pub fn settlement_answers()
+    ensures settles { SettlesBatch }
+    ensures answers { SettledAnswers }
 {}

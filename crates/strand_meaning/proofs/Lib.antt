@@ -1,3 +1,4 @@
 pub mod Stacks
 pub mod Wanted
 pub mod Started
+pub mod Pieces

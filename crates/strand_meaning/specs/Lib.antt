@@ -1,3 +1,4 @@
 pub mod Batches
 pub mod Strands
 pub mod Laws
+pub mod Pieces

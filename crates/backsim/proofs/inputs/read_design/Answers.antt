@@ -1,7 +1,8 @@
-use Rattle.std.proofs.Common.{ℕ, List, Option, refl, ap, ◌∙◌}
+use Rattle.std.proofs.Common.{ℕ, List, Option, Ok, refl, ap, ◌∙◌}
 use Rattle.std.proofs.lemmas.Result.{err_from_is_err_and}
 use Rattle.backsim.proofs.Explained.{explains_later}
 use Rattle.backsim.proofs.Designed.{refuses, netlist_stops, netlist_refused, netlist_read, timing_stops, timing_refused, timing_read, stimulus_stops, stimulus_refused, stimulus_read, files_stop_netlist, files_stop_timing, files_stop_stimulus, netlist_faulty, timing_faulty, stimulus_faulty, join_refused, files_joined}
+use Rattle.backsim.proofs.Firsts.{passes, stops_first, two_stop, behind_netlist}
 use Rattle.backsim.proofs.inputs.read_design.Goals as goal
 
 -- the netlist: its text, and what it says
@@ -105,3 +106,75 @@ returns-clause-design g c first second third held_first held_second held_third =
     (timing_read second _ _ _ (c.in_ok-read_text-2.ensures.text second (ap (λ (h : List ℕ → Option (List ℕ)). h c.args.timing.now) c.in_ok-read_text.ensures.held ∙ held_second)) c.deref-2.ensures.value c.in_ok-timing.ensures)
     (stimulus_read third _ _ _ (c.in_ok-read_text-3.ensures.text third (ap (λ (h : List ℕ → Option (List ℕ)). h c.args.stimulus.now) (c.in_ok-read_text-2.ensures.held ∙ c.in_ok-read_text.ensures.held) ∙ held_third)) c.deref-3.ensures.value c.in_ok-stimulus.ensures)
     c.in_ok-join.ensures
+
+-- what the first files refuse
+
+pub returns-in_err-read_text-clause-first : goal.returns-in_err-read_text-clause-first
+returns-in_err-read_text-clause-first g c first held_first =
+    let p = err_from_is_err_and c.from_residual.result c.from_residual.ensures.1 in
+    rw (p.1, p.2) (stops_first _ _ (netlist_stops first _ (c.in_err-read_text.ensures.text first held_first)))
+
+pub returns-in_err-read_text-clause-second : goal.returns-in_err-read_text-clause-second
+returns-in_err-read_text-clause-second g c first second held_first held_second =
+    let p = err_from_is_err_and c.from_residual.result c.from_residual.ensures.1 in
+    rw (p.1, p.2) (stops_first _ _ (two_stop first second _ (netlist_stops first _ (c.in_err-read_text.ensures.text first held_first))))
+
+pub returns-in_err-netlist-clause-first : goal.returns-in_err-netlist-clause-first
+returns-in_err-netlist-clause-first g c first held_first =
+    let p = err_from_is_err_and c.from_residual-in_err-netlist.result c.from_residual-in_err-netlist.ensures.1 in
+    rw p.1 (stops_first p.0 _ (refuses _ _ p.0 _ p.2 (netlist_refused first _ _ c.in_err-netlist.field-0.0 (c.in_ok-read_text.ensures.text first held_first) c.deref.ensures.value c.in_err-netlist.ensures)))
+
+pub returns-in_err-netlist-clause-second : goal.returns-in_err-netlist-clause-second
+returns-in_err-netlist-clause-second g c first second held_first held_second =
+    let p = err_from_is_err_and c.from_residual-in_err-netlist.result c.from_residual-in_err-netlist.ensures.1 in
+    rw p.1 (stops_first p.0 _ (two_stop first second p.0 (refuses _ _ p.0 _ p.2 (netlist_refused first _ _ c.in_err-netlist.field-0.0 (c.in_ok-read_text.ensures.text first held_first) c.deref.ensures.value c.in_err-netlist.ensures))))
+
+pub returns-in_err-read_text-2-clause-first : goal.returns-in_err-read_text-2-clause-first
+returns-in_err-read_text-2-clause-first g c first held_first =
+    passes _ _ _ (netlist_read first _ _ _ (c.in_ok-read_text.ensures.text first held_first) c.deref.ensures.value c.in_ok-netlist.ensures)
+
+pub returns-in_err-timing-clause-first : goal.returns-in_err-timing-clause-first
+returns-in_err-timing-clause-first g c first held_first =
+    passes _ _ _ (netlist_read first _ _ _ (c.in_ok-read_text.ensures.text first held_first) c.deref.ensures.value c.in_ok-netlist.ensures)
+
+pub returns-in_err-read_text-3-clause-first : goal.returns-in_err-read_text-3-clause-first
+returns-in_err-read_text-3-clause-first g c first held_first =
+    passes _ _ _ (netlist_read first _ _ _ (c.in_ok-read_text.ensures.text first held_first) c.deref.ensures.value c.in_ok-netlist.ensures)
+
+pub returns-in_err-stimulus-clause-first : goal.returns-in_err-stimulus-clause-first
+returns-in_err-stimulus-clause-first g c first held_first =
+    passes _ _ _ (netlist_read first _ _ _ (c.in_ok-read_text.ensures.text first held_first) c.deref.ensures.value c.in_ok-netlist.ensures)
+
+pub returns-in_err-join-clause-first : goal.returns-in_err-join-clause-first
+returns-in_err-join-clause-first g c first held_first =
+    passes _ _ _ (netlist_read first _ _ _ (c.in_ok-read_text.ensures.text first held_first) c.deref.ensures.value c.in_ok-netlist.ensures)
+
+pub returns-clause-first : goal.returns-clause-first
+returns-clause-first g c first held_first =
+    passes (Ok c.in_ok-join.field-0) _ _ (netlist_read first _ _ _ (c.in_ok-read_text.ensures.text first held_first) c.deref.ensures.value c.in_ok-netlist.ensures)
+
+pub returns-in_err-read_text-2-clause-second : goal.returns-in_err-read_text-2-clause-second
+returns-in_err-read_text-2-clause-second g c first second held_first held_second =
+    let p = err_from_is_err_and c.from_residual-in_err-read_text-2.result c.from_residual-in_err-read_text-2.ensures.1 in
+    rw (p.1, p.2, behind_netlist first second _ (netlist_read first _ _ _ (c.in_ok-read_text.ensures.text first held_first) c.deref.ensures.value c.in_ok-netlist.ensures)) (stops_first _ _ (timing_stops second _ (c.in_err-read_text-2.ensures.text second (ap (λ (h : List ℕ → Option (List ℕ)). h c.args.timing.now) c.in_ok-read_text.ensures.held ∙ held_second))))
+
+pub returns-in_err-timing-clause-second : goal.returns-in_err-timing-clause-second
+returns-in_err-timing-clause-second g c first second held_first held_second =
+    let p = err_from_is_err_and c.from_residual-in_err-timing.result c.from_residual-in_err-timing.ensures.1 in
+    rw (p.1, behind_netlist first second _ (netlist_read first _ _ _ (c.in_ok-read_text.ensures.text first held_first) c.deref.ensures.value c.in_ok-netlist.ensures)) (stops_first p.0 _ (refuses _ _ p.0 _ p.2 (timing_refused second _ _ c.in_err-timing.field-0.0 (c.in_ok-read_text-2.ensures.text second (ap (λ (h : List ℕ → Option (List ℕ)). h c.args.timing.now) c.in_ok-read_text.ensures.held ∙ held_second)) c.deref-2.ensures.value c.in_err-timing.ensures)))
+
+pub returns-in_err-read_text-3-clause-second : goal.returns-in_err-read_text-3-clause-second
+returns-in_err-read_text-3-clause-second g c first second held_first held_second =
+    passes _ _ _ (behind_netlist first second _ (netlist_read first _ _ _ (c.in_ok-read_text.ensures.text first held_first) c.deref.ensures.value c.in_ok-netlist.ensures) ∙ (timing_read second _ _ _ (c.in_ok-read_text-2.ensures.text second (ap (λ (h : List ℕ → Option (List ℕ)). h c.args.timing.now) c.in_ok-read_text.ensures.held ∙ held_second)) c.deref-2.ensures.value c.in_ok-timing.ensures))
+
+pub returns-in_err-stimulus-clause-second : goal.returns-in_err-stimulus-clause-second
+returns-in_err-stimulus-clause-second g c first second held_first held_second =
+    passes _ _ _ (behind_netlist first second _ (netlist_read first _ _ _ (c.in_ok-read_text.ensures.text first held_first) c.deref.ensures.value c.in_ok-netlist.ensures) ∙ (timing_read second _ _ _ (c.in_ok-read_text-2.ensures.text second (ap (λ (h : List ℕ → Option (List ℕ)). h c.args.timing.now) c.in_ok-read_text.ensures.held ∙ held_second)) c.deref-2.ensures.value c.in_ok-timing.ensures))
+
+pub returns-in_err-join-clause-second : goal.returns-in_err-join-clause-second
+returns-in_err-join-clause-second g c first second held_first held_second =
+    passes _ _ _ (behind_netlist first second _ (netlist_read first _ _ _ (c.in_ok-read_text.ensures.text first held_first) c.deref.ensures.value c.in_ok-netlist.ensures) ∙ (timing_read second _ _ _ (c.in_ok-read_text-2.ensures.text second (ap (λ (h : List ℕ → Option (List ℕ)). h c.args.timing.now) c.in_ok-read_text.ensures.held ∙ held_second)) c.deref-2.ensures.value c.in_ok-timing.ensures))
+
+pub returns-clause-second : goal.returns-clause-second
+returns-clause-second g c first second held_first held_second =
+    passes (Ok c.in_ok-join.field-0) _ _ (behind_netlist first second _ (netlist_read first _ _ _ (c.in_ok-read_text.ensures.text first held_first) c.deref.ensures.value c.in_ok-netlist.ensures) ∙ (timing_read second _ _ _ (c.in_ok-read_text-2.ensures.text second (ap (λ (h : List ℕ → Option (List ℕ)). h c.args.timing.now) c.in_ok-read_text.ensures.held ∙ held_second)) c.deref-2.ensures.value c.in_ok-timing.ensures))

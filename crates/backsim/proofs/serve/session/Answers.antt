@@ -3,6 +3,7 @@ use Rattle.std.proofs.Common.{refl}
 use Rattle.std.proofs.lemmas.Result.{err_from_is_err_and}
 use Rattle.backsim.proofs.Explained.{script_explains_result}
 use Rattle.backsim.proofs.Sessions.{session_served, session_refused, files_refused, session_begun, session_unread, files_begun, files_unread}
+use Rattle.backsim.proofs.Untouched.{script_no_file, file_stop, stays}
 use Rattle.backsim.proofs.serve.session.Goals as goal
 
 -- the script was served, or not, after the files were read without a fault
@@ -16,6 +17,7 @@ returns g c =
       refused = λ given are. session_refused given _ c.serve_script.result _ _ (read.design given.netlist given.timing given.stimulus are.netlist are.timing are.stimulus) (served.refused given.script are.script);
       begun = λ given are. session_begun may_cut given _ c.serve_script.result _ _ (read.design given.netlist given.timing given.stimulus are.netlist are.timing are.stimulus) (served.begun given.script are.script);
       unread = λ given are. session_unread given _ c.serve_script.result _ _ _ (read.design given.netlist given.timing given.stimulus are.netlist are.timing are.stimulus) (served.unread given.script are.script);
+      untouched = script_no_file _ _ _ _ _ c.serve_script.result served.cause;
     }
 
 -- the files gave no design
@@ -28,4 +30,5 @@ returns-in_err-design g c =
       refused = λ given are. files_refused given _ _ (c.in_err-design.ensures.design given.netlist given.timing given.stimulus are.netlist are.timing are.stimulus);
       begun = λ given are. files_begun (may_cut c.in_err-design.field-0.0) given _;
       unread = λ given are. files_unread _ _ c.in_err-design.field-0.0 _ refl refl (c.in_err-design.ensures.cause 0 0);
+      untouched = file_stop _ c.in_err-design.field-0.0 (stays (g.S.Sink.written c.args.out.now), refl, c.in_err-design.ensures.files);
     })

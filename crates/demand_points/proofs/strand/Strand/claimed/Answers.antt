@@ -11,4 +11,4 @@ invariant_of-self-2 g c =
     let s = c.self.inside.parts in
     let asks : next (strand_of b.circuit s) ≡ Ask c.args.p = subst (λ (v : Demand). next v.strand ≡ Ask c.args.p) (sym c.self.view_is) c.requires.asks in
     let room : s.charged < s.budget = subst (λ (v : Demand). v.strand.charged < v.strand.budget) (sym c.self.view_is) c.requires.room in
-    claimed-demand b c.args.design.now.circuit c.requires.design s c.settle.new.self c.claim.new.self c.self.invariant c.settle.ensures.steps c.args.p asks room c.in_ok-claim.ensures.ok
+    claimed-demand b c.args.design.now.circuit c.requires.design s c.claim.new.self c.self.invariant c.args.p asks room c.in_ok-claim.ensures.ok

@@ -1,0 +1,8 @@
+mod Rules
+mod Rows
+mod Lexing
+mod Turns
+mod Walks
+mod Document
+pub mod Answer
+pub mod Orders

@@ -1,0 +1,7 @@
+pub mod Asking
+pub mod Waits
+pub mod Entries
+pub mod Hearing
+pub mod Freed
+pub mod Endings
+pub mod Seen

@@ -1,0 +1,10 @@
+use Rattle.std.proofs.Common.{◌≡◌, sym, subst}
+use Rattle.strand_meaning.specs.Strands.{next}
+use Rattle.strand_meaning.specs.declared.Next.TheVariants.{Ask}
+use Rattle.demand_points.specs.Demands.{Demand}
+use Rattle.memo_shards.proofs.shard.Shard.ask.Goals as goal
+
+pub give_up-requires : goal.give_up-requires
+give_up-requires g c =
+    let h = rw c.if-told.false at c.in-Ok.ensures in
+    (c.args.p, subst (λ (v : Demand). next v.strand ≡ Ask c.args.p) (sym h.1) c.requires.asks)

@@ -1,0 +1,92 @@
+use Rattle.std.proofs.Common.{◌≡◌, ◌∷◌, [], ◌++◌, ◌+◌, cond, List, length, Some, None, refl, sym, ap, subst, ◌∙◌, arith}
+use Rattle.std.specs.BTreeMap.{is_at}
+use Rattle.valid_intervals.specs.declared.Cell.{Cell}
+use Rattle.valid_intervals.specs.Cells.{cell_for}
+use Rattle.cell_store.specs.Recency.{pushes_out, last_key, after_put}
+use Rattle.journal_meaning.specs.States.{holder}
+use Rattle.journal_meaning.specs.Batch.{cell_at}
+use Rattle.journal_meaning.specs.declared.Query.{Query}
+use Rattle.journal_meaning.specs.declared.Entry.{Entry}
+use Rattle.journal_meaning.specs.declared.Entry.TheVariants as entry
+use Rattle.plan_machine.specs.Shards.{filled_shard}
+use Rattle.claim_waiters.specs.Claims.{Claims, point_cmp, claim_at}
+use Rattle.claim_waiters.proofs.Tables.{length-removed}
+use Rattle.demand_points.specs.Demands.{Demand}
+use Rattle.memo_shards.specs.Kept.{KeptShard, shard_at, waits_in}
+use Rattle.memo_shards.specs.View.{Agrees}
+use Rattle.memo_shards.specs.Ends.{FillsIt, after_eviction}
+use Rattle.memo_shards.proofs.Entries.{some-held}
+use Rattle.memo_shards.proofs.Endings.{filled-fits, waiters-ask, answers-all, filled-items, filled-agrees, filled-shown}
+use Rattle.memo_shards.proofs.shard.Shard.fill.Goals as goal
+
+pub record_fill-requires-clause-fits : goal.record_fill-requires-clause-fits
+record_fill-requires-clause-fits g c =
+    let b = g.B.BatchName.batch in
+    let s = c.self.inside in
+    let o = g.B.BatchName.opening s.number in
+    let es = s.journal.items in
+    let a = c.self.invariant.agrees in
+    let p = c.args.p in
+    let w = c.args.strand in
+    let q = w.strand.query.number in
+    let held : holder (shard_at o es).state.claims p ≡ Some q = subst (λ (v : KeptShard). holder v.shard.state.claims p ≡ Some q) (sym c.self.view_is) c.requires.held in
+    let right : c.top_cell-cell.result ≡ cell_at b.circuit p = c.top_cell-cell.ensures p c.requires.fills in
+    filled-fits b o s.number s.store s.claims es a q p held c.top_cell-cell.result right
+
+pub hear_all-requires : goal.hear_all-requires
+hear_all-requires g c =
+    let b = g.B.BatchName.batch in
+    let s = c.self.inside in
+    let o = g.B.BatchName.opening s.number in
+    let es = s.journal.items in
+    let a = c.self.invariant.agrees in
+    let p = c.args.p in
+    let w = c.args.strand in
+    let q = w.strand.query.number in
+    let held : holder (shard_at o es).state.claims p ≡ Some q = subst (λ (v : KeptShard). holder v.shard.state.claims p ≡ Some q) (sym c.self.view_is) c.requires.held in
+    let right : c.top_cell-cell.result ≡ cell_at b.circuit p = c.top_cell-cell.ensures p c.requires.fills in
+    (omega arith, (c.requires.design, answers-all b.circuit p c.top_cell-cell.result right c.take-woken.result.items (waiters-ask s.claims a.asks p (claim_at s.claims p) refl c.take-woken.result.items c.take-woken.ensures.waiters)))
+
+pub invariant_of-self-2 : goal.invariant_of-self-2
+invariant_of-self-2 g c =
+    let b = g.B.BatchName.batch in
+    let s = c.self.inside in
+    let o = g.B.BatchName.opening s.number in
+    let es = s.journal.items in
+    let a = c.self.invariant.agrees in
+    let p = c.args.p in
+    let w = c.args.strand in
+    let q = w.strand.query.number in
+    let held : holder (shard_at o es).state.claims p ≡ Some q = subst (λ (v : KeptShard). holder v.shard.state.claims p ≡ Some q) (sym c.self.view_is) c.requires.held in
+    let right : c.top_cell-cell.result ≡ cell_at b.circuit p = c.top_cell-cell.ensures p c.requires.fills in
+    let items : c.record_fill.new.journal.items ≡ (filled_shard b.capacity q p (cell_at b.circuit p) (shard_at o es)).journal =
+    filled-items b o s.number s.store s.claims es a q p held c.facts.ensures c.record_fill.new.journal.items
+    (subst (λ (z : Cell). c.record_fill.new.journal.items ≡ after_eviction (cond (pushes_out (cell_for p z) s.store) (last_key s.store.cells) None) es ++ entry.Filled q p z ∷ []) right
+    (c.in-Ok.ensures.items ∙ ap (λ (x : Query). after_eviction (cond (pushes_out (cell_for p c.top_cell-cell.result) s.store) (last_key s.store.cells) None) es ++ entry.Filled x.number p c.top_cell-cell.result ∷ []) c.query-q.ensures)) in
+    let fewer : length c.take-woken.new.self + 1 ≡ length s.claims = ap (λ (l : Claims Demand). length l + 1) c.take-woken.ensures.rest ∙ length-removed (is_at (point_cmp p)) s.claims (some-held b o s.number s.store s.claims es a p q held) in
+    let put : c.record_fill.new.store ≡ after_put s.store (cell_for p (cell_at b.circuit p)) = c.in-Ok.ensures.store ∙ ap (λ (z : Cell). after_put s.store (cell_for p z)) right in
+    record {
+      agrees = subst (λ (l : List Entry). Agrees b o s.number c.record_fill.new.store c.take-woken.new.self l) (sym items)
+          (subst (λ (l : Claims Demand). Agrees b o s.number c.record_fill.new.store l (filled_shard b.capacity q p (cell_at b.circuit p) (shard_at o es)).journal) (sym c.take-woken.ensures.rest)
+          (filled-agrees b o s.number s.store s.claims es a q p held c.facts.ensures c.record_fill.new.store put));
+      room = omega (arith, c.in-Ok.ensures.len, c.in-Ok.ensures.capacity, c.self.invariant.room, fewer);
+    }
+
+pub returns : goal.returns
+returns g c =
+    let b = g.B.BatchName.batch in
+    let s = c.self.inside in
+    let o = g.B.BatchName.opening s.number in
+    let es = s.journal.items in
+    let a = c.self.invariant.agrees in
+    let p = c.args.p in
+    let w = c.args.strand in
+    let q = w.strand.query.number in
+    let held : holder (shard_at o es).state.claims p ≡ Some q = subst (λ (v : KeptShard). holder v.shard.state.claims p ≡ Some q) (sym c.self.view_is) c.requires.held in
+    let right : c.top_cell-cell.result ≡ cell_at b.circuit p = c.top_cell-cell.ensures p c.requires.fills in
+    let items : c.record_fill.new.journal.items ≡ (filled_shard b.capacity q p (cell_at b.circuit p) (shard_at o es)).journal =
+    filled-items b o s.number s.store s.claims es a q p held c.facts.ensures c.record_fill.new.journal.items
+    (subst (λ (z : Cell). c.record_fill.new.journal.items ≡ after_eviction (cond (pushes_out (cell_for p z) s.store) (last_key s.store.cells) None) es ++ entry.Filled q p z ∷ []) right
+    (c.in-Ok.ensures.items ∙ ap (λ (x : Query). after_eviction (cond (pushes_out (cell_for p c.top_cell-cell.result) s.store) (last_key s.store.cells) None) es ++ entry.Filled x.number p c.top_cell-cell.result ∷ []) c.query-q.ensures)) in
+    subst (λ (v : KeptShard). FillsIt b v (record { number = s.number; shard = shard_at o c.record_fill.new.journal.items; waiting = waits_in c.take-woken.new.self }) p w c.finish_top.new.self c.hear_all.new.list.items) c.self.view_is
+    (filled-shown b o s.number s.store s.claims es a q p held c.facts.ensures w c.finish_top.new.self refl c.finish_top.ensures.steps c.take-woken.result.items c.hear_all.new.list.items c.take-woken.ensures.waiters c.hear_all.ensures c.take-woken.new.self c.take-woken.ensures.rest c.facts-2.ensures c.record_fill.new.journal.items items)

@@ -1,0 +1,58 @@
+use Rattle.std.proofs.Common.{◌≡◌, ◌∷◌, [], ◌++◌, ◌%◌, List, sym, ap, subst, ◌∙◌, arith}
+use Rattle.journal_meaning.specs.declared.Query.{Query}
+use Rattle.journal_meaning.specs.declared.Entry.{Entry}
+use Rattle.journal_meaning.specs.declared.Entry.TheVariants as entry
+use Rattle.memo_shards.specs.Kept.{KeptShard, shard_at, waits_in}
+use Rattle.memo_shards.specs.View.{Agrees}
+use Rattle.memo_shards.specs.Asks.{IsHere, Tells}
+use Rattle.memo_shards.proofs.Entries.{told, told-agrees, told-shown}
+use Rattle.memo_shards.proofs.shard.Shard.tell.Goals as goal
+
+pub heard-requires-clause-answer : goal.heard-requires-clause-answer
+heard-requires-clause-answer g c =
+    let b = g.B.BatchName.batch in
+    let s = c.self.inside in
+    let o = g.B.BatchName.opening s.number in
+    let es = s.journal.items in
+    let a = c.self.invariant.agrees in
+    let p = c.args.p in
+    let w = c.args.strand.now in
+    let here : p.signal % b.shards ≡ s.number = subst (λ (v : KeptShard). IsHere b v p) (sym c.self.view_is) c.requires.here in
+    let t = told b o s.number s.store s.claims es a w c.facts.ensures p c.requires.asks here c.in-Some.cell (sym c.in-Some.ensures.found) in
+    (p, c.requires.asks, t.answer)
+
+pub invariant_of-self-in-Some : goal.invariant_of-self-in-Some
+invariant_of-self-in-Some g c =
+    let b = g.B.BatchName.batch in
+    let s = c.self.inside in
+    let o = g.B.BatchName.opening s.number in
+    let es = s.journal.items in
+    let a = c.self.invariant.agrees in
+    let p = c.args.p in
+    let w = c.args.strand.now in
+    let here : p.signal % b.shards ≡ s.number = subst (λ (v : KeptShard). IsHere b v p) (sym c.self.view_is) c.requires.here in
+    let t = told b o s.number s.store s.claims es a w c.facts.ensures p c.requires.asks here c.in-Some.cell (sym c.in-Some.ensures.found) in
+    let items : c.push_reserved.new.self.items ≡ es ++ entry.Told w.strand.query.number p c.in-Some.cell ∷ [] =
+    c.push_reserved.ensures.items ∙ ap (λ (l : List Entry). l ++ c.told.result ∷ []) c.make_room.ensures.items
+    ∙ ap (λ (e : Entry). es ++ e ∷ []) (c.told.ensures ∙ ap (λ (x : Query). entry.Told x.number p c.in-Some.cell) c.query-q.ensures) in
+    record {
+      agrees = subst (λ (l : List Entry). Agrees b o s.number c.find.new.self s.claims l) (sym items) (told-agrees b o s.number s.store s.claims es a p w.strand.query.number c.in-Some.cell t c.find.new.self c.in-Some.ensures.used);
+      room = omega (arith, c.push_reserved.ensures.len, c.push_reserved.ensures.capacity, c.in_ok-make_room.ensures.room, c.len.ensures);
+    }
+
+pub returns-in-Some : goal.returns-in-Some
+returns-in-Some g c =
+    let b = g.B.BatchName.batch in
+    let s = c.self.inside in
+    let o = g.B.BatchName.opening s.number in
+    let es = s.journal.items in
+    let a = c.self.invariant.agrees in
+    let p = c.args.p in
+    let w = c.args.strand.now in
+    let here : p.signal % b.shards ≡ s.number = subst (λ (v : KeptShard). IsHere b v p) (sym c.self.view_is) c.requires.here in
+    let t = told b o s.number s.store s.claims es a w c.facts.ensures p c.requires.asks here c.in-Some.cell (sym c.in-Some.ensures.found) in
+    let items : c.push_reserved.new.self.items ≡ es ++ entry.Told w.strand.query.number p c.in-Some.cell ∷ [] =
+    c.push_reserved.ensures.items ∙ ap (λ (l : List Entry). l ++ c.told.result ∷ []) c.make_room.ensures.items
+    ∙ ap (λ (e : Entry). es ++ e ∷ []) (c.told.ensures ∙ ap (λ (x : Query). entry.Told x.number p c.in-Some.cell) c.query-q.ensures) in
+    subst (λ (v : KeptShard). Tells v (record { number = s.number; shard = shard_at o c.push_reserved.new.self.items; waiting = waits_in s.claims }) p w c.heard.new.self) c.self.view_is
+    (told-shown b o s.number s.store s.claims es a w c.heard.new.self p c.in-Some.cell t c.heard.ensures c.push_reserved.new.self.items items)

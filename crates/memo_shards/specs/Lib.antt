@@ -1,0 +1,5 @@
+pub mod Kept
+pub mod View
+pub mod Asks
+pub mod Ends
+pub mod Seen

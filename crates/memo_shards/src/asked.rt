@@ -1,0 +1,16 @@
+//! What comes of an ask.
+
+use demand_points::{BatchName, Strand};
+
+/// What came of an ask. A strand that waits stays with the shard.
+#[derive(Drop)]
+pub enum Asked<B: BatchName> {
+    /// It heard the stored cell.
+    Told(Strand<B>),
+    /// It holds the claim of the point.
+    Claimed(Strand<B>),
+    /// The point is claimed.
+    Waits,
+    /// It was refused the point, since its budget is spent.
+    Spent(Strand<B>),
+}

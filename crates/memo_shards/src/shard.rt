@@ -1,0 +1,326 @@
+//! A shard of the memo.
+
+ghost use Rattle.std.specs.Prelude.{◌≡◌, ◌<◌, ◌≤◌, ◌+◌, ◌*◌, true, false, [], ◌++◌, length, map, IsTrue, ◌↔◌, IsSome, Some, None, OnOk, OnErr, vec_len, vec_capacity};
+ghost use Rattle.std.specs.List.{AllByRecursion, list_any};
+ghost use Rattle.cell_store.specs.Recency.{contents};
+ghost use Rattle.claim_waiters.specs.Claims.{claim_at, without};
+ghost use Rattle.journal_meaning.specs.Batch.{IsRight};
+ghost use Rattle.journal_meaning.specs.States.{holder, is_covered};
+ghost use Rattle.strand_meaning.specs.Batches.{IsLawful};
+ghost use Rattle.journal_meaning.specs.declared.Entry.TheVariants as entry;
+ghost use Rattle.strand_meaning.specs.Strands.{next, next_in};
+ghost use Rattle.strand_meaning.specs.declared.Next.TheVariants.{Ask, Fill, Drop};
+ghost use Rattle.plan_machine.specs.Shards.{stored_at, recorded};
+ghost use Rattle.memo_shards.specs.Kept.{shard_at, IsKnown};
+ghost use Rattle.memo_shards.specs.Asks.{IsHere, IsOpen, OfAsk, OfTell, OfClaim, OfPark};
+ghost use Rattle.memo_shards.specs.Ends.{OfFill, DropsIt, FreesAll, drop_of, with_shard};
+
+use crate::asked::Asked;
+use crate::room::{make_room, record_fill, told};
+use crate::wake::hear_all;
+use backsim_io::OutOfMemory;
+use cell_store::CellStore;
+use claim_waiters::ClaimTable;
+use demand_points::{BatchName, Strand};
+use design::Design;
+use journal_meaning::Entry;
+use smallvec::SmallVec;
+use std::alloc::Global;
+use std::marker::Model;
+use valid_intervals::Point;
+
+/// One shard of the memo, in the batch that B names.
+#[derive(Drop)]
+pub struct Shard<B: BatchName> {
+    number: u32,
+    store: CellStore,
+    claims: ClaimTable<Strand<B>>,
+    journal: Vec<Entry>,
+}
+
+impl<B: BatchName> Model for Shard<B> {
+    ghost use Rattle.memo_shards.specs.Kept.{KeptShard};
+
+    ghost Value = { KeptShard };
+
+    ghost use Rattle.memo_shards.specs.View.{kept, IsMemo};
+
+    ghost view = { λ s. kept (B.opening s.number) s };
+
+    ghost invariant = { λ s. IsMemo B.batch (B.opening s.number) s };
+}
+
+impl<B: BatchName> Shard<B> {
+    /// The shard with this number, as the batch begins.
+    pub fn begin(alloc: Global, number: u32, store: CellStore) -> Shard<B>
+        requires lawful { IsLawful B.batch }
+        requires number { number < B.batch.shards }
+        requires opening { store ≡ contents B.batch.capacity (B.opening number) }
+        requires right { AllByRecursion (IsRight B.batch.circuit) (B.opening number) }
+        ensures { result ≡ record { number = number; shard = shard_at (B.opening number) []; waiting = [] } }
+    {
+        let _len = store.len();
+        Shard {
+            number,
+            store,
+            claims: ClaimTable::new(alloc),
+            journal: Vec::new(alloc),
+        }
+    }
+
+    /// What is known of every shard.
+    pub fn facts(&self)
+        ensures { IsKnown B.batch B.opening self.now }
+    {
+        self.claims.facts();
+    }
+
+    /// Its number.
+    pub fn number(&self) -> u32
+        ensures { result ≡ self.now.number }
+    {
+        self.number
+    }
+
+    /// What it has recorded in this batch.
+    pub fn journal(&self) -> &[Entry]
+        ensures { result.now ≡ self.now.shard.journal }
+    {
+        &self.journal
+    }
+
+    /// Whether a stored cell covers the point.
+    pub fn covers(&self, p: Point) -> bool
+        ensures { result ≡ is_covered self.now.shard.state p }
+    {
+        self.store.covers(p)
+    }
+
+    /// Whether the point is claimed here for the query with this number.
+    pub fn holds(&self, p: Point, q: u32) -> bool
+        ensures { IsTrue result ↔ (holder self.now.shard.state.claims p ≡ Some q) }
+    {
+        self.claims.holder(p) == Some(q)
+    }
+}
+
+impl<B: BatchName> Shard<B> {
+    // Tells the strand the cell that covers the point, if one is stored.
+    fn tell(
+        &mut self,
+        strand: &mut Strand<B>,
+        design: &Design,
+        p: Point,
+    ) -> Result<bool, OutOfMemory>
+        requires design { design.now.circuit ≡ B.batch.circuit }
+        requires asks { next strand.old.strand ≡ Ask p }
+        requires here { IsHere B.batch self.old p }
+        ensures { OfTell self.old self.new p strand.old strand.new result }
+    {
+        strand.facts();
+        let q = strand.query().number;
+        make_room(&mut self.journal, self.claims.len(), 1)?;
+        match self.store.find(p) {
+            Some(cell) => {
+                self.journal.push_reserved(told(q, p, &cell));
+                strand.heard(design, cell);
+                Ok(true)
+            }
+            None => Ok(false),
+        }
+    }
+
+    // Claims the point for the strand.
+    fn claim(
+        &mut self,
+        strand: &mut Strand<B>,
+        design: &Design,
+        p: Point,
+    ) -> Result<(), OutOfMemory>
+        requires design { design.now.circuit ≡ B.batch.circuit }
+        requires asks { next strand.old.strand ≡ Ask p }
+        requires here { IsHere B.batch self.old p }
+        requires unfound { IsOpen self.old p }
+        requires within { strand.old.strand.charged < strand.old.strand.budget }
+        ensures { OfClaim B.batch self.old self.new p strand.old strand.new result }
+    {
+        strand.facts();
+        let q = strand.query().number;
+        make_room(&mut self.journal, self.claims.len(), 3)?;
+        self.claims.claim(q, p)?;
+        match strand.claimed(design, p) {
+            Ok(()) => {
+                self.journal.push_reserved(Entry::Claimed { q, p });
+                Ok(())
+            }
+            Err(error) => {
+                end_claim(&mut self.claims, p);
+                Err(error)
+            }
+        }
+    }
+
+    // Lets the strand wait at the claimed point.
+    fn park(&mut self, strand: Strand<B>, p: Point) -> Result<(), (Strand<B>, OutOfMemory)>
+        requires asks { next strand.strand ≡ Ask p }
+        requires missed { stored_at self.old.shard.state.cells p ≡ None }
+        requires claimed { IsSome (holder self.old.shard.state.claims p) }
+        ensures { OfPark self.old self.new p strand result }
+    {
+        self.claims.facts();
+        let parked = self.claims.wait(p, strand);
+        self.claims.facts();
+        parked
+    }
+
+    /// Asks for the point that the strand needs next. It is told the stored cell that covers it, waits where the point is claimed,
+    /// and else claims it, or is refused it where its budget is spent. Where memory runs out, the strand comes back.
+    pub fn ask(
+        &mut self,
+        mut strand: Strand<B>,
+        design: &Design,
+        p: Point,
+    ) -> Result<Asked<B>, (Strand<B>, OutOfMemory)>
+        requires design { design.now.circuit ≡ B.batch.circuit }
+        requires asks { next strand.strand ≡ Ask p }
+        requires here { IsHere B.batch self.old p }
+        ensures { OfAsk B.batch self.old self.new p strand result }
+    {
+        match self.tell(&mut strand, design, p) {
+            Err(error) => return Err((strand, error)),
+            Ok(told) => {
+                if told {
+                    return Ok(Asked::Told(strand));
+                }
+            }
+        }
+        if self.claims.holder(p).is_some() {
+            return match self.park(strand, p) {
+                Ok(()) => Ok(Asked::Waits),
+                Err(back) => Err(back),
+            };
+        }
+        if strand.charged() < strand.task().budget {
+            return match self.claim(&mut strand, design, p) {
+                Ok(()) => Ok(Asked::Claimed(strand)),
+                Err(error) => Err((strand, error)),
+            };
+        }
+        strand.give_up();
+        Ok(Asked::Spent(strand))
+    }
+}
+
+impl<B: BatchName> Shard<B> {
+    /// Fills the claimed point on top of the strand's stack. Those that wait for it come back in their order, and have heard the cell.
+    /// Where memory runs out, the strand comes back.
+    pub fn fill(
+        &mut self,
+        mut strand: Strand<B>,
+        design: &Design,
+        p: Point,
+    ) -> Result<(Strand<B>, SmallVec<Strand<B>, 2>), (Strand<B>, OutOfMemory)>
+        requires design { design.now.circuit ≡ B.batch.circuit }
+        requires fills { next strand.strand ≡ Fill p }
+        requires held { holder self.old.shard.state.claims p ≡ Some strand.strand.query.number }
+        ensures { OfFill B.batch self.old self.new p strand result }
+    {
+        self.claims.facts();
+        let q = strand.query().number;
+        let cell = strand.top_cell(design);
+        let Ok(()) = record_fill(&mut self.store, &mut self.journal, q, p, &cell) else {
+            return Err((strand, OutOfMemory));
+        };
+        let mut woken = self.claims.take(p);
+        self.claims.facts();
+        hear_all(&mut woken, design, &cell);
+        let _ = strand.finish_top(design);
+        Ok((strand, woken))
+    }
+
+    /// Gives up the claimed point on top of the stack of a spent strand. Those that wait for it come back in their order.
+    pub fn drop_top(
+        &mut self,
+        mut strand: Strand<B>,
+        p: Point,
+    ) -> (Strand<B>, SmallVec<Strand<B>, 2>)
+        requires drops { next strand.strand ≡ Drop p }
+        requires held { holder self.old.shard.state.claims p ≡ Some strand.strand.query.number }
+        ensures { DropsIt self.old self.new p strand result.0 result.1.items }
+    {
+        self.claims.facts();
+        let q = strand.query().number;
+        let woken = self.claims.take(p);
+        self.claims.facts();
+        self.journal.push_reserved(Entry::Dropped { q, p });
+        let _ = strand.drop_top();
+        (strand, woken)
+    }
+
+    /// Records that the spent strand was refused the point.
+    pub fn spend(&mut self, strand: &Strand<B>, p: Point) -> Result<(), OutOfMemory>
+        requires spent { strand.now.strand.spent ≡ true }
+        requires refused { next_in false strand.now.strand.roots strand.now.strand.stack ≡ Ask p }
+        requires here { IsHere B.batch self.old p }
+        requires unfound { IsOpen self.old p }
+        ensures ok { OnOk result (self.new ≡ with_shard self.old (recorded (entry.Spent strand.now.strand.query.number p (length strand.now.strand.stack)) self.old.shard)) }
+        ensures err { OnErr result (self.new ≡ self.old) }
+    {
+        strand.facts();
+        let q = strand.query().number;
+        let _charged = strand.charged();
+        let held = strand.held() as u32;
+        make_room(&mut self.journal, self.claims.len(), 1)?;
+        self.journal.push_reserved(Entry::Spent { q, p, held });
+        Ok(())
+    }
+
+    /// Gives up every claim, by signal and then by time, and those that wait.
+    pub fn free_claims(&mut self)
+        ensures { FreesAll self.old self.new }
+    {
+        self.claims.facts();
+        drop_all(&mut self.claims, &mut self.journal);
+    }
+
+    /// The store and the journal, as the batch ends.
+    pub fn end_batch(self) -> (CellStore, Vec<Entry>)
+        requires { self.shard.state.claims ≡ [] }
+        ensures store { result.0 ≡ contents B.batch.capacity self.shard.state.cells }
+        ensures journal { result.1.items ≡ self.shard.journal }
+    {
+        let Shard {
+            number: _,
+            store,
+            claims: _,
+            journal,
+        } = self;
+        (store, journal)
+    }
+}
+
+// Ends a claim, and gives up those that wait.
+fn end_claim<B: BatchName>(claims: &mut ClaimTable<Strand<B>>, p: Point)
+    requires { IsSome (claim_at claims.old p) }
+    ensures { claims.new ≡ without claims.old p }
+{
+    let _waiters = claims.take(p);
+}
+
+// Ends every claim with an entry, in their order.
+fn drop_all<B: BatchName>(claims: &mut ClaimTable<Strand<B>>, journal: &mut Vec<Entry>)
+    requires { vec_len journal.old + 2 * length claims.old ≤ vec_capacity journal.old }
+    ensures claims { claims.new ≡ [] }
+    ensures items { journal.new.items ≡ journal.old.items ++ map drop_of claims.old }
+    ensures room { vec_len journal.new ≤ vec_capacity journal.new }
+{
+    'claims: loop {
+        match claims.first() {
+            None => return,
+            Some((q, p)) => {
+                end_claim(claims, p);
+                journal.push_reserved(Entry::Dropped { q, p });
+            }
+        }
+    }
+}

@@ -1,0 +1,22 @@
+//! Strands that come out of a claim.
+
+ghost use Rattle.std.specs.Prelude.{◌≡◌};
+ghost use Rattle.std.specs.List.{AllByRecursion, AllZip};
+ghost use Rattle.demand_points.specs.Demands.{IsAnswer, Steps};
+ghost use Rattle.strand_meaning.specs.Strands.{heard};
+
+use demand_points::{BatchName, Strand};
+use design::Design;
+use smallvec::SmallVec;
+use valid_intervals::Cell;
+
+/// Each of these strands hears the cell that it asked for.
+pub fn hear_all<B: BatchName>(list: &mut SmallVec<Strand<B>, 2>, design: &Design, cell: &Cell)
+    requires design { design.now.circuit ≡ B.batch.circuit }
+    requires answer { AllByRecursion (λ s. IsAnswer B.batch.circuit s.strand cell.now) list.old.items }
+    ensures { AllZip (Steps heard) list.old.items list.new.items }
+{
+    for s in list.as_mut_slice().iter_mut() {
+        s.heard(design, *cell);
+    }
+}

@@ -1,0 +1,270 @@
+-- A plan as it begins.
+use Rattle.std.proofs.Common.{◌≡◌, ℕ, zero, suc, ◌<◌, ◌≤◌, ◌%◌, ◌+◌, false, List, [], ◌∷◌, ◌++◌, length, map, get_or, slice_get, refl, ap, sym, ◌∙◌, subst, arith, inl, inr, Option, Some, None, IsSome}
+use Rattle.std.specs.List.{AllByRecursion}
+use Rattle.std.proofs.Math.ListN.{length-map}
+use Rattle.std.proofs.lemmas.Bool.{cases_eq}
+use Rattle.std.proofs.lemmas.Option.{slice_get_within}
+use Rattle.valid_intervals.specs.declared.Point.{Point}
+use Rattle.valid_intervals.specs.declared.SignalCell.{SignalCell}
+use Rattle.journal_meaning.specs.States.{holder}
+use Rattle.journal_meaning.specs.Batch.{Batch}
+use Rattle.strand_meaning.specs.Batches.{IsLawful}
+use Rattle.strand_meaning.specs.Strands.{Strand, Start, started, IsHeld, IsStrand}
+use Rattle.plan_machine.specs.Shards.{Shard, IsShard}
+use Rattle.plan_machine.specs.Plans.{Plan, no_shard, claim_of}
+use Rattle.plan_machine.specs.Parts.{Waiter, IsAmong, strands_from}
+use Rattle.plan_machine.specs.Kept as kept
+use Rattle.plan_machine.specs.Kept.{Memo, Parked, no_memo, all_waiters, shards_of, plan_of, IsKept}
+use Rattle.plan_machine.specs.Sound.{IsSound}
+use Rattle.plan_machine.specs.Laws.{BeginsAlone}
+use Rattle.plan_machine.proofs.Links.{map-get}
+use Rattle.demand_points.specs.Demands.{Demand, Steps, itself}
+use Rattle.memo_shards.specs.Kept.{Waiting, KeptShard, IsWaiting, IsKnown}
+use Rattle.memo_shards.specs.Seen.{waiter_of, memo_of, parked_of}
+use Rattle.plan_core.specs.Places.{seats, tag, tags, tag_of}
+use Rattle.plan_core.specs.Parts.{blank, memos, plan_at, IsPlan, IsNew, AreNew, AreFree, shards_in, strands_in, plan_of_new}
+use Rattle.plan_core.proofs.Lists.{get-or-at}
+
+pub shards-same : (shards : List KeptShard) → shards_of (memos shards) ≡ shards_in shards
+shards-same [] = refl
+shards-same (m ∷ ms) = ap (λ l. m.shard ∷ l) (shards-same ms)
+
+-- strands that are put into places one after another
+pub record IsPausing (strands : List Demand) (now : List (Option Demand)) (left : List Demand) (many : ℕ) : Type 0 where
+  pub same : tags now ++ map tag_of left ≡ map tag_of strands
+  pub count : many ≡ length left
+
+append-append : {A : Type 0} (xs ys zs : List A) → (xs ++ ys) ++ zs ≡ xs ++ (ys ++ zs)
+append-append [] ys zs = refl
+append-append (x ∷ xs) ys zs = ap (λ l. x ∷ l) (append-append xs ys zs)
+
+append-nil : {A : Type 0} (xs : List A) → xs ++ [] ≡ xs
+append-nil [] = refl
+append-nil (x ∷ xs) = ap (λ l. x ∷ l) (append-nil xs)
+
+tags-push : (now : List (Option Demand)) (o : Option Demand) → tags (now ++ o ∷ []) ≡ tags now ++ tag o ∷ []
+tags-push [] o = refl
+tags-push (x ∷ now) o = ap (λ l. tag x ∷ l) (tags-push now o)
+
+pub pause-first : (strands left : List Demand) (now : List (Option Demand)) (many : ℕ) → now ≡ [] → left ≡ strands → many ≡ length strands → IsPausing strands now left many
+pause-first strands left now many e is count = record { same = ap (λ ps. tags ps ++ map tag_of left) e ∙ ap (map tag_of) is; count = count ∙ ap (λ (l : List Demand). length l) (sym is) }
+
+pub pause-one : (strands : List Demand) (now after : List (Option Demand)) (old new : List Demand) (many fewer : ℕ) (s r : Demand) → IsPausing strands now old many → old ≡ s ∷ new → fewer + 1 ≡ many → Steps itself s r → after ≡ now ++ Some r ∷ []
+    → IsPausing strands after new fewer
+pause-one strands now after old new many fewer s r pausing e less step push =
+    let made : ℕ → Strand → Waiter = λ n t. record { number = n; strand = t } in
+    let same : waiter_of r ≡ waiter_of s = ap (λ n. made n r.strand) step.number ∙ ap (made s.number) step.strand in
+    record {
+      same = ap (λ l. tags l ++ map tag_of new) push ∙ ap (λ l. l ++ map tag_of new) (tags-push now (Some r)) ∙ append-append (tags now) (tag (Some r) ∷ []) (map tag_of new)
+          ∙ ap (λ w. tags now ++ Some w ∷ map tag_of new) same ∙ ap (λ l. tags now ++ map tag_of l) (sym e) ∙ pausing.same;
+      count = let k : many ≡ length (s ∷ new) = pausing.count ∙ ap (λ (l : List Demand). length l) e in omega arith;
+    }
+
+none-left : (left : List Demand) → length left ≡ 0 → left ≡ []
+none-left [] e = refl
+none-left (x ∷ xs) e = absurd (omega arith)
+
+pub pause-last : (strands : List Demand) (now : List (Option Demand)) (left : List Demand) (many : ℕ) → IsPausing strands now left many → many ≡ 0 → tags now ≡ map tag_of strands
+pause-last strands now left many pausing e =
+    let none : left ≡ [] = none-left left (sym pausing.count ∙ e) in
+    sym (append-nil (tags now)) ∙ ap (λ l. tags now ++ map tag_of l) (sym none) ∙ pausing.same
+
+-- the strands of those places
+tags-seats : (strands : List Demand) (places : List (Option Demand)) → tags places ≡ map tag_of strands → seats places ≡ map (λ (s : Demand). Some s.strand) strands
+tags-seats [] [] e = refl
+tags-seats [] (o ∷ os) e = absurd (cc e)
+tags-seats (s ∷ ss) [] e = absurd (cc e)
+tags-seats (s ∷ ss) (None ∷ os) e = absurd (cc e)
+tags-seats (s ∷ ss) (Some r ∷ os) e =
+    let first : waiter_of r ≡ waiter_of s = cc e in
+    let more : tags os ≡ map tag_of ss = cc e in
+    ap (λ (w : Waiter). Some w.strand ∷ seats os) first ∙ ap (λ l. Some s.strand ∷ l) (tags-seats ss os more)
+
+-- what is in a place is a strand of the list
+record IsOf (s r : Demand) : Type 0 where
+  number : r.number ≡ s.number
+  strand : r.strand ≡ s.strand
+
+tags-at : (strands : List Demand) (places : List (Option Demand)) → tags places ≡ map tag_of strands → (i : ℕ) (r : Demand) → slice_get places i ≡ Some (Some r) → (s : Demand) × ((slice_get strands i ≡ Some s) × IsOf s r)
+tags-at [] [] e i r h = absurd (cc h)
+tags-at [] (o ∷ os) e i r h = absurd (cc e)
+tags-at (s ∷ ss) [] e i r h = absurd (cc e)
+tags-at (s ∷ ss) (None ∷ os) e i r h = absurd (cc e)
+tags-at (s ∷ ss) (Some x ∷ os) e zero r h =
+    let first : waiter_of x ≡ waiter_of s = cc e in
+    let same : x ≡ r = cc h in
+    let is : waiter_of r ≡ waiter_of s = ap waiter_of (sym same) ∙ first in
+    (s, (refl, record { number = ap (λ (w : Waiter). w.number) is; strand = ap (λ (w : Waiter). w.strand) is }))
+tags-at (s ∷ ss) (Some x ∷ os) e (suc i) r h = let more : tags os ≡ map tag_of ss = cc e in tags-at ss os more i r h
+
+strands-all : (ws : List Waiter) (n : ℕ) (strands : List Demand) → strands_from ws blank n (map (λ (s : Demand). Some s.strand) strands) ≡ strands_in strands
+strands-all ws n [] = refl
+strands-all ws n (s ∷ ss) = ap (λ l. s.strand ∷ l) (strands-all ws (suc n) ss)
+
+map-back : {A B : Type 0} (f : A → B) (xs : List A) (i : ℕ) (y : B) → slice_get (map f xs) i ≡ Some y → (x : A) × ((slice_get xs i ≡ Some x) × (y ≡ f x))
+map-back f [] i y h = absurd (cc h)
+map-back f (x ∷ xs) zero y h = let e : f x ≡ y = cc h in (x, (refl, sym e))
+map-back f (x ∷ xs) (suc i) y h = map-back f xs i y h
+
+all-at : {A : Type 0} (P : A → Type 0) (xs : List A) (i : ℕ) (x : A) → AllByRecursion P xs → slice_get xs i ≡ Some x → P x
+all-at P [] i x all h = absurd (cc h)
+all-at P (y ∷ ys) zero x all h = let e : y ≡ x = cc h in subst P e all.0
+all-at P (y ∷ ys) (suc i) x all h = all-at P ys i x all.1 h
+
+some-at : {A : Type 0} (xs : List A) (i : ℕ) → i < length xs → (x : A) × (slice_get xs i ≡ Some x)
+some-at [] i h = absurd (omega arith)
+some-at (x ∷ xs) zero h = (x, refl)
+some-at (x ∷ xs) (suc i) h = some-at xs i (omega arith)
+
+no-held : (q : Option ℕ) → q ≡ None → IsSome q → ⊥
+no-held None e h = cc h
+no-held (Some q) e h = cc e
+
+module _ (b : Batch) (lawful : IsLawful b) (opening : ℕ → List SignalCell) (strands : List Demand) (new : AreNew b strands) (shards : List KeptShard) (free : AreFree b shards)
+    (known : (i : ℕ) (m : KeptShard) → slice_get shards i ≡ Some m → IsKnown b opening m) where
+  -- nobody waits
+  idle : (i : ℕ) (m : KeptShard) → slice_get shards i ≡ Some m → m.waiting ≡ []
+  idle i m at = by m.waiting (known i m at).waiting
+    where
+      none : m.shard.state.claims ≡ []
+      none = all-at (λ (k : KeptShard). k.shard.state.claims ≡ []) shards i m free.free at
+
+      by : (ws : List Waiting) → AllByRecursion (IsWaiting b m) ws → ws ≡ []
+      by [] h = refl
+      by (w ∷ ws) h = absurd (no-held (holder m.shard.state.claims w.point) (ap (λ ks. holder ks w.point) none) h.0.claimed)
+
+  memos-len : length (memos shards) ≡ b.shards
+  memos-len = length-map shards memo_of ∙ free.count
+
+  -- shard n
+  at-number : (n : ℕ) → n < b.shards → (m : KeptShard) × (slice_get shards n ≡ Some m)
+  at-number n low = some-at shards n (let k = free.count in omega arith)
+
+  memo-is : (n : ℕ) (low : n < b.shards) → get_or (memos shards) n no_memo ≡ memo_of (at-number n low).0
+  memo-is n low = get-or-at (memos shards) n (memo_of (at-number n low).0) no_memo (map-get memo_of shards n (at-number n low).0 (at-number n low).1)
+
+  parked-none : (n : ℕ) → n < b.shards → (get_or (memos shards) n no_memo).parked ≡ []
+  parked-none n low = ap (λ (z : Memo). z.parked) (memo-is n low) ∙ ap (map parked_of) (idle n (at-number n low).0 (at-number n low).1)
+
+  shard-is : (n : ℕ) (low : n < b.shards) → get_or (shards_of (memos shards)) n no_shard ≡ (at-number n low).0.shard
+  shard-is n low =
+      let m = at-number n low in
+      get-or-at (shards_of (memos shards)) n m.0.shard no_shard (map-get (λ (z : Memo). z.shard) (memos shards) n (memo_of m.0) (map-get memo_of shards n m.0 m.1))
+
+  waiters-none : (p : Point) → kept.waiters (memos shards) p ≡ []
+  waiters-none p =
+      let some = lawful.some_shard in
+      let low : p.signal % length (memos shards) < b.shards = let k = memos-len in omega arith in
+      ap (λ ks. kept.waiting_at ks p) (parked-none (p.signal % length (memos shards)) low)
+
+  module _ (places : List (Option Demand)) (tagged : tags places ≡ map tag_of strands) where
+    seats-are : seats places ≡ map (λ (s : Demand). Some s.strand) strands
+    seats-are = tags-seats strands places tagged
+
+    strands-are : (plan_at places shards).strands ≡ strands_in strands
+    strands-are = ap (strands_from (all_waiters (memos shards)) blank 0) seats-are ∙ strands-all (all_waiters (memos shards)) 0 strands
+
+    pub plan-begins : plan_at places shards ≡ plan_of_new strands shards
+    plan-begins =
+        let made : List Strand → List Shard → Plan = λ xs hs. record { strands = xs; shards = hs } in
+        ap (λ xs. made xs (shards_of (memos shards))) strands-are ∙ ap (made (strands_in strands)) (shards-same shards)
+
+    at-strand : (i : ℕ) (s : Strand) → slice_get (plan_at places shards).strands i ≡ Some s → (d : Demand) × ((slice_get strands i ≡ Some d) × (s ≡ d.strand))
+    at-strand i s at = map-back (λ (d : Demand). d.strand) strands i s (ap (λ xs. slice_get xs i) (sym strands-are) ∙ at)
+
+    none : (i : ℕ) (s : Strand) (p : Point) → slice_get (plan_at places shards).strands i ≡ Some s → IsHeld s.stack p → ⊥
+    none i s p at h =
+        let d = at-strand i s at in
+        let empty : s.stack ≡ [] = ap (λ (z : Strand). z.stack) d.1.1 ∙ (new i d.0 d.1.0).empty in
+        let k : IsHeld [] p = subst (λ st. IsHeld st p) empty h in k
+
+    sound : IsSound b opening (plan_at places shards)
+    sound = record {
+      count = length-map (memos shards) (λ (z : Memo). z.shard) ∙ memos-len;
+      shards = λ n low.
+          let m = at-number n low in
+          let k = (known n m.0 m.1).shard in
+          let number : m.0.number ≡ n = free.order n m.0 m.1 in
+          subst (λ (h : Shard). IsShard b n (opening n) h) (sym (shard-is n low)) (subst (λ j. IsShard b j (opening j) m.0.shard) number k);
+      strands = λ i s at. let d = at-strand i s at in subst (IsStrand b) (sym d.1.1) (new i d.0 d.1.0).strand;
+      linked = record {
+        held = λ i s p at h. absurd (none i s p at h);
+        holder = λ p q claim.
+            let hs = shards_of (memos shards) in
+            let count : length hs ≡ b.shards = length-map (memos shards) (λ (z : Memo). z.shard) ∙ memos-len in
+            let some = lawful.some_shard in
+            let low : p.signal % length hs < b.shards = omega arith in
+            let m = at-number (p.signal % length hs) low in
+            let empty : (at-number (p.signal % length hs) low).0.shard.state.claims ≡ [] = all-at (λ (k : KeptShard). k.shard.state.claims ≡ []) shards (p.signal % length hs) m.0 free.free m.1 in
+            let e : claim_of (plan_at places shards) p ≡ None = ap (λ (z : Shard). holder z.state.claims p) (shard-is (p.signal % length hs) low) ∙ ap (λ ks. holder ks p) empty in
+            absurd (cc (e, claim));
+        once = λ i j s r p at ar h k. absurd (none i s p at h);
+        waiting = λ i s at w.
+            let d = at-strand i s at in
+            let calm : s.waits ≡ false = ap (λ (z : Strand). z.waits) d.1.1 ∙ (new i d.0 d.1.0).awake in
+            absurd (cc (calm, w));
+      };
+    }
+
+    seats-get : (i : ℕ) (o : Option Strand) → slice_get (seats places) i ≡ Some o → (d : Demand) × ((slice_get strands i ≡ Some d) × (o ≡ Some d.strand))
+    seats-get i o at = map-back (λ (d : Demand). Some d.strand) strands i o (ap (λ xs. slice_get xs i) (sym seats-are) ∙ at)
+
+    now-kept : IsKept (seats places) (memos shards) (plan_at places shards).strands
+    now-kept = record {
+      some = let k = memos-len in let l = lawful.some_shard in omega arith;
+      parts = record {
+        length = ap (λ (xs : List (Option Strand)). length xs) seats-are ∙ length-map strands (λ (d : Demand). Some d.strand) ∙ sym (length-map strands (λ (d : Demand). d.strand)) ∙ ap (λ (xs : List Strand). length xs) (sym strands-are);
+        ready = λ i s at.
+            let d = seats-get i (Some s) at in
+            let is : s ≡ d.0.strand = let e = d.1.1 in cc e in
+            let there : slice_get (plan_at places shards).strands i ≡ Some d.0.strand = ap (λ xs. slice_get xs i) strands-are ∙ map-get (λ (z : Demand). z.strand) strands i d.0 d.1.0 in
+            (there ∙ ap Some (sym is), ap (λ (z : Strand). z.waits) is ∙ (new i d.0 d.1.0).awake);
+        gap = λ i at. let d = seats-get i None at in absurd (cc d.1.1);
+        waiter = λ p w h. absurd (subst (IsAmong w) (waiters-none p) h);
+      };
+      homes = λ n low. subst (AllByRecursion (λ (k : Parked). k.point.signal % length (memos shards) ≡ n)) (sym (parked-none n (let k = memos-len in omega arith))) tt;
+    }
+
+    pub begins : IsPlan b opening places shards
+    begins = record {
+      lawful = lawful;
+      numbers = λ i r at. let s = tags-at strands places tagged i r at in s.1.1.number ∙ (new i s.0 s.1.0).number;
+      order = free.order;
+      kept = now-kept;
+      sound = sound;
+    }
+
+    unclaimed : (p : Point) → claim_of (plan_at places shards) p ≡ None
+    unclaimed p = by (claim_of (plan_at places shards) p) refl
+      where
+        by : (o : Option ℕ) → claim_of (plan_at places shards) p ≡ o → claim_of (plan_at places shards) p ≡ None
+        by None e = e
+        by (Some q) e = let k = sound.linked.holder p q e in absurd (none k.0 k.1.0 p k.1.1.0 k.1.1.1)
+
+    -- each strand may run alone
+    pub begins-alone : (n : ℕ) (a : Start) (s : Demand) → slice_get strands n ≡ Some s → s.strand ≡ started b.circuit a → BeginsAlone b opening n a (plan_at places shards)
+    begins-alone n a s at is = record {
+      sound = sound;
+      free = unclaimed;
+      at = ap (λ xs. slice_get xs n) strands-are ∙ map-get (λ (z : Demand). z.strand) strands n s at ∙ ap Some is;
+    }
+
+-- what is known of the first shards, and of one more
+pub known-one : (b : Batch) (opening : ℕ → List SignalCell) (shards : List KeptShard) (n : ℕ) (x : KeptShard) → ((i : ℕ) (m : KeptShard) → i < n → slice_get shards i ≡ Some m → IsKnown b opening m)
+    → x ≡ get_or shards n x → IsKnown b opening x → (i : ℕ) (m : KeptShard) → i < n + 1 → slice_get shards i ≡ Some m → IsKnown b opening m
+known-one b opening shards n x before is here i m low at = elim (cases_eq i n) [
+  | inl e ↦
+      let same : get_or shards n x ≡ m = ap (λ j. get_or shards j x) (sym e) ∙ get-or-at shards i m x at in
+      subst (IsKnown b opening) (is ∙ same) here
+  | inr ne ↦ before i m (omega arith) at
+]
+
+pub known-all : (b : Batch) (opening : ℕ → List SignalCell) (shards : List KeptShard) (n : ℕ) → ((i : ℕ) (m : KeptShard) → i < n → slice_get shards i ≡ Some m → IsKnown b opening m) → length shards ≤ n
+    → (i : ℕ) (m : KeptShard) → slice_get shards i ≡ Some m → IsKnown b opening m
+known-all b opening shards n before long i m at = let low = slice_get_within shards i m at in before i m (omega arith) at
+
+-- two new strands
+pub two-new : (b : Batch) (s r : Demand) → IsNew b 0 s → IsNew b 1 r → AreNew b (s ∷ r ∷ [])
+two-new b s r hs hr zero x at = let e : s ≡ x = cc at in subst (IsNew b 0) e hs
+two-new b s r hs hr (suc zero) x at = let e : r ≡ x = cc at in subst (IsNew b 1) e hr
+two-new b s r hs hr (suc (suc i)) x at = absurd (cc at)

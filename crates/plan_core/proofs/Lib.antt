@@ -1,0 +1,10 @@
+pub mod Lists
+pub mod Seen
+pub mod Asking
+pub mod Ending
+pub mod Resting
+pub mod Readying
+pub mod Beginning
+pub mod Running
+pub mod Refusing
+pub mod Rounds

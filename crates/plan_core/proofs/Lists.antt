@@ -1,0 +1,131 @@
+-- Lists of places, and strands that go back to them.
+use Rattle.std.proofs.Common.{◌≡◌, ℕ, zero, suc, ◌<◌, ◌-◌, List, [], ◌∷◌, length, map, take, get_or, slice_get, slice_set, refl, ap, sym, ◌∙◌, subst, arith, inl, inr, Option, Some, None}
+use Rattle.std.specs.List.{slice_range}
+use Rattle.std.proofs.Math.ListN.{length-set}
+use Rattle.std.proofs.lemmas.List.{map-set}
+use Rattle.std.proofs.lemmas.Bool.{cases_eq}
+use Rattle.strand_meaning.specs.Strands.{Strand}
+use Rattle.plan_machine.specs.Plans.{itself}
+use Rattle.plan_machine.specs.Parts.{Waiter, IsAmong, put_back}
+use Rattle.plan_machine.proofs.Links.{set-here, set-other}
+use Rattle.demand_points.specs.Demands.{Demand, Steps}
+use Rattle.memo_shards.specs.Seen.{waiter_of}
+use Rattle.memo_shards.proofs.Seen.{changed}
+use Rattle.plan_core.specs.Places.{seat, seats, AreNumbered, HaveNumbers}
+
+pub set-twice : {A : Type 0} (xs : List A) (n : ℕ) (a b : A) → slice_set (slice_set xs n a) n b ≡ slice_set xs n b
+set-twice [] n a b = refl
+set-twice (x ∷ xs) zero a b = refl
+set-twice (x ∷ xs) (suc n) a b = ap (λ ys. x ∷ ys) (set-twice xs n a b)
+
+pub set-same : {A : Type 0} (xs : List A) (n : ℕ) (a : A) → slice_get xs n ≡ Some a → slice_set xs n a ≡ xs
+set-same [] n a e = refl
+set-same (x ∷ xs) zero a e = let k : x ≡ a = cc e in ap (λ y. y ∷ xs) (sym k)
+set-same (x ∷ xs) (suc n) a e = ap (λ ys. x ∷ ys) (set-same xs n a e)
+
+pub read-at : {A : Type 0} (xs : List A) (n : ℕ) (x : A) → n < length xs → x ≡ get_or xs n x → slice_get xs n ≡ Some x
+read-at [] n x low e = absurd (omega arith)
+read-at (y ∷ xs) zero x low e = ap Some (sym e)
+read-at (y ∷ xs) (suc n) x low e = read-at xs n x (omega arith) e
+
+pub get-or-at : {A : Type 0} (xs : List A) (n : ℕ) (x d : A) → slice_get xs n ≡ Some x → get_or xs n d ≡ x
+get-or-at [] n x d e = absurd (cc e)
+get-or-at (y ∷ xs) zero x d e = cc e
+get-or-at (y ∷ xs) (suc n) x d e = get-or-at xs n x d e
+
+set-over : {A : Type 0} (xs : List A) (m n : ℕ) (a b : A) → (m ≡ n → ⊥) → slice_set (slice_set xs m a) n b ≡ slice_set (slice_set xs n b) m a
+set-over [] m n a b ne = refl
+set-over (x ∷ xs) zero zero a b ne = absurd (ne refl)
+set-over (x ∷ xs) zero (suc n) a b ne = refl
+set-over (x ∷ xs) (suc m) zero a b ne = refl
+set-over (x ∷ xs) (suc m) (suc n) a b ne = ap (λ ys. x ∷ ys) (set-over xs m n a b (λ e. ne (ap suc e)))
+
+-- lists that differ only at n do so after the others went back
+pub put-over : (f : Strand → Strand) (n : ℕ) (t : Option Strand) (xs ys : List (Option Strand)) (ws : List Waiter) → slice_set xs n t ≡ slice_set ys n t → slice_set (put_back f xs ws) n t ≡ slice_set (put_back f ys ws) n t
+put-over f n t xs ys [] e = e
+put-over f n t xs ys (w ∷ ws) e = put-over f n t (slice_set xs w.number (Some (f w.strand))) (slice_set ys w.number (Some (f w.strand))) ws (elim (cases_eq w.number n) [
+  | inl k ↦
+      let at = λ (zs : List (Option Strand)). subst (λ m. slice_set (slice_set zs m (Some (f w.strand))) n t ≡ slice_set zs n t) (sym k) (set-twice zs n (Some (f w.strand)) t) in
+      at xs ∙ e ∙ sym (at ys)
+  | inr k ↦ set-over xs w.number n (Some (f w.strand)) t k ∙ ap (λ zs. slice_set zs w.number (Some (f w.strand))) e ∙ sym (set-over ys w.number n (Some (f w.strand)) t k)
+])
+
+-- those that are changed already go back as they are
+pub put-changed : (f : Strand → Strand) (xs : List (Option Strand)) (ws : List Waiter) → put_back itself xs (map (changed f) ws) ≡ put_back f xs ws
+put-changed f xs [] = refl
+put-changed f xs (w ∷ ws) = put-changed f (slice_set xs w.number (Some (f w.strand))) ws
+
+pub have-numbers : (f : Strand → Strand) (m : ℕ) (woken : List Demand) (ws : List Waiter) → map waiter_of woken ≡ map (changed f) ws → ((w : Waiter) → IsAmong w ws → w.number < m) → HaveNumbers m woken
+have-numbers f m [] ws e low = tt
+have-numbers f m (s ∷ ss) [] e low = absurd (cc e)
+have-numbers f m (s ∷ ss) (w ∷ ws) e low =
+    let first : waiter_of s ≡ changed f w = cc e in
+    let more : map waiter_of ss ≡ map (changed f) ws = cc e in
+    let number : s.number ≡ w.number = ap (λ (z : Waiter). z.number) first in
+    (subst (λ k. k < m) (sym number) (low w (inl refl)), have-numbers f m ss ws more (λ v h. low v (inr h)))
+
+-- a strand with its number in its place, or a gap
+pub numbers-set : (places : List (Option Demand)) → AreNumbered places → (n : ℕ) (o : Option Demand) → slice_get places n ≡ Some o → (s : Demand) → s.number ≡ n → AreNumbered (slice_set places n (Some s))
+numbers-set places numbers n o at s e i r h = elim (cases_eq i n) [
+  | inl k ↦
+      let now : slice_get (slice_set places n (Some s)) i ≡ Some (Some s) = subst (λ j. slice_get (slice_set places n (Some s)) j ≡ Some (Some s)) (sym k) (set-here places n o (Some s) at) in
+      let same : s ≡ r = cc (now, h) in
+      ap (λ (z : Demand). z.number) (sym same) ∙ e ∙ sym k
+  | inr k ↦ numbers i r (sym (set-other places n i (Some s) k) ∙ h)
+]
+
+pub numbers-none : (places : List (Option Demand)) → AreNumbered places → (n : ℕ) (o : Option Demand) → slice_get places n ≡ Some o → AreNumbered (slice_set places n None)
+numbers-none places numbers n o at i r h = elim (cases_eq i n) [
+  | inl k ↦
+      let now : slice_get (slice_set places n None) i ≡ Some None = subst (λ j. slice_get (slice_set places n None) j ≡ Some None) (sym k) (set-here places n o None at) in
+      absurd (cc (now, h))
+  | inr k ↦ numbers i r (sym (set-other places n i None k) ∙ h)
+]
+
+pub set-low : {A : Type 0} (xs : List A) (i : ℕ) (a : A) → i < length xs → slice_get (slice_set xs i a) i ≡ Some a
+set-low [] i a low = absurd (omega arith)
+set-low (x ∷ xs) zero a low = refl
+set-low (x ∷ xs) (suc i) a low = set-low xs i a (omega arith)
+
+pub set-numbers : (places : List (Option Demand)) → AreNumbered places → (n : ℕ) (s : Demand) → s.number ≡ n → n < length places → AreNumbered (slice_set places n (Some s))
+set-numbers places numbers n s e low i r h = elim (cases_eq i n) [
+  | inl k ↦
+      let now : slice_get (slice_set places n (Some s)) i ≡ Some (Some s) = subst (λ j. slice_get (slice_set places n (Some s)) j ≡ Some (Some s)) (sym k) (set-low places n (Some s) low) in
+      let same : s ≡ r = cc (now, h) in
+      ap (λ (z : Demand). z.number) (sym same) ∙ e ∙ sym k
+  | inr k ↦ numbers i r (sym (set-other places n i (Some s) k) ∙ h)
+]
+
+-- strands go back one after another: these are left of the list, and the places are now so
+pub record IsPutting (places : List (Option Demand)) (list : List Demand) (now : List (Option Demand)) (left : List Demand) : Type 0 where
+  pub same : put_back itself (seats now) (map waiter_of left) ≡ put_back itself (seats places) (map waiter_of list)
+  pub low : HaveNumbers (length now) left
+  pub long : length now ≡ length places
+  pub numbered : AreNumbered now
+
+pub put-first : (places : List (Option Demand)) (list : List Demand) (now : List (Option Demand)) (old new : List Demand) (s : Demand) → IsPutting places list now old → old ≡ s ∷ new → s.number < length now
+put-first places list now old new s putting e = let k : HaveNumbers (length now) (s ∷ new) = subst (HaveNumbers (length now)) e putting.low in k.0
+
+pub put-one : (places : List (Option Demand)) (list : List Demand) (now : List (Option Demand)) (old new : List Demand) (s r : Demand) → IsPutting places list now old → old ≡ s ∷ new → Steps itself s r
+    → (n : ℕ) → n ≡ s.number → (after : List (Option Demand)) → after ≡ slice_set now n (Some r) → IsPutting places list after new
+put-one places list now old new s r putting e step n is after set =
+    let low : HaveNumbers (length now) (s ∷ new) = subst (HaveNumbers (length now)) e putting.low in
+    let after_is : after ≡ slice_set now s.number (Some r) = set ∙ ap (λ k. slice_set now k (Some r)) is in
+    let long : length after ≡ length now = ap length after_is ∙ length-set now s.number (Some r) in
+    let seats_are : seats after ≡ slice_set (seats now) s.number (Some s.strand) = ap seats after_is ∙ map-set seat now s.number (Some r) ∙ ap (λ z. slice_set (seats now) s.number (Some z)) step.strand in
+    record {
+      same = ap (λ xs. put_back itself xs (map waiter_of new)) seats_are ∙ ap (λ l. put_back itself (seats now) (map waiter_of l)) (sym e) ∙ putting.same;
+      low = subst (λ m. HaveNumbers m new) (sym long) low.1;
+      long = long ∙ putting.long;
+      numbered = subst AreNumbered (sym after_is) (set-numbers now putting.numbered s.number r step.number low.0);
+    }
+
+pub put-last : (places : List (Option Demand)) (list : List Demand) (now : List (Option Demand)) (left : List Demand) → IsPutting places list now left → left ≡ [] → seats now ≡ put_back itself (seats places) (map waiter_of list)
+put-last places list now left putting e = ap (λ l. put_back itself (seats now) (map waiter_of l)) (sym e) ∙ putting.same
+
+take-all : {X : Type 0} (xs : List X) (n : ℕ) → n ≡ length xs → take n xs ≡ xs
+take-all {X} [] n e = subst (λ k. take {A = X} k [] ≡ []) (sym e) refl
+take-all (x ∷ xs) n e = subst (λ k. take k (x ∷ xs) ≡ x ∷ xs) (sym e) (ap (λ l. x ∷ l) (take-all xs (length xs) refl))
+
+pub whole : {X : Type 0} (xs : List X) (n : ℕ) → n ≡ length xs → slice_range xs 0 n ≡ xs
+whole xs n e = take-all xs (n - 0) (omega arith)

@@ -1,0 +1,101 @@
+use Rattle.std.proofs.Common.{◌≡◌, ◌<◌, ◌%◌, arith, List, length, map, slice_get, slice_set, ap, sym, ◌∙◌, subst, Option, Some, None}
+use Rattle.std.proofs.Math.ListN.{length-set}
+use Rattle.std.proofs.lemmas.Option.{slice_get_within}
+use Rattle.strand_meaning.specs.Strands.{next}
+use Rattle.strand_meaning.specs.declared.Next.TheVariants.{Drop}
+use Rattle.plan_machine.specs.Plans.{itself}
+use Rattle.plan_machine.specs.Parts.{put_back as put_all}
+use Rattle.plan_machine.specs.Turns.{turn}
+use Rattle.demand_points.specs.Demands.{Demand}
+use Rattle.memo_shards.specs.Seen.{waiter_of}
+use Rattle.plan_core.specs.Places.{seats, AreNumbered, HaveNumbers}
+use Rattle.plan_core.specs.Parts.{plan_at}
+use Rattle.plan_core.specs.Turns.{IsSeen}
+use Rattle.plan_core.proofs.Lists.{numbers-none}
+use Rattle.plan_core.proofs.Ending.{holds-dropped, dropped-numbers, dropped-seen}
+use Rattle.plan_core.proofs.ends.drop_turn.Goals as goal
+
+pub drop_top-strand-requires : goal.drop_top-strand-requires
+drop_top-strand-requires g c =
+    let b = g.B.BatchName.batch in
+    let o = g.B.BatchName.opening in
+    let places = c.args.places.now.items in
+    let shards = c.args.shards.now.items in
+    let n = c.args.number in
+    let p = c.args.p in
+    let parts = c.requires.parts in
+    let s = c.into_strand-strand.result in
+    let at : slice_get places n ≡ Some (Some s) = c.take_at.ensures.taken ∙ ap (λ (z : Demand). Some (Some z)) (sym c.into_strand-strand.ensures) in
+    let who = c.requires.drops in
+    let same : who.0 ≡ s = let there = who.1.0 in cc (there, at) in
+    let step : next s.strand ≡ Drop p = subst (λ (z : Demand). next z.strand ≡ Drop p) same who.1.1 in
+    let count : c.len.result ≡ length shards = c.len.ensures ∙ c.args.shards.now.ok.0 in
+    let h0 = c.index_mut.result.now in
+    let index = c.index_mut.ensures.value in
+    (omega arith, (step, holds-dropped b o places shards parts n s at p c.len.result count h0 index step))
+
+pub put_back-requires : goal.put_back-requires
+put_back-requires g c =
+    let b = g.B.BatchName.batch in
+    let o = g.B.BatchName.opening in
+    let places = c.args.places.now.items in
+    let shards = c.args.shards.now.items in
+    let n = c.args.number in
+    let p = c.args.p in
+    let parts = c.requires.parts in
+    let s = c.into_strand-strand.result in
+    let at : slice_get places n ≡ Some (Some s) = c.take_at.ensures.taken ∙ ap (λ (z : Demand). Some (Some z)) (sym c.into_strand-strand.ensures) in
+    let count : c.len.result ≡ length shards = c.len.ensures ∙ c.args.shards.now.ok.0 in
+    let h0 = c.index_mut.result.now in
+    let index = c.index_mut.ensures.value in (
+      omega arith,
+      (
+        c.requires.design,
+        (
+          subst (λ (xs : List (Option Demand)). HaveNumbers (length xs) c.drop_top-strand.result.1.items) (sym c.take_at.ensures.rest) (dropped-numbers b o places shards parts n s at p c.len.result count h0 index c.drop_top-strand.result.0 c.drop_top-strand.new.shard c.drop_top-strand.result.1.items c.drop_top-strand.ensures.came),
+          subst AreNumbered (sym c.take_at.ensures.rest) (numbers-none places parts.numbers n (Some s) at),
+        ),
+      ),
+    )
+
+pub put_at-requires : goal.put_at-requires
+put_at-requires g c =
+    let b = g.B.BatchName.batch in
+    let o = g.B.BatchName.opening in
+    let places = c.args.places.now.items in
+    let shards = c.args.shards.now.items in
+    let n = c.args.number in
+    let p = c.args.p in
+    let parts = c.requires.parts in
+    let s = c.into_strand-strand.result in
+    let at : slice_get places n ≡ Some (Some s) = c.take_at.ensures.taken ∙ ap (λ (z : Demand). Some (Some z)) (sym c.into_strand-strand.ensures) in
+    let rest : c.take_at.new.places.items ≡ slice_set places n None = c.take_at.ensures.rest in
+    let long : length c.take_at.new.places.items ≡ length places = ap (λ (xs : List (Option Demand)). length xs) rest ∙ length-set places n None in
+    let low : n < length places = slice_get_within places n (Some s) at in
+    let more = c.put_back.ensures.length in
+    omega arith
+
+pub returns : goal.returns
+returns g c =
+    let b = g.B.BatchName.batch in
+    let o = g.B.BatchName.opening in
+    let places = c.args.places.now.items in
+    let shards = c.args.shards.now.items in
+    let n = c.args.number in
+    let p = c.args.p in
+    let parts = c.requires.parts in
+    let s = c.into_strand-strand.result in
+    let at : slice_get places n ≡ Some (Some s) = c.take_at.ensures.taken ∙ ap (λ (z : Demand). Some (Some z)) (sym c.into_strand-strand.ensures) in
+    let who = c.requires.drops in
+    let same : who.0 ≡ s = let there = who.1.0 in cc (there, at) in
+    let step : next s.strand ≡ Drop p = subst (λ (z : Demand). next z.strand ≡ Drop p) same who.1.1 in
+    let count : c.len.result ≡ length shards = c.len.ensures ∙ c.args.shards.now.ok.0 in
+    let h0 = c.index_mut.result.now in
+    let index = c.index_mut.ensures.value in
+    let rest = c.take_at.ensures.rest in
+    let mid = c.put_back.new.places.items in
+    let list = c.drop_top-strand.result.1.items in
+    let seats_are = subst (λ (xs : List (Option Demand)). seats mid ≡ put_all itself (seats xs) (map waiter_of list)) rest c.put_back.ensures.seats in
+    let long = subst (λ (xs : List (Option Demand)). length mid ≡ length xs) rest c.put_back.ensures.length in
+    let k = dropped-seen b o places shards parts n s at p c.len.result count h0 index step c.drop_top-strand.result.0 c.new.result c.drop_top-strand.new.shard list c.drop_top-strand.ensures.known c.drop_top-strand.ensures.came c.new.ensures mid seats_are long c.put_back.ensures.numbered in
+    (subst (λ (xs : List (Option Demand)). IsSeen b o xs (slice_set shards (p.signal % c.len.result) c.drop_top-strand.new.shard) (turn b (plan_at places shards) n)) (sym c.put_at.ensures) k.0, k.1)

@@ -1,0 +1,129 @@
+//! The places of strands.
+
+ghost use Rattle.std.specs.Prelude.{◌≡◌, ◌<◌, ◌++◌, length, map, slice_get, slice_set, Some, None, IfOk, OnOk, OnErr, IfSome};
+ghost use Rattle.plan_machine.specs.Parts.{put_back as put_all};
+ghost use Rattle.plan_machine.specs.Plans.{itself};
+ghost use Rattle.demand_points.specs.Demands.{Demand};
+ghost use Rattle.memo_shards.specs.Seen.{waiter_of};
+ghost use Rattle.plan_core.specs.Places.{seats, tags, tag_of, ready_one, ready_of, AreNumbered, HaveNumbers, IsNextAt};
+
+use crate::paused::Paused;
+use backsim_io::OutOfMemory;
+use demand_points::{BatchName, Strand};
+use design::Design;
+use smallvec::SmallVec;
+use std::alloc::Global;
+use strand_meaning::Next;
+
+/// The next step of the strand in a place.
+pub fn next_at<B: BatchName>(places: &[Option<Paused<B>>], number: usize) -> Option<Next>
+    requires { number < length places.now }
+    ensures { IsNextAt places.now number result }
+{
+    match &places[number] {
+        Some(paused) => Some(paused.next()),
+        None => None,
+    }
+}
+
+/// The strand in a place.
+pub fn strand_at<B: BatchName>(places: &[Option<Paused<B>>], number: usize) -> Option<&Strand<B>>
+    ensures some { IfSome result (λ s. slice_get places.now number ≡ Some (Some s.now)) }
+    ensures none { result ≡ None → (s : Demand) → slice_get places.now number ≡ Some (Some s) → ⊥ }
+{
+    if number >= places.len() {
+        return None;
+    }
+    match &places[number] {
+        Some(paused) => Some(paused.strand()),
+        None => None,
+    }
+}
+
+/// Takes the strand out of its place.
+pub fn take_at<B: BatchName>(places: &mut Vec<Option<Paused<B>>>, number: usize) -> Paused<B>
+    requires { (s : Demand) × (slice_get places.old.items number ≡ Some (Some s)) }
+    ensures taken { slice_get places.old.items number ≡ Some (Some result) }
+    ensures rest { places.new.items ≡ slice_set places.old.items number None }
+{
+    match places[number].take() {
+        Some(paused) => paused,
+        None => unreachable!(),
+    }
+}
+
+/// Puts what came of a step into the place.
+pub fn put_at<B: BatchName>(
+    places: &mut Vec<Option<Paused<B>>>,
+    number: usize,
+    back: Option<Paused<B>>,
+)
+    requires { number < length places.old.items }
+    ensures { places.new.items ≡ slice_set places.old.items number back }
+{
+    places[number] = back;
+}
+
+/// Each strand goes to the place of its number.
+pub fn put_back<B: BatchName>(
+    places: &mut Vec<Option<Paused<B>>>,
+    mut woken: SmallVec<Strand<B>, 2>,
+    design: &Design,
+)
+    requires design { design.now.circuit ≡ B.batch.circuit }
+    requires numbers { HaveNumbers (length places.old.items) woken.items }
+    requires numbered { AreNumbered places.old.items }
+    ensures seats { seats places.new.items ≡ put_all itself (seats places.old.items) (map waiter_of woken.items) }
+    ensures length { length places.new.items ≡ length places.old.items }
+    ensures numbered { AreNumbered places.new.items }
+{
+    for strand in woken.drain(..) {
+        let number = strand.number() as usize;
+        put_at(places, number, Some(Paused::new(strand, design)));
+    }
+}
+
+/// A place for each strand, which is brought to its next step.
+pub fn pause_all<B: BatchName>(
+    alloc: Global,
+    strands: Vec<Strand<B>>,
+    design: &Design,
+) -> Result<Vec<Option<Paused<B>>>, OutOfMemory>
+    requires { design.now.circuit ≡ B.batch.circuit }
+    ensures { IfOk result (λ v. tags v.items ≡ map tag_of strands.items) }
+{
+    let mut places = Vec::new(alloc);
+    for strand in strands {
+        places.push(Some(Paused::new(strand, design)))?;
+    }
+    Ok(places)
+}
+
+// Notes the number of the strand in the place, if it has a step left.
+fn note_ready<B: BatchName>(
+    numbers: &mut Vec<u32>,
+    place: &Option<Paused<B>>,
+) -> Result<(), OutOfMemory>
+    ensures { OnOk result (numbers.new.items ≡ numbers.old.items ++ ready_one place.now) }
+{
+    if let Some(paused) = place {
+        if paused.has_next() {
+            numbers.push(paused.number())?;
+        }
+    }
+    Ok(())
+}
+
+/// The numbers of the strands that have a step left, in the order of their places.
+pub fn ready_in<B: BatchName>(
+    alloc: Global,
+    places: &[Option<Paused<B>>],
+) -> Result<Vec<u32>, OutOfMemory>
+    ensures { IfOk result (λ v. v.items ≡ ready_of places.now) }
+{
+    let mut numbers = Vec::new(alloc);
+    for place in places {
+        note_ready(&mut numbers, place)?;
+    }
+    Ok(numbers)
+}

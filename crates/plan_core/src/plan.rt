@@ -1,0 +1,210 @@
+//! The plan.
+
+ghost use Rattle.std.specs.Prelude.{◌≡◌, ◌<◌, ◌≤◌, ℕ, List, [], true, false, length, take, slice_get, IfOk, OnOk, OnErr, IfSome, Some, None};
+ghost use Rattle.std.specs.List.{AllByRecursion};
+ghost use Rattle.strand_meaning.specs.Batches.{IsLawful};
+ghost use Rattle.strand_meaning.specs.Strands.{Start, started, Strand as MachineStrand};
+ghost use Rattle.plan_machine.specs.Shards.{Shard as MachineShard};
+ghost use Rattle.plan_machine.specs.Plans.{Plan as PlanRecord, new_plan, ready};
+ghost use Rattle.plan_machine.specs.Laws.{BeginsAlone};
+ghost use Rattle.plan_machine.specs.Alone.{refused, RunsAlone, RanAlone};
+ghost use Rattle.plan_core.specs.Refusals.{IsRefusedAt, AsksFor, point_of};
+ghost use Rattle.strand_meaning.specs.declared.Next.TheVariants.{Ask};
+ghost use Rattle.valid_intervals.specs.declared.Point.{Point as PointRecord};
+ghost use Rattle.plan_machine.specs.Steps.{turned, is_turn};
+ghost use Rattle.plan_machine.specs.Turns.{turn, run, turns};
+ghost use Rattle.plan_machine.specs.Bounds.{all_left, bound};
+ghost use Rattle.plan_machine.specs.Sound.{IsSound, HasEnded};
+ghost use Rattle.demand_points.specs.Demands.{Demand};
+ghost use Rattle.plan_core.specs.Parts.{AreNew, AreFree, AreInOrder, IsAwake, plan_of_new, shards_in};
+
+use crate::alone::{Alone, asked_at, refuse};
+use crate::asks::know_all;
+use crate::paused::Paused;
+use crate::places::{pause_all, ready_in, strand_at};
+use crate::turns;
+use backsim_io::OutOfMemory;
+use demand_points::{BatchName, Strand};
+use design::Design;
+use memo_shards::Shard;
+use plan_machine::Turned;
+use std::alloc::Global;
+use std::marker::Model;
+use valid_intervals::Point;
+
+/// The strands of a batch, each ready, waiting or ended, and the shards.
+#[derive(Drop)]
+pub struct Plan<B: BatchName> {
+    places: Vec<Option<Paused<B>>>,
+    shards: Vec<Shard<B>>,
+}
+
+impl<B: BatchName> Model for Plan<B> {
+    ghost use Rattle.plan_machine.specs.Plans.{Plan};
+
+    ghost Value = { Plan };
+
+    ghost use Rattle.plan_core.specs.Parts.{plan_at, IsPlan};
+
+    ghost view = { λ k. plan_at k.places.items k.shards.items };
+
+    ghost invariant = { λ k. IsPlan B.batch B.opening k.places.items k.shards.items };
+}
+
+impl<B: BatchName> Plan<B> {
+    /// The plan of these strands, of which none has made a turn, and of these shards.
+    pub fn new(
+        alloc: Global,
+        design: &Design,
+        strands: Vec<Strand<B>>,
+        shards: Vec<Shard<B>>,
+    ) -> Result<Plan<B>, OutOfMemory>
+        requires lawful { IsLawful B.batch }
+        requires design { design.now.circuit ≡ B.batch.circuit }
+        requires strands { AreNew B.batch strands.items }
+        requires shards { AreFree B.batch shards.items }
+        ensures ok { IfOk result (λ plan. plan ≡ plan_of_new strands.items shards.items) }
+        ensures alone { (n : ℕ) (a : Start) (s : Demand) → slice_get strands.items n ≡ Some s → s.strand ≡ started B.batch.circuit a → IfOk result (BeginsAlone B.batch B.opening n a) }
+    {
+        know_all(&shards);
+        let places = pause_all(alloc, strands, design)?;
+        Ok(Plan { places, shards })
+    }
+
+    /// What is known of every plan.
+    pub fn facts(&self)
+        ensures lawful { IsLawful B.batch }
+        ensures sound { IsSound B.batch B.opening self.now }
+    {
+        let _places = self.places.len();
+    }
+
+    /// One turn of the strand with this number. Where memory runs out, nothing changes.
+    pub fn turn(&mut self, design: &Design, number: u32) -> Result<Turned, OutOfMemory>
+        requires design { design.now.circuit ≡ B.batch.circuit }
+        requires number { number < length self.old.strands }
+        ensures comes { IfOk result (λ t. t ≡ turned self.old number) }
+        ensures ok { OnOk result (self.new ≡ turn B.batch self.old number) }
+        ensures count { length self.new.strands ≡ length self.old.strands }
+        ensures err { OnErr result (self.new ≡ self.old) }
+    {
+        turns::turn(&mut self.places, &mut self.shards, design, number as usize)
+    }
+
+    /// Turns of the strands with these numbers, in this order; how many of them were not NotReady. Where memory runs out, the turns
+    /// before it stand.
+    pub fn run(&mut self, design: &Design, schedule: &[u32]) -> Result<u64, OutOfMemory>
+        requires design { design.now.circuit ≡ B.batch.circuit }
+        requires numbers { AllByRecursion (λ i. i < length self.old.strands) schedule.now }
+        ensures ok { OnOk result (self.new ≡ run B.batch self.old schedule.now) }
+        ensures count { length self.new.strands ≡ length self.old.strands }
+        ensures turns { IfOk result (λ k. k ≡ turns B.batch self.old schedule.now) }
+        ensures left { IfOk result (λ k. k ≤ all_left B.batch self.old) }
+        ensures bounded { (starts : List Start) (shards : List MachineShard) → self.old ≡ new_plan B.batch starts shards → IfOk result (λ k. k ≤ bound B.batch starts) }
+        ensures err { OnErr result ((k : ℕ) × ((k ≤ length schedule.now) × (self.new ≡ run B.batch self.old (take k schedule.now)))) }
+    {
+        let mut turns = 0;
+        for &number in schedule {
+            turns += counted(self.turn(design, number)?);
+        }
+        Ok(turns)
+    }
+
+    // The point that the strand with this number asks for.
+    fn asked(&self, number: u32) -> Option<Point>
+        requires { number < length self.now.strands }
+        ensures { (p : PointRecord) → AsksFor self.now number p → result ≡ Some p }
+    {
+        asked_at(&self.places, number as usize)
+    }
+
+    // Records that the strand with this number was refused the point.
+    fn refuse(&mut self, number: u32, p: Point) -> Result<(), OutOfMemory>
+        requires { IsRefusedAt self.old number p }
+        ensures ok { OnOk result ((s : MachineStrand) × ((slice_get self.old.strands number ≡ Some s) × (self.new ≡ refused self.old s (Ask p)))) }
+        ensures err { OnErr result (self.new ≡ self.old) }
+    {
+        refuse(&self.places, &mut self.shards, number as usize, p)
+    }
+
+    // One turn of a strand that runs alone; whether it goes on.
+    fn turn_alone(
+        &mut self,
+        design: &Design,
+        number: u32,
+        alone: &mut Alone,
+    ) -> Result<bool, OutOfMemory>
+        requires lawful { IsLawful B.batch }
+        requires design { design.now.circuit ≡ B.batch.circuit }
+        requires number { number < length self.old.strands }
+        ensures count { length self.new.strands ≡ length self.old.strands }
+        ensures less { IfOk result (λ more. more ≡ true → all_left B.batch self.new < all_left B.batch self.old) }
+        ensures runs { (a : Start) (old : PlanRecord) → RunsAlone B.batch B.opening number a old self.old (point_of alone.old)
+            → OnOk result (RunsAlone B.batch B.opening number a old self.new (point_of alone.new)) }
+        ensures ended { (a : Start) (old : PlanRecord) → RunsAlone B.batch B.opening number a old self.old (point_of alone.old)
+            → IfOk result (λ more. more ≡ false → RanAlone B.batch B.opening number a old self.new (point_of alone.new)) }
+    {
+        let asked = self.asked(number);
+        match self.turn(design, number)? {
+            Turned::NotReady => Ok(false),
+            Turned::Spent => {
+                let Some(p) = asked else { unreachable!() };
+                self.refuse(number, p)?;
+                *alone = Alone::Spent(p);
+                Ok(true)
+            }
+            _ => Ok(true),
+        }
+    }
+
+    /// Turns of one strand alone until it has ended. A refusal for its budget is recorded before it drops what it holds. Where memory
+    /// runs out, the turns before it stand.
+    pub fn run_alone(&mut self, design: &Design, number: u32) -> Result<Alone, OutOfMemory>
+        requires design { design.now.circuit ≡ B.batch.circuit }
+        requires number { number < length self.old.strands }
+        ensures { (a : Start) → BeginsAlone B.batch B.opening number a self.old
+            → IfOk result (λ alone. RanAlone B.batch B.opening number a self.old self.new (point_of alone)) }
+    {
+        self.facts();
+        let mut alone = Alone::Ended;
+        'turns: while self.turn_alone(design, number, &mut alone)? {}
+        Ok(alone)
+    }
+
+    /// The numbers of the ready strands, in ascending order.
+    pub fn ready(&self, alloc: Global) -> Result<Vec<u32>, OutOfMemory>
+        ensures numbers { IfOk result (λ v. v.items ≡ ready self.now) }
+        ensures none { IfOk result (λ v. v.items ≡ [] → (i : ℕ) (s : MachineStrand) → slice_get self.now.strands i ≡ Some s → HasEnded s) }
+        ensures all { IfOk result (λ v. ((i : ℕ) (s : MachineStrand) → slice_get self.now.strands i ≡ Some s → HasEnded s) → v.items ≡ []) }
+    {
+        ready_in(alloc, &self.places)
+    }
+
+    /// The strand with this number. There is none where the number is none of the plan's, or the strand waits.
+    pub fn strand(&self, number: u32) -> Option<&Strand<B>>
+        ensures some { IfSome result (λ s. IsAwake self.now number s.now) }
+        ensures none { result ≡ None → (s : MachineStrand) → slice_get self.now.strands number ≡ Some s → s.waits ≡ true }
+    {
+        strand_at(&self.places, number as usize)
+    }
+
+    /// The shards, in order.
+    pub fn into_shards(self) -> Vec<Shard<B>>
+        ensures shards { shards_in result.items ≡ self.shards }
+        ensures order { AreInOrder result.items }
+    {
+        let Plan { places: _, shards } = self;
+        shards
+    }
+}
+
+// Counts a turn that is not NotReady.
+fn counted(turned: Turned) -> u64
+    ensures count { result ≡ is_turn turned }
+    ensures most { result ≤ 1 }
+{
+    match turned {
+        Turned::NotReady => 0,
+        _ => 1,
+    }
+}

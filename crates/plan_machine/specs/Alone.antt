@@ -1,0 +1,182 @@
+-- Running one strand alone: what holds on the way, and what it leaves.
+use Rattle.std.specs.Prelude.{◌≡◌, ◌≢◌, ◌⊎◌, ℕ, zero, suc, ◌+◌, ◌-◌, ◌≤◌, true, false, List, [], ◌∷◌, ◌++◌, length, map, All, AllPairs, Contains, slice_get, is_some, Option, Some, None}
+use Rattle.std.specs.List.{AllByRecursion}
+use Rattle.valid_intervals.specs.declared.Cell.{Cell}
+use Rattle.valid_intervals.specs.declared.Point.{Point}
+use Rattle.valid_intervals.specs.declared.SignalCell.{SignalCell}
+use Rattle.circuit_meaning.specs.Circuit.{Circuit}
+use Rattle.circuit_meaning.specs.Need.{children}
+use Rattle.journal_meaning.specs.declared.Entry.{Entry}
+use Rattle.journal_meaning.specs.declared.Entry.TheVariants.{Told, Claimed, Filled, Evicted, Dropped, Spent}
+use Rattle.journal_meaning.specs.Batch.{Batch}
+use Rattle.journal_meaning.specs.Answers.{IsCovered, last_of, filled}
+use Rattle.journal_meaning.specs.Grown.{IsSaid, IsFor, refusals, AreAdded}
+use Rattle.strand_meaning.specs.declared.Next.{Next}
+use Rattle.strand_meaning.specs.declared.Next.TheVariants.{Ask}
+use Rattle.strand_meaning.specs.Strands.{Frame, Strand, Start, started, piece, roots_from, sources_of, next_in, next, given_up}
+use Rattle.plan_machine.specs.Shards.{recorded}
+use Rattle.plan_machine.specs.Plans.{Plan, shard_of, claim_of, with_shard}
+use Rattle.plan_machine.specs.Steps as steps
+use Rattle.plan_machine.specs.Steps.{Step, step_at, turned}
+use Rattle.plan_machine.specs.declared.Turned.TheVariants as comes
+use Rattle.plan_machine.specs.Turns.{stepped, turn}
+use Rattle.plan_machine.specs.Sound.{IsSound, HasEnded}
+use Rattle.plan_machine.specs.Journals.{journals, entries}
+
+-- The strand s was refused the point that it asked for: this is recorded, with the number of its claims.
+abbrev pub refused : Plan → Strand → Next → Plan
+refused plan s (Ask p) = with_shard plan p (recorded (Spent s.query.number p (length s.stack)) (shard_of plan p))
+refused plan s n = plan
+
+-- a turn of a strand that runs alone: where its budget is spent, that is recorded
+abbrev pub alone_step : Batch → Plan → ℕ → Strand → Step → Plan
+alone_step b plan i s steps.Spend = refused (stepped b plan i s steps.Spend) s (next s)
+alone_step b plan i s t = stepped b plan i s t
+
+abbrev pub alone_at : Batch → Plan → ℕ → Option Strand → Plan
+alone_at b plan i None = plan
+alone_at b plan i (Some s) = alone_step b plan i s (step_at plan (Some s))
+
+abbrev pub alone_turn : Batch → Plan → ℕ → Plan
+alone_turn b plan i = alone_at b plan i (slice_get plan.strands i)
+
+-- so many turns of strand i
+abbrev pub run_alone : Batch → ℕ → ℕ → Plan → Plan
+run_alone b i zero plan = plan
+run_alone b i (suc n) plan = run_alone b i n (alone_turn b plan i)
+
+-- the roots of a start: the ends of cells from its start on, those with base answers too
+abbrev pub roots_of : Circuit → Start → List Point
+roots_of c a = roots_from c (piece a) (a.stop - a.start) a.start
+
+-- the point is still to be heard, or an added entry says its cell
+abbrev pub IsDue : List Entry → List Point → Point → Type 0
+IsDue added left p = Contains left p ⊎ IsSaid added p
+
+-- what a claimed point comes from is due
+abbrev pub IsFrameDue : Circuit → List Entry → Frame → Type 0
+IsFrameDue c added f = All (IsDue added f.left) (sources_of c f.point)
+
+-- what the points come from that were evaluated is said
+abbrev pub AreFed : Circuit → List Entry → Type 0
+AreFed c added = (q : ℕ) (p : Point) (x : Cell) → Contains added (Filled q p x) → All (IsSaid added) (sources_of c p)
+
+-- an entry of a strand whose budget isn't spent
+abbrev pub IsUnspent : Entry → Type 0
+IsUnspent (Told q p x) = Unit {0}
+IsUnspent (Claimed q p) = Unit {0}
+IsUnspent (Filled q p x) = Unit {0}
+IsUnspent (Evicted signal start) = Unit {0}
+IsUnspent (Dropped q p) = ⊥
+IsUnspent (Spent q p held) = ⊥
+
+abbrev pub points_on : List Frame → List Point
+points_on st = map (λ f. f.point) st
+
+-- While its budget isn't spent: its charge is that at the start, its fills and its claims. What a claimed point comes from, and each
+-- root, is still to be heard or said by an entry; what an evaluated point comes from is said. Entries are those that it added.
+pub record IsUnderWay (c : Circuit) (a : Start) (added : List Entry) (s : Strand) : Type 0 where
+  pub query : s.query ≡ a.query
+  pub budget : s.budget ≡ a.budget
+  pub unspent : s.spent ≡ false
+  pub charge : s.charged ≡ a.charged + filled added a.query.number + length s.stack
+  pub frames : AllByRecursion (IsFrameDue c added) s.stack
+  pub roots : All (IsDue added s.roots) (started c a).roots
+  pub fed : AreFed c added
+  pub own : AllByRecursion (IsFor a.query.number) added
+  pub going : AllByRecursion IsUnspent added
+
+abbrev pub drops : ℕ → List Point → List Entry
+drops q points = map (Dropped q) points
+
+-- Once it was refused p: the refusal stands behind what it added before, and behind it the points that it has dropped since. Those
+-- and the points that it still holds are different from each other and from p, and make up its budget.
+pub record IsGivingUp (c : Circuit) (a : Start) (p : Point) (added : List Entry) (s : Strand) : Type 0 where
+  pub query : s.query ≡ a.query
+  pub budget : s.budget ≡ a.budget
+  pub spent : s.spent ≡ true
+  pub before : List Entry
+  pub gone : List Point
+  pub added_is : added ≡ before ++ Spent a.query.number p (length gone + length s.stack) ∷ drops a.query.number gone
+  pub different : AllPairs (λ x y. x ≢ y) (p ∷ gone ++ points_on s.stack)
+  pub account : a.charged + filled before a.query.number + (length gone + length s.stack) ≡ a.budget
+  pub fed : AreFed c before
+  pub own : AllByRecursion (IsFor a.query.number) before
+  pub going : AllByRecursion IsUnspent before
+
+-- under way, or giving up since it was refused a point
+abbrev pub IsAt : Circuit → Start → List Entry → Strand → Option Point → Type 0
+IsAt c a added s None = IsUnderWay c a added s
+IsAt c a added s (Some p) = IsGivingUp c a p added s
+
+-- The plan came of the old one by turns of strand n alone, which is now s, and these entries were added. No other strand changed,
+-- none of them holds a point or waits, nor does s wait.
+pub record IsAlone (b : Batch) (opening : ℕ → List SignalCell) (n : ℕ) (old : Plan) (added : List Entry) (s : Strand) (plan : Plan) : Type 0 where
+  pub sound : IsSound b opening plan
+  pub at : slice_get plan.strands n ≡ Some s
+  pub awake : s.waits ≡ false
+  pub others : (j : ℕ) → j ≢ n → slice_get plan.strands j ≡ slice_get old.strands j
+  pub idle : (j : ℕ) (r : Strand) → j ≢ n → slice_get plan.strands j ≡ Some r → (r.stack ≡ []) × (r.waits ≡ false)
+  pub journals : AreAdded (journals old) added (journals plan)
+
+-- what holds after each turn of strand n alone, which was started as a
+pub record RunsAlone (b : Batch) (opening : ℕ → List SignalCell) (n : ℕ) (a : Start) (old plan : Plan) (spent : Option Point) : Type 0 where
+  pub added : List Entry
+  pub strand : Strand
+  pub alone : IsAlone b opening n old added strand plan
+  pub is_at : IsAt b.circuit a added strand spent
+
+-- The strand was not refused: each of its roots is covered, and its charge has room for what it filled.
+pub record IsServed (c : Circuit) (a : Start) (added new : List Entry) : Type 0 where
+  pub roots : All (IsCovered c new) (roots_of c a)
+  pub charge : a.charged + filled added a.query.number ≤ a.budget
+  pub refusals : refusals added a.query.number ≡ 0
+
+-- The strand was refused the point: the last entry of its query there says so. It gave up so many different points, and the last
+-- entry at each of them says so. The charge at its start, its fills and these points come to its budget.
+pub record IsRefused (a : Start) (p : Point) (added new : List Entry) : Type 0 where
+  pub given_up : List Point
+  pub last : last_of new a.query.number p ≡ Some (Spent a.query.number p (length given_up))
+  pub different : AllPairs (λ x y. x ≢ y) given_up
+  pub dropped : All (λ x. last_of new a.query.number x ≡ Some (Dropped a.query.number x)) given_up
+  pub budget : a.charged + filled added a.query.number + length given_up ≡ a.budget
+  pub refusals : refusals added a.query.number ≡ 1
+
+abbrev pub IsOutcome : Circuit → Start → List Entry → List Entry → Option Point → Type 0
+IsOutcome c a added new None = IsServed c a added new
+IsOutcome c a added new (Some p) = IsRefused a p added new
+
+-- the strand has ended with its query, and is spent exactly where it was refused
+pub record HasRun (n : ℕ) (a : Start) (new : Plan) (refused_at : Option Point) : Type 0 where
+  pub strand : Strand
+  pub at : slice_get new.strands n ≡ Some strand
+  pub query : strand.query ≡ a.query
+  pub ended : HasEnded strand
+  pub spent : strand.spent ≡ is_some refused_at
+
+-- What is left of running strand n alone until it has ended, where it was started as a: entries for its query were added, no point is
+-- claimed, no other strand changed, and what was filled has its children covered.
+pub record RanAlone (b : Batch) (opening : ℕ → List SignalCell) (n : ℕ) (a : Start) (old new : Plan) (spent : Option Point) : Type 0 where
+  pub sound : IsSound b opening new
+  pub added : List Entry
+  pub journals : AreAdded (journals old) added (journals new)
+  pub own : AllByRecursion (IsFor a.query.number) added
+  pub others : (j : ℕ) → j ≢ n → slice_get new.strands j ≡ slice_get old.strands j
+  pub strand : HasRun n a new spent
+  pub free : (p : Point) → claim_of new p ≡ None
+  pub children : (q : ℕ) (p : Point) (x : Cell) → Contains added (Filled q p x) → All (IsCovered b.circuit (entries new)) (children b.circuit p.signal p.time)
+  pub outcome : IsOutcome b.circuit a added (entries new) spent
+
+-- strand n, which was s, was refused the point that it asked for: now it is spent, and its point is what it would still ask for
+pub record IsRefusal (n : ℕ) (p : Point) (s : Strand) (plan new : Plan) : Type 0 where
+  pub at : slice_get plan.strands n ≡ Some s
+  pub asks : next s ≡ Ask p
+  pub now : slice_get new.strands n ≡ Some (given_up s)
+  pub still : next_in false s.roots s.stack ≡ Ask p
+
+-- A turn of strand n alone never waits, and goes on; where it was Spent, the refusal is recorded. Where it is NotReady, the strand has ended.
+pub record TurnsAlone (b : Batch) (opening : ℕ → List SignalCell) (n : ℕ) (a : Start) (old plan : Plan) (spent : Option Point) : Type 0 where
+  pub never : turned plan n ≢ comes.Waits
+  pub on : turned plan n ≢ comes.Spent → RunsAlone b opening n a old (turn b plan n) spent
+  pub refusal : turned plan n ≡ comes.Spent → (p : Point) × (s : Strand) × (spent ≡ None) × IsRefusal n p s plan (turn b plan n) × RunsAlone b opening n a old (refused (turn b plan n) s (Ask p)) (Some p)
+  pub ended : turned plan n ≡ comes.NotReady → RanAlone b opening n a old plan spent

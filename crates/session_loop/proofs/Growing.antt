@@ -1,0 +1,80 @@
+-- Texts that grow, piece by piece.
+use Rattle.std.proofs.Common.{◌≡◌, ℕ, zero, suc, List, [], ◌∷◌, ◌++◌, take, drop, Result, Ok, Err, refl, sym, ap, subst, ◌∙◌, append_assoc, append-nil}
+use Rattle.std.specs.Prelude.{OnErr}
+use Rattle.std.proofs.lemmas.List.{take-append-drop}
+use Rattle.backsim_io.specs.Counts.{Grows, GrowsByPrefix}
+use Rattle.backsim_io.specs.Held.{Made, grown, FileGrows, FileGrowsByPrefix}
+use Rattle.session_meaning.specs.Broken.{IsPrefix}
+use Rattle.session_meaning.proofs.Journals.{prefix-same, prefix-again}
+use Rattle.session_loop.specs.Growing.{GoesOn, FileGoesOn, GrowsPart, FileGrowsPart}
+
+-- what holds anyhow
+pub on-err : {T E X : Type 0} (result : Result T E) → X → OnErr result X
+on-err (Ok x) is = tt
+on-err (Err e) is = is
+
+pub grows-none : (w : List ℕ → Type 0) → Grows w w []
+grows-none w before h = subst w (sym (append-nil before)) h
+
+pub grows-more : (u v w : List ℕ → Type 0) (a b : List ℕ) → Grows u v a → Grows v w b → Grows u w (a ++ b)
+grows-more u v w a b f g before h = subst w (append_assoc before a b) (g (before ++ a) (f before h))
+
+pub grown-grown : (files : List Made) (slot : ℕ) (a b : List ℕ) → grown (grown files slot a) slot b ≡ grown files slot (a ++ b)
+grown-grown [] slot a b = refl
+grown-grown (file ∷ files) zero a b = ap (λ bytes. record file { bytes = bytes } ∷ files) (append_assoc file.bytes a b)
+grown-grown (file ∷ files) (suc slot) a b = ap (λ fs. file ∷ fs) (grown-grown files slot a b)
+
+pub grown-none : (files : List Made) (slot : ℕ) → grown files slot [] ≡ files
+grown-none [] slot = refl
+grown-none (file ∷ files) zero = ap (λ bytes. record file { bytes = bytes } ∷ files) (append-nil file.bytes)
+grown-none (file ∷ files) (suc slot) = ap (λ fs. file ∷ fs) (grown-none files slot)
+
+pub file-none : (m : List Made → Type 0) (slot : ℕ) → FileGrows m m slot []
+file-none m slot before h = subst m (sym (grown-none before slot)) h
+
+pub file-more : (u v w : List Made → Type 0) (slot : ℕ) (a b : List ℕ) → FileGrows u v slot a → FileGrows v w slot b → FileGrows u w slot (a ++ b)
+file-more u v w slot a b f g before h = subst w (grown-grown before slot a b) (g (grown before slot a) (f before h))
+
+-- parts
+pub part-of : (u v : List ℕ → Type 0) (whole : List ℕ) → GrowsByPrefix u v whole → GrowsPart u v whole
+part-of u v whole g = (take g.0 whole, (drop g.0 whole, sym (take-append-drop g.0 whole)), g.1)
+
+pub part-none : (w : List ℕ → Type 0) (whole : List ℕ) → GrowsPart w w whole
+part-none w whole = ([], (whole, refl), grows-none w)
+
+pub part-whole : (u v : List ℕ → Type 0) (whole : List ℕ) → Grows u v whole → GrowsPart u v whole
+part-whole u v whole g = (whole, prefix-same whole, g)
+
+pub part-behind : (u v w : List ℕ → Type 0) (done whole : List ℕ) → Grows u v done → GrowsPart v w whole → GrowsPart u w (done ++ whole)
+part-behind u v w done whole f p = (done ++ p.0, (p.1.0, ap (λ l. done ++ l) p.1.1 ∙ sym (append_assoc done p.0 p.1.0)), grows-more u v w done p.0 f p.2)
+
+pub part-longer : (u v : List ℕ → Type 0) (part whole : List ℕ) → IsPrefix part whole → GrowsPart u v part → GrowsPart u v whole
+part-longer u v part whole q p = (p.0, prefix-again p.0 part whole p.1 q, p.2)
+
+pub file-part-of : (u v : List Made → Type 0) (slot : ℕ) (whole : List ℕ) → FileGrowsByPrefix u v slot whole → FileGrowsPart u v slot whole
+file-part-of u v slot whole g = (take g.0 whole, (drop g.0 whole, sym (take-append-drop g.0 whole)), g.1)
+
+pub file-part-none : (m : List Made → Type 0) (slot : ℕ) (whole : List ℕ) → FileGrowsPart m m slot whole
+file-part-none m slot whole = ([], (whole, refl), file-none m slot)
+
+pub file-part-whole : (u v : List Made → Type 0) (slot : ℕ) (whole : List ℕ) → FileGrows u v slot whole → FileGrowsPart u v slot whole
+file-part-whole u v slot whole g = (whole, prefix-same whole, g)
+
+pub file-part-behind : (u v w : List Made → Type 0) (slot : ℕ) (done whole : List ℕ) → FileGrows u v slot done → FileGrowsPart v w slot whole → FileGrowsPart u w slot (done ++ whole)
+file-part-behind u v w slot done whole f p = (done ++ p.0, (p.1.0, ap (λ l. done ++ l) p.1.1 ∙ sym (append_assoc done p.0 p.1.0)), file-more u v w slot done p.0 f p.2)
+
+pub file-part-longer : (u v : List Made → Type 0) (slot : ℕ) (part whole : List ℕ) → IsPrefix part whole → FileGrowsPart u v slot part → FileGrowsPart u v slot whole
+file-part-longer u v slot part whole q p = (p.0, prefix-again p.0 part whole p.1 q, p.2)
+
+-- texts that go on
+pub goes-none : (w : List ℕ → Type 0) (before : List ℕ) → GoesOn w w before before
+goes-none w before = ([], sym (append-nil before), grows-none w)
+
+pub goes-more : (u v w : List ℕ → Type 0) (a b c : List ℕ) → GoesOn u v a b → GoesOn v w b c → GoesOn u w a c
+goes-more u v w a b c f g = (f.0 ++ g.0, g.1 ∙ ap (λ l. l ++ g.0) f.1 ∙ append_assoc a f.0 g.0, grows-more u v w f.0 g.0 f.2 g.2)
+
+pub file-goes-none : (m : List Made → Type 0) (slot : ℕ) (before : List ℕ) → FileGoesOn m m slot before before
+file-goes-none m slot before = ([], sym (append-nil before), file-none m slot)
+
+pub file-goes-more : (u v w : List Made → Type 0) (slot : ℕ) (a b c : List ℕ) → FileGoesOn u v slot a b → FileGoesOn v w slot b c → FileGoesOn u w slot a c
+file-goes-more u v w slot a b c f g = (f.0 ++ g.0, g.1 ∙ ap (λ l. l ++ g.0) f.1 ∙ append_assoc a f.0 g.0, file-more u v w slot f.0 g.0 f.2 g.2)

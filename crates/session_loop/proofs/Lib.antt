@@ -1,0 +1,6 @@
+pub mod Growing
+pub mod Served
+pub mod Taken
+pub mod Scripts
+pub mod Files
+pub mod Pieces

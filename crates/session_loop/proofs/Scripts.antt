@@ -1,0 +1,250 @@
+-- A script that was served, or in which the session stopped.
+use Rattle.std.proofs.Common.{◌≡◌, ℕ, ◌+◌, ◌<◌, ◌≤◌, List, [], ◌∷◌, ◌++◌, length, get_or, take, drop, Option, Some, None, Result, Ok, Err, refl, sym, ap, subst, ◌∙◌, append_assoc, append-nil, length-append, length-take, arith, ◌⊎◌, inl, inr}
+use Rattle.std.specs.Prelude.{IfOk, OnOk, OnErr, IfErr}
+use Rattle.std.proofs.lemmas.List.{take-append-drop, take-append-le, take-take, take_all}
+use Rattle.std.specs.Io.KnownBytes.{Consumes, IsAtEnd, Keeps}
+use Rattle.std.proofs.KnownBytes.{Consumes-trans}
+use Rattle.backsim_io.specs.Counts.{Rose}
+use Rattle.backsim_io.specs.Held.{Made, ConsumesUpTo}
+use Rattle.query_lines.specs.declared.unit.Unit.{Unit as ScriptUnit}
+use Rattle.query_lines.specs.Reading.{Reader, HasRead, script_units}
+use Rattle.session_meaning.specs.Session.{Setup, Course, Session, Opened, opened, IsSession, IsSessionOf}
+use Rattle.session_meaning.specs.Broken.{IsPrefix, journal_of, IsBroken, AreCompleted, IsBrokenIn, IsServedUpTo, IsCutOff}
+use Rattle.session_loop.specs.declared.desk.Desk.{Desk}
+use Rattle.session_loop.specs.declared.stop.Stop.{Stop}
+use Rattle.session_loop.specs.declared.stop.Stop.TheVariants.{ScriptUnread, ScriptTooLong, RepliesUnwritten, JournalUnwritten, OutOfMemory}
+use Rattle.session_loop.specs.Desks.{Keeps as KeepsDesk, AreStores, no_counts}
+use Rattle.session_loop.specs.Serving.{Serves, Stops, UnitExplains, Explains, HasTaken, Reads, Ends, TakesServed, TakesStopped, EndsServed, EndsStopped, HasServed, Wrote, IsServedUntil, IsStopped}
+use Rattle.session_loop.proofs.Served.{serves-none, serves-more, stops-none, stops-more}
+
+-- all of a script was taken
+all-taken : (script : List ℕ) (first left next : Option (List ℕ)) (bytes into : List ℕ) (n : ℕ) → first ≡ Some script → Consumes first left bytes → Consumes left next (take n into) → n ≡ 0 → IsAtEnd next → script ≡ bytes
+all-taken script first left next bytes into n is took took_none none end = of_next next (subst (λ (l : List ℕ). Consumes (Some script) next l) (append-nil bytes) both) end
+  where
+    both : Consumes (Some script) next (bytes ++ [])
+    both = Consumes-trans (Some script) left next bytes [] (subst (λ (f : Option (List ℕ)). Consumes f left bytes) is took) (subst (λ (k : ℕ). Consumes left next (take k into)) none took_none)
+
+    of_next : (o : Option (List ℕ)) → Consumes (Some script) o bytes → IsAtEnd o → script ≡ bytes
+    of_next None gone end = absurd gone
+    of_next (Some rest) all end = all ∙ ap (λ (l : List ℕ). bytes ++ l) end ∙ append-nil bytes
+
+-- a source that had the script gave these bytes, and has the rest
+split-script : (script : List ℕ) (first left next : Option (List ℕ)) (bytes more : List ℕ) → first ≡ Some script → Consumes first left bytes → Consumes left next more → (rest : List ℕ) × (script ≡ (bytes ++ more) ++ rest)
+split-script script first left next bytes more is took took_more = of_next next (Consumes-trans (Some script) left next bytes more (subst (λ (f : Option (List ℕ)). Consumes f left bytes) is took) took_more)
+  where
+    of_next : (o : Option (List ℕ)) → Consumes (Some script) o (bytes ++ more) → (rest : List ℕ) × (script ≡ (bytes ++ more) ++ rest)
+    of_next None gone = absurd gone
+    of_next (Some rest) all = (rest, all)
+
+-- what was taken of a block is the front of what was read
+block-front : (n m : ℕ) (into rest : List ℕ) → m ≤ n → n ≤ length into → take n into ≡ take m (into ++ rest) ++ drop m (take n into)
+block-front n m into rest small within =
+    sym (take-append-drop m (take n into)) ∙ ap (λ (l : List ℕ). l ++ drop m (take n into)) (take-take m n into small ∙ sym (take-append-le m into rest (omega (arith, small, within))))
+
+-- a read that failed took nothing
+kept : (first left next : Option (List ℕ)) (bytes : List ℕ) → Consumes first left bytes → Keeps left next → Consumes first next bytes
+kept None left next bytes took same = tt
+kept (Some xs) None next bytes took same = absurd took
+kept (Some xs) (Some ys) None bytes took same = absurd same
+kept (Some xs) (Some ys) (Some zs) bytes took same = took ∙ ap (λ l. bytes ++ l) (sym same)
+
+-- what a stop of a unit tells, it tells of a session
+pub explains-of : (queries new_queries replies new_replies writes new_writes : ℕ) (stop : Stop) → UnitExplains replies new_replies writes new_writes stop → Explains queries new_queries replies new_replies writes new_writes stop
+explains-of queries new_queries replies new_replies writes new_writes ScriptUnread h = absurd h
+explains-of queries new_queries replies new_replies writes new_writes ScriptTooLong h = absurd h
+explains-of queries new_queries replies new_replies writes new_writes RepliesUnwritten h = h
+explains-of queries new_queries replies new_replies writes new_writes JournalUnwritten h = h
+explains-of queries new_queries replies new_replies writes new_writes OutOfMemory h = h
+
+pub explains-after : (queries new_queries replies mid_replies new_replies writes mid_writes new_writes : ℕ) (stop : Stop) → mid_replies ≡ replies → mid_writes ≡ writes → UnitExplains mid_replies new_replies mid_writes new_writes stop → Explains queries new_queries replies new_replies writes new_writes stop
+explains-after queries new_queries replies mid_replies new_replies writes mid_writes new_writes stop same_replies same_writes h =
+    explains-of queries new_queries replies new_replies writes new_writes stop (subst (λ r. UnitExplains r new_replies writes new_writes stop) same_replies (subst (λ w. UnitExplains mid_replies new_replies w new_writes stop) same_writes h))
+
+stopped-is : (setup : Setup) (script : List ℕ) (left : Option (List ℕ)) (r r' w w' : ℕ) (stop : Stop) (replies journal : List ℕ) → UnitExplains r r' w w' stop → IsBrokenIn setup script replies journal → IsStopped setup script left stop replies journal
+stopped-is setup script left r r' w w' ScriptUnread replies journal h b = absurd h
+stopped-is setup script left r r' w w' ScriptTooLong replies journal h b = absurd h
+stopped-is setup script left r r' w w' RepliesUnwritten replies journal h b = b
+stopped-is setup script left r r' w w' JournalUnwritten replies journal h b = b
+stopped-is setup script left r r' w w' OutOfMemory replies journal h b = b
+
+module _ (setup : Setup) (slot : ℕ) (desk : Desk) (fresh : KeepsDesk setup desk opened) where
+  -- nothing was read
+  pub has-none : (first : Option (List ℕ)) (reader : Reader) (out : List ℕ → Type 0) (made : List Made → Type 0) → HasRead setup.design.circuit.horizon [] [] reader → HasServed setup 0 first first reader desk desk slot out out made made
+  has-none first reader out made read = record {
+    bytes = [];
+    long = refl;
+    took = none first;
+    units = [];
+    read = read;
+    served = serves-none setup desk slot out made;
+  }
+    where
+      none : (o : Option (List ℕ)) → Consumes o o []
+      none None = tt
+      none (Some xs) = refl
+
+  -- a block more was taken and served
+  pub has-more : (taken now : ℕ) (first left next : Option (List ℕ)) (a b : Reader) (x y : Desk) (n m : ℕ) (into rest : List ℕ) (out mid new_out : List ℕ → Type 0) (made mid_made new_made : List Made → Type 0)
+      → HasServed setup taken first left a desk x slot out mid made mid_made → Consumes left next (take n into) → m ≡ n → n ≤ length into → now ≡ taken + length (take m (into ++ rest))
+      → TakesServed setup a b (take m (into ++ rest)) x y slot mid new_out mid_made new_made → HasServed setup now first next b desk y slot out new_out made new_made
+  has-more taken now first left next a b x y n m into rest out mid new_out made mid_made new_made so_far took same within is takes =
+      let bytes : take m (into ++ rest) ≡ take n into = ap (λ (k : ℕ). take k (into ++ rest)) same ∙ take-append-le n into rest within in
+      record {
+        bytes = so_far.bytes ++ take m (into ++ rest);
+        long = length-append so_far.bytes (take m (into ++ rest)) ∙ ap (λ k. k + length (take m (into ++ rest))) so_far.long ∙ sym is;
+        took = Consumes-trans first left next so_far.bytes (take m (into ++ rest)) so_far.took (subst (Consumes left next) (sym bytes) took);
+        units = so_far.units ++ takes.units;
+        read = takes.reads setup.design.circuit.horizon so_far.bytes so_far.units so_far.read;
+        served = serves-more setup desk x y so_far.units takes.units slot out mid new_out made mid_made new_made so_far.served takes.served;
+      }
+
+  -- units were served from the session's start
+  wrote-session : (units : List ScriptUnit) (later : Desk) (out new_out : List ℕ → Type 0) (made new_made : List Made → Type 0) → Serves setup desk later units slot out new_out made new_made → Wrote setup (IsSession setup units) slot out new_out made new_made
+  wrote-session units later out new_out made new_made served =
+      let s = served [] opened Opened fresh in
+      record {
+        replies = s.next.out;
+        journal = journal_of setup s.next;
+        are = record { course = s.next; served = s.session; out_is = refl; journal_is = refl };
+        replied = s.replied;
+        recorded = s.recorded;
+      }
+
+  wrote-map : (are such : List ℕ → List ℕ → Type 0) (out new_out : List ℕ → Type 0) (made new_made : List Made → Type 0) → ((replies journal : List ℕ) → are replies journal → such replies journal)
+      → Wrote setup are slot out new_out made new_made → Wrote setup such slot out new_out made new_made
+  wrote-map are such out new_out made new_made f w = record { replies = w.replies; journal = w.journal; are = f w.replies w.journal w.are; replied = w.replied; recorded = w.recorded }
+
+  wrote-broken : (units : List ScriptUnit) (out new_out : List ℕ → Type 0) (made new_made : List Made → Type 0) → Stops setup desk units slot out new_out made new_made → Wrote setup (IsBroken setup units) slot out new_out made new_made
+  wrote-broken units out new_out made new_made stopped =
+      let s = stopped [] opened Opened fresh in
+      record { replies = s.replies; journal = s.journal; are = s.broken; replied = s.replied; recorded = s.recorded }
+
+  module _ (script : List ℕ) (first : Option (List ℕ)) (is : first ≡ Some script) where
+    -- the script ended, and what was left of it was served
+    pub all-served : (taken : ℕ) (left next : Option (List ℕ)) (n : ℕ) (into : List ℕ) (reader : Reader) (x y : Desk) (out mid new_out : List ℕ → Type 0) (made mid_made new_made : List Made → Type 0)
+        → HasServed setup taken first left reader desk x slot out mid made mid_made → Consumes left next (take n into) → n ≡ 0 → IsAtEnd next
+        → EndsServed setup reader x y slot mid new_out mid_made new_made → Wrote setup (IsSessionOf setup script) slot out new_out made new_made
+    all-served taken left next n into reader x y out mid new_out made mid_made new_made so_far took none end ends =
+        let all = all-taken script first left next so_far.bytes into n is so_far.took took none end in
+        let horizon = setup.design.circuit.horizon in
+        subst (λ us. Wrote setup (IsSession setup us) slot out new_out made new_made) (sym (ap (script_units horizon) all ∙ ends.whole horizon so_far.bytes so_far.units so_far.read))
+        (wrote-session (so_far.units ++ ends.units) y out new_out made new_made (serves-more setup desk x y so_far.units ends.units slot out mid new_out made mid_made new_made so_far.served ends.served))
+
+    pub all-short : (taken : ℕ) (left next : Option (List ℕ)) (n : ℕ) (into : List ℕ) (reader : Reader) (x : Desk) (out mid : List ℕ → Type 0) (made mid_made : List Made → Type 0)
+        → HasServed setup taken first left reader desk x slot out mid made mid_made → Consumes left next (take n into) → n ≡ 0 → IsAtEnd next → taken ≤ 16777216 → length script ≤ 16777216
+    all-short taken left next n into reader x out mid made mid_made so_far took none end most =
+        omega (arith, ap length (all-taken script first left next so_far.bytes into n is so_far.took took none end), so_far.long, most)
+
+    -- the script ended, and the session broke off in what was left of it
+    pub end-stopped : (taken : ℕ) (left next after : Option (List ℕ)) (n : ℕ) (into : List ℕ) (reader : Reader) (x : Desk) (r r' w w' : ℕ) (stop : Stop) (out mid new_out : List ℕ → Type 0) (made mid_made new_made : List Made → Type 0)
+        → HasServed setup taken first left reader desk x slot out mid made mid_made → Consumes left next (take n into) → n ≡ 0 → IsAtEnd next → UnitExplains r r' w w' stop
+        → EndsStopped setup reader x slot mid new_out mid_made new_made → Wrote setup (IsStopped setup script after stop) slot out new_out made new_made
+    end-stopped taken left next after n into reader x r r' w w' stop out mid new_out made mid_made new_made so_far took none end cause ends =
+        let all = all-taken script first left next so_far.bytes into n is so_far.took took none end in
+        let horizon = setup.design.circuit.horizon in
+        wrote-map (IsBroken setup (so_far.units ++ ends.units)) (IsStopped setup script after stop) out new_out made new_made
+        (λ replies journal broken. stopped-is setup script after r r' w w' stop replies journal cause (record {
+          taken = so_far.bytes;
+          taken_are = ([], all ∙ sym (append-nil so_far.bytes));
+          units = so_far.units ++ ends.units;
+          completed = elim ends.whole [
+            | inl whole ↦ inr (sym all, sym (ap (script_units horizon) all ∙ whole horizon so_far.bytes so_far.units so_far.read))
+            | inr empty ↦ inl (record { reader = reader; read = subst (λ us. HasRead horizon so_far.bytes us reader) (sym (ap (λ us. so_far.units ++ us) empty ∙ append-nil so_far.units)) so_far.read })
+          ];
+          broken = broken;
+        }))
+        (wrote-broken (so_far.units ++ ends.units) out new_out made new_made (stops-more setup desk x so_far.units ends.units slot out mid new_out made mid_made new_made so_far.served ends.stopped))
+
+    -- the session broke off in a block
+    pub block-stopped : (taken : ℕ) (left next after : Option (List ℕ)) (reader : Reader) (x : Desk) (n m : ℕ) (into rest : List ℕ) (r r' w w' : ℕ) (stop : Stop) (out mid new_out : List ℕ → Type 0) (made mid_made new_made : List Made → Type 0)
+        → HasServed setup taken first left reader desk x slot out mid made mid_made → Consumes left next (take n into) → m ≤ n → n ≤ length into → UnitExplains r r' w w' stop
+        → TakesStopped setup reader (take m (into ++ rest)) x slot mid new_out mid_made new_made → Wrote setup (IsStopped setup script after stop) slot out new_out made new_made
+    block-stopped taken left next after reader x n m into rest r r' w w' stop out mid new_out made mid_made new_made so_far took small within cause stops =
+        let split = split-script script first left next so_far.bytes (take n into) is so_far.took took in
+        let behind = stops.front_is.0 ++ (drop m (take n into) ++ split.0) in
+        let script-is : script ≡ (so_far.bytes ++ stops.front) ++ behind =
+        split.1
+        ∙ ap (λ (l : List ℕ). (so_far.bytes ++ l) ++ split.0) (block-front n m into rest small within ∙ ap (λ (l : List ℕ). l ++ drop m (take n into)) stops.front_is.1)
+        ∙ regroup so_far.bytes stops.front stops.front_is.0 (drop m (take n into)) split.0 in
+        wrote-map (IsBroken setup (so_far.units ++ stops.units)) (IsStopped setup script after stop) out new_out made new_made
+        (λ replies journal broken. stopped-is setup script after r r' w w' stop replies journal cause (record {
+          taken = so_far.bytes ++ stops.front;
+          taken_are = (behind, script-is);
+          units = so_far.units ++ stops.units;
+          completed = inl (record { reader = stops.later; read = stops.reads setup.design.circuit.horizon so_far.bytes so_far.units so_far.read });
+          broken = broken;
+        }))
+        (wrote-broken (so_far.units ++ stops.units) out new_out made new_made (stops-more setup desk x so_far.units stops.units slot out mid new_out made mid_made new_made so_far.served stops.stopped))
+      where
+        regroup : (a b c d e : List ℕ) → (a ++ ((b ++ c) ++ d)) ++ e ≡ (a ++ b) ++ (c ++ (d ++ e))
+        regroup a b c d e = simp append_assoc
+
+    -- the next block was not read
+    pub unread : (taken : ℕ) (left next : Option (List ℕ)) (reader : Reader) (x : Desk) (out mid : List ℕ → Type 0) (made mid_made : List Made → Type 0)
+        → HasServed setup taken first left reader desk x slot out mid made mid_made → Keeps left next → Wrote setup (IsServedUntil setup script next) slot out mid made mid_made
+    unread taken left next reader x out mid made mid_made so_far same =
+        wrote-map (IsSession setup so_far.units) (IsServedUntil setup script next) out mid made mid_made
+        (λ replies journal session. record {
+          taken = so_far.bytes;
+          took = kept (Some script) left next so_far.bytes (subst (λ f. Consumes f left so_far.bytes) is so_far.took) same;
+          served = record { units = so_far.units; completed = record { reader = reader; read = so_far.read }; session = session };
+        })
+        (wrote-session so_far.units x out mid made mid_made so_far.served)
+
+    -- more bytes were read than a script may have
+    pub cut-off : (taken : ℕ) (left next : Option (List ℕ)) (a b : Reader) (x y : Desk) (n m : ℕ) (into rest : List ℕ) (out mid new_out : List ℕ → Type 0) (made mid_made new_made : List Made → Type 0)
+        → HasServed setup taken first left a desk x slot out mid made mid_made → Consumes left next (take n into) → m < n → n ≤ length into → taken + m ≡ 16777216
+        → TakesServed setup a b (take m (into ++ rest)) x y slot mid new_out mid_made new_made → Wrote setup (IsCutOff setup script) slot out new_out made new_made
+    cut-off taken left next a b x y n m into rest out mid new_out made mid_made new_made so_far took more within limit takes =
+        let split = split-script script first left next so_far.bytes (take n into) is so_far.took took in
+        let cut = take m (into ++ rest) in
+        let script-is : script ≡ (so_far.bytes ++ cut) ++ (drop m (take n into) ++ split.0) =
+        split.1 ∙ ap (λ (l : List ℕ). (so_far.bytes ++ l) ++ split.0) (block-front n m into rest (omega (arith, more)) within)
+        ∙ regroup so_far.bytes cut (drop m (take n into)) split.0 in
+        let long : length cut ≡ m = length-take m (into ++ rest) ∙ omega (arith, more, within, length-append into rest) in
+        let whole : length (so_far.bytes ++ cut) ≡ 16777216 = length-append so_far.bytes cut ∙ omega (arith, long, so_far.long, limit) in
+        let front : take 16777216 script ≡ so_far.bytes ++ cut =
+        ap (take 16777216) script-is ∙ take-append-le 16777216 (so_far.bytes ++ cut) (drop m (take n into) ++ split.0) (omega (arith, whole)) ∙ take-whole (so_far.bytes ++ cut) 16777216 whole in
+        let units = so_far.units ++ takes.units in
+        wrote-map (IsSession setup units) (IsCutOff setup script) out new_out made new_made
+        (λ replies journal session. record {
+          long = longer split.0 split.1;
+          served = record {
+            units = units;
+            completed = record { reader = b; read = subst (λ (l : List ℕ). HasRead setup.design.circuit.horizon l units b) (sym front) (takes.reads setup.design.circuit.horizon so_far.bytes so_far.units so_far.read) };
+            session = session;
+          };
+        })
+        (wrote-session units y out new_out made new_made (serves-more setup desk x y so_far.units takes.units slot out mid new_out made mid_made new_made so_far.served takes.served))
+      where
+        regroup : (x y z t : List ℕ) → (x ++ (y ++ z)) ++ t ≡ (x ++ y) ++ (z ++ t)
+        regroup x y z t = simp append_assoc
+
+        take-whole : (xs : List ℕ) (k : ℕ) → length xs ≡ k → take k xs ≡ xs
+        take-whole xs k h = take_all k xs (omega (arith, h))
+
+        longer : (tail : List ℕ) → script ≡ (so_far.bytes ++ take n into) ++ tail → 16777216 < length script
+        longer tail all = omega (arith, ap length all, length-append (so_far.bytes ++ take n into) tail, length-append so_far.bytes (take n into), length-take n into, so_far.long, limit, more, within)
+
+    -- how much was read
+    pub read-some : (taken most : ℕ) (left next : Option (List ℕ)) (reader : Reader) (x : Desk) (more : List ℕ) (out mid : List ℕ → Type 0) (made mid_made : List Made → Type 0)
+        → HasServed setup taken first left reader desk x slot out mid made mid_made → Consumes left next more → taken + length more ≤ most → ConsumesUpTo (Some script) next most
+    read-some taken most left next reader x more out mid made mid_made so_far took small =
+        (so_far.bytes ++ more, Consumes-trans (Some script) left next so_far.bytes more (subst (λ f. Consumes f left so_far.bytes) is so_far.took) took, omega (arith, length-append so_far.bytes more, so_far.long, small))
+
+    pub read-none : (taken most : ℕ) (left next : Option (List ℕ)) (reader : Reader) (x : Desk) (out mid : List ℕ → Type 0) (made mid_made : List Made → Type 0)
+        → HasServed setup taken first left reader desk x slot out mid made mid_made → Keeps left next → taken ≤ most → ConsumesUpTo (Some script) next most
+    read-none taken most left next reader x out mid made mid_made so_far same small =
+        (so_far.bytes, kept (Some script) left next so_far.bytes (subst (λ f. Consumes f left so_far.bytes) is so_far.took) same, omega (arith, so_far.long, small))
+
+-- a session begins
+pub fresh-desk : (setup : Setup) (desk : Desk) → ((shard : ℕ) → shard < setup.shards → get_or desk.stores.items shard [] ≡ []) → desk.counts ≡ no_counts → KeepsDesk setup desk opened
+fresh-desk setup desk empty none = record {
+  cells = empty;
+  counts = record {
+    sections_are = ap (λ c. c.sections) none;
+    batches = ap (λ c. c.batches) none;
+    fills = ap (λ c. c.fills) none;
+    evictions = ap (λ c. c.evictions) none;
+  };
+}

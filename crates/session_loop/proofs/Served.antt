@@ -1,0 +1,265 @@
+-- A unit that its parts served is a unit of the session; where a part failed, the session breaks off in it.
+use Rattle.std.proofs.Common.{◌≡◌, ℕ, Bool, suc, ◌+◌, ◌<◌, List, [], ◌∷◌, ◌++◌, length, get_or, take, drop, filter, fold, sum_by, refl, sym, ap, subst, ◌∙◌, append_assoc, append-nil, length-append, arith}
+use Rattle.std.proofs.lemmas.List.Sums.{fold-append, sum_by-append, sum_by-cons}
+use Rattle.std.specs.List.{range_with_len}
+use Rattle.std.proofs.lemmas.List.{take_more, take-append-drop}
+use Rattle.std.proofs.lemmas.List.Elements.{filter-append}
+use Rattle.valid_intervals.specs.declared.SignalCell.{SignalCell}
+use Rattle.backsim_io.specs.Counts.{Grows}
+use Rattle.backsim_io.specs.Held.{Made, FileGrows}
+use Rattle.journal_meaning.specs.declared.Entry.{Entry}
+use Rattle.journal_meaning.specs.States.{fresh}
+use Rattle.journal_meaning.specs.Replay.{IsLegalBatch, IsLegalTrim, replay}
+use Rattle.journal_meaning.specs.Sections.{Purpose, Asks, Trims, Holds, Section, own, list_of, cells_left, cells_after}
+use Rattle.journal_meaning.specs.Grown.{count}
+use Rattle.journal_text.specs.Spelling.{section_lines}
+use Rattle.query_lines.specs.declared.unit.Item.{Item}
+use Rattle.query_lines.specs.declared.unit.Unit.{Unit as ScriptUnit}
+use Rattle.query_lines.specs.declared.unit.Unit.TheVariants as units
+use Rattle.query_lines.specs.declared.reply.Reply.{Reply}
+use Rattle.query_lines.specs.Replies.{trimmed_line, stats_line}
+use Rattle.journal_text.specs.declared.sections.SectionKind.TheVariants.{Batch, Trim}
+use Rattle.session_meaning.specs.Replies.{replies_text}
+use Rattle.session_meaning.specs.Written.{kind_of, numbered}
+use Rattle.session_meaning.specs.Session.{Setup, Course, IsServed, Session, Served, batch_of, with_section, with_reply, counts_line, cells_stored, trim_entries, is_batch, is_fill, is_eviction, entries_that}
+use Rattle.session_meaning.specs.Broken.{IsPrefix, journal_of, IsBroken}
+use Rattle.session_meaning.proofs.Journals.{journal-more, broken-none, broken-more, broken-at, prefix-same, prefix-more, prefix-behind}
+use Rattle.session_loop.specs.declared.desk.Counts.{Counts}
+use Rattle.session_loop.specs.declared.desk.Desk.{Desk}
+use Rattle.session_loop.specs.Growing.{GrowsPart, FileGrowsPart}
+use Rattle.session_loop.specs.Desks.{AreStores, IsCount, IsCounted, batches_in, Keeps, IsBatchDone, IsTrimDone}
+use Rattle.session_loop.specs.Serving.{ServedTo, StoppedIn, Serves, Stops}
+use Rattle.session_loop.proofs.Growing.{goes-none, goes-more, file-goes-none, file-goes-more, file-part-none, part-whole, grows-none, file-none}
+
+entries-more : (test : Entry → Bool) (sections : List Section) (section : Section) → own section.purpose ≡ (λ es. es)
+    → entries_that test (sections ++ section ∷ []) ≡ entries_that test sections + sum_by (count test) section.lists
+entries-more test sections section mine =
+    sum_by-append (λ (s : Section). sum_by (λ entries. count test (own s.purpose entries)) s.lists) sections (section ∷ [])
+    ∙ ap (λ n. entries_that test sections + n) (omega (arith, ap (λ (f : List Entry → List Entry). sum_by (λ entries. count test (f entries)) section.lists) mine))
+
+batches-more : (sections : List Section) (section : Section) → length (filter (λ s. is_batch s.purpose) (sections ++ section ∷ [])) ≡ length (filter (λ s. is_batch s.purpose) sections) + batches_in (kind_of section.purpose)
+batches-more sections section =
+    ap length (filter-append (λ (s : Section). is_batch s.purpose) sections (section ∷ []))
+    ∙ length-append (filter (λ s. is_batch s.purpose) sections) (filter (λ s. is_batch s.purpose) (section ∷ []))
+    ∙ ap (λ n. length (filter (λ s. is_batch s.purpose) sections) + n) (one section.purpose section.lists)
+  where
+    one : (p : Purpose) (lists : List (List Entry)) → length (filter (λ (s : Section). is_batch s.purpose) (record { purpose = p; lists = lists } ∷ [])) ≡ batches_in (kind_of p)
+    one (Asks b) lists = refl
+    one Trims lists = refl
+    one (Holds b) lists = refl
+
+module _ (setup : Setup) where
+  counts-more : (counts later : Counts) (sections : List Section) (section : Section) → own section.purpose ≡ (λ es. es) → IsCount counts sections → IsCounted counts (kind_of section.purpose) section.lists later → IsCount later (sections ++ section ∷ [])
+  counts-more counts later sections section mine c more = record {
+    sections_are = more.sections ∙ ap (λ n. n + 1) c.sections_are ∙ sym (length-append sections (section ∷ []));
+    batches = more.batches ∙ ap (λ n. n + batches_in (kind_of section.purpose)) c.batches ∙ sym (batches-more sections section);
+    fills = more.fills ∙ ap (λ n. n + sum_by (count is_fill) section.lists) c.fills ∙ sym (entries-more is_fill sections section mine);
+    evictions = more.evictions ∙ ap (λ n. n + sum_by (count is_eviction) section.lists) c.evictions ∙ sym (entries-more is_eviction sections section mine);
+  }
+
+  module _ (units : List ScriptUnit) (unit : ScriptUnit) (now : Course) (desk : Desk) (session : Session setup units now) (keeps : Keeps setup desk now) (slot : ℕ) (out new_out : List ℕ → Type 0) (made new_made : List Made → Type 0) where
+    module _ (purpose : Purpose) (lists : List (List Entry)) (text : List ℕ) (served : IsServed setup now unit (with_section now purpose lists text)) (number : ℕ) (is : number ≡ desk.counts.sections + 1) where
+      abbrev pub next : Course
+      next = with_section now purpose lists text
+
+      abbrev pub section-text : List ℕ
+      section-text = section_lines (numbered number (record { purpose = purpose; lists = lists }))
+
+      journal-is : journal_of setup next ≡ journal_of setup now ++ section-text
+      journal-is = journal-more setup now purpose lists text number (is ∙ ap (λ n. n + 1) keeps.counts.sections_are)
+
+      -- with a section of its own
+      pub section-served : (later : Desk) → own purpose ≡ (λ es. es) → IsCounted desk.counts (kind_of purpose) lists later.counts
+          → ((shard : ℕ) → shard < setup.shards → get_or later.stores.items shard [] ≡ (replay (fresh (get_or desk.stores.items shard [])) (get_or lists shard [])).cells)
+          → Grows out new_out text → FileGrows made new_made slot section-text → ServedTo setup (units ++ unit ∷ []) now later slot out new_out made new_made
+      section-served later mine counted leaves replied recorded =
+          let s : Section = record { purpose = purpose; lists = lists } in
+          record {
+            next = next;
+            session = Served unit session served;
+            keeps = record {
+              cells = λ shard h.
+                  leaves shard h ∙ ap (λ cells. (replay (fresh cells) (get_or lists shard [])).cells) (keeps.cells shard h)
+                  ∙ ap (λ (f : List Entry → List Entry). (replay (fresh (cells_after shard now.sections)) (f (get_or lists shard []))).cells) (sym mine)
+                  ∙ sym (fold-append (cells_left shard) [] now.sections (s ∷ []));
+              counts = counts-more desk.counts later.counts now.sections s mine keeps.counts counted;
+            };
+            replied = (text, refl, replied);
+            recorded = (section-text, journal-is, recorded);
+          }
+
+      -- a part of its replies and a part of its section
+      pub section-stopped : GrowsPart out new_out text → FileGrowsPart made new_made slot section-text → StoppedIn setup (units ++ unit ∷ []) now slot out new_out made new_made
+      section-stopped replied recorded = record {
+        replies = now.out ++ replied.0;
+        journal = journal_of setup now ++ recorded.0;
+        broken = broken-at setup units unit now next (now.out ++ replied.0) (journal_of setup now ++ recorded.0) session served
+            (prefix-more now.out replied.0) (prefix-more (journal_of setup now) recorded.0) (prefix-behind now.out replied.0 text replied.1)
+            (subst (λ j. IsPrefix (journal_of setup now ++ recorded.0) j) (sym journal-is) (prefix-behind (journal_of setup now) recorded.0 section-text recorded.1));
+        replied = (replied.0, refl, replied.2);
+        recorded = (recorded.0, refl, recorded.2);
+      }
+
+    -- a reply alone
+    pub reply-served : (text : List ℕ) → IsServed setup now unit (with_reply now text) → Grows out new_out text → ServedTo setup (units ++ unit ∷ []) now desk slot out new_out made made
+    reply-served text served replied = record {
+      next = with_reply now text;
+      session = Served unit session served;
+      keeps = record { cells = keeps.cells; counts = keeps.counts };
+      replied = (text, refl, replied);
+      recorded = file-goes-none made slot (journal_of setup now);
+    }
+
+    pub reply-stopped : (text : List ℕ) → IsServed setup now unit (with_reply now text) → GrowsPart out new_out text → StoppedIn setup (units ++ unit ∷ []) now slot out new_out made made
+    reply-stopped text served replied = record {
+      replies = now.out ++ replied.0;
+      journal = journal_of setup now;
+      broken = broken-at setup units unit now (with_reply now text) (now.out ++ replied.0) (journal_of setup now) session served
+          (prefix-more now.out replied.0) (prefix-same (journal_of setup now)) (prefix-behind now.out replied.0 text replied.1) (prefix-same (journal_of setup now));
+      replied = (replied.0, refl, replied.2);
+      recorded = file-goes-none made slot (journal_of setup now);
+    }
+
+  -- nothing of the next units was written
+  pub stops-none : (desk : Desk) (more : List ScriptUnit) (slot : ℕ) (out : List ℕ → Type 0) (made : List Made → Type 0) → Stops setup desk more slot out out made made
+  stops-none desk more slot out made units now session keeps = record {
+    replies = now.out;
+    journal = journal_of setup now;
+    broken = broken-more setup units more now.out (journal_of setup now) (broken-none setup units now session);
+    replied = goes-none out now.out;
+    recorded = file-goes-none made slot (journal_of setup now);
+  }
+
+  -- A batch.
+  module _ (items : List Item) (desk : Desk) (replies : List Reply) (lists : List (List Entry)) (left : List (List SignalCell)) (done : IsBatchDone setup items desk.stores.items replies lists left) (counts : Counts) (counted : IsCounted desk.counts Batch lists counts) (slot : ℕ) (out new_out : List ℕ → Type 0) (made new_made : List Made → Type 0) where
+    is-served : (now : Course) → Keeps setup desk now → IsServed setup now (units.Batch items) (with_section now (Asks (batch_of setup items)) lists (replies_text items replies))
+    is-served now keeps = record {
+      lists = lists;
+      replies = replies;
+      count = done.count;
+      legal = λ shard h. subst (λ cells. IsLegalBatch (batch_of setup items) shard cells (get_or lists shard [])) (keeps.cells shard h) (done.legal shard h);
+      right = done.right;
+      leads = refl;
+    }
+
+    pub batch-served : (later : Desk) → later.counts ≡ counts → later.stores.items ≡ left → Grows out new_out (replies_text items replies)
+        → FileGrows made new_made slot (section_lines (record { kind = Batch; number = counts.sections; shards = lists })) → Serves setup desk later (units.Batch items ∷ []) slot out new_out made new_made
+    batch-served later same stores replied recorded us now session keeps =
+        section-served us (units.Batch items) now desk session keeps slot out new_out made new_made (Asks (batch_of setup items)) lists (replies_text items replies) (is-served now keeps) counts.sections counted.sections
+        later refl (subst (λ c. IsCounted desk.counts Batch lists c) (sym same) counted) (λ shard h. ap (λ l. get_or l shard []) stores ∙ done.leaves shard h) replied recorded
+
+    pub batch-stopped : GrowsPart out new_out (replies_text items replies) → FileGrowsPart made new_made slot (section_lines (record { kind = Batch; number = counts.sections; shards = lists }))
+        → Stops setup desk (units.Batch items ∷ []) slot out new_out made new_made
+    batch-stopped replied recorded us now session keeps =
+        section-stopped us (units.Batch items) now desk session keeps slot out new_out made new_made (Asks (batch_of setup items)) lists (replies_text items replies) (is-served now keeps) counts.sections counted.sections replied recorded
+
+  -- A trim.
+  module _ (most : ℕ) (desk : Desk) (lists : List (List Entry)) (left : List (List SignalCell)) (done : IsTrimDone setup most desk.stores.items lists left) (counts : Counts) (counted : IsCounted desk.counts Trim lists counts) (slot : ℕ) (out new_out : List ℕ → Type 0) (made new_made : List Made → Type 0) where
+    is-trimmed : (now : Course) → Keeps setup desk now → IsServed setup now (units.Trim most) (with_section now Trims lists (trimmed_line (sum_by length lists)))
+    is-trimmed now keeps = record {
+      lists = lists;
+      count = done.count;
+      legal = λ shard h. subst (λ cells. IsLegalTrim (fresh cells) (get_or lists shard [])) (keeps.cells shard h) (done.legal shard h);
+      evicts = λ shard h. done.evicts shard h ∙ ap (trim_entries most) (keeps.cells shard h);
+      leads = refl;
+    }
+
+    pub trim-served : (later : Desk) → later.counts ≡ counts → later.stores.items ≡ left → Grows out new_out (trimmed_line (sum_by length lists))
+        → FileGrows made new_made slot (section_lines (record { kind = Trim; number = counts.sections; shards = lists })) → Serves setup desk later (units.Trim most ∷ []) slot out new_out made new_made
+    trim-served later same stores replied recorded us now session keeps =
+        section-served us (units.Trim most) now desk session keeps slot out new_out made new_made Trims lists (trimmed_line (sum_by length lists)) (is-trimmed now keeps) counts.sections counted.sections
+        later refl (subst (λ c. IsCounted desk.counts Trim lists c) (sym same) counted) (λ shard h. ap (λ l. get_or l shard []) stores ∙ done.leaves shard h) replied recorded
+
+    pub trim-stopped : GrowsPart out new_out (trimmed_line (sum_by length lists)) → FileGrowsPart made new_made slot (section_lines (record { kind = Trim; number = counts.sections; shards = lists }))
+        → Stops setup desk (units.Trim most ∷ []) slot out new_out made new_made
+    trim-stopped replied recorded us now session keeps =
+        section-stopped us (units.Trim most) now desk session keeps slot out new_out made new_made Trims lists (trimmed_line (sum_by length lists)) (is-trimmed now keeps) counts.sections counted.sections replied recorded
+
+  -- The counts.
+  stored-from : (stores : List (List SignalCell)) (first : ℕ) (cells : ℕ → List SignalCell) → ((i : ℕ) → i < length stores → get_or stores i [] ≡ cells (first + i))
+      → sum_by length stores ≡ sum_by (λ shard. length (cells shard)) (range_with_len first (length stores))
+  stored-from [] first cells same = refl
+  stored-from (x ∷ stores) first cells same =
+      let here : length x ≡ length (cells first) = ap length (same 0 (omega arith)) ∙ ap (λ n. length (cells n)) (omega arith) in
+      let rest = stored-from stores (first + 1) cells (λ i h. same (suc i) (omega (arith, h)) ∙ ap cells (omega arith)) in
+      sum_by-cons length x stores ∙ omega (arith, here, rest) ∙ sym (sum_by-cons (λ shard. length (cells shard)) first (range_with_len (first + 1) (length stores)))
+
+  module _ (desk : Desk) (stores : AreStores setup desk.stores.items) (slot : ℕ) (out new_out : List ℕ → Type 0) (made : List Made → Type 0) where
+    abbrev pub told : List ℕ
+    told = stats_line desk.counts.batches desk.counts.fills desk.counts.evictions (sum_by length desk.stores.items)
+
+    told-is : (now : Course) → Keeps setup desk now → told ≡ counts_line setup now.sections
+    told-is now keeps =
+        let cells = stored-from desk.stores.items 0 (λ shard. cells_after shard now.sections) (λ i h. keeps.cells i (let n = stores.count in omega (arith, h, n)) ∙ ap (λ n. cells_after n now.sections) (omega arith)) in
+        ap (λ n. stats_line desk.counts.batches desk.counts.fills desk.counts.evictions n) (cells ∙ ap (λ n. sum_by (λ shard. length (cells_after shard now.sections)) (range_with_len 0 n)) stores.count)
+        ∙ ap (λ n. stats_line n desk.counts.fills desk.counts.evictions (cells_stored setup.shards now.sections)) keeps.counts.batches
+        ∙ ap (λ n. stats_line (length (filter (λ s. is_batch s.purpose) now.sections)) n desk.counts.evictions (cells_stored setup.shards now.sections)) keeps.counts.fills
+        ∙ ap (λ n. stats_line (length (filter (λ s. is_batch s.purpose) now.sections)) (entries_that is_fill now.sections) n (cells_stored setup.shards now.sections)) keeps.counts.evictions
+
+    pub stats-served : Grows out new_out told → Serves setup desk desk (units.Stats ∷ []) slot out new_out made made
+    stats-served replied us now session keeps = reply-served us units.Stats now desk session keeps slot out new_out made made told (ap (with_reply now) (told-is now keeps)) replied
+
+    pub stats-stopped : GrowsPart out new_out told → Stops setup desk (units.Stats ∷ []) slot out new_out made made
+    stats-stopped replied us now session keeps = reply-stopped us units.Stats now desk session keeps slot out new_out made made told (ap (with_reply now) (told-is now keeps)) replied
+
+  -- One unit after another.
+  pub serves-none : (desk : Desk) (slot : ℕ) (out : List ℕ → Type 0) (made : List Made → Type 0) → Serves setup desk desk [] slot out out made made
+  serves-none desk slot out made units now session keeps = record {
+    next = now;
+    session = subst (λ us. Session setup us now) (sym (append-nil units)) session;
+    keeps = keeps;
+    replied = goes-none out now.out;
+    recorded = file-goes-none made slot (journal_of setup now);
+  }
+
+  pub serves-more : (a b c : Desk) (us vs : List ScriptUnit) (slot : ℕ) (out mid new_out : List ℕ → Type 0) (made mid_made new_made : List Made → Type 0)
+      → Serves setup a b us slot out mid made mid_made → Serves setup b c vs slot mid new_out mid_made new_made → Serves setup a c (us ++ vs) slot out new_out made new_made
+  serves-more a b c us vs slot out mid new_out made mid_made new_made first then units now session keeps =
+      let f = first units now session keeps in
+      let g = then (units ++ us) f.next f.session f.keeps in
+      record {
+        next = g.next;
+        session = subst (λ l. Session setup l g.next) (append_assoc units us vs) g.session;
+        keeps = g.keeps;
+        replied = goes-more out mid new_out now.out f.next.out g.next.out f.replied g.replied;
+        recorded = file-goes-more made mid_made new_made slot (journal_of setup now) (journal_of setup f.next) (journal_of setup g.next) f.recorded g.recorded;
+      }
+
+  -- a stop behind units that were served
+  pub stops-more : (a b : Desk) (us vs : List ScriptUnit) (slot : ℕ) (out mid new_out : List ℕ → Type 0) (made mid_made new_made : List Made → Type 0)
+      → Serves setup a b us slot out mid made mid_made → Stops setup b vs slot mid new_out mid_made new_made → Stops setup a (us ++ vs) slot out new_out made new_made
+  stops-more a b us vs slot out mid new_out made mid_made new_made first then units now session keeps =
+      let f = first units now session keeps in
+      let g = then (units ++ us) f.next f.session f.keeps in
+      record {
+        replies = g.replies;
+        journal = g.journal;
+        broken = subst (λ l. IsBroken setup l g.replies g.journal) (append_assoc units us vs) g.broken;
+        replied = goes-more out mid new_out now.out f.next.out g.replies f.replied g.replied;
+        recorded = file-goes-more made mid_made new_made slot (journal_of setup now) (journal_of setup f.next) g.journal f.recorded g.recorded;
+      }
+
+  -- a stop in the first of these units
+  pub stops-longer : (desk : Desk) (us more : List ScriptUnit) (slot : ℕ) (out new_out : List ℕ → Type 0) (made new_made : List Made → Type 0)
+      → Stops setup desk us slot out new_out made new_made → Stops setup desk (us ++ more) slot out new_out made new_made
+  stops-longer desk us more slot out new_out made new_made stop units now session keeps =
+      let s = stop units now session keeps in
+      record {
+        replies = s.replies;
+        journal = s.journal;
+        broken = subst (λ l. IsBroken setup l s.replies s.journal) (append_assoc units us more) (broken-more setup (units ++ us) more s.replies s.journal s.broken);
+        replied = s.replied;
+        recorded = s.recorded;
+      }
+
+  -- along a list of units
+  pub serves-next : (a b c : Desk) (us : List ScriptUnit) (i : ℕ) (unit : ScriptUnit) (slot : ℕ) (out mid new_out : List ℕ → Type 0) (made mid_made new_made : List Made → Type 0) → i < length us → unit ≡ get_or us i unit
+      → Serves setup a b (take i us) slot out mid made mid_made → Serves setup b c (unit ∷ []) slot mid new_out mid_made new_made → Serves setup a c (take (i + 1) us) slot out new_out made new_made
+  serves-next a b c us i unit slot out mid new_out made mid_made new_made within is first then =
+      subst (λ l. Serves setup a c l slot out new_out made new_made) (ap (λ x. take i us ++ x ∷ []) is ∙ sym (take_more us i unit within)) (serves-more a b c (take i us) (unit ∷ []) slot out mid new_out made mid_made new_made first then)
+
+  pub stops-next : (a b : Desk) (us : List ScriptUnit) (i : ℕ) (unit : ScriptUnit) (slot : ℕ) (out mid new_out : List ℕ → Type 0) (made mid_made new_made : List Made → Type 0) → i < length us → unit ≡ get_or us i unit
+      → Serves setup a b (take i us) slot out mid made mid_made → Stops setup b (unit ∷ []) slot mid new_out mid_made new_made → Stops setup a us slot out new_out made new_made
+  stops-next a b us i unit slot out mid new_out made mid_made new_made within is first then =
+      subst (λ l. Stops setup a l slot out new_out made new_made) (ap (λ l. l ++ drop (i + 1) us) (ap (λ x. take i us ++ x ∷ []) is ∙ sym (take_more us i unit within)) ∙ take-append-drop (i + 1) us)
+      (stops-longer a (take i us ++ unit ∷ []) (drop (i + 1) us) slot out new_out made new_made (stops-more a b (take i us) (unit ∷ []) slot out mid new_out made mid_made new_made first then))

@@ -1,0 +1,19 @@
+use Rattle.session_loop.specs.Desks.{setup_of}
+use Rattle.session_loop.proofs.Growing.{on-err}
+use Rattle.session_loop.proofs.Taken.{ends-served, ends-stopped, ends-none}
+use Rattle.session_loop.proofs.script.Script.serve_end.Goals as goal
+
+-- the reader gave no units
+pub returns-in_err-units-clause-stopped : goal.returns-in_err-units-clause-stopped
+returns-in_err-units-clause-stopped g c =
+    on-err c.from_residual.result (ends-none (setup_of c.args.design.now c.args.sizes) c.args.slot c.args.self.reader c.args.desk (g.S.Sink.written c.args.out.now) (g.F.Files.made c.args.files.now))
+
+pub returns-clause-served : goal.returns-clause-served
+returns-clause-served g c =
+    ends-served (setup_of c.args.design.now c.args.sizes) c.args.slot c.args.self.reader c.in_ok-units.units c.as_slice.result.now c.args.desk c.serve_units.result
+    (g.S.Sink.written c.args.out.now) (g.S.Sink.written c.serve_units.new.out) (g.F.Files.made c.args.files.now) (g.F.Files.made c.serve_units.new.files) c.in_ok-units.ensures.whole c.as_slice.ensures c.serve_units.ensures.served
+
+pub returns-clause-stopped : goal.returns-clause-stopped
+returns-clause-stopped g c =
+    ends-stopped (setup_of c.args.design.now c.args.sizes) c.args.slot c.args.self.reader c.in_ok-units.units c.as_slice.result.now c.args.desk c.serve_units.result
+    (g.S.Sink.written c.args.out.now) (g.S.Sink.written c.serve_units.new.out) (g.F.Files.made c.args.files.now) (g.F.Files.made c.serve_units.new.files) c.in_ok-units.ensures.whole c.as_slice.ensures c.serve_units.ensures.stopped

@@ -1,0 +1,139 @@
+use Rattle.std.proofs.Common.{ℕ, refl, ap, subst, ◌∙◌, [], take, drop, length, arith, length-append, length-drop, length-take}
+use Rattle.std.proofs.lemmas.Result.{err_from_is_err_and}
+use Rattle.query_lines.specs.Reading.{HasRead}
+use Rattle.session_loop.specs.Desks.{setup_of, no_counts}
+use Rattle.session_loop.specs.declared.desk.Desk.{Desk}
+use Rattle.session_loop.proofs.Scripts.{fresh-desk, has-none, has-more, all-served, end-stopped, block-stopped, unread, cut-off, read-some, read-none}
+use Rattle.session_loop.proofs.script.serve_script.Goals as goal
+
+pub loop-n-init : goal.loop-n-init
+loop-n-init g c =
+    let setup = setup_of c.args.design.now c.args.sizes in
+    let desk : Desk = record { stores = c.args.stores; counts = no_counts } in
+    record {
+      block = refl;
+      most = omega arith;
+      read = (c.args.design.now.circuit.horizon, [], [], at-horizon, refl);
+      stores = c.requires.stores;
+      served = has-none setup c.args.slot desk (fresh-desk setup desk c.requires.empty refl) (g.Q.Source.left c.args.queries.now) c.new.result (g.S.Sink.written c.args.out.now) (g.F.Files.made c.args.files.now) at-horizon;
+      calm_queries = refl;
+      calm_replies = refl;
+      calm_journal = refl;
+      file_faults = refl;
+      read_faults = refl;
+      started = refl;
+      files = refl;
+      unfinished = refl;
+    }
+  where
+    at-horizon : HasRead c.args.design.now.circuit.horizon [] [] c.new.result
+    at-horizon = subst (λ h. HasRead h [] [] c.new.result) c.horizon.ensures.horizon c.new.ensures
+
+-- a block more was taken and served
+pub loop-n-preserved : goal.loop-n-preserved
+loop-n-preserved g c =
+    let setup = setup_of c.args.design.now c.args.sizes in
+    let desk : Desk = record { stores = c.args.stores; counts = no_counts } in
+    let W = g.S.Sink.written in
+    let M = g.F.Files.made in
+    let held = c.loop-n.invariant in
+    let read = c.in-Ok.ensures in
+    let served = c.in_ok-desk.ensures in
+    record {
+      block = omega (arith, held.block, length-append {A = ℕ}, length-drop {A = ℕ}, length-take {A = ℕ}, c.min-room.ensures);
+      most = omega (arith, held.most, served.taken, c.min.ensures, length-take {A = ℕ});
+      read = served.read;
+      stores = served.stores;
+      served = has-more setup c.args.slot desk (fresh-desk setup desk c.requires.empty refl) c.loop-n.script.taken c.serve_bytes.new.self.taken (g.Q.Source.left c.args.queries.now) (g.Q.Source.left c.loop-n.queries) (g.Q.Source.left c.read.new.self) c.loop-n.script.reader c.serve_bytes.new.self.reader
+          c.loop-n.desk c.in_ok-desk.desk c.in-Ok.n c.min.result c.read.new.into (drop c.min-room.result c.loop-n.block)
+          (W c.args.out.now) (W c.loop-n.out) (W c.serve_bytes.new.out) (M c.args.files.now) (M c.loop-n.files) (M c.serve_bytes.new.files)
+          held.served read.bytes.0 (omega (arith, c.min.ensures, c.if-n-left.false)) read.bound.0 served.taken served.served;
+      calm_queries = read.calm ∙ held.calm_queries;
+      calm_replies = served.calm_replies ∙ held.calm_replies;
+      calm_journal = served.calm_journal ∙ held.calm_journal;
+      file_faults = served.file_faults ∙ held.file_faults;
+      read_faults = served.read_faults ∙ held.read_faults;
+      started = served.started ∙ held.started;
+      files = served.files ∙ held.files;
+      unfinished = served.unfinished ∙ held.unfinished;
+    }
+
+-- the next block was not read
+pub returns-in_default-clause-stopped : goal.returns-in_default-clause-stopped
+returns-in_default-clause-stopped g c script is =
+    let setup = setup_of c.args.design.now c.args.sizes in
+    let desk : Desk = record { stores = c.args.stores; counts = no_counts } in
+    unread setup c.args.slot desk (fresh-desk setup desk c.requires.empty refl) script (g.Q.Source.left c.args.queries.now) is c.loop-n.script.taken (g.Q.Source.left c.loop-n.queries) (g.Q.Source.left c.read.new.self) c.loop-n.script.reader c.loop-n.desk
+    (g.S.Sink.written c.args.out.now) (g.S.Sink.written c.loop-n.out) (g.F.Files.made c.args.files.now) (g.F.Files.made c.loop-n.files) c.loop-n.invariant.served c.in_default.ensures.bytes
+
+-- the script ended, and the session broke off in what was left of it
+pub returns-in_err-serve_end-clause-stopped : goal.returns-in_err-serve_end-clause-stopped
+returns-in_err-serve_end-clause-stopped g c script is =
+    let setup = setup_of c.args.design.now c.args.sizes in
+    let desk : Desk = record { stores = c.args.stores; counts = no_counts } in
+    let W = g.S.Sink.written in
+    let M = g.F.Files.made in
+    let read = c.in-Ok.ensures in
+    let p = err_from_is_err_and c.from_residual.result c.from_residual.ensures.1 in
+    rw (p.1, p.2)
+    (end-stopped setup c.args.slot desk (fresh-desk setup desk c.requires.empty refl) script (g.Q.Source.left c.args.queries.now) is c.loop-n.script.taken (g.Q.Source.left c.loop-n.queries) (g.Q.Source.left c.read.new.self) (g.Q.Source.left c.read.new.self) c.in-Ok.n c.read.new.into c.loop-n.script.reader c.loop-n.desk
+    _ _ _ _ c.in_err-serve_end.field-0.0
+    (W c.args.out.now) (W c.loop-n.out) (W c.serve_end.new.out) (M c.args.files.now) (M c.loop-n.files) (M c.serve_end.new.files)
+    c.loop-n.invariant.served read.bytes.0 c.if-n-eq0.true (read.bytes.1 c.if-n-eq0.true (omega (arith, c.min-room.ensures, c.loop-n.invariant.block, length-take {A = ℕ}))) c.in_err-serve_end.ensures.cause c.in_err-serve_end.ensures.stopped)
+
+-- the script ended, and what was left of it was served
+pub returns-then-n-eq0-clause-served : goal.returns-then-n-eq0-clause-served
+returns-then-n-eq0-clause-served g c script is =
+    let setup = setup_of c.args.design.now c.args.sizes in
+    let desk : Desk = record { stores = c.args.stores; counts = no_counts } in
+    let W = g.S.Sink.written in
+    let M = g.F.Files.made in
+    let read = c.in-Ok.ensures in
+    all-served setup c.args.slot desk (fresh-desk setup desk c.requires.empty refl) script (g.Q.Source.left c.args.queries.now) is c.loop-n.script.taken (g.Q.Source.left c.loop-n.queries) (g.Q.Source.left c.read.new.self) c.in-Ok.n c.read.new.into c.loop-n.script.reader c.loop-n.desk c.in_ok-serve_end.field-0
+    (W c.args.out.now) (W c.loop-n.out) (W c.serve_end.new.out) (M c.args.files.now) (M c.loop-n.files) (M c.serve_end.new.files)
+    c.loop-n.invariant.served read.bytes.0 c.if-n-eq0.true (read.bytes.1 c.if-n-eq0.true (omega (arith, c.min-room.ensures, c.loop-n.invariant.block, length-take {A = ℕ}))) c.in_ok-serve_end.ensures.served
+
+-- the session broke off in a block
+pub returns-in_err-desk-clause-stopped : goal.returns-in_err-desk-clause-stopped
+returns-in_err-desk-clause-stopped g c script is =
+    let setup = setup_of c.args.design.now c.args.sizes in
+    let desk : Desk = record { stores = c.args.stores; counts = no_counts } in
+    let W = g.S.Sink.written in
+    let M = g.F.Files.made in
+    let read = c.in-Ok.ensures in
+    let p = err_from_is_err_and c.from_residual-in_err-desk.result c.from_residual-in_err-desk.ensures.1 in
+    rw (p.1, p.2)
+    (block-stopped setup c.args.slot desk (fresh-desk setup desk c.requires.empty refl) script (g.Q.Source.left c.args.queries.now) is c.loop-n.script.taken (g.Q.Source.left c.loop-n.queries) (g.Q.Source.left c.read.new.self) (g.Q.Source.left c.read.new.self) c.loop-n.script.reader c.loop-n.desk c.in-Ok.n c.min.result c.read.new.into (drop c.min-room.result c.loop-n.block)
+    _ _ _ _ c.in_err-desk.field-0.0
+    (W c.args.out.now) (W c.loop-n.out) (W c.serve_bytes.new.out) (M c.args.files.now) (M c.loop-n.files) (M c.serve_bytes.new.files)
+    c.loop-n.invariant.served read.bytes.0 (omega (arith, c.min.ensures)) read.bound.0 c.in_err-desk.ensures.cause c.in_err-desk.ensures.stopped)
+
+pub returns-in_err-desk-clause-at_most : goal.returns-in_err-desk-clause-at_most
+returns-in_err-desk-clause-at_most g c script is =
+    let setup = setup_of c.args.design.now c.args.sizes in
+    let desk : Desk = record { stores = c.args.stores; counts = no_counts } in
+    let read = c.in-Ok.ensures in
+    read-some setup c.args.slot desk (fresh-desk setup desk c.requires.empty refl) script (g.Q.Source.left c.args.queries.now) is c.loop-n.script.taken 16777217 (g.Q.Source.left c.loop-n.queries) (g.Q.Source.left c.read.new.self) c.loop-n.script.reader c.loop-n.desk (take c.in-Ok.n c.read.new.into)
+    (g.S.Sink.written c.args.out.now) (g.S.Sink.written c.loop-n.out) (g.F.Files.made c.args.files.now) (g.F.Files.made c.loop-n.files) c.loop-n.invariant.served read.bytes.0
+    (omega (arith, c.min-room.ensures, c.loop-n.invariant.block, c.loop-n.invariant.most, length-take {A = ℕ}, read.bound))
+
+-- the script is too long
+pub returns-then-n-left-clause-stopped : goal.returns-then-n-left-clause-stopped
+returns-then-n-left-clause-stopped g c script is =
+    let setup = setup_of c.args.design.now c.args.sizes in
+    let desk : Desk = record { stores = c.args.stores; counts = no_counts } in
+    let W = g.S.Sink.written in
+    let M = g.F.Files.made in
+    let read = c.in-Ok.ensures in
+    cut-off setup c.args.slot desk (fresh-desk setup desk c.requires.empty refl) script (g.Q.Source.left c.args.queries.now) is c.loop-n.script.taken (g.Q.Source.left c.loop-n.queries) (g.Q.Source.left c.read.new.self) c.loop-n.script.reader c.serve_bytes.new.self.reader c.loop-n.desk c.in_ok-desk.desk c.in-Ok.n c.min.result c.read.new.into (drop c.min-room.result c.loop-n.block)
+    (W c.args.out.now) (W c.loop-n.out) (W c.serve_bytes.new.out) (M c.args.files.now) (M c.loop-n.files) (M c.serve_bytes.new.files)
+    c.loop-n.invariant.served read.bytes.0 (omega (arith, c.min.ensures, c.if-n-left.true)) read.bound.0 (omega (arith, c.min.ensures, c.if-n-left.true, c.loop-n.invariant.most)) c.in_ok-desk.ensures.served
+
+pub returns-then-n-left-clause-at_most : goal.returns-then-n-left-clause-at_most
+returns-then-n-left-clause-at_most g c script is =
+    let setup = setup_of c.args.design.now c.args.sizes in
+    let desk : Desk = record { stores = c.args.stores; counts = no_counts } in
+    let read = c.in-Ok.ensures in
+    read-some setup c.args.slot desk (fresh-desk setup desk c.requires.empty refl) script (g.Q.Source.left c.args.queries.now) is c.loop-n.script.taken 16777217 (g.Q.Source.left c.loop-n.queries) (g.Q.Source.left c.read.new.self) c.loop-n.script.reader c.loop-n.desk (take c.in-Ok.n c.read.new.into)
+    (g.S.Sink.written c.args.out.now) (g.S.Sink.written c.loop-n.out) (g.F.Files.made c.args.files.now) (g.F.Files.made c.loop-n.files) c.loop-n.invariant.served read.bytes.0
+    (omega (arith, c.min-room.ensures, c.loop-n.invariant.block, c.loop-n.invariant.most, length-take {A = ℕ}, read.bound))

@@ -1,0 +1,54 @@
+use Rattle.std.proofs.Common.{◌≡◌, refl, ap, sym, subst, ◌∙◌, ◌++◌, take, get_or, arith}
+use Rattle.std.specs.Prelude.{flat_map}
+use Rattle.std.proofs.lemmas.Result.{err_from_is_err_and}
+use Rattle.backsim_io.specs.Held.{FileGrows}
+use Rattle.journal_text.specs.Spelling.{entry_line}
+use Rattle.session_loop.specs.Growing.{FileGrowsPart, shard_line}
+use Rattle.session_loop.specs.Serving.{UnitExplains}
+use Rattle.session_loop.proofs.Growing.{on-err, file-none}
+use Rattle.session_loop.proofs.Pieces.{shards-next, shards-part}
+use Rattle.session_loop.proofs.section.write_shards.Goals as goal
+
+pub loop-list-init : goal.loop-list-init
+loop-list-init g c = record {
+  number = refl;
+  written = file-none (g.F.Files.made c.args.files.now) c.args.slot;
+  calm = refl;
+  file_faults = refl;
+  read_faults = refl;
+  started = refl;
+  files = refl;
+  unfinished = refl;
+}
+
+pub loop-list-preserved : goal.loop-list-preserved
+loop-list-preserved g c =
+    let M = g.F.Files.made in
+    let held = c.loop-list.invariant in
+    let done = c.in_ok-write_shard.ensures in
+    record {
+      number = omega (arith, held.number);
+      written = shards-next c.args.slot (M c.args.files.now) (M c.loop-list.files) (M c.write_shard.new.files) c.args.lists.now c.loop-list.list-index c.list-item.result c.loop-list-test.true c.list-item.is held.written
+          (subst (λ es. FileGrows (M c.loop-list.files) (M c.write_shard.new.files) c.args.slot (shard_line c.loop-list.list-index ++ flat_map entry_line es)) c.as_slice.ensures
+          (subst (λ n. FileGrows (M c.loop-list.files) (M c.write_shard.new.files) c.args.slot (shard_line n ++ flat_map entry_line c.as_slice.result.now)) held.number done.written));
+      calm = done.calm ∙ held.calm;
+      file_faults = done.file_faults ∙ held.file_faults;
+      read_faults = done.read_faults ∙ held.read_faults;
+      started = done.started ∙ held.started;
+      files = done.files ∙ held.files;
+      unfinished = done.unfinished ∙ held.unfinished;
+    }
+
+pub returns-in_err-write_shard-clause-begun : goal.returns-in_err-write_shard-clause-begun
+returns-in_err-write_shard-clause-begun g c =
+    let M = g.F.Files.made in
+    let held = c.loop-list.invariant in
+    on-err c.from_residual.result
+    (shards-part c.args.slot (M c.args.files.now) (M c.loop-list.files) (M c.write_shard.new.files) c.args.lists.now c.loop-list.list-index c.list-item.result c.loop-list-test.true c.list-item.is held.written
+    (subst (λ es. FileGrowsPart (M c.loop-list.files) (M c.write_shard.new.files) c.args.slot (shard_line c.loop-list.list-index ++ flat_map entry_line es)) c.as_slice.ensures
+    (subst (λ n. FileGrowsPart (M c.loop-list.files) (M c.write_shard.new.files) c.args.slot (shard_line n ++ flat_map entry_line c.as_slice.result.now)) held.number c.in_err-write_shard.ensures.begun)))
+
+pub returns-in_err-write_shard-clause-cause : goal.returns-in_err-write_shard-clause-cause
+returns-in_err-write_shard-clause-cause g c =
+    let p = err_from_is_err_and c.from_residual.result c.from_residual.ensures.1 in
+    rw (p.1, p.2) (λ replies. subst (λ n. UnitExplains replies replies n (g.F.Files.write_faults c.write_shard.new.files) c.in_err-write_shard.field-0.0) c.loop-list.invariant.calm (c.in_err-write_shard.ensures.cause replies))

@@ -1,0 +1,4 @@
+pub mod Growing
+pub mod Desks
+pub mod Serving
+pub mod Halting

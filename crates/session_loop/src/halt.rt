@@ -1,0 +1,32 @@
+//! Why a session halts.
+
+ghost use Rattle.std.specs.Prelude.{◌≡◌};
+ghost use Rattle.session_loop.specs.declared.halt.Halt.TheVariants.{Stopped};
+ghost use Rattle.session_loop.specs.declared.stop.Stop.TheVariants.{OutOfMemory as out_of_memory};
+
+use crate::stop::Stop;
+use backsim_io::OutOfMemory;
+
+/// Why a session halts: its journal couldn't be created or finished, or it stopped between.
+#[derive(Clone, Copy, Debug, PartialEq, Eq)]
+pub enum Halt {
+    JournalUnmade,
+    Stopped(Stop),
+    JournalUnfinished,
+}
+
+impl From<Stop> for Halt {
+    ghost from_gives = { λ stop halt. halt ≡ Stopped stop };
+
+    fn from(stop: Stop) -> Halt {
+        Halt::Stopped(stop)
+    }
+}
+
+impl From<OutOfMemory> for Halt {
+    ghost from_gives = { λ _ halt. halt ≡ Stopped out_of_memory };
+
+    fn from(_: OutOfMemory) -> Halt {
+        Halt::Stopped(Stop::OutOfMemory)
+    }
+}

@@ -1,0 +1,187 @@
+//! The script, read a block at a time and served a unit at a time.
+
+ghost use Rattle.std.specs.Prelude.{◌≡◌, ◌+◌, ◌<◌, ◌≤◌, ℕ, List, [], length, get_or, Some, Contains, IfErr, IfOk, OnErr, OnOk};
+ghost use Rattle.backsim_io.specs.Held.{ConsumesUpTo};
+ghost use Rattle.session_meaning.specs.Session.{IsSessionOf};
+ghost use Rattle.session_loop.specs.Desks.{setup_of, AreStores};
+ghost use Rattle.session_loop.specs.Serving.{UnitExplains, Explains, HasTaken, TakesServed, TakesStopped, EndsServed, EndsStopped, Wrote, IsStopped};
+
+use crate::desk::{Counts, Desk, Sizes, Store};
+use crate::stop::Stop;
+use crate::unit::serve_units;
+use backsim_io::{Files, Sink, Source};
+use design::Design;
+use query_lines::ScriptReader;
+use std::alloc::Global;
+
+/// The most bytes that a script has.
+const SCRIPT_LIMIT: u32 = 16_777_216;
+
+const BLOCK: usize = 4096;
+
+/// A script under way.
+#[derive(Drop)]
+struct Script {
+    reader: ScriptReader,
+    /// How many bytes were taken.
+    taken: u32,
+}
+
+impl Script {
+    /// Takes the next bytes, and serves each unit as soon as its last line has ended.
+    fn serve_bytes<F: Files, S: Sink>(
+        &mut self,
+        alloc: Global,
+        design: &Design,
+        bytes: &[u8],
+        sizes: Sizes,
+        desk: Desk,
+        slot: u32,
+        files: &mut F,
+        out: &mut S,
+    ) -> Result<Desk, Stop>
+        requires limit { self.old.taken + length bytes.now ≤ 16777216 }
+        requires read { HasTaken self.old.taken self.old.reader }
+        requires stores { AreStores (setup_of design.now sizes) desk.stores.items }
+        requires unfinished { Contains (F.unfinished files.old) slot }
+        ensures taken { OnOk result (self.new.taken ≡ self.old.taken + length bytes.now) }
+        ensures read { OnOk result (HasTaken self.new.taken self.new.reader) }
+        ensures stores { IfOk result (λ later. AreStores (setup_of design.now sizes) later.stores.items) }
+        ensures served { IfOk result (λ later. TakesServed (setup_of design.now sizes) self.old.reader self.new.reader bytes.now desk later slot (S.written out.old) (S.written out.new) (F.made files.old) (F.made files.new)) }
+        ensures stopped { OnErr result (TakesStopped (setup_of design.now sizes) self.old.reader bytes.now desk slot (S.written out.old) (S.written out.new) (F.made files.old) (F.made files.new)) }
+        ensures cause { IfErr result (UnitExplains (S.faults out.old) (S.faults out.new) (F.write_faults files.old) (F.write_faults files.new)) }
+        ensures calm_replies { OnOk result (S.faults out.new ≡ S.faults out.old) }
+        ensures calm_journal { OnOk result (F.write_faults files.new ≡ F.write_faults files.old) }
+        ensures file_faults { F.file_faults files.new ≡ F.file_faults files.old }
+        ensures read_faults { F.read_faults files.new ≡ F.read_faults files.old }
+        ensures started { F.started files.new ≡ F.started files.old }
+        ensures files { F.files files.new ≡ F.files files.old }
+        ensures unfinished { F.unfinished files.new ≡ F.unfinished files.old }
+    {
+        let mut desk = desk;
+        for byte in bytes {
+            let units = self.reader.take(*byte)?;
+            self.taken += 1;
+            desk = serve_units(
+                alloc,
+                design,
+                units.as_slice(),
+                sizes,
+                desk,
+                slot,
+                files,
+                out,
+            )?;
+        }
+        Ok(desk)
+    }
+
+    /// Serves the units that the script's end completes.
+    fn serve_end<F: Files, S: Sink>(
+        self,
+        alloc: Global,
+        design: &Design,
+        sizes: Sizes,
+        desk: Desk,
+        slot: u32,
+        files: &mut F,
+        out: &mut S,
+    ) -> Result<Desk, Stop>
+        requires limit { self.taken ≤ 16777216 }
+        requires read { HasTaken self.taken self.reader }
+        requires stores { AreStores (setup_of design.now sizes) desk.stores.items }
+        requires unfinished { Contains (F.unfinished files.old) slot }
+        ensures served { IfOk result (λ later. EndsServed (setup_of design.now sizes) self.reader desk later slot (S.written out.old) (S.written out.new) (F.made files.old) (F.made files.new)) }
+        ensures stopped { OnErr result (EndsStopped (setup_of design.now sizes) self.reader desk slot (S.written out.old) (S.written out.new) (F.made files.old) (F.made files.new)) }
+        ensures cause { IfErr result (UnitExplains (S.faults out.old) (S.faults out.new) (F.write_faults files.old) (F.write_faults files.new)) }
+        ensures calm_replies { OnOk result (S.faults out.new ≡ S.faults out.old) }
+        ensures calm_journal { OnOk result (F.write_faults files.new ≡ F.write_faults files.old) }
+        ensures file_faults { F.file_faults files.new ≡ F.file_faults files.old }
+        ensures read_faults { F.read_faults files.new ≡ F.read_faults files.old }
+        ensures started { F.started files.new ≡ F.started files.old }
+        ensures files { F.files files.new ≡ F.files files.old }
+        ensures unfinished { F.unfinished files.new ≡ F.unfinished files.old }
+    {
+        let units = self.reader.end()?;
+        serve_units(
+            alloc,
+            design,
+            units.as_slice(),
+            sizes,
+            desk,
+            slot,
+            files,
+            out,
+        )
+    }
+}
+
+/// Serves a script to its end. It is read again only when each unit that was complete is served.
+pub fn serve_script<F: Files, Q: Source, S: Sink>(
+    alloc: Global,
+    design: &Design,
+    sizes: Sizes,
+    stores: Vec<Store>,
+    slot: u32,
+    files: &mut F,
+    queries: &mut Q,
+    out: &mut S,
+) -> Result<(), Stop>
+    requires stores { AreStores (setup_of design.now sizes) stores.items }
+    requires empty { (shard : ℕ) → shard < sizes.shards → get_or stores.items shard [] ≡ [] }
+    requires unfinished { Contains (F.unfinished files.old) slot }
+    ensures cause { IfErr result (Explains (Q.faults queries.old) (Q.faults queries.new) (S.faults out.old) (S.faults out.new) (F.write_faults files.old) (F.write_faults files.new)) }
+    ensures calm_queries { OnOk result (Q.faults queries.new ≡ Q.faults queries.old) }
+    ensures calm_replies { OnOk result (S.faults out.new ≡ S.faults out.old) }
+    ensures calm_journal { OnOk result (F.write_faults files.new ≡ F.write_faults files.old) }
+    ensures file_faults { F.file_faults files.new ≡ F.file_faults files.old }
+    ensures read_faults { F.read_faults files.new ≡ F.read_faults files.old }
+    ensures started { F.started files.new ≡ F.started files.old }
+    ensures files { F.files files.new ≡ F.files files.old }
+    ensures unfinished { F.unfinished files.new ≡ F.unfinished files.old }
+    ensures at_most { (script : List ℕ) → Q.left queries.old ≡ Some script → ConsumesUpTo (Some script) (Q.left queries.new) 16777217 }
+    ensures short { (script : List ℕ) → Q.left queries.old ≡ Some script → OnOk result (length script ≤ 16777216) }
+    ensures served { (script : List ℕ) → Q.left queries.old ≡ Some script
+        → OnOk result (Wrote (setup_of design.now sizes) (IsSessionOf (setup_of design.now sizes) script) slot (S.written out.old) (S.written out.new) (F.made files.old) (F.made files.new)) }
+    ensures stopped { (script : List ℕ) → Q.left queries.old ≡ Some script
+        → IfErr result (λ stop. Wrote (setup_of design.now sizes) (IsStopped (setup_of design.now sizes) script (Q.left queries.new) stop) slot (S.written out.old) (S.written out.new) (F.made files.old) (F.made files.new)) }
+{
+    let mut script = Script {
+        reader: ScriptReader::new(alloc, design.horizon()),
+        taken: 0,
+    };
+    let mut desk = Desk {
+        stores,
+        counts: Counts {
+            sections: 0,
+            batches: 0,
+            fills: 0,
+            evictions: 0,
+        },
+    };
+    let mut block = [0u8; BLOCK];
+    loop {
+        let left = (SCRIPT_LIMIT - script.taken) as usize;
+        let room = BLOCK.min(left + 1);
+        let Ok(n) = queries.read(&mut block[..room]) else {
+            return Err(Stop::ScriptUnread);
+        };
+        if n == 0 {
+            script.serve_end(alloc, design, sizes, desk, slot, files, out)?;
+            return Ok(());
+        }
+        desk = script.serve_bytes(
+            alloc,
+            design,
+            &block[..n.min(left)],
+            sizes,
+            desk,
+            slot,
+            files,
+            out,
+        )?;
+        if n > left {
+            return Err(Stop::ScriptTooLong);
+        }
+    }
+}

@@ -1,0 +1,202 @@
+//! Replies and sections are written.
+
+ghost use Rattle.std.specs.Prelude.{◌≡◌, ◌++◌, ◌<◌, ◌≤◌, ℕ, length, flat_map, Contains, IfErr, IfOk, OnErr, OnOk};
+ghost use Rattle.std.specs.List.{AllZip};
+ghost use Rattle.backsim_io.specs.Counts.{Grows};
+ghost use Rattle.backsim_io.specs.Held.{FileGrows};
+ghost use Rattle.journal_text.specs.Spelling.{entry_line, kind_word, shard_lines, section_lines};
+ghost use Rattle.query_lines.specs.Replies.{Suits};
+ghost use Rattle.session_meaning.specs.Replies.{replies_text};
+ghost use Rattle.session_loop.specs.Growing.{GrowsPart, FileGrowsPart, shard_line};
+ghost use Rattle.session_loop.specs.Serving.{UnitExplains};
+
+use crate::stop::Stop;
+use backsim_io::{Files, OutOfMemory, Sink, write_all, write_file};
+use journal_meaning::Entry;
+use journal_text::{EntryList, SectionKind, entry_text};
+use query_lines::{Item, Reply, reply_text};
+use std::alloc::Global;
+
+/// How many entries are written at a time.
+const PIECE: usize = 512;
+
+/// Writes a reply, by one `write_all`.
+pub fn write_reply<S: Sink>(text: &[u8], out: &mut S) -> Result<(), Stop>
+    ensures written { OnOk result (Grows (S.written out.old) (S.written out.new) text.now) }
+    ensures begun { OnErr result (GrowsPart (S.written out.old) (S.written out.new) text.now) }
+    ensures cause { IfErr result (λ stop. (writes : ℕ) → UnitExplains (S.faults out.old) (S.faults out.new) writes writes stop) }
+    ensures calm { OnOk result (S.faults out.new ≡ S.faults out.old) }
+{
+    match write_all(out, text) {
+        Ok(()) => Ok(()),
+        Err(_) => Err(Stop::RepliesUnwritten),
+    }
+}
+
+/// Writes the replies to items, in their order, each by one `write_all`.
+pub fn write_replies<S: Sink>(
+    alloc: Global,
+    items: &[Item],
+    replies: &[Reply],
+    out: &mut S,
+) -> Result<(), Stop>
+    requires suits { AllZip (λ item reply. Suits item.what reply) items.now replies.now }
+    ensures written { OnOk result (Grows (S.written out.old) (S.written out.new) (replies_text items.now replies.now)) }
+    ensures begun { OnErr result (GrowsPart (S.written out.old) (S.written out.new) (replies_text items.now replies.now)) }
+    ensures cause { IfErr result (λ stop. (writes : ℕ) → UnitExplains (S.faults out.old) (S.faults out.new) writes writes stop) }
+    ensures calm { OnOk result (S.faults out.new ≡ S.faults out.old) }
+{
+    for i in 0..items.len() {
+        let text = reply_text(alloc, &items[i], &replies[i])?;
+        write_reply(&text, out)?;
+    }
+    Ok(())
+}
+
+/// Writes a text behind a created file.
+pub fn write_piece<F: Files>(slot: u32, text: &[u8], files: &mut F) -> Result<(), Stop>
+    requires unfinished { Contains (F.unfinished files.old) slot }
+    ensures written { OnOk result (FileGrows (F.made files.old) (F.made files.new) slot text.now) }
+    ensures begun { OnErr result (FileGrowsPart (F.made files.old) (F.made files.new) slot text.now) }
+    ensures cause { IfErr result (λ stop. (replies : ℕ) → UnitExplains replies replies (F.write_faults files.old) (F.write_faults files.new) stop) }
+    ensures calm { OnOk result (F.write_faults files.new ≡ F.write_faults files.old) }
+    ensures file_faults { F.file_faults files.new ≡ F.file_faults files.old }
+    ensures read_faults { F.read_faults files.new ≡ F.read_faults files.old }
+    ensures started { F.started files.new ≡ F.started files.old }
+    ensures files { F.files files.new ≡ F.files files.old }
+    ensures unfinished { F.unfinished files.new ≡ F.unfinished files.old }
+{
+    match write_file(files, slot, text) {
+        Ok(()) => Ok(()),
+        Err(_) => Err(Stop::JournalUnwritten),
+    }
+}
+
+/// The lines of some entries.
+fn entries_text(alloc: Global, entries: &[Entry]) -> Result<Vec<u8>, OutOfMemory>
+    ensures { IfOk result (λ text. text.items ≡ flat_map entry_line entries.now) }
+{
+    let mut text = Vec::new(alloc);
+    for entry in entries {
+        let line = entry_text(alloc, entry)?;
+        text.extend_from_slice(&line)?;
+    }
+    Ok(text)
+}
+
+/// Writes the lines of entries behind a created file, so many at a time.
+fn write_entries<F: Files>(
+    alloc: Global,
+    entries: &[Entry],
+    slot: u32,
+    files: &mut F,
+) -> Result<(), Stop>
+    requires unfinished { Contains (F.unfinished files.old) slot }
+    ensures written { OnOk result (FileGrows (F.made files.old) (F.made files.new) slot (flat_map entry_line entries.now)) }
+    ensures begun { OnErr result (FileGrowsPart (F.made files.old) (F.made files.new) slot (flat_map entry_line entries.now)) }
+    ensures cause { IfErr result (λ stop. (replies : ℕ) → UnitExplains replies replies (F.write_faults files.old) (F.write_faults files.new) stop) }
+    ensures calm { OnOk result (F.write_faults files.new ≡ F.write_faults files.old) }
+    ensures file_faults { F.file_faults files.new ≡ F.file_faults files.old }
+    ensures read_faults { F.read_faults files.new ≡ F.read_faults files.old }
+    ensures started { F.started files.new ≡ F.started files.old }
+    ensures files { F.files files.new ≡ F.files files.old }
+    ensures unfinished { F.unfinished files.new ≡ F.unfinished files.old }
+{
+    let mut done = 0;
+    while done < entries.len() {
+        let n = PIECE.min(entries.len() - done);
+        let text = entries_text(alloc, &entries[done..done + n])?;
+        write_piece(slot, &text, files)?;
+        done += n;
+    }
+    Ok(())
+}
+
+/// Writes the line of a shard, and those of its entries.
+fn write_shard<F: Files>(
+    alloc: Global,
+    number: u32,
+    entries: &[Entry],
+    slot: u32,
+    files: &mut F,
+) -> Result<(), Stop>
+    requires unfinished { Contains (F.unfinished files.old) slot }
+    ensures written { OnOk result (FileGrows (F.made files.old) (F.made files.new) slot (shard_line number ++ flat_map entry_line entries.now)) }
+    ensures begun { OnErr result (FileGrowsPart (F.made files.old) (F.made files.new) slot (shard_line number ++ flat_map entry_line entries.now)) }
+    ensures cause { IfErr result (λ stop. (replies : ℕ) → UnitExplains replies replies (F.write_faults files.old) (F.write_faults files.new) stop) }
+    ensures calm { OnOk result (F.write_faults files.new ≡ F.write_faults files.old) }
+    ensures file_faults { F.file_faults files.new ≡ F.file_faults files.old }
+    ensures read_faults { F.read_faults files.new ≡ F.read_faults files.old }
+    ensures started { F.started files.new ≡ F.started files.old }
+    ensures files { F.files files.new ≡ F.files files.old }
+    ensures unfinished { F.unfinished files.new ≡ F.unfinished files.old }
+{
+    let line = format!(in alloc; "shard {number}\n")?;
+    write_piece(slot, line.as_bytes(), files)?;
+    write_entries(alloc, entries, slot, files)
+}
+
+/// Writes the lines of all shards.
+fn write_shards<F: Files>(
+    alloc: Global,
+    lists: &[EntryList],
+    slot: u32,
+    files: &mut F,
+) -> Result<(), Stop>
+    requires few { length lists.now ≤ 4294967295 }
+    requires unfinished { Contains (F.unfinished files.old) slot }
+    ensures written { OnOk result (FileGrows (F.made files.old) (F.made files.new) slot (shard_lines 0 lists.now)) }
+    ensures begun { OnErr result (FileGrowsPart (F.made files.old) (F.made files.new) slot (shard_lines 0 lists.now)) }
+    ensures cause { IfErr result (λ stop. (replies : ℕ) → UnitExplains replies replies (F.write_faults files.old) (F.write_faults files.new) stop) }
+    ensures calm { OnOk result (F.write_faults files.new ≡ F.write_faults files.old) }
+    ensures file_faults { F.file_faults files.new ≡ F.file_faults files.old }
+    ensures read_faults { F.read_faults files.new ≡ F.read_faults files.old }
+    ensures started { F.started files.new ≡ F.started files.old }
+    ensures files { F.files files.new ≡ F.files files.old }
+    ensures unfinished { F.unfinished files.new ≡ F.unfinished files.old }
+{
+    let mut number = 0u32;
+    for list in lists {
+        write_shard(alloc, number, list.as_slice(), slot, files)?;
+        number += 1;
+    }
+    Ok(())
+}
+
+fn word_of(kind: SectionKind) -> &'static str
+    ensures { result.now ≡ kind_word kind }
+{
+    match kind {
+        SectionKind::Batch => "batch",
+        SectionKind::Trim => "trim",
+        SectionKind::Held => "held",
+    }
+}
+
+/// Writes a section behind a created file, piece by piece, each of bounded size.
+pub fn write_section<F: Files>(
+    alloc: Global,
+    kind: SectionKind,
+    number: u32,
+    lists: &[EntryList],
+    slot: u32,
+    files: &mut F,
+) -> Result<(), Stop>
+    requires few { length lists.now ≤ 4294967295 }
+    requires unfinished { Contains (F.unfinished files.old) slot }
+    ensures written { OnOk result (FileGrows (F.made files.old) (F.made files.new) slot (section_lines (record { kind = kind; number = number; shards = lists.now }))) }
+    ensures begun { OnErr result (FileGrowsPart (F.made files.old) (F.made files.new) slot (section_lines (record { kind = kind; number = number; shards = lists.now }))) }
+    ensures cause { IfErr result (λ stop. (replies : ℕ) → UnitExplains replies replies (F.write_faults files.old) (F.write_faults files.new) stop) }
+    ensures calm { OnOk result (F.write_faults files.new ≡ F.write_faults files.old) }
+    ensures file_faults { F.file_faults files.new ≡ F.file_faults files.old }
+    ensures read_faults { F.read_faults files.new ≡ F.read_faults files.old }
+    ensures started { F.started files.new ≡ F.started files.old }
+    ensures files { F.files files.new ≡ F.files files.old }
+    ensures unfinished { F.unfinished files.new ≡ F.unfinished files.old }
+{
+    let word = word_of(kind);
+    let line = format!(in alloc; "{word} {number}\n")?;
+    write_piece(slot, line.as_bytes(), files)?;
+    write_shards(alloc, lists, slot, files)?;
+    write_piece(slot, b"end\n", files)
+}

@@ -1,0 +1,24 @@
+-- The lists of a session are legal.
+use Rattle.std.proofs.Common.{ℕ, ◌<◌, List, [], ◌∷◌, ◌++◌, fold, sym, subst}
+use Rattle.valid_intervals.specs.declared.SignalCell.{SignalCell}
+use Rattle.journal_meaning.specs.Sections.{Section, Asks, Trims, IsLegalIn, list_of, cells_left, AreLegal}
+use Rattle.query_lines.specs.declared.unit.Unit.{Unit as ScriptUnit}
+use Rattle.query_lines.specs.declared.unit.Unit.TheVariants as units
+use Rattle.session_meaning.specs.Session.{Setup, Course, IsServed, Session, Opened, Served, batch_of}
+
+-- one section more
+legal-more : (shard : ℕ) (cells : List SignalCell) (sections : List Section) (section : Section) → AreLegal shard cells sections
+    → IsLegalIn section.purpose shard (fold (cells_left shard) cells sections) (list_of section shard) → AreLegal shard cells (sections ++ section ∷ [])
+legal-more shard cells [] section legal more = (more, tt)
+legal-more shard cells (s ∷ sections) section legal more = (legal.0, legal-more shard (cells_left shard cells s) sections section legal.1 more)
+
+unit-legal : (setup : Setup) (now next : Course) (unit : ScriptUnit) → IsServed setup now unit next → (shard : ℕ) → shard < setup.shards → AreLegal shard [] now.sections → AreLegal shard [] next.sections
+unit-legal setup now next (units.Batch items) served shard h legal =
+    subst (λ (c : Course). AreLegal shard [] c.sections) (sym served.leads) (legal-more shard [] now.sections (record { purpose = Asks (batch_of setup items); lists = served.lists }) legal (served.legal shard h))
+unit-legal setup now next (units.Trim most) served shard h legal =
+    subst (λ (c : Course). AreLegal shard [] c.sections) (sym served.leads) (legal-more shard [] now.sections (record { purpose = Trims; lists = served.lists }) legal (served.legal shard h))
+unit-legal setup now next units.Stats served shard h legal = subst (λ (c : Course). AreLegal shard [] c.sections) (sym served) legal
+
+pub session-legal : (setup : Setup) (us : List ScriptUnit) (course : Course) → Session setup us course → (shard : ℕ) → shard < setup.shards → AreLegal shard [] course.sections
+session-legal setup us course Opened shard h = tt
+session-legal setup us course (Served {units = before} {now = now} {next = next} unit session served) shard h = unit-legal setup now next unit served shard h (session-legal setup before now session shard h)

@@ -1,0 +1,6 @@
+pub mod Verdicts
+pub mod Replies
+pub mod Written
+pub mod Session
+pub mod Broken
+pub mod Laws

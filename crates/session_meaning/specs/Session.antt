@@ -1,0 +1,133 @@
+-- A session: what is replied to the units of a script, and which sections its journal has. Each kind of unit has its case.
+use Rattle.std.specs.Prelude.{◌≡◌, ℕ, ◌<◌, Bool, true, false, List, [], ◌∷◌, ◌++◌, length, get_or, map, drop, reverse, filter, sum_by, None}
+use Rattle.std.specs.List.{AllZip, range_with_len}
+use Rattle.valid_intervals.specs.declared.SignalCell.{SignalCell}
+use Rattle.journal_meaning.specs.declared.Entry.{Entry}
+use Rattle.journal_meaning.specs.declared.Entry.TheVariants.{Filled, Evicted}
+use Rattle.journal_meaning.specs.States.{fresh}
+use Rattle.journal_meaning.specs.Batch.{Batch}
+use Rattle.journal_meaning.specs.Replay.{IsLegalBatch, IsLegalTrim}
+use Rattle.journal_meaning.specs.Sections.{Purpose, Asks, Trims, Section, own, cells_after}
+use Rattle.journal_meaning.specs.Grown.{count}
+use Rattle.journal_meaning.specs.Laws.{of_batch}
+use Rattle.query_lines.specs.declared.unit.Item.{Item}
+use Rattle.query_lines.specs.declared.unit.Unit.{Unit as ScriptUnit}
+use Rattle.query_lines.specs.declared.unit.Unit.TheVariants as units
+use Rattle.query_lines.specs.declared.reply.Reply.{Reply}
+use Rattle.query_lines.specs.Reading.{script_units}
+use Rattle.query_lines.specs.Replies.{trimmed_line, stats_line}
+use Rattle.design.specs.Joined.{Joined}
+use Rattle.session_meaning.specs.Verdicts.{verdict_of, queries_of}
+use Rattle.session_meaning.specs.Replies.{IsReply, replies_text}
+use Rattle.session_meaning.specs.Written.{journal_text}
+
+-- what is the same throughout a session: the design, how many shards the memo has, and for how many cells each has room
+pub record Setup : Type 0 where
+  pub design : Joined
+  pub shards : ℕ
+  pub capacity : ℕ
+
+-- what a session has come to: the sections of its journal, and the text of its replies
+pub record Course : Type 0 where
+  pub sections : List Section
+  pub out : List ℕ
+
+-- as it begins
+abbrev pub opened : Course
+opened = record { sections = []; out = [] }
+
+-- one reply more
+abbrev pub with_reply : Course → List ℕ → Course
+with_reply now text = record now { out = now.out ++ text }
+
+-- one section more, and the replies that come with it
+abbrev pub with_section : Course → Purpose → List (List Entry) → List ℕ → Course
+with_section now purpose lists text =
+    record now { sections = now.sections ++ record { purpose = purpose; lists = lists } ∷ []; out = now.out ++ text }
+
+-- A batch of items.
+
+abbrev pub batch_of : Setup → List Item → Batch
+batch_of setup items = record {
+  circuit = setup.design.circuit;
+  shards = setup.shards;
+  capacity = setup.capacity;
+  queries = queries_of setup.design items;
+  site = None;
+}
+
+-- Each shard has a list of entries, legal from the cells that the sections before leave, and each item a right reply.
+pub record IsBatchServed (setup : Setup) (now next : Course) (items : List Item) : Type 0 where
+  pub lists : List (List Entry)
+  pub replies : List Reply
+  pub count : length lists ≡ setup.shards
+  pub legal : (shard : ℕ) → shard < setup.shards
+      → IsLegalBatch (batch_of setup items) shard (cells_after shard now.sections) (get_or lists shard [])
+  pub right : AllZip (λ item reply. IsReply setup.design.circuit (of_batch lists) (verdict_of setup.design item) reply) items replies
+  pub leads : next ≡ with_section now (Asks (batch_of setup items)) lists (replies_text items replies)
+
+-- A trim.
+
+-- the entries that evict the least recent of the cells, until so many are left
+abbrev pub trim_entries : ℕ → List SignalCell → List Entry
+trim_entries most cells = map (λ x. Evicted x.signal x.cell.span.start) (reverse (drop most cells))
+
+-- In each shard the last cells are evicted until few enough are left, and no others.
+pub record IsTrimServed (setup : Setup) (now next : Course) (most : ℕ) : Type 0 where
+  pub lists : List (List Entry)
+  pub count : length lists ≡ setup.shards
+  pub legal : (shard : ℕ) → shard < setup.shards → IsLegalTrim (fresh (cells_after shard now.sections)) (get_or lists shard [])
+  pub evicts : (shard : ℕ) → shard < setup.shards → get_or lists shard [] ≡ trim_entries most (cells_after shard now.sections)
+  pub leads : next ≡ with_section now Trims lists (trimmed_line (sum_by length lists))
+
+-- The counts.
+
+abbrev pub is_batch : Purpose → Bool
+is_batch (Asks batch) = true
+is_batch purpose = false
+
+abbrev pub is_fill : Entry → Bool
+is_fill (Filled q p cell) = true
+is_fill entry = false
+
+abbrev pub is_eviction : Entry → Bool
+is_eviction (Evicted signal start) = true
+is_eviction entry = false
+
+-- how many entries of the session's own memo pass the test
+abbrev pub entries_that : (Entry → Bool) → List Section → ℕ
+entries_that test sections = sum_by (λ section. sum_by (λ entries. count test (own section.purpose entries)) section.lists) sections
+
+-- how many cells are stored in all shards
+abbrev pub cells_stored : ℕ → List Section → ℕ
+cells_stored shards sections = sum_by (λ shard. length (cells_after shard sections)) (range_with_len 0 shards)
+
+abbrev pub counts_line : Setup → List Section → List ℕ
+counts_line setup sections = stats_line
+    (length (filter (λ section. is_batch section.purpose) sections))
+    (entries_that is_fill sections)
+    (entries_that is_eviction sections)
+    (cells_stored setup.shards sections)
+
+-- One unit more. A new kind of unit is one more case.
+abbrev pub IsServed : Setup → Course → ScriptUnit → Course → Type 0
+IsServed setup now (units.Batch items) next = IsBatchServed setup now next items
+IsServed setup now (units.Trim most) next = IsTrimServed setup now next most
+IsServed setup now units.Stats next = next ≡ with_reply now (counts_line setup now.sections)
+
+-- What a session comes to by these units, one after another.
+pub data Session (setup : Setup) : List ScriptUnit → Course → Type 0 where
+  Opened : Session setup [] opened
+  Served : {units : List ScriptUnit} {now next : Course} (unit : ScriptUnit)
+      → Session setup units now → IsServed setup now unit next → Session setup (units ++ unit ∷ []) next
+
+-- The session of these units has these replies, and this journal, whose head comes first.
+pub record IsSession (setup : Setup) (units : List ScriptUnit) (out journal : List ℕ) : Type 0 where
+  pub course : Course
+  pub served : Session setup units course
+  pub out_is : out ≡ course.out
+  pub journal_is : journal ≡ journal_text setup.shards setup.capacity course.sections
+
+-- The same of the units of a whole script.
+abbrev pub IsSessionOf : Setup → List ℕ → List ℕ → List ℕ → Type 0
+IsSessionOf setup script out journal = IsSession setup (script_units setup.design.circuit.horizon script) out journal

@@ -1,0 +1,38 @@
+-- What becomes of an item of a batch: the query that its line asks, or why there is none.
+use Rattle.std.specs.Prelude.{ℕ, ◌+◌, nat_le, List, [], ◌∷◌, flat_map, Option, Some, None, if◌then◌else◌}
+use Rattle.journal_meaning.specs.declared.Query.{Query}
+use Rattle.query_lines.specs.declared.line.What.{What}
+use Rattle.query_lines.specs.declared.line.What.TheVariants as whats
+use Rattle.query_lines.specs.declared.unit.Item.{Item}
+use Rattle.design.specs.Joined.{Joined}
+use Rattle.design.specs.Join.{number}
+use Rattle.session_meaning.specs.declared.Verdict.{Verdict}
+use Rattle.session_meaning.specs.declared.Verdict.TheVariants.{Ask, Unknown, Past, Bad}
+
+-- of a window of the signal, if there is one: it ends by the horizon, or it is past
+abbrev pub window_verdict : ℕ → ℕ → ℕ → ℕ → ℕ → Option ℕ → Verdict
+window_verdict horizon line from to budget None = Unknown
+window_verdict horizon line from to budget (Some signal) =
+    if nat_le to (horizon + 1)
+    then Ask (record { number = line; signal = signal; from = from; to = to; budget = budget })
+    else Past
+
+-- of what a line asks; one instant ends with the next
+abbrev pub what_verdict : Joined → ℕ → What → Verdict
+what_verdict d line (whats.Wave name from to budget) = window_verdict d.circuit.horizon line from to budget (number d.netlist name)
+what_verdict d line (whats.At name time budget) = window_verdict d.circuit.horizon line time (time + 1) budget (number d.netlist name)
+what_verdict d line whats.Bad = Bad
+
+abbrev pub verdict_of : Joined → Item → Verdict
+verdict_of d item = what_verdict d item.line item.what
+
+-- the query that is asked, if one is
+abbrev pub asked : Verdict → List Query
+asked (Ask query) = query ∷ []
+asked Unknown = []
+asked Past = []
+asked Bad = []
+
+-- the queries of a batch of these items
+abbrev pub queries_of : Joined → List Item → List Query
+queries_of d items = flat_map (λ item. asked (verdict_of d item)) items

@@ -1,0 +1,35 @@
+use Rattle.std.proofs.Common.{false, true, ap, subst}
+use Rattle.plan_machine.specs.Settle.{Advances, IsCoveredTo}
+use Rattle.plan_core.specs.Parts.{shards_in}
+use Rattle.window_answers.specs.Memos.{live, standing, is_missing}
+use Rattle.window_answers.proofs.Phases.{walks-refused, walk-begins, walks}
+use Rattle.window_answers.proofs.answers.answer_one.Goals as goal
+
+pub returns-then-fed-clause-settles : goal.returns-then-fed-clause-settles
+returns-then-fed-clause-settles g c = λ start k. walks-refused g.B.BatchName.batch c.requires.lawful g.B.BatchName.opening c.args.q c.requires.known start c.args.memo.now.shards.items c.args.fed c.requires.kept.fresh c.if-fed.true k
+
+pub returns-in-Some-clause-settles : goal.returns-in-Some-clause-settles
+returns-in-Some-clause-settles g c = λ start k.
+    let b = g.B.BatchName.batch in
+    let opening = g.B.BatchName.opening in
+    let q = c.args.q in
+    let ms = c.args.memo.now.shards.items in
+    let new = c.settle_window.new.memo.shards.items in
+    let s = walk-begins b c.requires.lawful opening q c.requires.known start ms c.args.fed c.requires.kept.fresh c.if-fed.false k in
+    let e = ap is_missing c.in-Some.is in
+    walks b c.requires.lawful opening q c.requires.known start ms c.args.fed c.requires.kept.fresh c.if-fed.false k new false
+    (subst (λ r. Advances b opening q start (shards_in ms) (live ms) (standing new r)) e (c.in_ok-runs.ensures.advances start (shards_in ms) s))
+    (subst (λ r. IsCoveredTo b.circuit q (standing new r) q.to) e (c.in_ok-runs.ensures.covered start (shards_in ms) s))
+
+pub returns-in-None-clause-settles : goal.returns-in-None-clause-settles
+returns-in-None-clause-settles g c = λ start k.
+    let b = g.B.BatchName.batch in
+    let opening = g.B.BatchName.opening in
+    let q = c.args.q in
+    let ms = c.args.memo.now.shards.items in
+    let new = c.settle_window.new.memo.shards.items in
+    let s = walk-begins b c.requires.lawful opening q c.requires.known start ms c.args.fed c.requires.kept.fresh c.if-fed.false k in
+    let e = ap is_missing c.in-None.is in
+    walks b c.requires.lawful opening q c.requires.known start ms c.args.fed c.requires.kept.fresh c.if-fed.false k new true
+    (subst (λ r. Advances b opening q start (shards_in ms) (live ms) (standing new r)) e (c.in_ok-runs.ensures.advances start (shards_in ms) s))
+    (subst (λ r. IsCoveredTo b.circuit q (standing new r) q.to) e (c.in_ok-runs.ensures.covered start (shards_in ms) s))

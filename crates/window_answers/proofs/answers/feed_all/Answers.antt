@@ -1,0 +1,38 @@
+use Rattle.std.proofs.Common.{◌+◌, [], List, take, drop, sym, subst, arith}
+use Rattle.plan_core.specs.Parts.{shards_in}
+use Rattle.window_answers.specs.declared.answers.Fed.{Fed}
+use Rattle.window_answers.specs.Memos.{entries_of}
+use Rattle.window_answers.specs.Phases.{IsFeeding}
+use Rattle.window_answers.proofs.Phases.{fed-first, fed-open, fed-next, fed-last}
+use Rattle.window_answers.proofs.answers.feed_all.Goals as goal
+
+pub loop-q-init : goal.loop-q-init
+loop-q-init g c =
+    let b = g.B.BatchName.batch in
+    let ms = c.args.memo.now.shards.items in
+    record {
+      kept = c.requires.kept;
+      fed = subst (λ (fs : List Fed). IsFeeding b (entries_of ms) (shards_in ms) (shards_in ms) [] fs c.args.queries.now) (sym c.new-fed.ensures.items) (fed-first b (shards_in ms) c.args.queries.now);
+    }
+
+pub loop-q-preserved : goal.loop-q-preserved
+loop-q-preserved g c =
+    let b = g.B.BatchName.batch in
+    let first = c.args.memo.now.shards.items in
+    let now = c.loop-q.memo.shards.items in
+    let new = c.feed_one.new.memo.shards.items in
+    let qs = c.args.queries.now in
+    let i = c.loop-q.q-index in
+    let f = c.in_ok-one.one in
+    let o = fed-open b c.requires.lawful (entries_of first) (shards_in first) qs c.requires.queries i c.loop-q-test.true _ (shards_in now) c.loop-q.fed.items c.loop-q.invariant.fed in
+    let k = c.in_ok-one.ensures.feeds (entries_of first) o in
+    record {
+      kept = c.in_ok-one.ensures.kept;
+      fed = subst (λ (fs : List Fed). IsFeeding b (entries_of first) (shards_in first) (shards_in new) (take (i + 1) qs) fs (drop (i + 1) qs)) (sym c.in_ok-push.ensures.items)
+          (fed-next b c.requires.lawful (entries_of first) (shards_in first) qs c.requires.queries i c.loop-q-test.true _ (shards_in now) (shards_in new) c.loop-q.fed.items f c.loop-q.invariant.fed k);
+    }
+
+pub returns-clause-fed : goal.returns-clause-fed
+returns-clause-fed g c =
+    let first = c.args.memo.now.shards.items in
+    fed-last g.B.BatchName.batch c.requires.lawful (entries_of first) (shards_in first) c.args.queries.now c.requires.queries (shards_in c.loop-q.memo.shards.items) c.loop-q.q-index c.loop-q.fed.items (let t = c.loop-q-test.false in omega arith) c.loop-q.invariant.fed

@@ -1,0 +1,11 @@
+use Rattle.std.proofs.Common.{take}
+use Rattle.std.specs.BTreeMap.{get}
+use Rattle.std.specs.List.{AllByRecursion}
+use Rattle.circuit_meaning.specs.Circuit.{Circuit, IsCircuit}
+use Rattle.journal_meaning.specs.Grown.{IsRightEntry}
+use Rattle.journal_meaning.specs.Index.{said, point_cmp, IsIndexed}
+use Rattle.window_answers.specs.Memos.{entries_of}
+use Rattle.window_answers.proofs.begin.read_all.Given as goal
+
+abbrev pub invariant-loop-shard : goal.invariant-loop-shard
+invariant-loop-shard g l = (c : Circuit) → IsCircuit c → AllByRecursion (IsRightEntry c) (entries_of l.shards) → IsIndexed c (said (entries_of (take l.shard-index l.shards))) (get point_cmp l.cells.cells)

@@ -1,0 +1,38 @@
+use Rattle.std.proofs.Common.{◌≡◌, Some, None, sym, ap, subst, ◌∙◌, arith, get_or}
+use Rattle.circuit_meaning.specs.Circuit.{Circuit}
+use Rattle.plan_machine.specs.Settle.{Advances}
+use Rattle.demand_points.specs.Frames.{looked_at}
+use Rattle.window_answers.specs.Memos.{IsSourceCovered, entries_of, live, standing, is_missing}
+use Rattle.window_answers.proofs.Pins.{source-start, child-asks}
+use Rattle.window_answers.proofs.visits.look.Goals as goal
+
+pub reach-requires-clause-start : goal.reach-requires-clause-start
+reach-requires-clause-start g c =
+    let b = g.B.BatchName.batch in
+    let p = c.args.frame.now.point in
+    let n = c.args.frame.now.looked in
+    let x = c.in-Some.x in
+    let there : get_or (looked_at c.args.design.now.circuit p) n None ≡ Some x = sym c.next_source.ensures.source ∙ c.in-Some.is in
+    let here : get_or (looked_at b.circuit p) n None ≡ Some x = subst (λ (d : Circuit). get_or (looked_at d p) n None ≡ Some x) c.requires.design there in
+    λ e. source-start b c.requires.lawful c.args.q c.requires.known p c.requires.needed x n here c.args.charge.now (let k = c.requires.asking.counts in omega arith) e
+
+pub returns-in-None-clause-advances : goal.returns-in-None-clause-advances
+returns-in-None-clause-advances g c = λ start first s.
+    let b = g.B.BatchName.batch in
+    let ms = c.args.memo.now.shards.items in
+    let r = c.in_ok-reach.ensures.reaches c.args.q start first s (child-asks c.args.q (entries_of ms) c.in-Some.x c.args.charge.now c.requires.asking.counts) in
+    subst (λ o. Advances b g.B.BatchName.opening c.args.q start first (live ms) (standing c.reach.new.memo.shards.items (is_missing o))) c.in-None.is r.0
+
+pub returns-in-Some-2-clause-advances : goal.returns-in-Some-2-clause-advances
+returns-in-Some-2-clause-advances g c = λ start first s.
+    let b = g.B.BatchName.batch in
+    let ms = c.args.memo.now.shards.items in
+    let r = c.in_ok-reach.ensures.reaches c.args.q start first s (child-asks c.args.q (entries_of ms) c.in-Some.x c.args.charge.now c.requires.asking.counts) in
+    subst (λ o. Advances b g.B.BatchName.opening c.args.q start first (live ms) (standing c.reach.new.memo.shards.items (is_missing o))) c.in-Some-2.is r.0
+
+pub returns-in-Some-2-clause-covered : goal.returns-in-Some-2-clause-covered
+returns-in-Some-2-clause-covered g c = λ start first s e.
+    let b = g.B.BatchName.batch in
+    let ms = c.args.memo.now.shards.items in
+    let r = c.in_ok-reach.ensures.reaches c.args.q start first s (child-asks c.args.q (entries_of ms) c.in-Some.x c.args.charge.now c.requires.asking.counts) in
+    subst (IsSourceCovered b.circuit (entries_of c.reach.new.memo.shards.items)) (sym (sym c.next_source.ensures.source ∙ c.in-Some.is)) (r.1 (ap is_missing c.in-Some-2.is))

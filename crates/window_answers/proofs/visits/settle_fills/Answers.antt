@@ -1,0 +1,50 @@
+use Rattle.std.proofs.Common.{◌≡◌, Bool, true, false, get_or, sym, subst, arith, inl, inr}
+use Rattle.std.proofs.lemmas.Bool.{cases_lt}
+use Rattle.std.proofs.lemmas.List.{get_or_default}
+use Rattle.std.proofs.lemmas.List.Elements.{All-weaker}
+use Rattle.circuit_meaning.specs.Need.{children}
+use Rattle.journal_meaning.specs.Answers.{IsCovered}
+use Rattle.plan_machine.specs.Settle.{Standing, Advances, IsVisited}
+use Rattle.plan_machine.proofs.Settle.{then}
+use Rattle.window_answers.specs.Memos.{live, standing, entries_of}
+use Rattle.window_answers.proofs.visits.settle_fills.Goals as goal
+
+pub returns-then-branch-clause-advances : goal.returns-then-branch-clause-advances
+returns-then-branch-clause-advances g c = λ start first s.
+    let b = g.B.BatchName.batch in
+    let q = c.args.q in
+    let old = live c.args.memo.now.shards.items in
+    let mid = live c.loop-p.memo.shards.items in
+    let to : Bool → Standing = standing c.settle_children.new.memo.shards.items in
+    let a = c.loop-p.invariant.advances start first s in
+    let k = c.in_ok-settle_children.ensures.advances start first a.stands in
+    then b g.B.BatchName.opening q start first old mid (to true) a (subst (λ r. Advances b g.B.BatchName.opening q start first mid (to r)) c.if-branch.true k)
+
+pub loop-p-preserved : goal.loop-p-preserved
+loop-p-preserved g c =
+    let b = g.B.BatchName.batch in
+    let q = c.args.q in
+    let old = live c.args.memo.now.shards.items in
+    let mid = live c.loop-p.memo.shards.items in
+    let new = c.settle_children.new.memo.shards.items in
+    let to : Bool → Standing = standing new in
+    record {
+      asking = c.in_ok-settle_children.ensures.asking;
+      advances = λ start first s.
+          let a = c.loop-p.invariant.advances start first s in
+          let k = c.in_ok-settle_children.ensures.advances start first a.stands in
+          then b g.B.BatchName.opening q start first old mid (to false) a (subst (λ r. Advances b g.B.BatchName.opening q start first mid (to r)) c.if-branch.false k);
+      visited = λ start first s k d low.
+          let a = c.loop-p.invariant.advances start first s in
+          let r = c.in_ok-settle_children.ensures.advances start first a.stands in
+          elim (cases_lt k c.loop-p.p-index) [
+            | inl l ↦ let p = get_or c.args.fills.now k d in All-weaker (IsCovered b.circuit (entries_of c.loop-p.memo.shards.items)) (IsCovered b.circuit (entries_of new)) r.kept (children b.circuit p.signal p.time) (c.loop-p.invariant.visited start first s k d l)
+            | inr l ↦
+                let e : k ≡ c.loop-p.p-index = omega arith in
+                subst (λ j. IsVisited b.circuit (entries_of new) (get_or c.args.fills.now j d)) (sym e)
+                (subst (IsVisited b.circuit (entries_of new)) (get_or_default c.args.fills.now c.loop-p.p-index _ d c.loop-p-test.true) (c.in_ok-settle_children.ensures.visited start first a.stands c.if-branch.false))
+          ];
+    }
+
+pub returns-clause-visited : goal.returns-clause-visited
+returns-clause-visited g c = λ start first s e k d low. c.loop-p.invariant.visited start first s k d (let t = c.loop-p-test.false in omega arith)

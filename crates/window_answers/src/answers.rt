@@ -1,0 +1,132 @@
+//! The queries of a batch, one after another.
+
+ghost use Rattle.std.specs.Prelude.{◌≡◌, min, List, [], Contains, None, length, IfOk, OnOk};
+ghost use Rattle.std.specs.BTreeMap.{get};
+ghost use Rattle.journal_meaning.specs.declared.Entry.{Entry as EntryRecord};
+ghost use Rattle.journal_meaning.specs.Index.{point_cmp};
+ghost use Rattle.strand_meaning.specs.Batches.{IsLawful};
+ghost use Rattle.plan_machine.specs.Shards.{Shard as ShardRecord};
+ghost use Rattle.plan_machine.specs.Settle.{IsOpen, SettlesQuery, charge_of};
+ghost use Rattle.plan_core.specs.Parts.{shards_in};
+ghost use Rattle.window_answers.specs.Memos.{IsKept, entries_of, standing};
+ghost use Rattle.window_answers.specs.Phases.{IsFedWith, FeedsQuery, IsFeeding, IsWalking, IsReplyTo, is_budget};
+
+use crate::fills::fills;
+use crate::memo::Memo;
+use crate::visits::{settle_fills, settle_window};
+use backsim_io::OutOfMemory;
+use demand_points::BatchName;
+use design::Design;
+use journal_meaning::Query;
+use query_lines::Reply;
+
+/// What a query is charged once its fills are visited, and whether it was refused.
+#[derive(Clone, Copy)]
+pub struct Fed {
+    pub charge: u32,
+    pub refused: bool,
+}
+
+/// So many fills, at most the budget.
+fn charge_at(fills: usize, budget: u32) -> u32
+    ensures { result ≡ min fills budget }
+{
+    if fills < budget as usize {
+        fills as u32
+    } else {
+        budget
+    }
+}
+
+/// Visits what a query filled.
+fn feed_one<B: BatchName>(memo: &mut Memo<B>, design: &Design, q: Query) -> Result<Fed, OutOfMemory>
+    requires lawful { IsLawful B.batch }
+    requires site { B.batch.site ≡ None }
+    requires design { design.now.circuit ≡ B.batch.circuit }
+    requires known { Contains B.batch.queries q }
+    requires kept { IsKept B.batch B.opening memo.old.shards.items (get point_cmp memo.old.cells.cells) }
+    ensures kept { OnOk result (IsKept B.batch B.opening memo.new.shards.items (get point_cmp memo.new.cells.cells)) }
+    ensures feeds { (start : List EntryRecord) → IsOpen B.batch.circuit q start (entries_of memo.old.shards.items)
+        → IfOk result (λ f. FeedsQuery B.batch q start (shards_in memo.old.shards.items) (shards_in memo.new.shards.items) f) }
+{
+    let points = fills(memo.alloc, &memo.shards, q.number)?;
+    let mut charge = charge_at(points.len(), q.budget);
+    let refused = settle_fills(memo, design, q, &points, &mut charge)?;
+    Ok(Fed { charge, refused })
+}
+
+/// Visits what each query filled.
+pub fn feed_all<B: BatchName>(
+    memo: &mut Memo<B>,
+    design: &Design,
+    queries: &[Query],
+) -> Result<Vec<Fed>, OutOfMemory>
+    requires lawful { IsLawful B.batch }
+    requires site { B.batch.site ≡ None }
+    requires design { design.now.circuit ≡ B.batch.circuit }
+    requires queries { queries.now ≡ B.batch.queries }
+    requires kept { IsKept B.batch B.opening memo.old.shards.items (get point_cmp memo.old.cells.cells) }
+    ensures kept { OnOk result (IsKept B.batch B.opening memo.new.shards.items (get point_cmp memo.new.cells.cells)) }
+    ensures fed { IfOk result (λ fed. IsFeeding B.batch (entries_of memo.old.shards.items) (shards_in memo.old.shards.items) (shards_in memo.new.shards.items) B.batch.queries fed.items []) }
+{
+    let mut fed = Vec::new(memo.alloc);
+    for &q in queries {
+        let one = feed_one(memo, design, q)?;
+        fed.push(one)?;
+    }
+    Ok(fed)
+}
+
+/// Walks the window of a query, unless it was refused.
+fn answer_one<B: BatchName>(
+    memo: &mut Memo<B>,
+    design: &Design,
+    q: Query,
+    fed: Fed,
+) -> Result<Reply, OutOfMemory>
+    requires lawful { IsLawful B.batch }
+    requires site { B.batch.site ≡ None }
+    requires design { design.now.circuit ≡ B.batch.circuit }
+    requires known { Contains B.batch.queries q }
+    requires counts { fed.charge ≡ charge_of (entries_of memo.old.shards.items) q }
+    requires kept { IsKept B.batch B.opening memo.old.shards.items (get point_cmp memo.old.cells.cells) }
+    ensures kept { OnOk result (IsKept B.batch B.opening memo.new.shards.items (get point_cmp memo.new.cells.cells)) }
+    ensures reply { IfOk result (IsReplyTo B.batch.circuit q) }
+    ensures settles { (start : List EntryRecord) → IsFedWith B.batch.circuit q start (entries_of memo.old.shards.items) fed
+        → IfOk result (λ r. SettlesQuery B.batch B.opening q start (shards_in memo.old.shards.items) (standing memo.new.shards.items (is_budget r))) }
+{
+    if fed.refused {
+        return Ok(Reply::Budget(q.budget));
+    }
+    let mut charge = fed.charge;
+    match settle_window(memo, design, q, &mut charge)? {
+        Some(runs) => Ok(Reply::Wave(runs)),
+        None => Ok(Reply::Budget(q.budget)),
+    }
+}
+
+/// Walks the window of each query that was not refused.
+pub fn answer_all<B: BatchName>(
+    memo: &mut Memo<B>,
+    design: &Design,
+    queries: &[Query],
+    fed: &[Fed],
+) -> Result<Vec<Reply>, OutOfMemory>
+    requires lawful { IsLawful B.batch }
+    requires site { B.batch.site ≡ None }
+    requires design { design.now.circuit ≡ B.batch.circuit }
+    requires queries { queries.now ≡ B.batch.queries }
+    requires count { length fed.now ≡ length queries.now }
+    requires kept { IsKept B.batch B.opening memo.old.shards.items (get point_cmp memo.old.cells.cells) }
+    requires fed { (start : List EntryRecord) × ((first : List ShardRecord) × IsWalking B.batch start first (shards_in memo.old.shards.items) [] [] queries.now fed.now) }
+    ensures kept { OnOk result (IsKept B.batch B.opening memo.new.shards.items (get point_cmp memo.new.cells.cells)) }
+    ensures settled { (start : List EntryRecord) (first : List ShardRecord) → IsWalking B.batch start first (shards_in memo.old.shards.items) [] [] queries.now fed.now
+        → IfOk result (λ replies. IsWalking B.batch start first (shards_in memo.new.shards.items) B.batch.queries replies.items [] []) }
+{
+    let mut replies = Vec::new(memo.alloc);
+    for k in 0..queries.len() {
+        let reply = answer_one(memo, design, queries[k], fed[k])?;
+        replies.push(reply)?;
+    }
+    Ok(replies)
+}

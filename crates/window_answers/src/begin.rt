@@ -1,0 +1,48 @@
+//! The shards as settlement begins: their claims are freed, and their entries are read.
+
+ghost use Rattle.std.specs.Prelude.{◌≡◌, ◌<◌, ℕ, [], All, length, get_or, IfOk};
+ghost use Rattle.std.specs.BTreeMap.{get};
+ghost use Rattle.std.specs.List.{AllByRecursion};
+ghost use Rattle.circuit_meaning.specs.Circuit.{Circuit, IsCircuit};
+ghost use Rattle.journal_meaning.specs.Grown.{IsRightEntry};
+ghost use Rattle.journal_meaning.specs.Index.{said, point_cmp, IsIndexed};
+ghost use Rattle.memo_shards.specs.Kept.{KeptShard, IsKnown};
+ghost use Rattle.memo_shards.specs.Ends.{FreesAll};
+ghost use Rattle.window_answers.specs.Memos.{entries_of};
+
+use crate::cells::SaidCells;
+use backsim_io::OutOfMemory;
+use demand_points::BatchName;
+use memo_shards::Shard;
+use std::alloc::Global;
+
+/// What is known of each shard.
+pub fn know_all<B: BatchName>(shards: &[Shard<B>])
+    ensures { All (IsKnown B.batch B.opening) shards.now }
+{
+    for shard in shards {
+        shard.facts();
+    }
+}
+
+/// Frees the claims of each shard.
+pub fn free_all<B: BatchName>(shards: &mut Vec<Shard<B>>)
+    ensures count { length shards.new.items ≡ length shards.old.items }
+    ensures freed { (n : ℕ) (d : KeptShard) → n < length shards.old.items → FreesAll (get_or shards.old.items n d) (get_or shards.new.items n d) }
+{
+    for k in 0..shards.len() {
+        shards[k].free_claims();
+    }
+}
+
+/// The cells that the entries of shards say.
+pub fn read_all<B: BatchName>(alloc: Global, shards: &[Shard<B>]) -> Result<SaidCells, OutOfMemory>
+    ensures { (c : Circuit) → IsCircuit c → AllByRecursion (IsRightEntry c) (entries_of shards.now)
+        → IfOk result (λ cells. IsIndexed c (said (entries_of shards.now)) (get point_cmp cells.cells)) }
+{
+    let mut cells = SaidCells::new(alloc);
+    for shard in shards {
+        cells.note_all(shard.journal())?;
+    }
+    Ok(cells)
+}

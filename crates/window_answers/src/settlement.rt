@@ -1,0 +1,75 @@
+//! Settlement of a batch.
+
+ghost use Rattle.std.specs.Prelude.{◌≡◌, None, length, IfOk, OnOk};
+ghost use Rattle.std.specs.BTreeMap.{get};
+ghost use Rattle.journal_meaning.specs.Index.{point_cmp};
+ghost use Rattle.strand_meaning.specs.Batches.{IsLawful};
+ghost use Rattle.plan_machine.specs.Settle.{AreShards, AreFreed};
+ghost use Rattle.plan_core.specs.Parts.{shards_in};
+ghost use Rattle.window_answers.specs.Shards.{AreNumbered};
+ghost use Rattle.window_answers.specs.Memos.{IsKept};
+ghost use Rattle.window_answers.specs.Settlement.{HasSettled};
+
+use crate::answers::{answer_all, feed_all};
+use crate::begin::{free_all, know_all, read_all};
+use crate::memo::Memo;
+use backsim_io::OutOfMemory;
+use demand_points::BatchName;
+use design::Design;
+use journal_meaning::Query;
+use memo_shards::Shard;
+use query_lines::Reply;
+use std::alloc::Global;
+
+/// What settlement replies to the queries, and the shards that it leaves.
+#[derive(Drop)]
+pub struct Settled<B: BatchName> {
+    pub replies: Vec<Reply>,
+    pub shards: Vec<Shard<B>>,
+}
+
+/// Frees the claims that are left, and reads the entries.
+fn begin<B: BatchName>(alloc: Global, shards: Vec<Shard<B>>) -> Result<Memo<B>, OutOfMemory>
+    requires lawful { IsLawful B.batch }
+    requires count { length shards.items ≡ B.batch.shards }
+    requires numbers { AreNumbered shards.items }
+    ensures shards { AreShards B.batch B.opening (shards_in shards.items) }
+    ensures freed { IfOk result (λ memo. AreFreed (shards_in shards.items) (shards_in memo.shards.items)) }
+    ensures kept { IfOk result (λ memo. IsKept B.batch B.opening memo.shards.items (get point_cmp memo.cells.cells)) }
+{
+    know_all(&shards);
+    let mut freed = shards;
+    free_all(&mut freed);
+    let cells = read_all(alloc, &freed)?;
+    Ok(Memo {
+        alloc,
+        shards: freed,
+        cells,
+    })
+}
+
+/// Settles a batch. The claims that are left are freed. Then what the queries filled is visited: the children of these points that
+/// neither an entry of the batch nor a base answer says are asked for alone. Then each window is walked, and what is not covered is
+/// asked for alone. Both go by the queries in order.
+pub fn settle<B: BatchName>(
+    alloc: Global,
+    design: &Design,
+    shards: Vec<Shard<B>>,
+    queries: &[Query],
+) -> Result<Settled<B>, OutOfMemory>
+    requires lawful { IsLawful B.batch }
+    requires site { B.batch.site ≡ None }
+    requires design { design.now.circuit ≡ B.batch.circuit }
+    requires queries { queries.now ≡ B.batch.queries }
+    requires count { length shards.items ≡ B.batch.shards }
+    requires numbers { AreNumbered shards.items }
+    ensures { IfOk result (λ settled. HasSettled B.batch B.opening shards.items settled.shards.items settled.replies.items) }
+{
+    let mut memo = begin(alloc, shards)?;
+    let fed = feed_all(&mut memo, design, queries)?;
+    let replies = answer_all(&mut memo, design, queries, &fed)?;
+    Ok(Settled {
+        replies,
+        shards: memo.shards,
+    })
+}

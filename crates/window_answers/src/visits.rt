@@ -1,0 +1,148 @@
+//! Settlement: what is missing of a batch is asked for by one strand after another, each alone.
+
+ghost use Rattle.std.specs.Prelude.{◌≡◌, ◌<◌, ◌≤◌, ◌+◌, ◌++◌, ℕ, List, All, Contains, Option, None, length, true, false, is_some, IfOk, IfSome, OnOk};
+ghost use Rattle.std.specs.BTreeMap.{get};
+ghost use Rattle.circuit_meaning.specs.Forward.{wave};
+ghost use Rattle.journal_meaning.specs.declared.Entry.{Entry as EntryRecord};
+ghost use Rattle.journal_meaning.specs.Answers.{IsCovered};
+ghost use Rattle.journal_meaning.specs.Batch.{IsNeededBy};
+ghost use Rattle.journal_meaning.specs.Index.{point_cmp};
+ghost use Rattle.strand_meaning.specs.Batches.{IsLawful};
+ghost use Rattle.plan_machine.specs.Shards.{Shard as ShardRecord};
+ghost use Rattle.plan_machine.specs.Settle.{IsStanding, Advances, IsVisited, IsCoveredTo, entries_in};
+ghost use Rattle.demand_points.specs.Frames.{IsFrame, IsLooking, LooksOn, next_source};
+ghost use Rattle.plan_core.specs.Parts.{shards_in};
+ghost use Rattle.window_answers.specs.Memos.{IsAsking, IsSourceCovered, entries_of, live, standing, is_missing};
+
+use crate::memo::{Memo, reach};
+use backsim_io::OutOfMemory;
+use demand_points::{BatchName, Frame};
+use design::Design;
+use journal_meaning::Query;
+use query_lines::{Runs, WindowWalk};
+use valid_intervals::Point;
+
+/// Looks at the next pin of a filled point; none where the query is refused.
+fn look<B: BatchName>(
+    memo: &mut Memo<B>,
+    design: &Design,
+    q: Query,
+    frame: &Frame,
+    charge: &mut u32,
+) -> Result<Option<Frame>, OutOfMemory>
+    requires lawful { IsLawful B.batch }
+    requires design { design.now.circuit ≡ B.batch.circuit }
+    requires known { Contains B.batch.queries q }
+    requires frame { IsFrame design.now.circuit frame.now }
+    requires looking { IsLooking design.now.circuit frame.now }
+    requires needed { IsNeededBy B.batch q frame.now.point }
+    requires asking { IsAsking B.batch B.opening memo.old.shards.items (get point_cmp memo.old.cells.cells) q charge.old }
+    ensures asking { OnOk result (IsAsking B.batch B.opening memo.new.shards.items (get point_cmp memo.new.cells.cells) q charge.new) }
+    ensures frame { IfOk result (λ r. IfSome r (LooksOn design.now.circuit frame.now)) }
+    ensures advances { (start : List EntryRecord) (first : List ShardRecord) → IsStanding B.batch B.opening q start first (live memo.old.shards.items)
+        → IfOk result (λ r. Advances B.batch B.opening q start first (live memo.old.shards.items) (standing memo.new.shards.items (is_missing r))) }
+    ensures covered { (start : List EntryRecord) (first : List ShardRecord) → IsStanding B.batch B.opening q start first (live memo.old.shards.items)
+        → IfOk result (λ r. is_missing r ≡ false → IsSourceCovered B.batch.circuit (entries_of memo.new.shards.items) (next_source design.now.circuit frame.now)) }
+{
+    let Some(x) = frame.next_source(design) else {
+        return Ok(Some(frame.see(design, None)));
+    };
+    let query = Query {
+        number: q.number,
+        signal: x.signal,
+        from: x.time,
+        to: x.time + 1,
+        budget: q.budget,
+    };
+    match reach(memo, design, query, x.time, charge)? {
+        None => Ok(None),
+        Some(cell) => Ok(Some(frame.see(design, Some(cell)))),
+    }
+}
+
+/// Asks for the children of a filled point that are missing; whether the query is refused.
+fn settle_children<B: BatchName>(
+    memo: &mut Memo<B>,
+    design: &Design,
+    q: Query,
+    p: Point,
+    charge: &mut u32,
+) -> Result<bool, OutOfMemory>
+    requires lawful { IsLawful B.batch }
+    requires site { B.batch.site ≡ None }
+    requires design { design.now.circuit ≡ B.batch.circuit }
+    requires known { Contains B.batch.queries q }
+    requires needed { IsNeededBy B.batch q p }
+    requires asking { IsAsking B.batch B.opening memo.old.shards.items (get point_cmp memo.old.cells.cells) q charge.old }
+    ensures asking { OnOk result (IsAsking B.batch B.opening memo.new.shards.items (get point_cmp memo.new.cells.cells) q charge.new) }
+    ensures advances { (start : List EntryRecord) (first : List ShardRecord) → IsStanding B.batch B.opening q start first (live memo.old.shards.items)
+        → IfOk result (λ r. Advances B.batch B.opening q start first (live memo.old.shards.items) (standing memo.new.shards.items r)) }
+    ensures visited { (start : List EntryRecord) (first : List ShardRecord) → IsStanding B.batch B.opening q start first (live memo.old.shards.items)
+        → IfOk result (λ r. r ≡ false → IsVisited B.batch.circuit (entries_of memo.new.shards.items) p) }
+{
+    let mut frame = Frame::new(design, p);
+    'pins: while !frame.is_done(design) {
+        match look(memo, design, q, &frame, charge)? {
+            None => return Ok(true),
+            Some(next) => frame = next,
+        }
+    }
+    Ok(false)
+}
+
+/// Visits points that the query filled; whether it is refused.
+pub fn settle_fills<B: BatchName>(
+    memo: &mut Memo<B>,
+    design: &Design,
+    q: Query,
+    fills: &[Point],
+    charge: &mut u32,
+) -> Result<bool, OutOfMemory>
+    requires lawful { IsLawful B.batch }
+    requires site { B.batch.site ≡ None }
+    requires design { design.now.circuit ≡ B.batch.circuit }
+    requires known { Contains B.batch.queries q }
+    requires needed { All (IsNeededBy B.batch q) fills.now }
+    requires asking { IsAsking B.batch B.opening memo.old.shards.items (get point_cmp memo.old.cells.cells) q charge.old }
+    ensures asking { OnOk result (IsAsking B.batch B.opening memo.new.shards.items (get point_cmp memo.new.cells.cells) q charge.new) }
+    ensures advances { (start : List EntryRecord) (first : List ShardRecord) → IsStanding B.batch B.opening q start first (live memo.old.shards.items)
+        → IfOk result (λ r. Advances B.batch B.opening q start first (live memo.old.shards.items) (standing memo.new.shards.items r)) }
+    ensures visited { (start : List EntryRecord) (first : List ShardRecord) → IsStanding B.batch B.opening q start first (live memo.old.shards.items)
+        → IfOk result (λ r. r ≡ false → All (IsVisited B.batch.circuit (entries_of memo.new.shards.items)) fills.now) }
+{
+    for &p in fills {
+        if settle_children(memo, design, q, p, charge)? {
+            return Ok(true);
+        }
+    }
+    Ok(false)
+}
+
+/// Walks the window of a query, and asks for what is missing; none where it is refused.
+pub fn settle_window<B: BatchName>(
+    memo: &mut Memo<B>,
+    design: &Design,
+    q: Query,
+    charge: &mut u32,
+) -> Result<Option<Runs>, OutOfMemory>
+    requires lawful { IsLawful B.batch }
+    requires site { B.batch.site ≡ None }
+    requires design { design.now.circuit ≡ B.batch.circuit }
+    requires known { Contains B.batch.queries q }
+    requires asking { IsAsking B.batch B.opening memo.old.shards.items (get point_cmp memo.old.cells.cells) q charge.old }
+    ensures asking { OnOk result (IsAsking B.batch B.opening memo.new.shards.items (get point_cmp memo.new.cells.cells) q charge.new) }
+    ensures wave { IfOk result (λ r. IfSome r (λ runs. runs ≡ wave B.batch.circuit q.signal q.from q.to)) }
+    ensures advances { (start : List EntryRecord) (first : List ShardRecord) → IsStanding B.batch B.opening q start first (live memo.old.shards.items)
+        → IfOk result (λ r. Advances B.batch B.opening q start first (live memo.old.shards.items) (standing memo.new.shards.items (is_missing r))) }
+    ensures covered { (start : List EntryRecord) (first : List ShardRecord) → IsStanding B.batch B.opening q start first (live memo.old.shards.items)
+        → IfOk result (λ r. IsCoveredTo B.batch.circuit q (standing memo.new.shards.items (is_missing r)) q.to) }
+{
+    let mut walk = WindowWalk::new(memo.alloc, q.from, q.to);
+    'roots: while let Some(time) = walk.next() {
+        let Some(cell) = reach(memo, design, q, time, charge)? else {
+            return Ok(None);
+        };
+        walk.push(cell)?;
+    }
+    Ok(Some(walk.into_runs()))
+}

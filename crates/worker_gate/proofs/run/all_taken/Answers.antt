@@ -1,0 +1,18 @@
+use Rattle.std.proofs.Common.{rules, ◌≡◌, arith, length}
+use Rattle.std.proofs.lemmas.List.Sums.{sum_by_push}
+use Rattle.worker_gate.specs.Ends.{booked_in}
+use Rattle.worker_gate.proofs.Places.{places_more}
+use Rattle.worker_gate.proofs.run.all_taken.Goals as goal
+
+pub loop-i-preserved : goal.loop-i-preserved
+loop-i-preserved g c =
+    let h = c.taken-shard.result in
+    let old = c.loop-i.invariant in
+    let items = c.in_ok-push.ensures.items in
+    let e = sum_by_push booked_in c.loop-i.shards.items h.shard in
+    record {
+      count = search rules;
+      parts = omega (arith, old.parts, h.one, c.merge.ensures.parts);
+      amount = rw items (omega (arith, e, old.amount, h.amount, c.merge.ensures.amount));
+      numbers = let n : length c.loop-i.shards.items ≡ c.loop-i.i = search rules in rw items (places_more (λ s k. s.number ≡ k) c.loop-i.shards.items h.shard c.loop-i.i n old.numbers c.taken-shard.ensures);
+    }

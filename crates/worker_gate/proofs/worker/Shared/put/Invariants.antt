@@ -1,0 +1,8 @@
+use Rattle.std.proofs.Common.{◌≡◌}
+use Rattle.strand_meaning.specs.Strands.{next}
+use Rattle.strand_meaning.specs.declared.Next.TheVariants.{Done}
+use Rattle.worker_gate.proofs.worker.Shared.put.Given as goal
+
+abbrev pub invariant-loop : goal.invariant-loop
+invariant-loop g l =
+    (goal.iterator-loop g).can_next l.iterator' × (goal.iterator-loop g).is_finite l.iterator' × (next l.strand.strand ≡ Done)

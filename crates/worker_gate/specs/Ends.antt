@@ -1,0 +1,42 @@
+-- Strands that have ended, at their places.
+use Rattle.std.specs.Prelude.{◌≡◌, ◌≢◌, ℕ, ◌+◌, ◌<◌, true, List, [], length, Option, Some, None, slice_get, slice_index}
+use Rattle.journal_meaning.specs.Counts.{booked}
+use Rattle.demand_points.specs.declared.strand.Task.{Task}
+use Rattle.demand_points.specs.Demands.{Demand}
+use Rattle.strand_meaning.specs.Strands.{next}
+use Rattle.strand_meaning.specs.declared.Next.TheVariants.{Done}
+use Rattle.memo_shards.specs.Kept.{KeptShard}
+
+-- what a strand was started with
+abbrev pub task_of : Demand → Task
+task_of s = record { query = s.strand.query; from = s.from; to = s.to; budget = s.strand.budget }
+
+-- The strand has ended, with this number and this task; it is spent only at its full budget, and it has claimed and filled so often.
+abbrev pub IsEnd : Demand → ℕ → Task → ℕ → Type 0
+IsEnd s number task count = (next s.strand ≡ Done) × (s.number ≡ number) × (task_of s ≡ task) × (s.strand.spent ≡ true → s.strand.charged ≡ s.strand.budget) × (count ≡ s.strand.charged + s.strand.filled)
+
+-- each place is empty, or has such a strand
+abbrev pub AreEnds : List (Option Demand) → List Task → List ℕ → Type 0
+AreEnds places tasks counts = (i : ℕ) (s : Demand) (t : Task) → slice_get places i ≡ Some (Some s) → slice_get tasks i ≡ Some t → IsEnd s i t (slice_index counts i)
+
+-- no place is empty
+abbrev pub AreFilled : List (Option Demand) → Type 0
+AreFilled places = (i : ℕ) → i < length places → slice_get places i ≢ Some None
+
+-- each shard has the number of its place
+abbrev pub AreInOrder : List KeptShard → Type 0
+AreInOrder shards = (i : ℕ) (m : KeptShard) → slice_get shards i ≡ Some m → m.number ≡ i
+
+-- The strand has this number, and has neither claimed nor filled a point.
+pub record IsNew (n : ℕ) (s : Demand) : Type 0 where
+  pub number : s.number ≡ n
+  pub charged : s.strand.charged ≡ 0
+  pub free : s.strand.stack ≡ []
+  pub filled : s.strand.filled ≡ 0
+
+abbrev pub AreNew : List Demand → Type 0
+AreNew strands = (i : ℕ) (s : Demand) → slice_get strands i ≡ Some s → IsNew i s
+
+-- how many claims and fills a shard has recorded
+abbrev pub booked_in : KeptShard → ℕ
+booked_in m = booked m.shard.journal

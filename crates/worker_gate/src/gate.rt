@@ -1,0 +1,36 @@
+//! The gate of the workers: a test can hold them there.
+
+ghost use Rattle.std.specs.Prelude.{◌≡◌, Bool, true};
+
+/// What a gate answers a worker before a turn.
+#[derive(Clone, Copy, Debug, PartialEq, Eq)]
+pub enum Pass {
+    Go,
+    Leave,
+}
+
+/// A gate that each worker passes before each turn, and within each shard's lock.
+pub trait Gate: Sync {
+    /// Whether it lets every worker go on.
+    ghost is_open: { Self → Bool };
+
+    /// Called before each turn of a strand.
+    fn before(&self, worker: u32) -> Pass
+        ensures { is_open self.now ≡ true → result ≡ Pass.Go };
+
+    /// Called while the shard's lock is held, before its step.
+    fn within(&self, worker: u32, shard: u32);
+}
+
+/// The gate that is open, and at which nobody waits.
+pub struct OpenGate;
+
+impl Gate for OpenGate {
+    ghost is_open = { λ _. true };
+
+    fn before(&self, _worker: u32) -> Pass {
+        Pass::Go
+    }
+
+    fn within(&self, _worker: u32, _shard: u32) {}
+}

@@ -1,0 +1,446 @@
+//! Two workers over small designs, with gates that hold them where they have to meet.
+
+ghost use Rattle.std.specs.Prelude.{◌≡◌, ◌+◌, ◌<◌, ◌≤◌, ℕ, false, [], length, vec_len, All, IfOk, IfSome};
+ghost use Rattle.strand_meaning.specs.Batches.{IsLawful, IsQueryOf};
+ghost use Rattle.worker_gate.specs.Ends.{AreInOrder, AreNew};
+
+use super::*;
+use backsim_io::OutOfMemory;
+use bench_reader::read_bench;
+use cell_store::CellStore;
+use demand_points::{BatchName, Strand};
+use design::{Design, JoinFault};
+use gate_values::Value;
+use journal_meaning::{Entry, Query};
+use memo_shards::Shard;
+use std::alloc::Global;
+use std::marker::Brand;
+use std::sync::Wait;
+use std::sync::atomic::{AtomicU64, Ordering};
+use std::test::Fail;
+use std::thread;
+use std::thread::Threads;
+use stimulus_file::read_stimulus;
+use timing_file::read_timing;
+
+const CHAIN: &str = "INPUT(a)\nOUTPUT(n3)\nn1 = BUFF(a)\nn2 = BUFF(n1)\nn3 = BUFF(n2)\n";
+
+const FORK: &str = "INPUT(a)\np = BUFF(a)\nq = BUFF(a)\n";
+
+/// The text, where it is short.
+fn short(text: &str) -> &[u8]
+    ensures { length result.now ≤ 1000 }
+{
+    let bytes = text.as_bytes();
+    if bytes.len() > 1000 { &[] } else { bytes }
+}
+
+/// The design of a netlist with delays of 1, whose input is 1 from time 0 to the horizon, 10.
+fn joined(alloc: Global, netlist: &str) -> Result<Result<Design, JoinFault>, Fail> {
+    let netlist = read_bench(alloc, short(netlist))?;
+    let timing = read_timing(alloc, short(""))?;
+    let stimulus = read_stimulus(alloc, short("horizon 10\nset a 0 1\n"))?;
+    Ok(Design::join(alloc, netlist, &timing, &stimulus))
+}
+
+/// An entry: its query with the signal and time of its point, and of a fill the start and end of the cell and its value.
+#[derive(Clone, Copy, Debug, PartialEq, Eq)]
+enum Line {
+    Told(u32, u32, u32),
+    Claim(u32, u32, u32),
+    Fill(u32, u32, u32, u32, u32, Value),
+    Other,
+}
+
+fn line_of(entry: &Entry) -> Line {
+    match *entry {
+        Entry::Told { q, p, .. } => Line::Told(q, p.signal, p.time),
+        Entry::Claimed { q, p } => Line::Claim(q, p.signal, p.time),
+        Entry::Filled { q, p, cell } => Line::Fill(
+            q,
+            p.signal,
+            p.time,
+            cell.span.start(),
+            cell.span.end(),
+            cell.value,
+        ),
+        _ => Line::Other,
+    }
+}
+
+/// What the workers left: whether both strands have ended, their counts, and the entries of all journals.
+#[derive(Drop)]
+struct Served {
+    ended: bool,
+    first: u64,
+    second: u64,
+    fills: u64,
+    lines: Vec<Line>,
+}
+
+/// The shards of a batch that begins with empty stores.
+fn shards_of<B: BatchName>(alloc: Global, shards: u32) -> Result<Vec<Shard<B>>, OutOfMemory>
+    requires lawful { IsLawful B.batch }
+    requires shards { B.batch.shards ≡ shards }
+    requires capacity { B.batch.capacity ≡ 8 }
+    requires opening { (n : ℕ) → B.opening n ≡ [] }
+    ensures count { IfOk result (λ v. vec_len v ≡ shards) }
+    ensures order { IfOk result (λ v. AreInOrder v.items) }
+    ensures empty { IfOk result (λ v. All (λ m. m.shard.journal ≡ []) v.items) }
+{
+    let mut made = Vec::new(alloc);
+    for number in 0..shards {
+        let store = CellStore::new(alloc, 8)?;
+        let shard = Shard::<B>::begin(alloc, number, store);
+        made.push(shard)?;
+    }
+    Ok(made)
+}
+
+/// A strand for each of the two queries.
+fn strands_of<B: BatchName>(
+    alloc: Global,
+    first: Query,
+    second: Query,
+) -> Result<Vec<Strand<B>>, OutOfMemory>
+    requires lawful { IsLawful B.batch }
+    requires first { IsQueryOf B.batch first }
+    requires second { IsQueryOf B.batch second }
+    ensures count { IfOk result (λ v. vec_len v ≡ 2) }
+    ensures new { IfOk result (λ v. AreNew v.items) }
+{
+    let one = Strand::<B>::start(alloc, 0, first, first.from, first.to, first.budget, 0);
+    let two = Strand::<B>::start(alloc, 1, second, second.from, second.to, second.budget, 0);
+    Ok(vec![in alloc; one, two]?)
+}
+
+/// The entries of all journals.
+fn lines_of<B: BatchName>(alloc: Global, shards: Vec<Shard<B>>) -> Result<Vec<Line>, OutOfMemory> {
+    let mut lines = Vec::new(alloc);
+    for shard in shards {
+        for entry in shard.journal() {
+            lines.push(line_of(entry))?;
+        }
+    }
+    Ok(lines)
+}
+
+/// How many of the entries are fills.
+fn fills_in(lines: &[Line]) -> u64 {
+    let mut fills = 0u64;
+    for line in lines {
+        if let Line::Fill(..) = line {
+            fills = fills.wrapping_add(1);
+        }
+    }
+    fills
+}
+
+/// What the workers leave of a strand for each of the two queries.
+fn serve<B: BatchName + Send + Sync, G: Gate, R: Threads + Wait + Sync>(
+    rt: &R,
+    alloc: Global,
+    design: &Design,
+    first: Query,
+    second: Query,
+    shards: u32,
+    workers: u32,
+    gate: &G,
+) -> Result<Served, OutOfMemory>
+    requires circuit { design.now.circuit ≡ B.batch.circuit }
+    requires lawful { IsLawful B.batch }
+    requires shards { B.batch.shards ≡ shards }
+    requires few { (0 < shards) × (shards ≤ 64) }
+    requires capacity { B.batch.capacity ≡ 8 }
+    requires opening { (n : ℕ) → B.opening n ≡ [] }
+    requires first { IsQueryOf B.batch first }
+    requires second { IsQueryOf B.batch second }
+    requires workers { (0 < workers) × (workers ≤ 64) }
+{
+    let made = shards_of::<B>(alloc, shards)?;
+    let strands = strands_of::<B>(alloc, first, second)?;
+    let ran = run_workers(rt, alloc, design, made, strands, workers, gate)?;
+    let ended = ran.strands.strand(0).is_some() && ran.strands.strand(1).is_some();
+    let first = ran.counts.amount(0);
+    let second = ran.counts.amount(1);
+    let lines = lines_of(alloc, ran.shards.into_vec())?;
+    Ok(Served {
+        ended,
+        first,
+        second,
+        fills: fills_in(&lines),
+        lines,
+    })
+}
+
+/// The query with this number for one time of a signal, where the design has it.
+fn at(design: &Design, number: u32, name: &str, time: u32) -> Option<Query>
+    ensures { IfSome result (λ q. (q.number ≡ number) × (q.signal < length design.now.circuit.drivers) × (q.to ≤ design.now.circuit.horizon + 1)) }
+{
+    design.facts();
+    let signal = design.netlist().id_of(name.as_bytes())?;
+    if time > design.horizon() {
+        return None;
+    }
+    Some(Query {
+        number,
+        signal,
+        from: time,
+        to: time + 1,
+        budget: 9,
+    })
+}
+
+/// Serves two queries for one time each.
+fn serve_two<G: Gate, R: Threads + Wait + Sync>(
+    rt: &R,
+    alloc: Global,
+    design: &Design,
+    first: Option<Query>,
+    second: Option<Query>,
+    shards: u32,
+    gate: &G,
+) -> Result<Option<Served>, OutOfMemory>
+    requires first { IfSome first (λ q. (q.number ≡ 1) × (q.signal < length design.now.circuit.drivers) × (q.to ≤ design.now.circuit.horizon + 1)) }
+    requires second { IfSome second (λ q. (q.number ≡ 2) × (q.signal < length design.now.circuit.drivers) × (q.to ≤ design.now.circuit.horizon + 1)) }
+    requires few { (0 < shards) × (shards ≤ 64) }
+{
+    design.facts();
+    let Some(first) = first else {
+        return Ok(None);
+    };
+    let Some(second) = second else {
+        return Ok(None);
+    };
+    Ok(Some(serve::<Brand, G, R>(rt, alloc, design, first, second, shards, 2, gate)?))
+}
+
+const LOOKS: u64 = 10_000_000;
+
+/// Looks until the number is as great as wanted; false where that did not come.
+fn hold(number: &AtomicU64, wanted: u64) -> bool {
+    for _ in 0..LOOKS {
+        if number.load(Ordering::SeqCst) >= wanted {
+            return true;
+        }
+        thread::yield_now();
+    }
+    false
+}
+
+/// How often a worker, or the workers at a shard, came.
+#[derive(Drop)]
+struct Visits {
+    before: AtomicU64,
+    within: AtomicU64,
+}
+
+impl Visits {
+    fn new() -> Visits {
+        Visits {
+            before: AtomicU64::new(0),
+            within: AtomicU64::new(0),
+        }
+    }
+}
+
+/// Holds worker 0 before its first turn until worker 1 has come, and each worker within a shard until another is within the other shard.
+#[derive(Drop)]
+struct Apart {
+    came: AtomicU64,
+    zero: AtomicU64,
+    one: AtomicU64,
+    gave_up: AtomicU64,
+}
+
+impl Apart {
+    fn hold(&self, number: &AtomicU64) {
+        if !hold(number, 1) {
+            self.gave_up.store(1, Ordering::SeqCst);
+        }
+    }
+}
+
+impl Gate for Apart {
+    ghost is_open = { λ _. false };
+
+    fn before(&self, worker: u32) -> Pass {
+        if worker == 0 {
+            self.hold(&self.came);
+        } else {
+            self.came.store(1, Ordering::SeqCst);
+        }
+        Pass::Go
+    }
+
+    fn within(&self, _worker: u32, shard: u32) {
+        if shard == 0 {
+            self.zero.store(1, Ordering::SeqCst);
+            self.hold(&self.one);
+        } else {
+            self.one.store(1, Ordering::SeqCst);
+            self.hold(&self.zero);
+        }
+    }
+}
+
+/// Holds the second turn of each worker until the other has come to its second, and the fourth turn of a worker until the other has
+/// come within a shard for the second time.
+#[derive(Drop)]
+struct Meeting {
+    zero: Visits,
+    one: Visits,
+    gave_up: AtomicU64,
+}
+
+impl Meeting {
+    fn hold(&self, number: &AtomicU64) {
+        if !hold(number, 2) {
+            self.gave_up.store(1, Ordering::SeqCst);
+        }
+    }
+
+    fn of(&self, worker: u32) -> &Visits {
+        if worker == 0 { &self.zero } else { &self.one }
+    }
+}
+
+impl Gate for Meeting {
+    ghost is_open = { λ _. false };
+
+    fn before(&self, worker: u32) -> Pass {
+        let other = if worker == 0 { 1 } else { 0 };
+        let earlier = self.of(worker).before.fetch_add(1, Ordering::SeqCst);
+        if earlier == 1 {
+            self.hold(&self.of(other).before);
+        }
+        if earlier == 3 {
+            self.hold(&self.of(other).within);
+        }
+        Pass::Go
+    }
+
+    fn within(&self, worker: u32, _shard: u32) {
+        self.of(worker).within.fetch_add(1, Ordering::SeqCst);
+    }
+}
+
+/// A gate that sends each worker away before its second turn.
+#[derive(Drop)]
+struct Closing {
+    turns: AtomicU64,
+}
+
+impl Gate for Closing {
+    ghost is_open = { λ _. false };
+
+    fn before(&self, _worker: u32) -> Pass {
+        if self.turns.fetch_add(1, Ordering::SeqCst) < 1 {
+            Pass::Go
+        } else {
+            Pass::Leave
+        }
+    }
+
+    fn within(&self, _worker: u32, _shard: u32) {}
+}
+
+#[test]
+fn each_point_is_evaluated_once(rt: HostRuntime) -> Result<(), Fail> {
+    let design = joined(rt.alloc(), CHAIN)??;
+    let first = at(&design, 1, "n3", 5);
+    let second = at(&design, 2, "n2", 4);
+    let served = serve_two(&rt, rt.alloc(), &design, first, second, 2, &OpenGate)?;
+    let served = served.expect(&rt, "two signals within the horizon");
+    assert!(rt; served.ended);
+    // three points, each claimed and filled once
+    assert_eq!(rt; served.first.wrapping_add(served.second), 6);
+    assert_eq!(rt; served.fills, 3);
+    Ok(())
+}
+
+const APART: [Line; 4] = [
+    Line::Claim(2, 2, 5),
+    Line::Fill(2, 2, 5, 1, 11, Value::One),
+    Line::Claim(1, 1, 5),
+    Line::Fill(1, 1, 5, 1, 11, Value::One),
+];
+
+#[test]
+fn two_shards_are_held_at_once(rt: HostRuntime) -> Result<(), Fail> {
+    let design = joined(rt.alloc(), FORK)??;
+    let first = at(&design, 1, "p", 5);
+    let second = at(&design, 2, "q", 5);
+    let gate = Apart {
+        came: AtomicU64::new(0),
+        zero: AtomicU64::new(0),
+        one: AtomicU64::new(0),
+        gave_up: AtomicU64::new(0),
+    };
+    let served = serve_two(&rt, rt.alloc(), &design, first, second, 2, &gate)?;
+    let served = served.expect(&rt, "two signals within the horizon");
+    assert_eq!(rt; gate.gave_up.load(Ordering::SeqCst), 0);
+    assert_eq!(rt; gate.came.load(Ordering::SeqCst), 1);
+    assert!(rt; served.ended);
+    assert!(rt; served.lines.as_slice() == APART.as_slice());
+    Ok(())
+}
+
+const FIRST_BEGINS: [Line; 6] = [
+    Line::Claim(1, 1, 5),
+    Line::Claim(2, 3, 4),
+    Line::Claim(2, 2, 3),
+    Line::Fill(2, 2, 3, 1, 11, Value::One),
+    Line::Fill(2, 3, 4, 2, 11, Value::One),
+    Line::Fill(1, 1, 5, 3, 11, Value::One),
+];
+
+const SECOND_BEGINS: [Line; 6] = [
+    Line::Claim(2, 3, 4),
+    Line::Claim(1, 1, 5),
+    Line::Claim(2, 2, 3),
+    Line::Fill(2, 2, 3, 1, 11, Value::One),
+    Line::Fill(2, 3, 4, 2, 11, Value::One),
+    Line::Fill(1, 1, 5, 3, 11, Value::One),
+];
+
+/// Whether both strands claim a point, the second one fills all that it needs, and then the first one fills its own.
+fn meets(lines: &[Line]) -> bool {
+    lines == FIRST_BEGINS.as_slice() || lines == SECOND_BEGINS.as_slice()
+}
+
+#[test]
+fn a_strand_waits_for_another_worker(rt: HostRuntime) -> Result<(), Fail> {
+    let design = joined(rt.alloc(), CHAIN)??;
+    let first = at(&design, 1, "n3", 5);
+    let second = at(&design, 2, "n2", 4);
+    let gate = Meeting {
+        zero: Visits::new(),
+        one: Visits::new(),
+        gave_up: AtomicU64::new(0),
+    };
+    let served = serve_two(&rt, rt.alloc(), &design, first, second, 1, &gate)?;
+    let served = served.expect(&rt, "two signals within the horizon");
+    assert_eq!(rt; gate.gave_up.load(Ordering::SeqCst), 0);
+    assert!(rt; served.ended);
+    assert_eq!(rt; (served.first, served.second), (2, 4));
+    assert!(rt; meets(&served.lines));
+    Ok(())
+}
+
+#[test]
+fn a_closing_gate_leaves_strands(rt: HostRuntime) -> Result<(), Fail> {
+    let design = joined(rt.alloc(), CHAIN)??;
+    let first = at(&design, 1, "n3", 5);
+    let second = at(&design, 2, "n2", 4);
+    let gate = Closing {
+        turns: AtomicU64::new(0),
+    };
+    let served = serve_two(&rt, rt.alloc(), &design, first, second, 2, &gate)?;
+    let served = served.expect(&rt, "two signals within the horizon");
+    assert!(rt; !served.ended);
+    // the one turn that was made
+    assert_eq!(rt; served.first.wrapping_add(served.second), 1);
+    assert_eq!(rt; served.lines.len(), 1);
+    Ok(())
+}

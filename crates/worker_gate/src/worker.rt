@@ -1,0 +1,350 @@
+//! What one worker does.
+
+ghost use Rattle.std.specs.Prelude.{◌≡◌, ◌<◌, ◌%◌, true, false};
+ghost use Rattle.ready_queue.specs.Queue.{IsPassOf};
+ghost use Rattle.strand_meaning.specs.Strands.{next};
+ghost use Rattle.strand_meaning.specs.declared.Next.TheVariants.{Ask, Fill, Drop, Done};
+
+use crate::board::Board;
+use crate::gate::{Gate, Pass};
+use crate::slot::Slot;
+use backsim_io::OutOfMemory;
+use demand_points::{BatchName, Next, Point, Strand};
+use design::Design;
+use memo_shards::Asked;
+use ready_queue::{QueuePass, ReadyQueue};
+use smallvec::SmallVec;
+use std::sync::ledger::Ledger;
+use std::sync::{Condvar, Mutex, Wait};
+
+/// What the workers share: each shard behind a lock of its own, the board, and the queue of strands that are ready.
+#[derive(Drop)]
+pub struct Shared<B: BatchName, L: Ledger> {
+    pub slots: Vec<Mutex<Slot<B, L>>>,
+    pub board: Mutex<Board<B, L>>,
+    pub moved: Condvar,
+    pub queue: ReadyQueue<Strand<B>>,
+    pub count: u32,
+    ghost named: { count ≡ B.batch.shards },
+    ghost some: { 0 < count },
+}
+
+/// What became of a strand's turn.
+#[derive(Drop)]
+pub enum Turn<B: BatchName> {
+    /// It goes on.
+    Goes(Strand<B>),
+    /// It waits in a shard, or stands on the board.
+    Rests,
+    /// Memory ran out.
+    NoMemory,
+}
+
+// What becomes of a strand that has asked.
+fn after_ask<B: BatchName>(asked: Result<Asked<B>, (Strand<B>, OutOfMemory)>) -> Turn<B> {
+    match asked {
+        Ok(Asked::Told(s)) => Turn::Goes(s),
+        Ok(Asked::Claimed(s)) => Turn::Goes(s),
+        Ok(Asked::Spent(s)) => Turn::Goes(s),
+        Ok(Asked::Waits) => Turn::Rests,
+        Err(_) => Turn::NoMemory,
+    }
+}
+
+impl<B: BatchName, L: Ledger> Shared<B, L> {
+    // Tells of a push or an end.
+    fn tell<R: Wait>(&self, rt: &R) {
+        let mut board = self.board.lock(rt);
+        board.moves = board.moves.wrapping_add(1);
+        self.moved.notify_all();
+    }
+
+    // Tells of want of memory.
+    fn give_up<R: Wait>(&self, rt: &R) {
+        let mut board = self.board.lock(rt);
+        board.no_memory = true;
+        self.moved.notify_all();
+    }
+
+    // The number of moves so far, or none where memory ran out.
+    fn look<R: Wait>(&self, rt: &R) -> Option<u64> {
+        let board = self.board.lock(rt);
+        if board.no_memory {
+            None
+        } else {
+            Some(board.moves)
+        }
+    }
+
+    // Waits for a push or an end. True where there is nothing more to do.
+    fn wait_past<R: Wait>(&self, rt: &R, seen: u64) -> bool {
+        let board = self.moved.wait_while(rt, self.board.lock(rt), |b| {
+            b.moves == seen && !b.no_memory && !b.is_full()
+        });
+        board.no_memory || board.is_full()
+    }
+
+    // Puts a strand into the queue, however often it is refused.
+    fn push<R: Wait>(&self, rt: &R, pass: &mut QueuePass<Strand<B>>, strand: Strand<B>)
+        requires { IsPassOf self.now.queue pass.old }
+        ensures { IsPassOf self.now.queue pass.new }
+    {
+        let mut strand = strand;
+        for _ in rt.forever() {
+            match self.queue.push(rt, pass, strand) {
+                Ok(()) => {
+                    self.tell(rt);
+                    return;
+                }
+                Err(back) => strand = back,
+            }
+        }
+        unreachable!()
+    }
+
+    /// Puts the strands into the queue, in their order.
+    pub fn push_all<R: Wait>(
+        &self,
+        rt: &R,
+        pass: &mut QueuePass<Strand<B>>,
+        strands: Vec<Strand<B>>,
+    )
+        requires { IsPassOf self.now.queue pass.old }
+        ensures { IsPassOf self.now.queue pass.new }
+    {
+        for strand in strands {
+            self.push(rt, pass, strand);
+        }
+    }
+
+    // Puts the strands that came out of a claim into the queue, in their order.
+    fn push_woken<R: Wait>(
+        &self,
+        rt: &R,
+        pass: &mut QueuePass<Strand<B>>,
+        woken: SmallVec<Strand<B>, 2>,
+    )
+        requires { IsPassOf self.now.queue pass.old }
+        ensures { IsPassOf self.now.queue pass.new }
+    {
+        for strand in woken {
+            self.push(rt, pass, strand);
+        }
+    }
+
+    // Puts a strand that has ended on the board, however often the board has to be looked at.
+    fn put<R: Wait>(&self, rt: &R, strand: Strand<B>)
+        requires { next strand.strand ≡ Done }
+    {
+        let mut strand = strand;
+        for _ in rt.forever() {
+            let put = self.board.lock(rt).try_put(strand);
+            match put {
+                Ok(()) => {
+                    self.tell(rt);
+                    return;
+                }
+                Err(back) => strand = back,
+            }
+        }
+        unreachable!()
+    }
+
+    // Asks the shard for the point, under its lock.
+    fn ask<G: Gate, R: Wait>(
+        &self,
+        rt: &R,
+        design: &Design,
+        gate: &G,
+        worker: u32,
+        strand: Strand<B>,
+        p: Point,
+    ) -> Turn<B>
+        requires design { design.now.circuit ≡ B.batch.circuit }
+        requires asks { next strand.strand ≡ Ask p }
+    {
+        let number = p.signal % self.count;
+        for _ in rt.forever() {
+            let Some(lock) = self.slots.get(number as usize) else {
+                continue;
+            };
+            let mut slot = lock.lock(rt);
+            let Some(held) = &mut slot.held else {
+                continue;
+            };
+            if held.shard.number() != number {
+                continue;
+            }
+            gate.within(worker, number);
+            return after_ask(held.ask(rt, &self.board, strand, design, p));
+        }
+        unreachable!()
+    }
+
+    // Fills the point in its shard, under its lock.
+    fn fill<G: Gate, R: Wait>(
+        &self,
+        rt: &R,
+        design: &Design,
+        gate: &G,
+        worker: u32,
+        strand: Strand<B>,
+        p: Point,
+    ) -> Option<(Strand<B>, SmallVec<Strand<B>, 2>)>
+        requires design { design.now.circuit ≡ B.batch.circuit }
+        requires fills { next strand.strand ≡ Fill p }
+    {
+        let number = p.signal % self.count;
+        let q = strand.query().number;
+        for _ in rt.forever() {
+            let Some(lock) = self.slots.get(number as usize) else {
+                continue;
+            };
+            let mut slot = lock.lock(rt);
+            let Some(held) = &mut slot.held else {
+                continue;
+            };
+            if held.shard.number() != number || !held.shard.holds(p, q) {
+                continue;
+            }
+            gate.within(worker, number);
+            return held.fill(rt, &self.board, strand, design, p).ok();
+        }
+        unreachable!()
+    }
+
+    // Gives the point up in its shard, under its lock.
+    fn drop_top<G: Gate, R: Wait>(
+        &self,
+        rt: &R,
+        gate: &G,
+        worker: u32,
+        strand: Strand<B>,
+        p: Point,
+    ) -> (Strand<B>, SmallVec<Strand<B>, 2>)
+        requires { next strand.strand ≡ Drop p }
+    {
+        let number = p.signal % self.count;
+        let q = strand.query().number;
+        for _ in rt.forever() {
+            let Some(lock) = self.slots.get(number as usize) else {
+                continue;
+            };
+            let mut slot = lock.lock(rt);
+            let Some(held) = &mut slot.held else {
+                continue;
+            };
+            if held.shard.number() != number || !held.shard.holds(p, q) {
+                continue;
+            }
+            gate.within(worker, number);
+            return held.drop_top(strand, p);
+        }
+        unreachable!()
+    }
+
+    // Makes the turn of a strand whose next step is this one.
+    fn turn<G: Gate, R: Wait>(
+        &self,
+        rt: &R,
+        design: &Design,
+        gate: &G,
+        worker: u32,
+        pass: &mut QueuePass<Strand<B>>,
+        strand: Strand<B>,
+        step: Next,
+    ) -> Turn<B>
+        requires design { design.now.circuit ≡ B.batch.circuit }
+        requires queue { IsPassOf self.now.queue pass.old }
+        requires step { next strand.strand ≡ step }
+        ensures { IsPassOf self.now.queue pass.new }
+    {
+        match step {
+            Next::Ask(p) => self.ask(rt, design, gate, worker, strand, p),
+            Next::Fill(p) => {
+                let Some((s, woken)) = self.fill(rt, design, gate, worker, strand, p) else {
+                    return Turn::NoMemory;
+                };
+                self.push_woken(rt, pass, woken);
+                Turn::Goes(s)
+            }
+            Next::Drop(p) => {
+                let (s, woken) = self.drop_top(rt, gate, worker, strand, p);
+                self.push_woken(rt, pass, woken);
+                Turn::Goes(s)
+            }
+            Next::Done => {
+                self.put(rt, strand);
+                Turn::Rests
+            }
+        }
+    }
+
+    // Makes the turns of a strand until it waits or has ended. True where the worker was told to leave.
+    fn run<G: Gate, R: Wait>(
+        &self,
+        rt: &R,
+        design: &Design,
+        gate: &G,
+        worker: u32,
+        pass: &mut QueuePass<Strand<B>>,
+        strand: Strand<B>,
+    ) -> bool
+        requires design { design.now.circuit ≡ B.batch.circuit }
+        requires queue { IsPassOf self.now.queue pass.old }
+        ensures queue { IsPassOf self.now.queue pass.new }
+        ensures stays { G.is_open gate.now ≡ true → result ≡ false }
+    {
+        let mut strand = strand;
+        for _ in rt.forever() {
+            let step = strand.next_step(design);
+            if step != Next::Done && gate.before(worker) == Pass::Leave {
+                self.push(rt, pass, strand);
+                return true;
+            }
+            match self.turn(rt, design, gate, worker, pass, strand, step) {
+                Turn::Goes(s) => strand = s,
+                Turn::Rests => return false,
+                Turn::NoMemory => {
+                    self.give_up(rt);
+                    return false;
+                }
+            }
+        }
+        unreachable!()
+    }
+
+    /// Takes strands from the queue until each has ended, or memory runs out. True where the worker was told to leave.
+    pub fn work<G: Gate, R: Wait>(
+        &self,
+        rt: &R,
+        design: &Design,
+        gate: &G,
+        worker: u32,
+        pass: QueuePass<Strand<B>>,
+    ) -> bool
+        requires design { design.now.circuit ≡ B.batch.circuit }
+        requires queue { IsPassOf self.now.queue pass }
+        ensures { G.is_open gate.now ≡ true → result ≡ false }
+    {
+        let mut pass = pass;
+        for _ in rt.forever() {
+            let Some(seen) = self.look(rt) else {
+                return false;
+            };
+            match self.queue.pop(rt, &mut pass) {
+                Some(strand) => {
+                    if self.run(rt, design, gate, worker, &mut pass, strand) {
+                        return true;
+                    }
+                }
+                None => {
+                    if self.wait_past(rt, seen) {
+                        return false;
+                    }
+                }
+            }
+        }
+        unreachable!()
+    }
+}
