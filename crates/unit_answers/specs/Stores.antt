@@ -1,0 +1,21 @@
+-- The stores of the shards between two units.
+use Rattle.std.specs.Prelude.{◌≡◌, ℕ, List, [], length, get_or, All}
+use Rattle.valid_intervals.specs.declared.SignalCell.{SignalCell}
+use Rattle.cell_store.specs.Recency.{Contents, contents}
+use Rattle.journal_meaning.specs.Batch.{IsRight}
+use Rattle.design.specs.Joined.{Joined}
+use Rattle.session_meaning.specs.Session.{Setup}
+use Rattle.unit_answers.specs.declared.sizes.Sizes.{Sizes}
+
+abbrev pub setup_of : Joined → Sizes → Setup
+setup_of design sizes = record { design = design; shards = sizes.shards; capacity = sizes.cells }
+
+-- the cells of the shard with this number
+abbrev pub cells_of : List Contents → ℕ → List SignalCell
+cells_of stores shard = (get_or stores shard (contents 0 [])).cells
+
+-- one store for each shard, with room for as many cells as each has, and with right cells
+pub record AreStores (setup : Setup) (stores : List Contents) : Type 0 where
+  pub count : length stores ≡ setup.shards
+  pub capacity : All (λ s. s.capacity ≡ setup.capacity) stores
+  pub right : All (λ s. All (IsRight setup.design.circuit) s.cells) stores
