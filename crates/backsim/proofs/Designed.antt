@@ -23,12 +23,13 @@ use Rattle.backsim.specs.declared.refusal.Refusal.{Refusal}
 use Rattle.backsim.specs.declared.refusal.Refusal.TheVariants.{TooLong}
 use Rattle.backsim.specs.declared.refusal.Stop.{Stop}
 use Rattle.backsim.specs.declared.refusal.Stop.TheVariants.{Refused, ReadFault, WriteFault, FileFault, OutOfMemory}
-use Rattle.backsim.specs.Stops.{IsStopOf}
-use Rattle.backsim.specs.Files.{refused_netlist, refused_timing, refused_stimulus, refused_join, limited, netlist_of, delays_of, settings_of, design_of_files, Answers}
+use Rattle.backsim.specs.inner.Stops.{IsStopOf}
+use Rattle.backsim.specs.Files.{refused_netlist, refused_timing, refused_stimulus, refused_join, limited, netlist_of, delays_of, settings_of, design_of_files}
+use Rattle.backsim.specs.inner.Files.{IsAnswerOf}
 
 -- a stop answers with its refusal
 pub refuses : {A : Type 0} (no_memory : Type 0) (refusal : Refusal) (stop : Stop) (said : Result A Refusal)
-    → IsStopOf refusal no_memory stop → no_memory ⊎ (said ≡ Err refusal) → Answers (Err stop) said
+    → IsStopOf refusal no_memory stop → no_memory ⊎ (said ≡ Err refusal) → IsAnswerOf (Err stop) said
 refuses no_memory refusal (Refused given) said is (inl gone) = absurd (let h = is.memory gone in cc)
 refuses no_memory refusal (Refused given) said is (inr says) = says ∙ ap (λ (r : Refusal). Err r) (sym is.refuses)
 refuses no_memory refusal (ReadFault place) said is either = tt
@@ -50,7 +51,7 @@ pub text_long : (place : Place) (told : Option (List ℕ)) (bytes : List ℕ) �
 text_long place told bytes is longer = rw (lt-leb (length bytes) 67108864 (is_longer told 67108864 bytes is longer)) refl
 
 -- what the first file that is refused makes of all three
-pub files_stop_netlist : (a b d : List ℕ) (stop : Stop) → Answers (Err stop) (netlist_of a) → Answers (Err stop) (design_of_files a b d)
+pub files_stop_netlist : (a b d : List ℕ) (stop : Stop) → IsAnswerOf (Err stop) (netlist_of a) → IsAnswerOf (Err stop) (design_of_files a b d)
 unfolding design_of_files
 files_stop_netlist a b d (Refused refusal) says = rw says refl
 files_stop_netlist a b d (ReadFault place) says = tt
@@ -58,7 +59,7 @@ files_stop_netlist a b d (WriteFault place) says = tt
 files_stop_netlist a b d (FileFault place) says = tt
 files_stop_netlist a b d OutOfMemory says = tt
 
-pub files_stop_timing : (a b d : List ℕ) (content : netlists.Content) (stop : Stop) → netlist_of a ≡ Ok content → Answers (Err stop) (delays_of b) → Answers (Err stop) (design_of_files a b d)
+pub files_stop_timing : (a b d : List ℕ) (content : netlists.Content) (stop : Stop) → netlist_of a ≡ Ok content → IsAnswerOf (Err stop) (delays_of b) → IsAnswerOf (Err stop) (design_of_files a b d)
 unfolding design_of_files
 files_stop_timing a b d content (Refused refusal) e says = rw (e, says) refl
 files_stop_timing a b d content (ReadFault place) e says = tt
@@ -66,7 +67,7 @@ files_stop_timing a b d content (WriteFault place) e says = tt
 files_stop_timing a b d content (FileFault place) e says = tt
 files_stop_timing a b d content OutOfMemory e says = tt
 
-pub files_stop_stimulus : (a b d : List ℕ) (content : netlists.Content) (delays : timings.Content) (stop : Stop) → netlist_of a ≡ Ok content → delays_of b ≡ Ok delays → Answers (Err stop) (settings_of d) → Answers (Err stop) (design_of_files a b d)
+pub files_stop_stimulus : (a b d : List ℕ) (content : netlists.Content) (delays : timings.Content) (stop : Stop) → netlist_of a ≡ Ok content → delays_of b ≡ Ok delays → IsAnswerOf (Err stop) (settings_of d) → IsAnswerOf (Err stop) (design_of_files a b d)
 unfolding design_of_files
 files_stop_stimulus a b d content delays (Refused refusal) e f says = rw (e, f, says) refl
 files_stop_stimulus a b d content delays (ReadFault place) e f says = tt
@@ -103,7 +104,7 @@ unfolding design_of_files
 files_joined a b d content delays settings design e f h j = rw (e, f, h, j) refl
 
 -- the netlist: its text is not there, is refused, or is read
-pub netlist_stops : (a : List ℕ) (stop : Stop) → Answers (Err stop) (limited Netlist a) → Answers (Err stop) (netlist_of a)
+pub netlist_stops : (a : List ℕ) (stop : Stop) → IsAnswerOf (Err stop) (limited Netlist a) → IsAnswerOf (Err stop) (netlist_of a)
 unfolding netlist_of
 netlist_stops a (Refused refusal) says = rw says refl
 netlist_stops a (ReadFault place) says = tt
@@ -121,7 +122,7 @@ unfolding netlist_of
 netlist_read a items text content fits same e = rw (fits, sym same, e) refl
 
 -- the timing file
-pub timing_stops : (b : List ℕ) (stop : Stop) → Answers (Err stop) (limited Timing b) → Answers (Err stop) (delays_of b)
+pub timing_stops : (b : List ℕ) (stop : Stop) → IsAnswerOf (Err stop) (limited Timing b) → IsAnswerOf (Err stop) (delays_of b)
 unfolding delays_of
 timing_stops b (Refused refusal) says = rw says refl
 timing_stops b (ReadFault place) says = tt
@@ -139,7 +140,7 @@ unfolding delays_of
 timing_read b items text delays fits same e = rw (fits, sym same, e) refl
 
 -- the stimulus file
-pub stimulus_stops : (d : List ℕ) (stop : Stop) → Answers (Err stop) (limited Stimulus d) → Answers (Err stop) (settings_of d)
+pub stimulus_stops : (d : List ℕ) (stop : Stop) → IsAnswerOf (Err stop) (limited Stimulus d) → IsAnswerOf (Err stop) (settings_of d)
 unfolding settings_of
 stimulus_stops d (Refused refusal) says = rw says refl
 stimulus_stops d (ReadFault place) says = tt

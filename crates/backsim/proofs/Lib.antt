@@ -1,11 +1,8 @@
-pub mod Taken
 pub mod Explained
-pub mod Orders
-pub mod Answered
-pub mod Served
-pub mod Stopped
 pub mod Designed
-pub mod Begun
-pub mod Sessions
-pub mod Untouched
 pub mod Firsts
+pub mod Ends
+pub mod Halts
+pub mod Asked
+pub mod Ranges
+pub mod Worked

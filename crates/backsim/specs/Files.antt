@@ -22,8 +22,6 @@ use Rattle.backsim.specs.declared.status.Place.{Place}
 use Rattle.backsim.specs.declared.status.Place.TheVariants.{Netlist, Timing, Stimulus}
 use Rattle.backsim.specs.declared.refusal.Refusal.{Refusal}
 use Rattle.backsim.specs.declared.refusal.Refusal.TheVariants.{TooLong, Line}
-use Rattle.backsim.specs.declared.refusal.Stop.{Stop}
-use Rattle.backsim.specs.declared.refusal.Stop.TheVariants.{Refused}
 
 -- what is refused for a fault: the line, and the number of its cause
 abbrev pub refused_netlist : BenchFault → Refusal
@@ -75,24 +73,6 @@ design_of_files netlist timing stimulus = do
   delays ← delays_of timing
   settings ← settings_of stimulus
   or_refusal refused_join (design_of content delays settings)
-
--- the answer is this one, unless a fault, or a lack of memory, came before
-abbrev pub Answers : {A : Type 0} → Result A Stop → Result A Refusal → Type 0
-Answers (Ok a) said = said ≡ Ok a
-Answers (Err (Refused refusal)) said = said ≡ Err refusal
-Answers (Err stop) said = ⊤
-
--- the same of a text, which is seen as its bytes
-abbrev pub AnswersText : {T : Type 0} → (T → List ℕ) → Result T Stop → Result (List ℕ) Refusal → Type 0
-AnswersText bytes (Ok text) said = said ≡ Ok (bytes text)
-AnswersText bytes (Err stop) said = Answers (Err stop) said
-
--- Where this is refused, the answer is its refusal, unless a fault, or a lack of memory, came before. Nothing is said of what comes behind.
-abbrev pub AnswersFirst : {A B : Type 0} → Result A Stop → Result B Refusal → Type 0
-AnswersFirst result (Ok b) = ⊤
-AnswersFirst (Ok a) (Err refusal) = ⊥
-AnswersFirst (Err (Refused given)) (Err refusal) = given ≡ refusal
-AnswersFirst (Err stop) (Err refusal) = ⊤
 
 -- the netlist and then the timing file
 abbrev pub first_two : List ℕ → List ℕ → Result timings.Content Refusal

@@ -1,9 +1,10 @@
 pub mod Cause
-pub mod Statuses
-pub mod Stops
-pub mod Orders
+pub mod Places
+pub mod Commands
 pub mod Texts
 pub mod Files
 pub mod Session
 pub mod Refused
-pub mod Script
+pub mod Broken
+pub mod Work
+pub mod inner

@@ -1,60 +1,74 @@
--- What a session refuses, and what it wrote before.
-use Rattle.std.specs.Prelude.{◌≡◌, ℕ, ◌<◌, ◌⊎◌, List, [], ◌∷◌, ◌++◌, length, take, Some, Result, Ok, Err}
-use Rattle.query_lines.specs.declared.unit.Unit.{Unit as ScriptUnit}
-use Rattle.query_lines.specs.Reading.{Reader, HasRead, numbered_lines, script_units}
-use Rattle.design.specs.Joined.{Joined}
-use Rattle.backsim.specs.declared.status.Place.TheVariants.{Script}
+-- What is refused, and what is written of it.
+use Rattle.std.specs.Prelude.{◌≡◌, ◌⊎◌, ⊤, ℕ, List, ◌++◌, Option, Some, Err}
+use Rattle.backsim_io.specs.Counts.{Grows, GrowsByPrefix}
+use Rattle.backsim_io.specs.Held.{Made, SameMade}
+use Rattle.session_meaning.specs.Broken.{IsCutOff}
+use Rattle.session_loop.specs.Halting.{WroteFile}
+use Rattle.backsim.specs.declared.status.Place.TheVariants.{Script, Replies}
+use Rattle.backsim.specs.declared.status.Status.{Status}
+use Rattle.backsim.specs.declared.status.Status.TheVariants.{Ended, Words, Refused, ReadFault, WriteFault, FileFault, OutOfMemory}
 use Rattle.backsim.specs.declared.refusal.Refusal.{Refusal}
-use Rattle.backsim.specs.declared.refusal.Refusal.TheVariants.{TooLong, Line}
+use Rattle.backsim.specs.declared.refusal.Refusal.TheVariants.{TooLong}
+use Rattle.backsim.specs.Commands.{Command}
 use Rattle.backsim.specs.Files.{design_of_files}
-use Rattle.backsim.specs.Orders.{first_order}
-use Rattle.backsim.specs.Session.{Given, IsBatch, AreServed, IsFirstServed, Begins}
+use Rattle.backsim.specs.Places.{IsFile}
+use Rattle.backsim.specs.Session.{Given, OfDesign}
 use Rattle.backsim.specs.Texts.{refusal_text}
 
--- a script of more than 16,777,216 bytes: what these bytes complete is served
-pub record IsCut (design : Joined) (script bytes : List ℕ) : Type 0 where
-  pub long : 16777216 < length script
-  pub units : List ScriptUnit
-  pub reader : Reader
-  pub read : HasRead design.circuit.horizon (take 16777216 script) units reader
-  pub served : AreServed design units bytes
-
--- this line is the script's first that trims the stored cells or asks for their counts, also of its first 16,777,216 bytes: the units before what it makes are served
-pub record IsStopped (design : Joined) (script : List ℕ) (line : ℕ) (bytes : List ℕ) : Type 0 where
-  pub first : first_order (numbered_lines 1 script) ≡ Some line
-  pub early : first_order (numbered_lines 1 (take 16777216 script)) ≡ Some line
-  pub before : List ScriptUnit
-  pub unit : ScriptUnit
-  pub after : List ScriptUnit
-  pub units_are : script_units design.circuit.horizon script ≡ before ++ unit ∷ after
-  pub no_batch : IsBatch unit → ⊥
-  pub served : AreServed design before bytes
-
--- what is refused of a script, behind these bytes
-abbrev pub IsScriptRefused : Joined → List ℕ → Refusal → List ℕ → Type 0
-IsScriptRefused design script (TooLong Script) bytes = IsCut design script bytes
-IsScriptRefused design script (Line Script line cause) bytes = (cause ≡ 1) × IsStopped design script line bytes
-IsScriptRefused design script refusal bytes = ⊥
-
--- what is refused of the files, behind no byte, or of the script
-abbrev pub IsRefusedOf : Result Joined Refusal → List ℕ → Refusal → List ℕ → Type 0
-IsRefusedOf (Err refused) script refusal bytes = (refusal ≡ refused) × (bytes ≡ [])
-IsRefusedOf (Ok design) script refusal bytes = IsScriptRefused design script refusal bytes
-
-abbrev pub IsRefused : Given → Refusal → List ℕ → Type 0
-IsRefused given refusal bytes = IsRefusedOf (design_of_files given.netlist given.timing given.stimulus) given.script refusal bytes
-
--- the bytes are what was written before a refusal, and its line
-pub record EndsRefused (given : Given) (bytes : List ℕ) : Type 0 where
+-- The files are refused: such bytes were written for their refusal, no file was created, and the script is unread.
+pub record AreRefused (given : Given) (told : (List ℕ → Type 0) → (List ℕ → Type 0) → List ℕ → Type 0) (left : Option (List ℕ)) (out new_out : List ℕ → Type 0) (made new_made : List Made → Type 0) : Type 0 where
   pub refusal : Refusal
+  pub refused : design_of_files given.netlist given.timing given.stimulus ≡ Err refusal
+  pub line : told out new_out (refusal_text refusal)
+  pub unread : left ≡ Some given.script
+  pub same_files : SameMade made new_made
+
+-- such replies and such a journal, with such bytes behind the replies
+pub record Followed (such : List ℕ → List ℕ → Type 0) (tail : List ℕ → Type 0) (replies journal : List ℕ) : Type 0 where
   pub before : List ℕ
-  pub refused : IsRefused given refusal before
-  pub bytes_are : bytes ≡ before ++ refusal_text refusal
+  pub rest : List ℕ
+  pub are : such before journal
+  pub rest_is : tail rest
+  pub replies_are : replies ≡ before ++ rest
 
--- all the bytes that a session writes where no fault and no lack of memory cuts them off: those of a refusal, none, or the first replies
-abbrev pub IsWhole : Given → List ℕ → Type 0
-IsWhole given whole = EndsRefused given whole ⊎ ((whole ≡ []) ⊎ IsFirstServed given whole)
+-- The script has more than 16,777,216 bytes: the units that as many bytes complete were served, and the replies end with such bytes.
+abbrev pub IsScriptRefused : Command → Given → (List ℕ → Type 0) → (List ℕ → Type 0) → (List ℕ → Type 0) → (List Made → Type 0) → (List Made → Type 0) → Type 0
+IsScriptRefused command given tail out new_out made new_made =
+    OfDesign command given (λ setup. WroteFile (Followed (IsCutOff setup given.script) tail) command.journal out new_out made new_made)
 
--- the bytes are a front of these
-abbrev pub IsBegun : Given → List ℕ → Type 0
-IsBegun given bytes = Begins (IsWhole given) bytes
+abbrev pub too_long : List ℕ
+too_long = refusal_text (TooLong Script)
+
+-- the files are refused, or the script: the line that tells of it stands behind all else
+abbrev pub IsRefused : Command → Given → Option (List ℕ) → (List ℕ → Type 0) → (List ℕ → Type 0) → (List Made → Type 0) → (List Made → Type 0) → Type 0
+IsRefused command given left out new_out made new_made =
+    AreRefused given Grows left out new_out made new_made ⊎ IsScriptRefused command given (λ rest. rest ≡ too_long) out new_out made new_made
+
+-- Where something is refused, the status is 2, or that of a fault or of a lack of memory.
+
+abbrev pub EndsFiles : Status → Type 0
+EndsFiles Refused = ⊤
+EndsFiles (ReadFault place) = IsFile place
+EndsFiles (FileFault place) = IsFile place
+EndsFiles (WriteFault place) = place ≡ Replies
+EndsFiles OutOfMemory = ⊤
+EndsFiles Ended = ⊥
+EndsFiles Words = ⊥
+
+abbrev pub EndsEarly : Status → Type 0
+EndsEarly Ended = ⊥
+EndsEarly Words = ⊥
+EndsEarly Refused = ⊤
+EndsEarly (ReadFault place) = ⊤
+EndsEarly (WriteFault place) = ⊤
+EndsEarly (FileFault place) = ⊤
+EndsEarly OutOfMemory = ⊤
+
+-- The files have this refusal: its line was written under status 2, and else a part of it at most. The script is unread, and no file was created.
+pub record RefusesFiles (refusal : Refusal) (old_left left : Option (List ℕ)) (out new_out : List ℕ → Type 0) (made new_made : List Made → Type 0) (files new_files : ℕ) (status : Status) : Type 0 where
+  pub ends : EndsFiles status
+  pub line : status ≡ Refused → Grows out new_out (refusal_text refusal)
+  pub part : GrowsByPrefix out new_out (refusal_text refusal)
+  pub unread : left ≡ old_left
+  pub same_files : SameMade made new_made
+  pub no_file : new_files ≡ files

@@ -1,24 +1,13 @@
--- The words of the command, and what the program prints beside replies.
-use Rattle.std.specs.Prelude.{ℕ, Bool, true, not, ◌==◌, ◌&&◌, List, [], ◌∷◌, ◌++◌, length, codes}
-use Rattle.std.specs.List.{list_all}
+-- What the program prints beside replies.
+use Rattle.std.specs.Prelude.{ℕ, List, [], ◌∷◌, ◌++◌, codes}
 use Rattle.std.specs.Fmt.{decimal}
-use Rattle.query_lines.specs.Replies.{text_line}
+use Rattle.reply_lines.specs.Replies.{text_line}
 use Rattle.backsim.specs.declared.status.Place.{Place}
 use Rattle.backsim.specs.declared.status.Place.TheVariants.{Netlist, Timing, Stimulus, Journal, Script, Replies}
 use Rattle.backsim.specs.declared.refusal.Refusal.{Refusal}
 use Rattle.backsim.specs.declared.refusal.Refusal.TheVariants.{TooLong, Line}
 
--- a word names a file unless it begins with `-`; `-` alone does too
-abbrev pub is_name : List ℕ → Bool
-is_name [] = true
-is_name (byte ∷ []) = true
-is_name (byte ∷ next ∷ bytes) = not (byte == 45)
-
--- the words of the command: four, each of which names a file
-abbrev pub is_command : List (List ℕ) → Bool
-is_command words = length words == 4 && list_all is_name words
-
--- what is printed where the words are others
+-- what is printed where the words are none of the forms
 abbrev pub usage : List ℕ
 usage =
     codes "usage: backsim NETLIST TIMING STIMULUS JOURNAL [--workers N] [--shards N] [--cells N]" ++ 10

@@ -1,9 +1,12 @@
 //! The three files that make a design.
 
-ghost use Rattle.std.specs.Prelude.{◌≡◌, ◌≤◌, ◌+◌, ℕ, List, Some, IfOk, OnOk, vec_len};
-ghost use Rattle.backsim.specs.Cause.{Explains, IsTurn};
-ghost use Rattle.backsim.specs.Files.{Answers, AnswersFirst, AnswersText, netlist_of, first_two, design_of_files, limited};
-ghost use Rattle.backsim.specs.Stops.{status_after};
+ghost use Rattle.std.specs.Prelude.{◌≡◌, ◌≤◌, ◌+◌, ℕ, List, Some, IfErr, IfOk, OnOk, vec_len};
+ghost use Rattle.backsim_io.specs.Held.{SameMade};
+ghost use Rattle.backsim.specs.Cause.{counts_of, Explains};
+ghost use Rattle.backsim.specs.inner.Cause.{IsTurn};
+ghost use Rattle.backsim.specs.inner.Files.{IsAnswerOf, AnswersFirst, AnswersText};
+ghost use Rattle.backsim.specs.Files.{netlist_of, first_two, design_of_files, limited};
+ghost use Rattle.backsim.specs.inner.Stops.{status_after, IsOfFiles};
 
 use crate::refusal::{Refusal, Stop};
 use crate::status::Place;
@@ -25,14 +28,14 @@ pub fn read_design<F: Files>(
     files: &mut F,
 ) -> Result<Design, Stop>
     requires { F.started files.old ≡ 0 }
-    ensures cause { (queries replies : ℕ) → Explains
-        (record { queries = queries; replies = replies; file = F.file_faults files.old; read = F.read_faults files.old; write = F.write_faults files.old; started = F.started files.old; files = F.files files.old })
-        (record { queries = queries; replies = replies; file = F.file_faults files.new; read = F.read_faults files.new; write = F.write_faults files.new; started = F.started files.new; files = F.files files.new })
+    ensures cause { (queries replies : ℕ) → Explains 3
+        (counts_of queries replies (F.file_faults files.old) (F.read_faults files.old) (F.write_faults files.old) (F.started files.old) (F.files files.old))
+        (counts_of queries replies (F.file_faults files.new) (F.read_faults files.new) (F.write_faults files.new) (F.started files.new) (F.files files.new))
         (status_after result) }
-    ensures calm_file { OnOk result (F.file_faults files.new ≡ F.file_faults files.old) }
-    ensures calm_read { OnOk result (F.read_faults files.new ≡ F.read_faults files.old) }
-    ensures calm_write { OnOk result (F.write_faults files.new ≡ F.write_faults files.old) }
+    ensures place { IfErr result IsOfFiles }
+    ensures started { OnOk result (F.started files.new ≡ 3) }
     ensures files { F.files files.new ≡ F.files files.old }
+    ensures made { SameMade (F.made files.old) (F.made files.new) }
     ensures first { (first : List ℕ) → F.held files.old netlist.now ≡ Some first → AnswersFirst result (netlist_of first) }
     ensures second { (first second : List ℕ)
         → F.held files.old netlist.now ≡ Some first
@@ -42,7 +45,7 @@ pub fn read_design<F: Files>(
         → F.held files.old netlist.now ≡ Some first
         → F.held files.old timing.now ≡ Some second
         → F.held files.old stimulus.now ≡ Some third
-        → Answers result (design_of_files first second third) }
+        → IsAnswerOf result (design_of_files first second third) }
 {
     let netlist = read_bench(alloc, &read_text(alloc, files, netlist, Place::Netlist)?)?;
     let timing = read_timing(alloc, &read_text(alloc, files, timing, Place::Timing)?)?;
@@ -58,16 +61,15 @@ fn read_text<F: Files>(
     place: Place,
 ) -> Result<Vec<u8>, Stop>
     requires { IsTurn place (F.started files.old) }
-    ensures cause { (queries replies : ℕ) → Explains
-        (record { queries = queries; replies = replies; file = F.file_faults files.old; read = F.read_faults files.old; write = F.write_faults files.old; started = F.started files.old; files = F.files files.old })
-        (record { queries = queries; replies = replies; file = F.file_faults files.new; read = F.read_faults files.new; write = F.write_faults files.new; started = F.started files.new; files = F.files files.new })
+    ensures cause { (queries replies : ℕ) → Explains 3
+        (counts_of queries replies (F.file_faults files.old) (F.read_faults files.old) (F.write_faults files.old) (F.started files.old) (F.files files.old))
+        (counts_of queries replies (F.file_faults files.new) (F.read_faults files.new) (F.write_faults files.new) (F.started files.new) (F.files files.new))
         (status_after result) }
-    ensures calm_file { OnOk result (F.file_faults files.new ≡ F.file_faults files.old) }
-    ensures calm_read { OnOk result (F.read_faults files.new ≡ F.read_faults files.old) }
-    ensures calm_write { OnOk result (F.write_faults files.new ≡ F.write_faults files.old) }
+    ensures place { IfErr result IsOfFiles }
     ensures started { OnOk result (F.started files.new ≡ F.started files.old + 1) }
     ensures held { F.held files.new ≡ F.held files.old }
     ensures files { F.files files.new ≡ F.files files.old }
+    ensures made { SameMade (F.made files.old) (F.made files.new) }
     ensures within { IfOk result (λ text. vec_len text ≤ 67108864) }
     ensures text { (bytes : List ℕ) → F.held files.old name.now ≡ Some bytes → AnswersText (λ text. text.items) result (limited place bytes) }
 {

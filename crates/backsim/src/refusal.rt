@@ -2,18 +2,17 @@
 
 ghost use Rattle.std.specs.Prelude.{◌≡◌, IfOk, string_bytes};
 ghost use Rattle.backsim.specs.Files.{refused_netlist, refused_timing, refused_stimulus, refused_join};
-ghost use Rattle.backsim.specs.Stops.{IsQuiet, IsStopOf};
+ghost use Rattle.backsim.specs.inner.Stops.{IsOfFiles, IsQuiet, IsStopOf, stop_of};
 ghost use Rattle.backsim.specs.Texts.{refusal_text};
-ghost use Rattle.backsim.specs.declared.refusal.Stop.TheVariants.{OutOfMemory as out_of_memory};
 ghost use Rattle.bench_reader.specs.Netlists as netlist;
 ghost use Rattle.timing_file.specs.Causes as timing;
 ghost use Rattle.stimulus_file.specs.Causes as stimulus;
 ghost use Rattle.design.specs.Causes as join;
 
 use crate::status::Place;
-use backsim_io::OutOfMemory;
 use bench_reader::{BenchCause, BenchFault};
 use design::{JoinCause, JoinFault, JoinFile};
+use session_loop::{Halt, Stop as SessionStop};
 use std::alloc::{AllocError, Global};
 use stimulus_file::{StimulusCause, StimulusFault};
 use timing_file::{TimingCause, TimingFault};
@@ -58,6 +57,7 @@ pub enum Stop {
 /// A line of a file is refused.
 fn refused(file: Place, line: u32, cause: u32) -> Stop
     ensures quiet { IsQuiet result }
+    ensures place { IsOfFiles result }
     ensures stop { result ≡ Stop.Refused (Refusal.Line file line cause) }
 {
     Stop::Refused(Refusal::Line { file, line, cause })
@@ -96,7 +96,7 @@ impl From<StimulusFault> for Stop {
     }
 }
 
-/// The causes of the join are numbered from 11 on, behind those of the readers.
+/// The causes of the join are numbered from 11 on, after those of the readers.
 impl From<JoinFault> for Stop {
     ghost from_gives = { λ fault stop. IsStopOf (refused_join fault) (fault ≡ join.out_of_memory) stop };
 
@@ -112,10 +112,20 @@ impl From<JoinFault> for Stop {
     }
 }
 
-impl From<OutOfMemory> for Stop {
-    ghost from_gives = { λ _ stop. stop ≡ out_of_memory };
+/// A halt of the session that the files and the words ask for.
+impl From<Halt> for Stop {
+    ghost from_gives = { λ halt stop. stop ≡ stop_of halt };
 
-    fn from(_: OutOfMemory) -> Stop {
-        Stop::OutOfMemory
+    fn from(halt: Halt) -> Stop {
+        match halt {
+            Halt::JournalUnmade | Halt::JournalUnfinished => Stop::FileFault(Place::Journal),
+            Halt::Stopped(SessionStop::ScriptUnread) => Stop::ReadFault(Place::Script),
+            Halt::Stopped(SessionStop::ScriptTooLong) => Stop::Refused(Refusal::TooLong(
+                Place::Script,
+            )),
+            Halt::Stopped(SessionStop::RepliesUnwritten) => Stop::WriteFault(Place::Replies),
+            Halt::Stopped(SessionStop::JournalUnwritten) => Stop::WriteFault(Place::Journal),
+            Halt::Stopped(SessionStop::OutOfMemory) => Stop::OutOfMemory,
+        }
     }
 }

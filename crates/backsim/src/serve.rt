@@ -1,82 +1,109 @@
 //! One session, from the words to the status.
 
-ghost use Rattle.std.specs.Prelude.{◌≡◌, ◌⊎◌, [], ◌∷◌, true, false, map, IfErr, OnErr, OnOk};
-ghost use Rattle.backsim_io.specs.Counts.{Grows, GrowsByPrefix, Stays};
-ghost use Rattle.backsim.specs.Cause.{Explains};
-ghost use Rattle.backsim.specs.Refused.{EndsRefused, IsWhole, IsBegun};
-ghost use Rattle.backsim.specs.Script.{Refuses, IfUnread, may_cut, cuts};
-ghost use Rattle.backsim.specs.Session.{Given, AreGiven, IsServed, IsServedUntil, Front, Writes};
-ghost use Rattle.backsim.specs.Stops.{status_after, IfFileStop, IfFileStatus};
-ghost use Rattle.backsim.specs.Texts.{is_command, usage};
+ghost use Rattle.std.specs.Prelude.{◌≡◌, ◌<◌, ◌≤◌, ◌⊎◌, ℕ, List, [], Some, None, Ok, Err, map, length};
+ghost use Rattle.backsim_io.specs.Counts.{Grows, GrowsByPrefix};
+ghost use Rattle.backsim_io.specs.Held.{ConsumesUpTo};
+ghost use Rattle.command_words.specs.Words.{words_of};
+ghost use Rattle.design.specs.Joined.{Joined};
+ghost use Rattle.session_loop.specs.Halting.{IsUntouched};
+ghost use Rattle.backsim.specs.Broken.{Leaves, OnFileFault};
+ghost use Rattle.backsim.specs.Cause.{counts_of, NoneRose, Explains};
+ghost use Rattle.backsim.specs.Commands.{Command, command_of, OnSession, OnWorkload, files_read};
+ghost use Rattle.backsim.specs.Files.{netlist_of, first_two, design_of_files};
+ghost use Rattle.backsim.specs.Refused.{IsRefused, RefusesFiles, EndsEarly};
+ghost use Rattle.backsim.specs.Session.{Given, AreGiven, IsServed};
+ghost use Rattle.backsim.specs.inner.Stops.{EndsWith, EndExplains};
+ghost use Rattle.backsim.specs.Texts.{usage};
+ghost use Rattle.backsim.specs.Work.{IsWorkServed, LeavesWork};
+ghost use Rattle.backsim.specs.declared.refusal.Refusal.{Refusal};
 
 use crate::inputs::read_design;
-use crate::refusal::Stop;
-use crate::script::serve_script;
+use crate::refusal::{Refusal, Stop};
 use crate::status::{Place, Status};
-use crate::words::{USAGE, are_names};
+use crate::usage::write_usage;
+use crate::work::serve_workload;
 use backsim_io::{Files, Sink, Source, write_all};
+use batch_crew::Workers;
+use command_words::{Words, read_words};
+use session_loop::serve_session;
 use std::alloc::Global;
+use std::sync::Wait;
+use std::thread::Threads;
+use unit_answers::Sizes;
+use worker_gate::Gate;
 
-/// Serves one session: reads the words, the three files and the script, and writes the replies, or
-/// what was refused. The journal isn't written.
-///
-/// A status comes only with its cause. Where the files and the script tell their bytes, a session that
-/// ends has written the reply to each item of the script, in order, and one that refuses something has
-/// written the replies before it, and its line. Whatever the status is, also after a fault or without
-/// memory, what was written is a front of the replies in their order, or of these and the line of a refusal
-/// that holds, and is cut inside a reply or the line only where a write failed. Where the script's read
-/// fails, each unit that its bytes had completed was served, and no more.
-pub fn serve<F: Files, Q: Source, S: Sink>(
+/// Serves a session over four files.
+fn serve_files<F: Files, Q: Source, S: Sink, G: Gate, R: Threads + Wait + Sync>(
+    rt: &R,
     alloc: Global,
-    words: &[&str],
+    netlist: &str,
+    timing: &str,
+    stimulus: &str,
+    journal: &str,
+    workers: u32,
+    sizes: Sizes,
     files: &mut F,
     queries: &mut Q,
     out: &mut S,
+    gate: &G,
 ) -> Status
-    requires { F.started files.old ≡ 0 }
-    ensures cause { Explains
-        (record { queries = Q.faults queries.old; replies = S.faults out.old; file = F.file_faults files.old; read = F.read_faults files.old; write = F.write_faults files.old; started = F.started files.old; files = F.files files.old })
-        (record { queries = Q.faults queries.new; replies = S.faults out.new; file = F.file_faults files.new; read = F.read_faults files.new; write = F.write_faults files.new; started = F.started files.new; files = F.files files.new })
+    requires started { F.started files.old ≡ 0 }
+    requires created { F.files files.old ≡ 0 }
+    requires workers { (0 < workers) × (workers ≤ 64) }
+    requires shards { (0 < sizes.shards) × (sizes.shards ≤ 64) }
+    requires cells { (0 < sizes.cells) × (sizes.cells ≤ 65536) }
+    ensures cause { Explains 3
+        (counts_of (Q.faults queries.old) (S.faults out.old) (F.file_faults files.old) (F.read_faults files.old) (F.write_faults files.old) (F.started files.old) (F.files files.old))
+        (counts_of (Q.faults queries.new) (S.faults out.new) (F.file_faults files.new) (F.read_faults files.new) (F.write_faults files.new) (F.started files.new) (F.files files.new))
         result }
-    ensures words { result ≡ Status.Words
-        → (is_command (map (λ word. word.now) words.now) ≡ false) × Grows (S.written out.old) (S.written out.new) usage }
-    ensures other_words { is_command (map (λ word. word.now) words.now) ≡ false
-        → (result ≡ Status.Words) ⊎ (result ≡ Status.WriteFault Place.Replies) }
-    ensures usage_prefix { is_command (map (λ word. word.now) words.now) ≡ false
-        → GrowsByPrefix (S.written out.old) (S.written out.new) usage }
-    ensures replies { (given : Given)
-        → AreGiven (F.held files.old) (Q.left queries.old) (map (λ word. word.now) words.now) given
-        → result ≡ Status.Ended → Writes (IsServed given) (S.written out.old) (S.written out.new) }
-    ensures refused { (given : Given)
-        → AreGiven (F.held files.old) (Q.left queries.old) (map (λ word. word.now) words.now) given
-        → result ≡ Status.Refused → Writes (EndsRefused given) (S.written out.old) (S.written out.new) }
-    ensures prefix { (given : Given)
-        → AreGiven (F.held files.old) (Q.left queries.old) (map (λ word. word.now) words.now) given
-        → is_command (map (λ word. word.now) words.now) ≡ true
-        → Writes (IsBegun given) (S.written out.old) (S.written out.new) }
-    ensures whole { (given : Given)
-        → AreGiven (F.held files.old) (Q.left queries.old) (map (λ word. word.now) words.now) given
-        → is_command (map (λ word. word.now) words.now) ≡ true
-        → Writes (Front (cuts result) (IsWhole given)) (S.written out.old) (S.written out.new) }
-    ensures unread { (given : Given)
-        → AreGiven (F.held files.old) (Q.left queries.old) (map (λ word. word.now) words.now) given
-        → result ≡ Status.ReadFault Place.Script
-        → Writes (IsServedUntil given (Q.left queries.new)) (S.written out.old) (S.written out.new) }
-    ensures untouched { IfFileStatus (Stays (S.written out.old) (S.written out.new) × (Q.left queries.new ≡ Q.left queries.old) × (F.files files.new ≡ F.files files.old)) result }
+    ensures no_usage { ¬ (result ≡ Status.Words) }
+    ensures session { let command = command_of netlist.now timing.now stimulus.now journal.now workers sizes.shards sizes.cells in (given : Given)
+        → AreGiven (F.held files.old) (Q.left queries.old) command given → result ≡ Status.Ended
+        → IsServed command given (S.written out.old) (S.written out.new) (F.made files.old) (F.made files.new) }
+    ensures refused { let command = command_of netlist.now timing.now stimulus.now journal.now workers sizes.shards sizes.cells in (given : Given)
+        → AreGiven (F.held files.old) (Q.left queries.old) command given → result ≡ Status.Refused
+        → IsRefused command given (Q.left queries.new) (S.written out.old) (S.written out.new) (F.made files.old) (F.made files.new) }
+    ensures broken { let command = command_of netlist.now timing.now stimulus.now journal.now workers sizes.shards sizes.cells in (given : Given)
+        → AreGiven (F.held files.old) (Q.left queries.old) command given
+        → Leaves command given (Q.left queries.new) (S.written out.old) (S.written out.new) (F.made files.old) (F.made files.new) (F.files files.old) (F.files files.new) result }
+    ensures netlist_refused { (refusal : Refusal) (first : List ℕ)
+        → F.held files.old netlist.now ≡ Some first → netlist_of first ≡ Err refusal
+        → RefusesFiles refusal (Q.left queries.old) (Q.left queries.new) (S.written out.old) (S.written out.new) (F.made files.old) (F.made files.new) (F.files files.old) (F.files files.new) result }
+    ensures timing_refused { (refusal : Refusal) (first second : List ℕ)
+        → F.held files.old netlist.now ≡ Some first → F.held files.old timing.now ≡ Some second → first_two first second ≡ Err refusal
+        → RefusesFiles refusal (Q.left queries.old) (Q.left queries.new) (S.written out.old) (S.written out.new) (F.made files.old) (F.made files.new) (F.files files.old) (F.files files.new) result }
+    ensures files_refused { (refusal : Refusal) (first second third : List ℕ)
+        → F.held files.old netlist.now ≡ Some first → F.held files.old timing.now ≡ Some second → F.held files.old stimulus.now ≡ Some third
+        → design_of_files first second third ≡ Err refusal
+        → RefusesFiles refusal (Q.left queries.old) (Q.left queries.new) (S.written out.old) (S.written out.new) (F.made files.old) (F.made files.new) (F.files files.old) (F.files files.new) result }
+    ensures untouched { OnFileFault
+        (IsUntouched (Q.left queries.old) (Q.left queries.new) (S.written out.old) (S.written out.new) (F.made files.old) (F.made files.new) (F.files files.old) (F.files files.new)) result }
+    ensures at_most { (script : List ℕ) → Q.left queries.old ≡ Some script → ConsumesUpTo (Some script) (Q.left queries.new) 16777217 }
+    ensures one { result ≡ Status.Ended → F.files files.new ≡ 1 }
+    ensures finished { result ≡ Status.Ended → F.unfinished files.new ≡ [] }
 {
-    let (true, &[netlist, timing, stimulus, _journal]) = (are_names(words), words) else {
-        return match write_all(out, USAGE) {
-            Ok(()) => Status::Words,
-            Err(_) => Status::WriteFault(Place::Replies),
-        };
+    let design = match read_design(alloc, netlist, timing, stimulus, files) {
+        Ok(design) => design,
+        Err(stop) => return end_stopped(alloc, stop, out),
     };
-    let refusal = match session(alloc, netlist, timing, stimulus, files, queries, out) {
-        Ok(()) => return Status::Ended,
-        Err(Stop::Refused(refusal)) => refusal,
-        Err(Stop::ReadFault(place)) => return Status::ReadFault(place),
-        Err(Stop::WriteFault(place)) => return Status::WriteFault(place),
-        Err(Stop::FileFault(place)) => return Status::FileFault(place),
-        Err(Stop::OutOfMemory) => return Status::OutOfMemory,
+    let crew = Workers::new(rt, gate, workers);
+    match serve_session(&crew, alloc, &design, sizes, journal, files, queries, out) {
+        Ok(()) => Status::Ended,
+        Err(halt) => end_stopped(alloc, Stop::from(halt), out),
+    }
+}
+
+/// Ends a session that stopped. What it refused is told by a line.
+pub fn end_stopped<S: Sink>(alloc: Global, stop: Stop, out: &mut S) -> Status
+    ensures cause { EndExplains stop (S.faults out.old) (S.faults out.new) result }
+    ensures told { EndsWith stop (S.written out.old) (S.written out.new) result }
+{
+    let refusal = match stop {
+        Stop::Refused(refusal) => refusal,
+        Stop::ReadFault(place) => return Status::ReadFault(place),
+        Stop::WriteFault(place) => return Status::WriteFault(place),
+        Stop::FileFault(place) => return Status::FileFault(place),
+        Stop::OutOfMemory => return Status::OutOfMemory,
     };
     let Ok(text) = refusal.text(alloc) else {
         return Status::OutOfMemory;
@@ -87,35 +114,116 @@ pub fn serve<F: Files, Q: Source, S: Sink>(
     }
 }
 
-/// Reads the three files and serves the script.
-fn session<F: Files, Q: Source, S: Sink>(
+/// Serves what the words ask for.
+pub fn serve<F: Files, Q: Source, S: Sink, G: Gate, R: Threads + Wait + Sync>(
+    rt: &R,
     alloc: Global,
-    netlist: &str,
-    timing: &str,
-    stimulus: &str,
+    words: &[&str],
     files: &mut F,
     queries: &mut Q,
     out: &mut S,
-) -> Result<(), Stop>
-    requires { F.started files.old ≡ 0 }
-    ensures cause { Explains
-        (record { queries = Q.faults queries.old; replies = S.faults out.old; file = F.file_faults files.old; read = F.read_faults files.old; write = F.write_faults files.old; started = F.started files.old; files = F.files files.old })
-        (record { queries = Q.faults queries.new; replies = S.faults out.new; file = F.file_faults files.new; read = F.read_faults files.new; write = F.write_faults files.new; started = F.started files.new; files = F.files files.new })
-        (status_after result) }
-    ensures served { (given : Given)
-        → AreGiven (F.held files.old) (Q.left queries.old) (netlist.now ∷ timing.now ∷ stimulus.now ∷ []) given
-        → OnOk result (Writes (IsServed given) (S.written out.old) (S.written out.new)) }
-    ensures refused { (given : Given)
-        → AreGiven (F.held files.old) (Q.left queries.old) (netlist.now ∷ timing.now ∷ stimulus.now ∷ []) given
-        → IfErr result (Refuses given (S.written out.old) (S.written out.new)) }
-    ensures begun { (given : Given)
-        → AreGiven (F.held files.old) (Q.left queries.old) (netlist.now ∷ timing.now ∷ stimulus.now ∷ []) given
-        → IfErr result (λ stop. Writes (Front (may_cut stop) (IsWhole given)) (S.written out.old) (S.written out.new)) }
-    ensures unread { (given : Given)
-        → AreGiven (F.held files.old) (Q.left queries.old) (netlist.now ∷ timing.now ∷ stimulus.now ∷ []) given
-        → IfErr result (IfUnread (Writes (IsServedUntil given (Q.left queries.new)) (S.written out.old) (S.written out.new))) }
-    ensures untouched { IfErr result (IfFileStop (Stays (S.written out.old) (S.written out.new) × (Q.left queries.new ≡ Q.left queries.old) × (F.files files.new ≡ F.files files.old))) }
+    gate: &G,
+) -> Status
+    requires started { F.started files.old ≡ 0 }
+    requires created { F.files files.old ≡ 0 }
+    ensures cause { Explains (files_read (words_of (map (λ word. word.now) words.now)))
+        (counts_of (Q.faults queries.old) (S.faults out.old) (F.file_faults files.old) (F.read_faults files.old) (F.write_faults files.old) (F.started files.old) (F.files files.old))
+        (counts_of (Q.faults queries.new) (S.faults out.new) (F.file_faults files.new) (F.read_faults files.new) (F.write_faults files.new) (F.started files.new) (F.files files.new))
+        result }
+    ensures words { result ≡ Status.Words → (words_of (map (λ word. word.now) words.now) ≡ None) × Grows (S.written out.old) (S.written out.new) usage }
+    ensures other_words { words_of (map (λ word. word.now) words.now) ≡ None
+        → (result ≡ Status.Words) ⊎ ((result ≡ Status.WriteFault Place.Replies) ⊎ (result ≡ Status.OutOfMemory)) }
+    ensures usage_prefix { words_of (map (λ word. word.now) words.now) ≡ None → GrowsByPrefix (S.written out.old) (S.written out.new) usage }
+    ensures no_files { words_of (map (λ word. word.now) words.now) ≡ None → files.new ≡ files.old }
+    ensures no_queries { words_of (map (λ word. word.now) words.now) ≡ None → queries.new ≡ queries.old }
+    ensures session { OnSession (λ command. (given : Given)
+        → AreGiven (F.held files.old) (Q.left queries.old) command given → result ≡ Status.Ended
+        → IsServed command given (S.written out.old) (S.written out.new) (F.made files.old) (F.made files.new))
+        (words_of (map (λ word. word.now) words.now)) }
+    ensures one { OnSession (λ command. result ≡ Status.Ended → F.files files.new ≡ 1) (words_of (map (λ word. word.now) words.now)) }
+    ensures finished { OnSession (λ command. result ≡ Status.Ended → F.unfinished files.new ≡ []) (words_of (map (λ word. word.now) words.now)) }
+    ensures refused { OnSession (λ command. (given : Given)
+        → AreGiven (F.held files.old) (Q.left queries.old) command given → result ≡ Status.Refused
+        → IsRefused command given (Q.left queries.new) (S.written out.old) (S.written out.new) (F.made files.old) (F.made files.new))
+        (words_of (map (λ word. word.now) words.now)) }
+    ensures netlist_refused { OnSession (λ command. (refusal : Refusal) (first : List ℕ)
+        → F.held files.old command.netlist ≡ Some first → netlist_of first ≡ Err refusal
+        → RefusesFiles refusal (Q.left queries.old) (Q.left queries.new) (S.written out.old) (S.written out.new) (F.made files.old) (F.made files.new) (F.files files.old) (F.files files.new) result)
+        (words_of (map (λ word. word.now) words.now)) }
+    ensures timing_refused { OnSession (λ command. (refusal : Refusal) (first second : List ℕ)
+        → F.held files.old command.netlist ≡ Some first → F.held files.old command.timing ≡ Some second → first_two first second ≡ Err refusal
+        → RefusesFiles refusal (Q.left queries.old) (Q.left queries.new) (S.written out.old) (S.written out.new) (F.made files.old) (F.made files.new) (F.files files.old) (F.files files.new) result)
+        (words_of (map (λ word. word.now) words.now)) }
+    ensures files_refused { OnSession (λ command. (refusal : Refusal) (first second third : List ℕ)
+        → F.held files.old command.netlist ≡ Some first → F.held files.old command.timing ≡ Some second → F.held files.old command.stimulus ≡ Some third
+        → design_of_files first second third ≡ Err refusal
+        → RefusesFiles refusal (Q.left queries.old) (Q.left queries.new) (S.written out.old) (S.written out.new) (F.made files.old) (F.made files.new) (F.files files.old) (F.files files.new) result)
+        (words_of (map (λ word. word.now) words.now)) }
+    ensures script_refused { OnSession (λ command. (given : Given)
+        → AreGiven (F.held files.old) (Q.left queries.old) command given → 16777216 < length given.script → EndsEarly result)
+        (words_of (map (λ word. word.now) words.now)) }
+    ensures complete { OnSession (λ command. (given : Given) (design : Joined)
+        → AreGiven (F.held files.old) (Q.left queries.old) command given
+        → design_of_files given.netlist given.timing given.stimulus ≡ Ok design → length given.script ≤ 16777216
+        → NoneRose
+        (counts_of (Q.faults queries.old) (S.faults out.old) (F.file_faults files.old) (F.read_faults files.old) (F.write_faults files.old) (F.started files.old) (F.files files.old))
+        (counts_of (Q.faults queries.new) (S.faults out.new) (F.file_faults files.new) (F.read_faults files.new) (F.write_faults files.new) (F.started files.new) (F.files files.new))
+        → (result ≡ Status.Ended) ⊎ (result ≡ Status.OutOfMemory))
+        (words_of (map (λ word. word.now) words.now)) }
+    ensures broken { OnSession (λ command. (given : Given)
+        → AreGiven (F.held files.old) (Q.left queries.old) command given
+        → Leaves command given (Q.left queries.new) (S.written out.old) (S.written out.new) (F.made files.old) (F.made files.new) (F.files files.old) (F.files files.new) result)
+        (words_of (map (λ word. word.now) words.now)) }
+    ensures untouched { OnFileFault
+        (IsUntouched (Q.left queries.old) (Q.left queries.new) (S.written out.old) (S.written out.new) (F.made files.old) (F.made files.new) (F.files files.old) (F.files files.new)) result }
+    ensures at_most { (script : List ℕ) → Q.left queries.old ≡ Some script → ConsumesUpTo (Some script) (Q.left queries.new) 16777217 }
+    ensures workload { OnWorkload (λ number journal. queries.new ≡ queries.old) (words_of (map (λ word. word.now) words.now)) }
+    ensures work_served { OnWorkload (λ number journal. result ≡ Status.Ended
+        → IsWorkServed number journal (S.written out.old) (S.written out.new) (F.made files.old) (F.made files.new))
+        (words_of (map (λ word. word.now) words.now)) }
+    ensures work_leaves { OnWorkload (λ number journal.
+        LeavesWork number journal (S.written out.old) (S.written out.new) (F.made files.old) (F.made files.new) result)
+        (words_of (map (λ word. word.now) words.now)) }
+    ensures work_one { OnWorkload (λ number journal. result ≡ Status.Ended → F.files files.new ≡ 1) (words_of (map (λ word. word.now) words.now)) }
+    ensures work_finished { OnWorkload (λ number journal. result ≡ Status.Ended → F.unfinished files.new ≡ []) (words_of (map (λ word. word.now) words.now)) }
 {
-    let design = read_design(alloc, netlist, timing, stimulus, files)?;
-    serve_script(alloc, &design, queries, out)
+    match read_words(alloc, words) {
+        Err(_) => Status::OutOfMemory,
+        Ok(None) => write_usage(out),
+        Ok(
+            Some(
+                Words::Session {
+                    netlist,
+                    timing,
+                    stimulus,
+                    journal,
+                    workers,
+                    shards,
+                    cells,
+                },
+            ),
+        ) => serve_files(
+            rt,
+            alloc,
+            netlist,
+            timing,
+            stimulus,
+            journal,
+            workers,
+            Sizes { shards, cells },
+            files,
+            queries,
+            out,
+            gate,
+        ),
+        Ok(
+            Some(
+                Words::Workload {
+                    number,
+                    journal,
+                    workers,
+                },
+            ),
+        ) => serve_workload(rt, alloc, number, journal, workers, files, out, gate),
+    }
 }

@@ -1,7 +1,7 @@
 //! How a session ended.
 
 ghost use Rattle.std.specs.Prelude.{◌≡◌};
-ghost use Rattle.backsim.specs.Statuses.{number_of};
+ghost use Rattle.backsim.specs.inner.Statuses.{number_of};
 ghost use Rattle.backsim.specs.Texts.{name_of};
 
 /// Where a fault was met.

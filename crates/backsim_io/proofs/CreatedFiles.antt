@@ -1,7 +1,8 @@
 -- A write into one of the created files.
 use Rattle.std.proofs.Common.{◌≡◌, ℕ, zero, suc, ◌<◌, List, [], ◌∷◌, ◌++◌, length, get_or, set, arith, ap, ◌∙◌, Vec, Global, Bool, true, false, cond}
 use Rattle.std.specs.Bool.{OnTrue, OnFalse}
-use Rattle.backsim_io.specs.Held.{Made, files_of, grown}
+use Rattle.backsim_io.specs.Held.{Made, grown}
+use Rattle.backsim_io.specs.inner.Held.{files_of}
 
 -- the file whose bytes are more has grown
 pub files_of-set : (files : List (List ℕ × Vec ℕ Global)) (place : ℕ) (old new : List ℕ × Vec ℕ Global) (more : List ℕ) → place < length files → old ≡ get_or files place old → new.0 ≡ old.0 → new.1.items ≡ old.1.items ++ more → files_of (set files place new) ≡ grown (files_of files) place more

@@ -3,8 +3,8 @@ use Rattle.std.proofs.Common.{◌≡◌, ℕ, zero, suc, ◌<◌, ◌≤◌, Lis
 use Rattle.std.proofs.Math.Nat.{sub_self}
 use Rattle.std.proofs.lemmas.List.{get_or_append_left, get_or-append_right, map-append}
 use Rattle.backsim_io.specs.Held.{Made, grown}
-use Rattle.backsim_io.specs.Kept.{kept_more}
-use Rattle.backsim_io.specs.SureFiles.{KeptFile, IsBlank, kept_file, cut}
+use Rattle.backsim_io.specs.KeptBytes.{kept_more}
+use Rattle.backsim_io.specs.inner.SureFiles.{KeptFile, IsBlank, kept_file, cut}
 use Rattle.backsim_io.proofs.Room.{kept_after}
 
 -- the first file of two equal lists
@@ -61,7 +61,7 @@ blank_last room xs x all is blank =
     let there : get_or all (length xs) x ≡ x = ap (λ (l : List KeptFile). get_or l (length xs) x) is ∙ get_or-append_right xs (x ∷ []) (length xs) (length xs) x refl (omega arith) ∙ ap (λ n. get_or (x ∷ []) n x) (sub_self (length xs)) in
     subst (IsBlank room) there (blank (length xs) x (omega (arith, length-append xs (x ∷ []), ap length is)))
 
--- a new file behind the others, of whose name the front is kept
+-- a new file after the others, of whose name the front is kept
 pub kept-created : (room : ℕ) (files : List Made) (created : List KeptFile) (file : KeptFile) (name : List ℕ) → file.name ≡ take 255 name → file.bytes.bytes ≡ [] → map (cut room) files ≡ map kept_file created → map (cut room) (files ++ record { name = name; bytes = [] } ∷ []) ≡ map kept_file (created ++ file ∷ [])
 kept-created room files created file name named empty told =
     let new : cut room (record { name = name; bytes = [] }) ≡ kept_file file =

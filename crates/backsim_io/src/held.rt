@@ -1,5 +1,6 @@
 ghost use Rattle.std.specs.Prelude.{◌≡◌, [], ◌++◌, length, take, drop, Some, None, OnSome, IfNone, ◌+◌, ◌<◌, ◌≤◌};
-ghost use Rattle.backsim_io.specs.Held.{bytes_under, bytes_at};
+ghost use Rattle.backsim_io.specs.Held.{bytes_under};
+ghost use Rattle.backsim_io.specs.inner.Held.{bytes_at};
 
 use crate::Text;
 use crate::copies::copy_next;

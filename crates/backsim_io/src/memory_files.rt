@@ -2,7 +2,8 @@
 ghost use Rattle.std.specs.Prelude.{◌≡◌, List, [], ◌∷◌, ◌++◌, Some, drop, length, option_map, slice_get, IsNone, ◌↔◌, ◌+◌, ◌<◌, ◌≤◌, true};
 ghost use Rattle.std.specs.Option.{option_copied};
 ghost use Rattle.std.specs.Bool.{OnTrue, OnFalse};
-ghost use Rattle.backsim_io.specs.Held.{Made, Places, bytes_under, bytes_at, files_of, grown};
+ghost use Rattle.backsim_io.specs.Held.{Made, Places, bytes_under, grown};
+ghost use Rattle.backsim_io.specs.inner.Held.{bytes_at, files_of};
 
 use crate::calls::Calls;
 use crate::faults::raised;
@@ -66,7 +67,7 @@ impl MemFiles {
     }
 }
 
-/// Appends an empty file of this name. There is `false` where there is no memory for it.
+/// Appends an empty file of this name. Answers `false` where there is no memory for it.
 fn create_empty(alloc: Global, created: &mut Vec<(Text, Vec<u8>)>, name: &str) -> bool
     ensures created { OnTrue result (files_of created.new.items ≡ files_of created.old.items ++ record { name = name.now; bytes = [] } ∷ []) }
     ensures none { OnFalse result (created.new.items ≡ created.old.items) }
@@ -78,7 +79,7 @@ fn create_empty(alloc: Global, created: &mut Vec<(Text, Vec<u8>)>, name: &str) -
     }
 }
 
-/// Appends bytes to the file at this place. There is `false` where there is no memory for them.
+/// Appends bytes to the file at this place. Answers `false` where there is no memory for them.
 fn write_more(created: &mut Vec<(Text, Vec<u8>)>, place: usize, piece: &[u8]) -> bool
     requires { place < length created.old.items }
     ensures grown { OnTrue result (files_of created.new.items ≡ grown (files_of created.old.items) place piece.now) }

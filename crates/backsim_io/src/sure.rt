@@ -1,6 +1,6 @@
 //! Objects in memory that never fail and take no memory after they are made.
 ghost use Rattle.std.specs.Prelude.{◌≡◌, ℕ, [], Some, length, take, drop, IfOk, vec_len, vec_capacity, ◌≤◌};
-ghost use Rattle.backsim_io.specs.Kept.{Kept, kept_more};
+ghost use Rattle.backsim_io.specs.KeptBytes.{Kept, kept_more};
 
 use crate::copies::copy_next;
 use crate::{Failed, OutOfMemory, Sink, Source};

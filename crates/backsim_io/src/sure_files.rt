@@ -1,9 +1,11 @@
 //! Files in memory that never fail and take no memory after they are made.
 ghost use Rattle.std.specs.Prelude.{◌≡◌, List, [], Some, map, take, drop, length, All, option_map, slice_get, vec_len, vec_capacity, IsNone, IfOk, ◌↔◌, ◌+◌, ◌<◌, ◌≤◌, true};
 ghost use Rattle.std.specs.Option.{option_copied};
-ghost use Rattle.backsim_io.specs.Held.{Made, Places, bytes_at};
-ghost use Rattle.backsim_io.specs.Kept.{kept_more};
-ghost use Rattle.backsim_io.specs.SureFiles.{KeptFile, IsBlank, kept_file, cut, held_or_empty};
+ghost use Rattle.backsim_io.specs.Held.{Made, Places};
+ghost use Rattle.backsim_io.specs.inner.Held.{bytes_at};
+ghost use Rattle.backsim_io.specs.KeptBytes.{kept_more};
+ghost use Rattle.backsim_io.specs.inner.SureFiles.{KeptFile, IsBlank, kept_file, cut};
+ghost use Rattle.backsim_io.specs.SureFiles.{held_or_empty};
 
 use crate::held::HeldFiles;
 use crate::slots::Slots;

@@ -1,6 +1,5 @@
 -- A line that was read, without where it lies in memory.
-use Rattle.std.specs.Prelude.{ℕ, List, map, Option, Some, None}
-use Rattle.std.specs.Global.{Vec}
+use Rattle.std.specs.Prelude.{ℕ, List, map}
 use Rattle.std.specs.Borrow.{Bor}
 use Rattle.bench_lines.specs.declared.form.Form.{Form}
 use Rattle.bench_lines.specs.declared.form.Form.TheVariants as forms
@@ -16,8 +15,3 @@ view forms.Malformed = Malformed
 view (forms.Input name) = Input name.now
 view (forms.Output name) = Output name.now
 view (forms.Gate name kind pins) = Gate name.now kind.now (each_now pins.items)
-
--- names that were read
-abbrev pub names_of : Option (Vec (Bor (List ℕ))) → Option (List (List ℕ))
-names_of None = None
-names_of (Some v) = Some (each_now v.items)

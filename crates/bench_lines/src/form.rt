@@ -5,7 +5,8 @@ ghost use Rattle.bench_lines.specs.Lines as form;
 ghost use Rattle.bench_lines.specs.Lines.{line_of};
 ghost use Rattle.gate_values.specs.Spelling.{spells};
 ghost use Rattle.text_rules.specs.Text.{tokens};
-ghost use Rattle.bench_lines.specs.Views.{view, names_of};
+ghost use Rattle.bench_lines.specs.Views.{view};
+ghost use Rattle.bench_lines.specs.inner.Views.{names_of};
 
 use std::alloc::{AllocError, Global};
 use text_rules::{content, is_name, next_token};
@@ -105,7 +106,7 @@ fn listed(alloc: Global, bytes: &[u8]) -> Result<Option<Vec<&[u8]>>, AllocError>
     }
 }
 
-/// The pins behind `(`.
+/// The pins after `(`.
 fn pins_of(alloc: Global, bytes: &[u8]) -> Result<Option<Vec<&[u8]>>, AllocError>
     ensures { IfOk result (λ found. names_of found ≡ form.pins_of (tokens bytes.entry.now)) }
 {

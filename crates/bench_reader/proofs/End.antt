@@ -14,10 +14,10 @@ use Rattle.bench_reader.specs.declared.netlist.Definition.TheVariants.{Missing, 
 use Rattle.bench_reader.specs.declared.fault.BenchCause.TheVariants.{Undefined}
 use Rattle.bench_lines.specs.Lines.{Line}
 use Rattle.bench_lines.specs.Lines as line
-use Rattle.bench_reader.specs.Netlists.{names, names_in, pins_in, outputs_in, defined_in, is_among, is_defined, place, number, Driver, Primary, Driven, driver_by, driver_of, driven_by, undefined_from}
-use Rattle.bench_reader.specs.Kept.{driver}
-use Rattle.bench_reader.specs.Reading.{Knows, Numbered, Tells, FirstNamed, first_missing}
-use Rattle.bench_reader.specs.Reading as reading
+use Rattle.bench_reader.specs.Netlists.{names, names_in, pins_in, outputs_in, defined_in, is_among, is_defined, place, number, NetlistDriver, Primary, Driven, driver_by, driver_of, driven_by, undefined_from}
+use Rattle.bench_reader.specs.inner.KeptNetlists.{driver}
+use Rattle.bench_reader.specs.inner.Reading.{Knows, Numbered, Tells, FirstNamed, first_missing}
+use Rattle.bench_reader.specs.inner.Reading as reading
 use Rattle.bench_reader.proofs.Places.{same_bytes, same_names, Extends, all_extends, present_place, present_lt, found_at, is_among_at, among_all, names_distinct}
 use Rattle.bench_reader.proofs.Rows.{undriven, no_gates, left_false, right_false, defined_told}
 
@@ -46,7 +46,7 @@ rows_said all ks rows pins outputs k len =
     numbers : pins ≡ map (number all) (flat_map pins_in all)
     numbers = k.pins_are.ids_are ∙ ap (λ (ns : List (List ℕ)). map (place ns) (flat_map pins_in all)) k.names_are
 
-    at : {X : Type 0} (f : X → Driver) (xs : List X) (i : ℕ) (d : X) → i < length xs → get_or (map f xs) i Primary ≡ f (get_or xs i d)
+    at : {X : Type 0} (f : X → NetlistDriver) (xs : List X) (i : ℕ) (d : X) → i < length xs → get_or (map f xs) i Primary ≡ f (get_or xs i d)
     at f [] i d h = absurd (omega arith)
     at f (x ∷ xs) zero d h = refl
     at f (x ∷ xs) (suc i) d h = at f xs i d (omega arith)

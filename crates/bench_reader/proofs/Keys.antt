@@ -8,8 +8,8 @@ use Rattle.std.proofs.lemmas.List.{append-nil, map-append, take_more, take_all}
 use Rattle.text_rules.proofs.Cuts.{found}
 use Rattle.indexmap.specs.IndexSet.{insert_key, insert_all}
 use Rattle.bench_reader.specs.Netlists.{place}
-use Rattle.bench_reader.specs.Kept.{texts}
-use Rattle.bench_reader.specs.Reading.{Numbered}
+use Rattle.bench_reader.specs.inner.KeptNetlists.{texts}
+use Rattle.bench_reader.specs.inner.Reading.{Numbered}
 use Rattle.bench_reader.proofs.Places.{place_new, number_step}
 
 abbrev pub vec_eq : Vec ℕ → Vec ℕ → Bool

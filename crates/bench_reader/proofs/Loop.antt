@@ -7,15 +7,15 @@ use Rattle.bench_reader.specs.declared.fault.BenchCause.{BenchCause}
 use Rattle.bench_reader.specs.declared.fault.BenchCause.TheVariants.{Undefined}
 use Rattle.bench_reader.specs.declared.reader.Reader.{Reader}
 use Rattle.bench_lines.specs.Lines.{Line, line_of}
-use Rattle.bench_reader.specs.Netlists.{cause_of, fault_at, first_fault, out_of_memory, bench_of, names, undefined_from, Content, Driver}
-use Rattle.bench_reader.specs.Kept.{driver, texts}
-use Rattle.bench_reader.specs.Reading.{HasRead, IsSound, Numbered, first_missing}
+use Rattle.bench_reader.specs.Netlists.{cause_of, fault_at, first_fault, out_of_memory, bench_of, names, undefined_from, Content, NetlistDriver}
+use Rattle.bench_reader.specs.inner.KeptNetlists.{driver, texts}
+use Rattle.bench_reader.specs.inner.Reading.{HasRead, IsSoundReading, Numbered, first_missing}
 use Rattle.bench_reader.proofs.Steps.{rows_len}
 use Rattle.bench_reader.proofs.End.{rows_said, outputs_said, none_undefined, some_undefined}
 
 -- the lines in front of the rest have been read
 pub record Progress (all : List Line) (text : List ℕ) (r : Reader) (number : ℕ) (rest : List ℕ) : Type 0 where
-  pub sound : IsSound r
+  pub sound : IsSoundReading r
   pub before : List Line
   pub read : HasRead before r
   pub count : length before ≡ number
@@ -27,7 +27,7 @@ nothing : Numbered [] [] []
 nothing = record { ids_are = refl; there = refl }
 
 -- before the first line
-pub begun : (all : List Line) (text : List ℕ) (r : Reader) → all ≡ map line_of (lines text) → IsSound r → r.names.keys ≡ [] → r.pins.items ≡ [] → r.outputs.keys ≡ [] → Progress all text r 0 text
+pub begun : (all : List Line) (text : List ℕ) (r : Reader) → all ≡ map line_of (lines text) → IsSoundReading r → r.names.keys ≡ [] → r.pins.items ≡ [] → r.outputs.keys ≡ [] → Progress all text r 0 text
 begun all text r all-is sound names-are pins-are outputs-are =
     let ks : texts r.names.keys ≡ [] = ap texts names-are in
     record {
@@ -48,7 +48,7 @@ begun all text r all-is sound names-are pins-are outputs-are =
     }
 
 -- after one more line
-pub advanced : (all : List Line) (text : List ℕ) (r new : Reader) (number : ℕ) (rest bytes later : List ℕ) (l : Line) → Progress all text r number rest → lines rest ≡ bytes ∷ lines later → length later < length rest → l ≡ line_of bytes → IsSound new
+pub advanced : (all : List Line) (text : List ℕ) (r new : Reader) (number : ℕ) (rest bytes later : List ℕ) (l : Line) → Progress all text r number rest → lines rest ≡ bytes ∷ lines later → length later < length rest → l ≡ line_of bytes → IsSoundReading new
     → ((before : List Line) → HasRead before r → length before + 1 ≡ number + 1 → (cause_of before l ≡ None) × HasRead (before ++ l ∷ []) new) → Progress all text new (number + 1) later
 advanced all text r new number rest bytes later l p cut shorter is sound steps =
     let step = steps p.before p.read (omega (arith, p.count)) in
@@ -78,21 +78,21 @@ fault_answers text fault (inl memory) = inl memory
 fault_answers text fault (inr first) = inr (rw first refl)
 
 -- all lines were read, and a name is undefined
-pub undefined_said : (text : List ℕ) (r : Reader) (number : ℕ) → IsSound r → (first_fault [] (map line_of (lines text)) ≡ None) × HasRead (map line_of (lines text)) r → first_missing r.rows.items ≡ Some number → bench_of text ≡ Err (record { cause = Undefined; line = number })
+pub undefined_said : (text : List ℕ) (r : Reader) (number : ℕ) → IsSoundReading r → (first_fault [] (map line_of (lines text)) ≡ None) × HasRead (map line_of (lines text)) r → first_missing r.rows.items ≡ Some number → bench_of text ≡ Err (record { cause = Undefined; line = number })
 unfolding bench_of
 undefined_said text r number sound read missing =
     let all = map line_of (lines text) in
     let first : undefined_from all 1 all ≡ Some (record { cause = Undefined; line = number }) = some_undefined all (texts r.names.keys) r.rows.items r.pins.items r.outputs.keys number read.1 (rows_len r.names.keys r.rows.items sound.rows_len) missing in
     rw (read.0, first) refl
 
-abbrev pub content : List (List ℕ) → List Driver → List ℕ → Content
+abbrev pub content : List (List ℕ) → List NetlistDriver → List ℕ → Content
 content names rows outputs = record { names = names; rows = rows; outputs = outputs }
 
-same_content : (n m : List (List ℕ)) (r q : List Driver) (o u : List ℕ) → n ≡ m → r ≡ q → o ≡ u → content n r o ≡ content m q u
-same_content n m r q o u e f g = ap (λ (x : List (List ℕ)). content x r o) e ∙ ap (λ (x : List Driver). content m x o) f ∙ ap (λ (x : List ℕ). content m q x) g
+same_content : (n m : List (List ℕ)) (r q : List NetlistDriver) (o u : List ℕ) → n ≡ m → r ≡ q → o ≡ u → content n r o ≡ content m q u
+same_content n m r q o u e f g = ap (λ (x : List (List ℕ)). content x r o) e ∙ ap (λ (x : List NetlistDriver). content m x o) f ∙ ap (λ (x : List ℕ). content m q x) g
 
 -- all lines were read, and each name is defined
-pub netlist_said : (text : List ℕ) (r : Reader) → IsSound r → (first_fault [] (map line_of (lines text)) ≡ None) × HasRead (map line_of (lines text)) r → first_missing r.rows.items ≡ None
+pub netlist_said : (text : List ℕ) (r : Reader) → IsSoundReading r → (first_fault [] (map line_of (lines text)) ≡ None) × HasRead (map line_of (lines text)) r → first_missing r.rows.items ≡ None
     → bench_of text ≡ Ok (record { names = texts r.names.keys; rows = map (driver r.pins.items) r.rows.items; outputs = r.outputs.keys })
 unfolding bench_of
 netlist_said text r sound read missing =

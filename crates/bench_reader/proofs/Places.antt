@@ -12,7 +12,7 @@ use Rattle.std.proofs.Math.Bool.{or-false, or-true}
 use Rattle.indexmap.specs.IndexSet.{insert_key, insert_all}
 use Rattle.bench_lines.specs.Lines.{Line}
 use Rattle.bench_reader.specs.Netlists.{place, is_among, names, names_in}
-use Rattle.bench_reader.specs.Reading.{Numbered}
+use Rattle.bench_reader.specs.inner.Reading.{Numbered}
 
 pub same_bytes : (n : List ℕ) → bytes_eq n n ≡ true
 same_bytes [] = refl

@@ -10,8 +10,8 @@ use Rattle.std.proofs.lemmas.List.Folds.{sum_by-replicate}
 use Rattle.bench_reader.specs.declared.netlist.Definition.{Definition}
 use Rattle.bench_reader.specs.declared.netlist.Definition.TheVariants.{Missing, Input, Gate}
 use Rattle.bench_reader.specs.Netlists.{exceeds}
-use Rattle.bench_reader.specs.Kept.{IsKept, Fits, pin_count}
-use Rattle.bench_reader.specs.Reading.{padded}
+use Rattle.bench_reader.specs.inner.KeptNetlists.{IsKeptNetlist, FitsRows, pin_count}
+use Rattle.bench_reader.specs.inner.Reading.{padded}
 
 pub length-padded : (rows : List Definition) (count line : ℕ) → length rows ≤ count → length (padded rows count line) ≡ count
 length-padded rows count line le = length-append rows (replicate (count - length rows) (Missing line)) ∙ ap (λ (n : ℕ). length rows + n) (length-replicate (count - length rows) (Missing line)) ∙ whole
@@ -19,7 +19,7 @@ length-padded rows count line le = length-append rows (replicate (count - length
     whole : length rows + (count - length rows) ≡ count
     whole = omega arith
 
-fits_more : (few many : ℕ) → few ≤ many → (d : Definition) → Fits few d → Fits many d
+fits_more : (few many : ℕ) → few ≤ many → (d : Definition) → FitsRows few d → FitsRows many d
 fits_more few many le (Missing line) h = h
 fits_more few many le Input h = h
 fits_more few many le (Gate kind start count) h = record { within = omega (arith, h.within); counted = h.counted }
@@ -35,12 +35,12 @@ total_grown rows count line =
     mul-zero : (n : ℕ) → n * 0 ≡ 0
     mul-zero n = omega arith
 
-pub kept_grown : (ks new_ks : List (Vec ℕ)) (rows new_rows : List Definition) (pins new_pins : List ℕ) (line : ℕ) → IsKept ks rows pins → length ks ≤ length new_ks → new_rows ≡ padded rows (length new_ks) line → length pins ≤ length new_pins
-    → exceeds (length new_ks) (length new_pins) ≡ false → IsKept new_ks new_rows new_pins
+pub kept_grown : (ks new_ks : List (Vec ℕ)) (rows new_rows : List Definition) (pins new_pins : List ℕ) (line : ℕ) → IsKeptNetlist ks rows pins → length ks ≤ length new_ks → new_rows ≡ padded rows (length new_ks) line → length pins ≤ length new_pins
+    → exceeds (length new_ks) (length new_pins) ≡ false → IsKeptNetlist new_ks new_rows new_pins
 kept_grown ks new_ks rows new_rows pins new_pins line kept le is more calm =
     let small = within (length new_ks) (length new_pins) calm in
-    let P = Fits (length new_pins) in
-    let old : All P rows = All-weaker (Fits (length pins)) P (fits_more (length pins) (length new_pins) more) rows kept.fits in
+    let P = FitsRows (length new_pins) in
+    let old : All P rows = All-weaker (FitsRows (length pins)) P (fits_more (length pins) (length new_pins) more) rows kept.fits in
     let new : All P (replicate (length new_ks - length rows) (Missing line)) = All-replicate P (length new_ks - length rows) (Missing line) tt in
     record {
       rows_len = ap length is ∙ length-padded rows (length new_ks) line (omega (arith, kept.rows_len));
@@ -51,11 +51,11 @@ kept_grown ks new_ks rows new_rows pins new_pins line kept le is more calm =
     }
 
 -- one definition is written, whose pins are there beside those of the others
-pub kept_set : (ks : List (Vec ℕ)) (rows : List Definition) (pins : List ℕ) (i : ℕ) (d : Definition) → IsKept ks rows pins → i < length rows → Fits (length pins) d → sum_by pin_count rows + pin_count d ≤ length pins → IsKept ks (set rows i d) pins
+pub kept_set : (ks : List (Vec ℕ)) (rows : List Definition) (pins : List ℕ) (i : ℕ) (d : Definition) → IsKeptNetlist ks rows pins → i < length rows → FitsRows (length pins) d → sum_by pin_count rows + pin_count d ≤ length pins → IsKeptNetlist ks (set rows i d) pins
 kept_set ks rows pins i d kept lt h room = record {
   rows_len = length-set rows i d ∙ kept.rows_len;
   few = kept.few;
   room = kept.room;
-  fits = All-set (Fits (length pins)) rows i d h kept.fits;
+  fits = All-set (FitsRows (length pins)) rows i d h kept.fits;
   total = omega (arith, sum_by-set pin_count rows i d (Missing 0) lt);
 }

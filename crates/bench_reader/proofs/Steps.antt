@@ -17,8 +17,8 @@ use Rattle.bench_reader.specs.declared.fault.BenchCause.TheVariants.{UnknownKind
 use Rattle.bench_lines.specs.Lines.{Line}
 use Rattle.bench_lines.specs.Lines as line
 use Rattle.bench_reader.specs.Netlists.{names, pins_in, outputs_in, gates_in, defined_in, is_among, is_long, place, exceeds, is_crowded, miscounts, cause_of, cause_of_names}
-use Rattle.bench_reader.specs.Kept.{texts}
-use Rattle.bench_reader.specs.Reading.{Knows, HasRead, Numbered, padded, is_gate_at, is_defined_at}
+use Rattle.bench_reader.specs.inner.KeptNetlists.{texts}
+use Rattle.bench_reader.specs.inner.Reading.{Knows, HasRead, Numbered, padded, is_gate_at, is_defined_at}
 use Rattle.bench_reader.proofs.Keys.{length-texts}
 use Rattle.bench_reader.proofs.Places.{same_bytes, is_among_new, all_extends, numbered_kept, numbered_all, numbered_more, number_step, among_all, present_place, place_new}
 use Rattle.bench_reader.proofs.Rows.{Grows, all_names, gate_at, defined_at, told_kept, told_grown, told_set, told_input, told_gate}

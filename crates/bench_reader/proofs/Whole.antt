@@ -13,9 +13,9 @@ use Rattle.bench_reader.specs.declared.netlist.Definition.{Definition}
 use Rattle.bench_reader.specs.declared.netlist.Definition.TheVariants.{Missing, Input, Gate}
 use Rattle.bench_reader.specs.declared.reader.Reader.{Reader}
 use Rattle.bench_lines.specs.Lines.{Line}
-use Rattle.bench_reader.specs.Netlists.{is_among, place, Driver, pins_of, IsDriver}
-use Rattle.bench_reader.specs.Kept.{texts, driver, pin_count, Fits, IsHeld}
-use Rattle.bench_reader.specs.Reading.{HasRead, IsSound, Numbered}
+use Rattle.bench_reader.specs.Netlists.{is_among, place, NetlistDriver, pins_of, IsNetlistDriver}
+use Rattle.bench_reader.specs.inner.KeptNetlists.{texts, driver, pin_count, FitsRows, IsKeptName}
+use Rattle.bench_reader.specs.inner.Reading.{HasRead, IsSoundReading, Numbered}
 use Rattle.bench_reader.proofs.Keys.{length-texts}
 use Rattle.bench_reader.proofs.Places.{and_true, present_lt}
 use Rattle.bench_reader.proofs.Rows.{distinct}
@@ -50,7 +50,7 @@ one_pin kind count h unary = eqb-true count 1 (cases (is_unary kind) (eqb count 
 piece_len : (pins : List ℕ) (start count : ℕ) → start + count ≤ length pins → length (take count (drop start pins)) ≡ count
 piece_len pins start count h = length-take-le count (drop start pins) (omega (arith, length-drop start pins))
 
-driver_fits : (signals : ℕ) (pins : List ℕ) (d : Definition) → All (λ p. p < signals) pins → Fits (length pins) d → IsDriver signals (driver pins d)
+driver_fits : (signals : ℕ) (pins : List ℕ) (d : Definition) → All (λ p. p < signals) pins → FitsRows (length pins) d → IsNetlistDriver signals (driver pins d)
 driver_fits signals pins (Missing line) below h = tt
 driver_fits signals pins Input below h = tt
 driver_fits signals pins (Gate kind start count) below h =
@@ -68,25 +68,25 @@ driver_fits signals pins (Gate kind start count) below h =
     grouped true b c h = h
     grouped false b c h = h
 
-drivers_fit : (signals : ℕ) (pins : List ℕ) (rows : List Definition) → All (λ p. p < signals) pins → All (Fits (length pins)) rows → All (IsDriver signals) (map (driver pins) rows)
-drivers_fit signals pins rows below fits = All-map (IsDriver signals) (driver pins) rows (All-weaker (Fits (length pins)) (λ d. IsDriver signals (driver pins d)) (λ d h. driver_fits signals pins d below h) rows fits)
+drivers_fit : (signals : ℕ) (pins : List ℕ) (rows : List Definition) → All (λ p. p < signals) pins → All (FitsRows (length pins)) rows → All (IsNetlistDriver signals) (map (driver pins) rows)
+drivers_fit signals pins rows below fits = All-map (IsNetlistDriver signals) (driver pins) rows (All-weaker (FitsRows (length pins)) (λ d. IsNetlistDriver signals (driver pins d)) (λ d h. driver_fits signals pins d below h) rows fits)
 
 -- the pins of all rows
-count_is : (pins : List ℕ) (d : Definition) → Fits (length pins) d → length (pins_of (driver pins d)) ≡ pin_count d
+count_is : (pins : List ℕ) (d : Definition) → FitsRows (length pins) d → length (pins_of (driver pins d)) ≡ pin_count d
 count_is pins (Missing line) h = refl
 count_is pins Input h = refl
 count_is pins (Gate kind start count) h = piece_len pins start count h.within
 
-counts_are : (pins : List ℕ) (rows : List Definition) → All (Fits (length pins)) rows → map (λ d. length (pins_of d)) (map (driver pins) rows) ≡ map pin_count rows
+counts_are : (pins : List ℕ) (rows : List Definition) → All (FitsRows (length pins)) rows → map (λ d. length (pins_of d)) (map (driver pins) rows) ≡ map pin_count rows
 counts_are pins [] h = refl
 counts_are pins (d ∷ rows) h =
-    let rest = counts_are pins rows (All-tail (Fits (length pins)) d rows h) in
-    ap (λ (n : ℕ). n ∷ map (λ (x : Driver). length (pins_of x)) (map (driver pins) rows)) (count_is pins d (All-head (Fits (length pins)) d rows h)) ∙ ap (λ (l : List ℕ). pin_count d ∷ l) rest
+    let rest = counts_are pins rows (All-tail (FitsRows (length pins)) d rows h) in
+    ap (λ (n : ℕ). n ∷ map (λ (x : NetlistDriver). length (pins_of x)) (map (driver pins) rows)) (count_is pins d (All-head (FitsRows (length pins)) d rows h)) ∙ ap (λ (l : List ℕ). pin_count d ∷ l) rest
 
-pins_total : (pins : List ℕ) (rows : List Definition) → All (Fits (length pins)) rows → sum_by (λ d. length (pins_of d)) (map (driver pins) rows) ≡ sum_by pin_count rows
-pins_total pins rows h = sym (sum-map (λ (d : Driver). length (pins_of d)) (map (driver pins) rows)) ∙ ap sum (counts_are pins rows h) ∙ sum-map pin_count rows
+pins_total : (pins : List ℕ) (rows : List Definition) → All (FitsRows (length pins)) rows → sum_by (λ d. length (pins_of d)) (map (driver pins) rows) ≡ sum_by pin_count rows
+pins_total pins rows h = sym (sum-map (λ (d : NetlistDriver). length (pins_of d)) (map (driver pins) rows)) ∙ ap sum (counts_are pins rows h) ∙ sum-map pin_count rows
 
-pub held : (all : List Line) (r : Reader) → IsSound r → HasRead all r → IsHeld r.names.keys r.rows.items r.pins.items r.outputs.keys
+pub held : (all : List Line) (r : Reader) → IsSoundReading r → HasRead all r → IsKeptName r.names.keys r.rows.items r.pins.items r.outputs.keys
 held all r sound read =
     let ks = texts r.names.keys in
     let len = length-texts r.names.keys in

@@ -1,4 +1,4 @@
 pub mod Causes
 pub mod Netlists
-pub mod Kept
-pub mod Reading
+pub mod KeptNetlists
+pub mod inner

@@ -122,18 +122,18 @@ undefined_from all n (line ∷ later) =
     else Some (record { cause = Undefined; line = n })
 
 -- what drives a signal: the outside, or a gate or flip-flop of this kind with these pins
-pub data Driver : Type 0 where
-  Primary : Driver
-  Driven : (kind : Kind) (pins : List ℕ) → Driver
+pub data NetlistDriver : Type 0 where
+  Primary : NetlistDriver
+  Driven : (kind : Kind) (pins : List ℕ) → NetlistDriver
 
 -- what a netlist says: the names of its signals by their numbers, what drives each, and the outputs
 pub record Content : Type 0 where
   pub names : List (List ℕ)
-  pub rows : List Driver
+  pub rows : List NetlistDriver
   pub outputs : List ℕ
 
 -- the fan-in of a signal
-abbrev pub pins_of : Driver → List ℕ
+abbrev pub pins_of : NetlistDriver → List ℕ
 pins_of Primary = []
 pins_of (Driven kind pins) = pins
 
@@ -144,15 +144,15 @@ pub record ArePins (signals : ℕ) (kind : Kind) (pins : List ℕ) : Type 0 wher
   pub one : IsTrue (is_unary kind) → length pins ≡ 1
   pub signal : All (λ p. p < signals) pins
 
-abbrev pub IsDriver : ℕ → Driver → Type 0
-IsDriver signals Primary = Unit {0}
-IsDriver signals (Driven kind pins) = ArePins signals kind pins
+abbrev pub IsNetlistDriver : ℕ → NetlistDriver → Type 0
+IsNetlistDriver signals Primary = Unit {0}
+IsNetlistDriver signals (Driven kind pins) = ArePins signals kind pins
 
 -- what holds of each netlist that is read
 pub record IsNetlist (n : Content) : Type 0 where
   pub rows : length n.rows ≡ length n.names
   pub few : length n.names ≤ 1048576
-  pub fits : All (IsDriver (length n.names)) n.rows
+  pub fits : All (IsNetlistDriver (length n.names)) n.rows
   pub pins : sum_by (λ d. length (pins_of d)) n.rows ≤ 4194304
   pub outputs : All (λ o. o < length n.names) n.outputs
   pub distinct : (id : ℕ) → id < length n.names → position (bytes_eq (get_or n.names id [])) n.names ≡ Some id
@@ -161,24 +161,24 @@ pub record IsNetlist (n : Content) : Type 0 where
 abbrev pub drives : List ℕ → Line → Bool
 drives n line = is_among (gates_in line) n
 
-abbrev pub driven_by : Option Kind → List ℕ → Driver
+abbrev pub driven_by : Option Kind → List ℕ → NetlistDriver
 driven_by None pins = Primary
 driven_by (Some kind) pins = Driven kind pins
 
 -- what a gate line says of its signal, under this numbering of names
-abbrev pub driver_in : (List ℕ → ℕ) → Line → Driver
+abbrev pub driver_in : (List ℕ → ℕ) → Line → NetlistDriver
 driver_in number Blank = Primary
 driver_in number Malformed = Primary
 driver_in number (Input name) = Primary
 driver_in number (Output name) = Primary
 driver_in number (Gate name word pins) = driven_by (kind_of_word word) (map number pins)
 
-abbrev pub driver_by : (List ℕ → ℕ) → Option Line → Driver
+abbrev pub driver_by : (List ℕ → ℕ) → Option Line → NetlistDriver
 driver_by number None = Primary
 driver_by number (Some line) = driver_in number line
 
 -- what drives a name: its gate line, else the outside
-abbrev pub driver_of : List Line → List ℕ → Driver
+abbrev pub driver_of : List Line → List ℕ → NetlistDriver
 driver_of all name = driver_by (number all) (find (drives name) all)
 
 abbrev pub content_of : List Line → Content
@@ -205,6 +205,6 @@ abbrev pub out_of_memory : BenchFault
 out_of_memory = record { cause = OutOfMemory; line = 0 }
 
 -- What a call answered, seen by view, is this, unless memory ran out.
-abbrev pub Answers : {X : Type 0} → (X → Content) → Result X BenchFault → Result Content BenchFault → Type 0
-Answers view (Ok x) said = said ≡ Ok (view x)
-Answers view (Err fault) said = (fault ≡ out_of_memory) ⊎ (said ≡ Err fault)
+abbrev pub AnswersNetlist : {X : Type 0} → (X → Content) → Result X BenchFault → Result Content BenchFault → Type 0
+AnswersNetlist view (Ok x) said = said ≡ Ok (view x)
+AnswersNetlist view (Err fault) said = (fault ≡ out_of_memory) ⊎ (said ≡ Err fault)

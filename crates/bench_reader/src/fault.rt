@@ -28,7 +28,8 @@ pub enum BenchCause {
 }
 
 impl BenchCause {
-    /// The number by which a refusal names the cause, from 1 to 8.
+    /// The number by which a refusal names the cause, from 1 to 7. That of `OutOfMemory` is 8, and is
+    /// never printed.
     pub fn number(self) -> u32
         ensures { result ≡ cause_number self }
     {

@@ -3,7 +3,7 @@
 ghost use Rattle.std.specs.Prelude.{◌≡◌, ◌<◌, length, position, slice_get, Some};
 ghost use Rattle.std.specs.Str.{bytes_eq};
 ghost use Rattle.bench_reader.specs.Netlists.{IsNetlist};
-ghost use Rattle.bench_reader.specs.Kept.{driver_of_row};
+ghost use Rattle.bench_reader.specs.KeptNetlists.{driver_of_row};
 
 use gate_values::Kind;
 use indexmap::IndexSet;
@@ -40,17 +40,17 @@ pub struct Netlist {
 
 impl Model for Netlist {
     ghost use Rattle.bench_reader.specs.Netlists.{Content};
-    ghost use Rattle.bench_reader.specs.Kept.{content, IsHeld};
+    ghost use Rattle.bench_reader.specs.inner.KeptNetlists.{content, IsKeptName};
 
     ghost Value = { Content };
 
     ghost view = { λ n. content n.names.keys n.rows.items n.pins.items n.outputs.keys };
 
-    ghost invariant = { λ n. IsHeld n.names.keys n.rows.items n.pins.items n.outputs.keys };
+    ghost invariant = { λ n. IsKeptName n.names.keys n.rows.items n.pins.items n.outputs.keys };
 }
 
 impl Netlist {
-    /// What holds of each netlist, for a proof that needs it. Nothing runs.
+    /// What holds of every netlist, for proofs. It does nothing.
     pub fn facts(&self)
         ensures { IsNetlist self.now }
     {

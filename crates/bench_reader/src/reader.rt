@@ -3,9 +3,9 @@
 ghost use Rattle.std.specs.Prelude.{◌≡◌, ◌+◌, ◌≤◌, ℕ, false, List, [], ◌∷◌, length, map, Err, OnOk, IfOk, IfErr};
 ghost use Rattle.std.specs.List.{list_any};
 ghost use Rattle.bench_lines.specs.Lines.{Input, Output, Gate, line_of};
-ghost use Rattle.bench_reader.specs.Netlists.{out_of_memory, bench_of, Answers};
+ghost use Rattle.bench_reader.specs.Netlists.{out_of_memory, bench_of, AnswersNetlist};
 ghost use Rattle.bench_reader.specs.Netlists as netlists;
-ghost use Rattle.bench_reader.specs.Reading.{IsSound, Takes, ReadsAll, CountsPins, padded, first_missing, is_gate_at, is_defined_at};
+ghost use Rattle.bench_reader.specs.inner.Reading.{IsSoundReading, Takes, ReadsAll, CountsPins, padded, first_missing, is_gate_at, is_defined_at};
 ghost use Rattle.text_rules.specs.Text.{lines};
 ghost use Rattle.bench_lines.specs.Views.{view, each_now};
 
@@ -123,8 +123,8 @@ impl Reader {
     }
 
     fn take_input(&mut self, alloc: Global, line: u32, name: &[u8]) -> Result<(), BenchFault>
-        requires sound { IsSound self.old }
-        ensures sound { OnOk result (IsSound self.new) }
+        requires sound { IsSoundReading self.old }
+        ensures sound { OnOk result (IsSoundReading self.new) }
         ensures steps { Takes self.old (Input name.now) line self.new result }
     {
         if is_long(name) {
@@ -143,8 +143,8 @@ impl Reader {
     }
 
     fn take_output(&mut self, alloc: Global, line: u32, name: &[u8]) -> Result<(), BenchFault>
-        requires sound { IsSound self.old }
-        ensures sound { OnOk result (IsSound self.new) }
+        requires sound { IsSoundReading self.old }
+        ensures sound { OnOk result (IsSoundReading self.new) }
         ensures steps { Takes self.old (Output name.now) line self.new result }
     {
         if is_long(name) {
@@ -168,10 +168,10 @@ impl Reader {
         kind: Kind,
         pins: &[&[u8]],
     ) -> Result<(), BenchFault>
-        requires sound { IsSound self.old }
+        requires sound { IsSoundReading self.old }
         requires few { length pins.now ≤ 64 }
         requires counted { netlists.miscounts kind (length pins.now) ≡ false }
-        ensures sound { OnOk result (IsSound self.new) }
+        ensures sound { OnOk result (IsSoundReading self.new) }
         ensures steps { (word : List ℕ) → CountsPins name.now word kind (each_now pins.now) → Takes self.old (Gate name.now word (each_now pins.now)) line self.new result }
     {
         let id = number(alloc, &mut self.names, name)?;
@@ -200,8 +200,8 @@ impl Reader {
         word: &[u8],
         pins: &[&[u8]],
     ) -> Result<(), BenchFault>
-        requires sound { IsSound self.old }
-        ensures sound { OnOk result (IsSound self.new) }
+        requires sound { IsSoundReading self.old }
+        ensures sound { OnOk result (IsSoundReading self.new) }
         ensures steps { Takes self.old (Gate name.now word.now (each_now pins.now)) line self.new result }
     {
         let kind = match Kind::from_word(word) {
@@ -219,8 +219,8 @@ impl Reader {
 
     /// Takes one line.
     fn take(&mut self, alloc: Global, line: u32, form: Form) -> Result<(), BenchFault>
-        requires sound { IsSound self.old }
-        ensures sound { OnOk result (IsSound self.new) }
+        requires sound { IsSoundReading self.old }
+        ensures sound { OnOk result (IsSoundReading self.new) }
         ensures steps { Takes self.old (view form.entry) line self.new result }
     {
         match form {
@@ -236,7 +236,7 @@ impl Reader {
 /// Reads every line.
 fn read_lines(alloc: Global, text: &[u8]) -> Result<Reader, BenchFault>
     requires { length text.now ≤ 67108864 }
-    ensures sound { IfOk result IsSound }
+    ensures sound { IfOk result IsSoundReading }
     ensures lines { ReadsAll (map line_of (lines text.now)) result }
 {
     let mut reader = Reader::new(alloc);
@@ -269,7 +269,7 @@ fn missing_line(rows: &[Definition]) -> Option<u32>
 /// name, row and pin; a line at fault may want memory for a list as long as the line.
 pub fn read_bench(alloc: Global, text: &[u8]) -> Result<Netlist, BenchFault>
     requires { length text.now ≤ 67108864 }
-    ensures { Answers (λ netlist. netlist) result (bench_of text.now) }
+    ensures { AnswersNetlist (λ netlist. netlist) result (bench_of text.now) }
 {
     let reader = read_lines(alloc, text)?;
     match missing_line(&reader.rows) {

@@ -4,8 +4,8 @@ use Rattle.std.proofs.lemmas.Bool.{leb-true, and_parts}
 use Rattle.std.proofs.lemmas.List.Elements.{All-nil, All-cons}
 use Rattle.valid_intervals.specs.declared.SignalCell.{SignalCell}
 use Rattle.valid_intervals.specs.Cells.{same_stored}
-use Rattle.cell_store.specs.Recency.{IsApart, Fits}
-use Rattle.cell_store.specs.Beside.{is_apart, is_fitting}
+use Rattle.cell_store.specs.Recency.{IsApart, FitsStore}
+use Rattle.cell_store.specs.inner.Beside.{is_apart, is_fitting}
 use Rattle.cell_store.proofs.Keys.{IsCovered, covers_true}
 
 or_cases : (a b : Bool) → (a || b) ≡ true → (a ≡ true) ⊎ (b ≡ true)
@@ -33,7 +33,7 @@ apart x y h p a b = by (or_cases (not (nat_eq x.signal y.signal) || nat_le x.cel
         first (inl d) = true≢false (sym (eq-eqb x.signal y.signal (cx.signal ∙ sym cy.signal)) ∙ not_true (nat_eq x.signal y.signal) d)
         first (inr d) = let l = leb-true x.cell.span.stop y.cell.span.start d in let i = cx.high in let j = cy.low in omega arith
 
-pub fits : (x : SignalCell) (cells : List SignalCell) → is_fitting x cells ≡ true → Fits x cells
+pub fits : (x : SignalCell) (cells : List SignalCell) → is_fitting x cells ≡ true → FitsStore x cells
 fits x [] h = All-nil (λ y. (same_stored x y ≡ true) ⊎ IsApart x y)
 fits x (y ∷ cells) h =
     let both = and_parts (same_stored x y || is_apart x y) (is_fitting x cells) h in

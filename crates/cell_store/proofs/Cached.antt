@@ -9,10 +9,10 @@ use Rattle.lru.specs.LruCache.{lru_cache, promoted, put_entries}
 use Rattle.valid_intervals.specs.Spans.{IsSpan}
 use Rattle.valid_intervals.specs.declared.Cell.{Cell}
 use Rattle.valid_intervals.specs.declared.SignalCell.{SignalCell}
-use Rattle.valid_intervals.specs.Cells.{same_stored, to_front}
+use Rattle.valid_intervals.specs.Cells.{same_stored, to_front, is_stored}
 use Rattle.cell_store.specs.declared.Key.{Key}
-use Rattle.cell_store.specs.Recency.{key_of, is_stored, IsApart, AreApart, Fits}
-use Rattle.cell_store.specs.Index.{key_eq, has_key, entry_of, entries_of, cells_of}
+use Rattle.cell_store.specs.Recency.{key_of, IsApart, AreApart, FitsStore}
+use Rattle.cell_store.specs.inner.Index.{key_eq, has_key, entry_of, entries_of, cells_of}
 use Rattle.cell_store.proofs.Same.{same_stored-true, same_stored-itself}
 use Rattle.cell_store.proofs.Keys.{first_point, covers_first, shares_first, differs, told_apart, has_key-itself}
 use Rattle.cell_store.proofs.Found.{some_same, none_some, found_true, found_all}
@@ -109,7 +109,7 @@ none_pass x (y ∷ cells) h =
     ]) refl h
 
 -- a cell that fits is stored exactly where its key is
-pub found_if_stored : (x : SignalCell) (cells : List SignalCell) → IsSpan x.cell.span → All (λ y. IsSpan y.cell.span) cells → Fits x cells
+pub found_if_stored : (x : SignalCell) (cells : List SignalCell) → IsSpan x.cell.span → All (λ y. IsSpan y.cell.span) cells → FitsStore x cells
     → (y : SignalCell) → find (has_key (key_of x)) cells ≡ Some y → (x ≡ y) × (is_stored x cells ≡ true)
 found_if_stored x cells s spans fits y h =
     let t : IsSpan y.cell.span = found_all (λ z. IsSpan z.cell.span) (has_key (key_of x)) cells y spans h in
@@ -123,7 +123,7 @@ pub not_stored : (x : SignalCell) (cells : List SignalCell) → find (has_key (k
 not_stored x cells h = none_pass x cells h
 
 -- what fits and is not stored is apart
-pub all_apart : (x : SignalCell) (cells : List SignalCell) → Fits x cells → is_stored x cells ≡ false → All (IsApart x) cells
+pub all_apart : (x : SignalCell) (cells : List SignalCell) → FitsStore x cells → is_stored x cells ≡ false → All (IsApart x) cells
 all_apart x [] fits new = All-nil (IsApart x)
 all_apart x (y ∷ cells) fits new =
     (elim (same_stored x y) as (λ b. same_stored x y ≡ b → (b || list_any (same_stored x) cells) ≡ false → All (IsApart x) (y ∷ cells)) [

@@ -10,10 +10,10 @@ use Rattle.valid_intervals.specs.Spans.{IsSpan}
 use Rattle.valid_intervals.specs.declared.Cell.{Cell}
 use Rattle.valid_intervals.specs.declared.Point.{Point}
 use Rattle.valid_intervals.specs.declared.SignalCell.{SignalCell}
-use Rattle.valid_intervals.specs.Cells.{same_stored, covers, cell_for, to_front, all_but_last}
+use Rattle.valid_intervals.specs.Cells.{same_stored, covers, cell_for, to_front, all_but_last, is_stored, stored_at}
 use Rattle.cell_store.specs.declared.Key.{Key}
-use Rattle.cell_store.specs.Recency.{Contents, contents, with_cells, key_of, is_stored, covering, last_key, IsApart, Fits}
-use Rattle.cell_store.specs.Index.{key_cmp, key_eq, has_key, entry_of, entries_of, cells_of, IsIndexed, IsSound}
+use Rattle.cell_store.specs.Recency.{Contents, contents, with_cells, key_of, last_key, IsApart, FitsStore}
+use Rattle.cell_store.specs.inner.Index.{key_cmp, key_eq, has_key, entry_of, entries_of, cells_of, IsStoreIndex, IsSoundStore}
 use Rattle.cell_store.proofs.Same.{same_stored-itself}
 use Rattle.cell_store.proofs.Keys.{covers_true}
 use Rattle.cell_store.proofs.Found.{some_same, none_some, found_true, found_at_key}
@@ -84,27 +84,27 @@ last_of cells n e many h =
     ]) refl (sym (slice_get-entries_of n cells) ∙ h)
 
 -- ---- what is sound after a change of the cells
-sound_of : (end_of : Key → Option ℕ) (entries : List (Key × Cell)) (cells : List SignalCell) (capacity : ℕ) → entries ≡ entries_of cells → IsIndexed end_of cells → length cells ≤ capacity → 0 < capacity → capacity ≤ 65536
-    → IsSound end_of entries capacity
+sound_of : (end_of : Key → Option ℕ) (entries : List (Key × Cell)) (cells : List SignalCell) (capacity : ℕ) → entries ≡ entries_of cells → IsStoreIndex end_of cells → length cells ≤ capacity → 0 < capacity → capacity ≤ 65536
+    → IsSoundStore end_of entries capacity
 sound_of end_of entries cells capacity is index within some most =
     let same : cells_of entries ≡ cells = ap cells_of is ∙ cells_of-entries_of cells in
     record {
       keyed = is ∙ ap entries_of (sym same);
-      indexed = subst (λ (l : List SignalCell). IsIndexed end_of l) (sym same) index;
+      indexed = subst (λ (l : List SignalCell). IsStoreIndex end_of l) (sym same) index;
       within = let many = ap (λ (l : List (Key × Cell)). length l) is ∙ length-map cells entry_of in omega arith;
       some = some;
       most = most;
     }
 
-cells_within : (end_of : Key → Option ℕ) (entries : List (Key × Cell)) (capacity : ℕ) → IsSound end_of entries capacity → length (cells_of entries) ≤ capacity
+cells_within : (end_of : Key → Option ℕ) (entries : List (Key × Cell)) (capacity : ℕ) → IsSoundStore end_of entries capacity → length (cells_of entries) ≤ capacity
 cells_within end_of entries capacity sound = let many = ap (λ (l : List (Key × Cell)). length l) sound.keyed ∙ length-map (cells_of entries) entry_of in let i = sound.within in omega arith
 
 -- a cell whose key the cache has is used
 pub record IsUsed (end_of : Key → Option ℕ) (entries : List (Key × Cell)) (capacity : ℕ) (k : Key) (x : SignalCell) : Type 0 where
   pub list : promoted (key_eq k) entries ≡ entries_of (to_front x (cells_of entries))
-  pub sound : IsSound end_of (promoted (key_eq k) entries) capacity
+  pub sound : IsSoundStore end_of (promoted (key_eq k) entries) capacity
 
-pub is_used : (end_of : Key → Option ℕ) (entries : List (Key × Cell)) (capacity : ℕ) (k : Key) (x : SignalCell) → IsSound end_of entries capacity → find (has_key k) (cells_of entries) ≡ Some x → IsUsed end_of entries capacity k x
+pub is_used : (end_of : Key → Option ℕ) (entries : List (Key × Cell)) (capacity : ℕ) (k : Key) (x : SignalCell) → IsSoundStore end_of entries capacity → find (has_key k) (cells_of entries) ≡ Some x → IsUsed end_of entries capacity k x
 is_used end_of entries capacity k x sound h =
     let cells : List SignalCell = cells_of entries in
     let after : promoted (key_eq k) entries ≡ entries_of (to_front x cells) =
@@ -118,14 +118,14 @@ is_used end_of entries capacity k x sound h =
 -- ---- find
 pub record IsFound (end_of : Key → Option ℕ) (entries : List (Key × Cell)) (capacity : ℕ) (k : Key) (p : Point) : Type 0 where
   pub cell : SignalCell
-  pub found : covering p (cells_of entries) ≡ Some cell
+  pub found : stored_at (cells_of entries) p ≡ Some cell
   pub for_point : cell_for p cell.cell ≡ cell
   pub used : IsUsed end_of entries capacity k cell
 
-pub is_found : (end_of : Key → Option ℕ) (entries : List (Key × Cell)) (capacity : ℕ) (k : Key) (p : Point) → IsSound end_of entries capacity → Some k ≡ option_map key_of (covering p (cells_of entries)) → IsFound end_of entries capacity k p
+pub is_found : (end_of : Key → Option ℕ) (entries : List (Key × Cell)) (capacity : ℕ) (k : Key) (p : Point) → IsSoundStore end_of entries capacity → Some k ≡ option_map key_of (stored_at (cells_of entries) p) → IsFound end_of entries capacity k p
 is_found end_of entries capacity k p sound h =
     let cells : List SignalCell = cells_of entries in
-    (elim (covering p cells) as (λ o. covering p cells ≡ o → Some k ≡ option_map key_of o → IsFound end_of entries capacity k p) [
+    (elim (stored_at cells p) as (λ o. stored_at cells p ≡ o → Some k ≡ option_map key_of o → IsFound end_of entries capacity k p) [
       | None ↦ λ e d. none_some k (sym d)
       | Some x ↦ λ e d.
           let is : k ≡ key_of x = some_same k (key_of x) d in
@@ -154,7 +154,7 @@ pub record IsStored (end_of : Key → Option ℕ) (entries : List (Key × Cell))
 looked_up : (entries : List (Key × Cell)) (k : Key) → entries ≡ entries_of (cells_of entries) → lookup (key_eq k) entries ≡ option_map (λ (x : SignalCell). x.cell) (find (has_key k) (cells_of entries))
 looked_up entries k keyed = subst (λ (es : List (Key × Cell)). lookup (key_eq k) es ≡ option_map (λ (x : SignalCell). x.cell) (find (has_key k) (cells_of entries))) (sym keyed) (lookup-entries_of k (cells_of entries))
 
-pub is_stored_again : (end_of : Key → Option ℕ) (entries : List (Key × Cell)) (capacity : ℕ) (x : SignalCell) → IsSound end_of entries capacity → IsSpan x.cell.span → Fits x (cells_of entries) → is_some (lookup (key_eq (key_of x)) entries) ≡ true
+pub is_stored_again : (end_of : Key → Option ℕ) (entries : List (Key × Cell)) (capacity : ℕ) (x : SignalCell) → IsSoundStore end_of entries capacity → IsSpan x.cell.span → FitsStore x (cells_of entries) → is_some (lookup (key_eq (key_of x)) entries) ≡ true
     → IsStored end_of entries capacity x
 is_stored_again end_of entries capacity x sound s fits h =
     let cells : List SignalCell = cells_of entries in
@@ -177,7 +177,7 @@ pub record IsNew (end_of : Key → Option ℕ) (entries : List (Key × Cell)) (x
   pub no_value : lookup (key_eq (key_of x)) entries ≡ None
   pub same : promoted (key_eq (key_of x)) entries ≡ entries
 
-pub is_new : (end_of : Key → Option ℕ) (entries : List (Key × Cell)) (capacity : ℕ) (x : SignalCell) → IsSound end_of entries capacity → Fits x (cells_of entries) → is_some (lookup (key_eq (key_of x)) entries) ≡ false
+pub is_new : (end_of : Key → Option ℕ) (entries : List (Key × Cell)) (capacity : ℕ) (x : SignalCell) → IsSoundStore end_of entries capacity → FitsStore x (cells_of entries) → is_some (lookup (key_eq (key_of x)) entries) ≡ false
     → IsNew end_of entries x
 is_new end_of entries capacity x sound fits h =
     let cells : List SignalCell = cells_of entries in
@@ -204,7 +204,7 @@ with_end end_of x q = cond (is_eq (key_cmp (key_of x) q)) (Some x.cell.span.stop
 abbrev pub without_end : (Key → Option ℕ) → Key → Key → Option ℕ
 without_end end_of k q = cond (is_eq (key_cmp k q)) None (end_of q)
 
-put_list : (end_of : Key → Option ℕ) (entries : List (Key × Cell)) (capacity : ℕ) (x : SignalCell) → IsSound end_of entries capacity → IsNew end_of entries x
+put_list : (end_of : Key → Option ℕ) (entries : List (Key × Cell)) (capacity : ℕ) (x : SignalCell) → IsSoundStore end_of entries capacity → IsNew end_of entries x
     → put_entries key_eq (lru_cache entries capacity) (key_of x) x.cell ≡ entries_of (x ∷ take (capacity - 1) (cells_of entries))
 put_list end_of entries capacity x sound new =
     subst (λ (es : List (Key × Cell)). put_entries key_eq (lru_cache es capacity) (key_of x) x.cell ≡ entries_of (x ∷ take (capacity - 1) (cells_of entries))) (sym sound.keyed)
@@ -214,9 +214,9 @@ put_list end_of entries capacity x sound new =
 pub record HasCome (end_of : Key → Option ℕ) (entries : List (Key × Cell)) (capacity : ℕ) (x : SignalCell) : Type 0 where
   pub room : length (cells_of entries) < capacity
   pub list : put_entries key_eq (lru_cache entries capacity) (key_of x) x.cell ≡ entries_of (x ∷ cells_of entries)
-  pub sound : IsSound (with_end end_of x) (put_entries key_eq (lru_cache entries capacity) (key_of x) x.cell) capacity
+  pub sound : IsSoundStore (with_end end_of x) (put_entries key_eq (lru_cache entries capacity) (key_of x) x.cell) capacity
 
-pub has_come : (end_of : Key → Option ℕ) (entries : List (Key × Cell)) (capacity : ℕ) (x : SignalCell) → IsSound end_of entries capacity → IsNew end_of entries x → IsSpan x.cell.span → slice_get entries (capacity - 1) ≡ None
+pub has_come : (end_of : Key → Option ℕ) (entries : List (Key × Cell)) (capacity : ℕ) (x : SignalCell) → IsSoundStore end_of entries capacity → IsNew end_of entries x → IsSpan x.cell.span → slice_get entries (capacity - 1) ≡ None
     → HasCome end_of entries capacity x
 has_come end_of entries capacity x sound new s h =
     let cells : List SignalCell = cells_of entries in
@@ -236,9 +236,9 @@ pub record HasPushed (end_of : Key → Option ℕ) (entries : List (Key × Cell)
   pub full : length (cells_of entries) ≡ capacity
   pub last : last_key (cells_of entries) ≡ Some e.0
   pub list : put_entries key_eq (lru_cache entries capacity) (key_of x) x.cell ≡ entries_of (x ∷ all_but_last (cells_of entries))
-  pub sound : IsSound (without_end (with_end end_of x) e.0) (put_entries key_eq (lru_cache entries capacity) (key_of x) x.cell) capacity
+  pub sound : IsSoundStore (without_end (with_end end_of x) e.0) (put_entries key_eq (lru_cache entries capacity) (key_of x) x.cell) capacity
 
-pub has_pushed : (end_of : Key → Option ℕ) (entries : List (Key × Cell)) (capacity : ℕ) (x : SignalCell) (e : Key × Cell) → IsSound end_of entries capacity → IsNew end_of entries x → IsSpan x.cell.span → slice_get entries (capacity - 1) ≡ Some e
+pub has_pushed : (end_of : Key → Option ℕ) (entries : List (Key × Cell)) (capacity : ℕ) (x : SignalCell) (e : Key × Cell) → IsSoundStore end_of entries capacity → IsNew end_of entries x → IsSpan x.cell.span → slice_get entries (capacity - 1) ≡ Some e
     → HasPushed end_of entries capacity x e
 has_pushed end_of entries capacity x e sound new s h =
     let cells : List SignalCell = cells_of entries in
@@ -249,21 +249,21 @@ has_pushed end_of entries capacity x e sound new s h =
     let last : IsLastOf cells e = last_of cells (capacity - 1) e (let j = sound.some in omega arith) there in
     let after : put_entries key_eq (lru_cache entries capacity) (key_of x) x.cell ≡ entries_of (x ∷ all_but_last cells) =
     put_list end_of entries capacity x sound new ∙ ap (λ (n : ℕ). entries_of (x ∷ take (n - 1) cells)) (sym full) in
-    let grown : IsIndexed (with_end end_of x) (x ∷ cells) = added end_of cells x sound.indexed s new.apart in
-    let cut : IsIndexed (without_end (with_end end_of x) (key_of last.cell)) (x ∷ all_but_last cells) =
-    dropped (with_end end_of x) (x ∷ all_but_last cells) last.cell (subst (λ (l : List SignalCell). IsIndexed (with_end end_of x) (x ∷ l)) last.split grown) in
+    let grown : IsStoreIndex (with_end end_of x) (x ∷ cells) = added end_of cells x sound.indexed s new.apart in
+    let cut : IsStoreIndex (without_end (with_end end_of x) (key_of last.cell)) (x ∷ all_but_last cells) =
+    dropped (with_end end_of x) (x ∷ all_but_last cells) last.cell (subst (λ (l : List SignalCell). IsStoreIndex (with_end end_of x) (x ∷ l)) last.split grown) in
     record {
       full = full;
       last = last.key;
       list = after;
       sound = sound_of (without_end (with_end end_of x) e.0) (put_entries key_eq (lru_cache entries capacity) (key_of x) x.cell) (x ∷ all_but_last cells) capacity after
-          (subst (λ (k : Key). IsIndexed (without_end (with_end end_of x) k) (x ∷ all_but_last cells)) (sym (ap (λ (f : Key × Cell). f.0) last.entry)) cut)
+          (subst (λ (k : Key). IsStoreIndex (without_end (with_end end_of x) k) (x ∷ all_but_last cells)) (sym (ap (λ (f : Key × Cell). f.0) last.entry)) cut)
           (let j = sound.some in omega (arith, length-take (length cells - 1) cells)) sound.some sound.most;
     }
 
 -- ---- trim
-pub popped : (end_of : Key → Option ℕ) (entries : List (Key × Cell)) (capacity : ℕ) (e : Key × Cell) → IsSound end_of entries capacity → slice_get entries (length entries - 1) ≡ Some e
-    → IsSound (without_end end_of e.0) (take (length entries - 1) entries) capacity
+pub popped : (end_of : Key → Option ℕ) (entries : List (Key × Cell)) (capacity : ℕ) (e : Key × Cell) → IsSoundStore end_of entries capacity → slice_get entries (length entries - 1) ≡ Some e
+    → IsSoundStore (without_end end_of e.0) (take (length entries - 1) entries) capacity
 popped end_of entries capacity e sound h =
     let cells : List SignalCell = cells_of entries in
     let many : length entries ≡ length cells = ap (λ (l : List (Key × Cell)). length l) sound.keyed ∙ length-map cells entry_of in
@@ -272,13 +272,13 @@ popped end_of entries capacity e sound h =
     let last : IsLastOf cells e = last_of cells (length entries - 1) e (omega arith) there in
     let after : take (length entries - 1) entries ≡ entries_of (all_but_last cells) =
     ap (take (length entries - 1)) sound.keyed ∙ take-map entry_of (length entries - 1) cells ∙ ap (λ (n : ℕ). entries_of (take (n - 1) cells)) many in
-    let cut : IsIndexed (without_end end_of (key_of last.cell)) (all_but_last cells) =
-    dropped end_of (all_but_last cells) last.cell (subst (λ (l : List SignalCell). IsIndexed end_of l) last.split sound.indexed) in
+    let cut : IsStoreIndex (without_end end_of (key_of last.cell)) (all_but_last cells) =
+    dropped end_of (all_but_last cells) last.cell (subst (λ (l : List SignalCell). IsStoreIndex end_of l) last.split sound.indexed) in
     sound_of (without_end end_of e.0) (take (length entries - 1) entries) (all_but_last cells) capacity after
-    (subst (λ (k : Key). IsIndexed (without_end end_of k) (all_but_last cells)) (sym (ap (λ (f : Key × Cell). f.0) last.entry)) cut)
+    (subst (λ (k : Key). IsStoreIndex (without_end end_of k) (all_but_last cells)) (sym (ap (λ (f : Key × Cell). f.0) last.entry)) cut)
     (let i = sound.within in omega (arith, length-take (length cells - 1) cells)) sound.some sound.most
 
-pub same_sound : (f g : Key → Option ℕ) (entries : List (Key × Cell)) (capacity : ℕ) → ((q : Key) → f q ≡ g q) → IsSound g entries capacity → IsSound f entries capacity
+pub same_sound : (f g : Key → Option ℕ) (entries : List (Key × Cell)) (capacity : ℕ) → ((q : Key) → f q ≡ g q) → IsSoundStore g entries capacity → IsSoundStore f entries capacity
 same_sound f g entries capacity same sound = record {
   keyed = sound.keyed;
   indexed = same_index f g (cells_of entries) same sound.indexed;

@@ -5,10 +5,10 @@ use Rattle.std.specs.List.{list_any}
 use Rattle.valid_intervals.specs.Spans.{IsSpan}
 use Rattle.valid_intervals.specs.declared.Point.{Point}
 use Rattle.valid_intervals.specs.declared.SignalCell.{SignalCell}
-use Rattle.valid_intervals.specs.Cells.{covers}
+use Rattle.valid_intervals.specs.Cells.{covers, stored_at}
 use Rattle.cell_store.specs.declared.Key.{Key}
-use Rattle.cell_store.specs.Recency.{key_of, IsApart, AreApart, covering}
-use Rattle.cell_store.specs.Index.{has_key, IsIndexed}
+use Rattle.cell_store.specs.Recency.{key_of, IsApart, AreApart}
+use Rattle.cell_store.specs.inner.Index.{has_key, IsStoreIndex}
 use Rattle.cell_store.proofs.Keys.{IsCovered, covers_true, covers_from, first_point, covers_first, shares_first, has_key-true, has_key-itself, AtMost}
 
 pub some_same : {X : Type 0} (x y : X) → Some x ≡ Some y → x ≡ y
@@ -80,7 +80,7 @@ module _ where
       ]) refl
 
   -- a found cell is what a search for a point that it covers finds
-  pub found_at_point : (f : SignalCell → Bool) (cells : List SignalCell) (x : SignalCell) (p : Point) → AreApart cells → find f cells ≡ Some x → covers p x ≡ true → covering p cells ≡ Some x
+  pub found_at_point : (f : SignalCell → Bool) (cells : List SignalCell) (x : SignalCell) (p : Point) → AreApart cells → find f cells ≡ Some x → covers p x ≡ true → stored_at cells p ≡ Some x
   found_at_point f cells x p apart h a =
       found_by f (covers p) cells x h a (λ y e. one_found f (covers p) cells x y p apart h e a (found_true (covers p) cells y e))
 
@@ -99,7 +99,7 @@ pub record Holds (cells : List SignalCell) (k : Key) (at : ℕ) : Type 0 where
   pub key : k ≡ key_of cell
   pub end : cell.cell.span.stop ≡ at
 
-pub holds : (end_of : Key → Option ℕ) (cells : List SignalCell) (k : Key) (end : ℕ) → IsIndexed end_of cells → end_of k ≡ Some end → Holds cells k end
+pub holds : (end_of : Key → Option ℕ) (cells : List SignalCell) (k : Key) (end : ℕ) → IsStoreIndex end_of cells → end_of k ≡ Some end → Holds cells k end
 holds end_of cells k end index at =
     (elim (find (has_key k) cells) as (λ o. find (has_key k) cells ≡ o → option_map (λ (x : SignalCell). x.cell.span.stop) o ≡ Some end → Holds cells k end) [
       | None ↦ λ e d. none_some end d
@@ -107,12 +107,12 @@ holds end_of cells k end index at =
     ]) refl (sym (index.ends k) ∙ at)
 
 -- the index has the end of a cell that is found
-pub has_end : (end_of : Key → Option ℕ) (cells : List SignalCell) (f : SignalCell → Bool) (x : SignalCell) → IsIndexed end_of cells → find f cells ≡ Some x → end_of (key_of x) ≡ Some x.cell.span.stop
+pub has_end : (end_of : Key → Option ℕ) (cells : List SignalCell) (f : SignalCell → Bool) (x : SignalCell) → IsStoreIndex end_of cells → find f cells ≡ Some x → end_of (key_of x) ≡ Some x.cell.span.stop
 has_end end_of cells f x index h = index.ends (key_of x) ∙ ap (option_map (λ (y : SignalCell). y.cell.span.stop)) (found_at_key f cells x index.spans index.apart h)
 
 -- a cell that begins no later than the time and ends after it
-pub covered : (end_of : Key → Option ℕ) (cells : List SignalCell) (p : Point) (k : Key) (end : ℕ) → IsIndexed end_of cells → end_of k ≡ Some end → k.signal ≡ p.signal → k.start ≤ p.time → p.time < end
-    → option_map key_of (covering p cells) ≡ Some k
+pub covered : (end_of : Key → Option ℕ) (cells : List SignalCell) (p : Point) (k : Key) (end : ℕ) → IsStoreIndex end_of cells → end_of k ≡ Some end → k.signal ≡ p.signal → k.start ≤ p.time → p.time < end
+    → option_map key_of (stored_at cells p) ≡ Some k
 covered end_of cells p k end index at signal low high =
     let h : Holds cells k end = holds end_of cells k end index at in
     let start : h.cell.cell.span.start ≡ k.start = ap (λ (j : Key). j.start) (sym h.key) in
@@ -131,12 +131,12 @@ lower q k is (inl a) = absurd (omega arith)
 lower q k is (inr a) = a.1
 
 -- the last cell that begins no later than the time does not cover the point: no cell does
-pub past : (end_of : Key → Option ℕ) (cells : List SignalCell) (p : Point) (k : Key) (end : ℕ) → IsIndexed end_of cells → end_of k ≡ Some end
+pub past : (end_of : Key → Option ℕ) (cells : List SignalCell) (p : Point) (k : Key) (end : ℕ) → IsStoreIndex end_of cells → end_of k ≡ Some end
     → AtMost k (record { signal = p.signal; start = p.time })
     → ((q : Key) → AtMost q (record { signal = p.signal; start = p.time }) → IsSome (end_of q) → AtMost q k)
-    → (k.signal ≡ p.signal → end ≤ p.time) → covering p cells ≡ None
+    → (k.signal ≡ p.signal → end ≤ p.time) → stored_at cells p ≡ None
 past end_of cells p k end index at before last ended =
-    (elim (covering p cells) as (λ o. covering p cells ≡ o → o ≡ None) [
+    (elim (stored_at cells p) as (λ o. stored_at cells p ≡ o → o ≡ None) [
       | None ↦ λ e. refl
       | Some y ↦ λ e.
           let c : IsCovered p y = covers_true p y (found_true (covers p) cells y e) in
@@ -159,10 +159,10 @@ past end_of cells p k end index at before last ended =
     ]) refl
 
 -- no cell begins so early: none covers the point
-pub none_before : (end_of : Key → Option ℕ) (cells : List SignalCell) (p : Point) → IsIndexed end_of cells
-    → ((q : Key) → AtMost q (record { signal = p.signal; start = p.time }) → end_of q ≡ None) → covering p cells ≡ None
+pub none_before : (end_of : Key → Option ℕ) (cells : List SignalCell) (p : Point) → IsStoreIndex end_of cells
+    → ((q : Key) → AtMost q (record { signal = p.signal; start = p.time }) → end_of q ≡ None) → stored_at cells p ≡ None
 none_before end_of cells p index none =
-    (elim (covering p cells) as (λ o. covering p cells ≡ o → o ≡ None) [
+    (elim (stored_at cells p) as (λ o. stored_at cells p ≡ o → o ≡ None) [
       | None ↦ λ e. refl
       | Some y ↦ λ e.
           let c : IsCovered p y = covers_true p y (found_true (covers p) cells y e) in

@@ -9,7 +9,7 @@ use Rattle.valid_intervals.specs.declared.SignalCell.{SignalCell}
 use Rattle.valid_intervals.specs.Cells.{same_stored, to_front}
 use Rattle.cell_store.specs.declared.Key.{Key}
 use Rattle.cell_store.specs.Recency.{key_of, IsApart, AreApart}
-use Rattle.cell_store.specs.Index.{key_cmp, has_key, IsIndexed}
+use Rattle.cell_store.specs.inner.Index.{key_cmp, has_key, IsStoreIndex}
 use Rattle.cell_store.proofs.Same.{same_stored-true, same_stored-itself}
 use Rattle.cell_store.proofs.Keys.{first_point, covers_first, shares_first, has_key-true, key_eq-is}
 use Rattle.cell_store.proofs.Found.{some_same, none_some, found_true, found_all, found_at_key}
@@ -20,7 +20,7 @@ stop_of x = x.cell.span.stop
 abbrev AllSpans : List SignalCell → Type 0
 AllSpans cells = All (λ x. IsSpan x.cell.span) cells
 
-pub same_index : (f g : Key → Option ℕ) (cells : List SignalCell) → ((q : Key) → f q ≡ g q) → IsIndexed g cells → IsIndexed f cells
+pub same_index : (f g : Key → Option ℕ) (cells : List SignalCell) → ((q : Key) → f q ≡ g q) → IsStoreIndex g cells → IsStoreIndex f cells
 same_index f g cells same index = record { spans = index.spans; apart = index.apart; ends = λ k. same k ∙ index.ends k }
 
 AreApart-filter : (p : SignalCell → Bool) (cells : List SignalCell) → AreApart cells → AreApart (filter p cells)
@@ -59,7 +59,7 @@ find_other g x (y ∷ cells) fails =
     ]) refl
 
 -- a cell that is used
-pub used : (end_of : Key → Option ℕ) (cells : List SignalCell) (f : SignalCell → Bool) (x : SignalCell) → IsIndexed end_of cells → find f cells ≡ Some x → IsIndexed end_of (to_front x cells)
+pub used : (end_of : Key → Option ℕ) (cells : List SignalCell) (f : SignalCell → Bool) (x : SignalCell) → IsStoreIndex end_of cells → find f cells ≡ Some x → IsStoreIndex end_of (to_front x cells)
 used end_of cells f x index h =
     let s : IsSpan x.cell.span = found_all (λ y. IsSpan y.cell.span) f cells x index.spans h in
     let others : List SignalCell = filter (λ z. not (same_stored x z)) cells in
@@ -74,8 +74,8 @@ used end_of cells f x index h =
     }
 
 -- a new cell in front
-pub added : (end_of : Key → Option ℕ) (cells : List SignalCell) (x : SignalCell) → IsIndexed end_of cells → IsSpan x.cell.span → All (IsApart x) cells
-    → IsIndexed (λ q. cond (is_eq (key_cmp (key_of x) q)) (Some x.cell.span.stop) (end_of q)) (x ∷ cells)
+pub added : (end_of : Key → Option ℕ) (cells : List SignalCell) (x : SignalCell) → IsStoreIndex end_of cells → IsSpan x.cell.span → All (IsApart x) cells
+    → IsStoreIndex (λ q. cond (is_eq (key_cmp (key_of x) q)) (Some x.cell.span.stop) (end_of q)) (x ∷ cells)
 added end_of cells x index s apart = record {
   spans = All-cons (λ y. IsSpan y.cell.span) x cells s index.spans;
   apart = (apart, index.apart);
@@ -109,8 +109,8 @@ last_is_apart f (z ∷ cells) x y apart h =
     ]) h
 
 -- the last cell goes
-pub dropped : (end_of : Key → Option ℕ) (cells : List SignalCell) (y : SignalCell) → IsIndexed end_of (cells ++ y ∷ [])
-    → IsIndexed (λ q. cond (is_eq (key_cmp (key_of y) q)) None (end_of q)) cells
+pub dropped : (end_of : Key → Option ℕ) (cells : List SignalCell) (y : SignalCell) → IsStoreIndex end_of (cells ++ y ∷ [])
+    → IsStoreIndex (λ q. cond (is_eq (key_cmp (key_of y) q)) None (end_of q)) cells
 dropped end_of cells y index =
     let s : IsSpan y.cell.span = All-back (λ z. IsSpan z.cell.span) cells y index.spans in
     let spans : AllSpans cells = All-front (λ z. IsSpan z.cell.span) cells y index.spans in

@@ -9,7 +9,7 @@ use Rattle.valid_intervals.specs.declared.SignalCell.{SignalCell}
 use Rattle.valid_intervals.specs.Cells.{same_stored, covers}
 use Rattle.cell_store.specs.declared.Key.{Key}
 use Rattle.cell_store.specs.Recency.{key_of, IsApart}
-use Rattle.cell_store.specs.Index.{key_cmp, has_key}
+use Rattle.cell_store.specs.inner.Index.{key_cmp, has_key}
 use Rattle.cell_store.proofs.Same.{same_stored-true}
 
 pub record IsCovered (p : Point) (x : SignalCell) : Type 0 where

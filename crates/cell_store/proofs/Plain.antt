@@ -5,8 +5,8 @@ use Rattle.std.proofs.lemmas.List.Elements.{All-nil, All-cons, All-take}
 use Rattle.valid_intervals.specs.declared.SignalCell.{SignalCell}
 use Rattle.valid_intervals.specs.declared.Cell.{Cell}
 use Rattle.valid_intervals.specs.declared.Point.{Point}
-use Rattle.valid_intervals.specs.Cells.{same_stored, covers, to_front, all_but_last}
-use Rattle.cell_store.specs.Recency.{Contents, contents, with_cells, covering, is_stored, pushes_out, after_put}
+use Rattle.valid_intervals.specs.Cells.{same_stored, covers, to_front, all_but_last, stored_at, is_stored}
+use Rattle.cell_store.specs.Recency.{Contents, contents, with_cells, pushes_out, after_put}
 use Rattle.cell_store.proofs.Same.{same_stored-true, same_stored-itself}
 use Rattle.cell_store.proofs.Keys.{covers_true}
 use Rattle.cell_store.proofs.Found.{some_same, none_some, found_true}
@@ -35,9 +35,9 @@ none_same x (y ∷ cells) h =
     ]) refl h
 
 -- the cell that covers a point is stored, as the cell for the point
-pub stored_again : (p : Point) (cells : List SignalCell) (cell : Cell) → Some cell ≡ option_map (λ (x : SignalCell). x.cell) (covering p cells) → is_stored (record { signal = p.signal; cell = cell }) cells ≡ true
+pub stored_again : (p : Point) (cells : List SignalCell) (cell : Cell) → Some cell ≡ option_map (λ (x : SignalCell). x.cell) (stored_at cells p) → is_stored (record { signal = p.signal; cell = cell }) cells ≡ true
 stored_again p cells cell h =
-    (elim (covering p cells) as (λ o. covering p cells ≡ o → Some cell ≡ option_map (λ (x : SignalCell). x.cell) o → is_stored (record { signal = p.signal; cell = cell }) cells ≡ true) [
+    (elim (stored_at cells p) as (λ o. stored_at cells p ≡ o → Some cell ≡ option_map (λ (x : SignalCell). x.cell) o → is_stored (record { signal = p.signal; cell = cell }) cells ≡ true) [
       | None ↦ λ e d. none_some cell (sym d)
       | Some y ↦ λ e d.
           let x : SignalCell = record { signal = p.signal; cell = cell } in

@@ -10,24 +10,24 @@ use Rattle.lru.specs.LruCache.{LruCache, lru_cache, promoted, put_entries, displ
 use Rattle.valid_intervals.specs.Spans.{IsSpan}
 use Rattle.valid_intervals.specs.declared.Cell.{Cell}
 use Rattle.valid_intervals.specs.declared.SignalCell.{SignalCell}
-use Rattle.valid_intervals.specs.Cells.{to_front, all_but_last}
+use Rattle.valid_intervals.specs.Cells.{to_front, all_but_last, is_stored}
 use Rattle.cell_store.specs.declared.Key.{Key}
-use Rattle.cell_store.specs.Recency.{Contents, contents, with_cells, key_of, is_stored, pushes_out, last_key, after_put, IsApart, Fits}
-use Rattle.cell_store.specs.Index.{key_cmp, key_eq, entries_of, cells_of, IsSound}
+use Rattle.cell_store.specs.Recency.{Contents, contents, with_cells, key_of, pushes_out, last_key, after_put, IsApart, FitsStore}
+use Rattle.cell_store.specs.inner.Index.{key_cmp, key_eq, entries_of, cells_of, IsSoundStore}
 use Rattle.cell_store.proofs.Cached.{cells_of-entries_of, all_differ, all_kept}
 use Rattle.cell_store.proofs.Kept.{taken_back}
 use Rattle.cell_store.proofs.Calls.{IsStored, is_stored_again, IsNew, is_new, HasCome, has_come, HasPushed, has_pushed, with_end, without_end, same_sound}
 
 -- the store s has taken x in, as the cache and the ends of the index now show
 pub record IsPut (end_of : Key → Option ℕ) (cache : LruCache Key Cell) (s : Contents) (x : SignalCell) (stored out : Bool) : Type 0 where
-  pub sound : IsSound end_of cache.entries cache.cap
+  pub sound : IsSoundStore end_of cache.entries cache.cap
   pub after : contents cache.cap (cells_of cache.entries) ≡ after_put s x
   pub was_stored : is_stored x s.cells ≡ stored
   pub goes_out : pushes_out x s ≡ out
 
 -- the cache does not have the key of x, which may come
 pub record IsMissed (end_of : Key → Option ℕ) (cache : LruCache Key Cell) (s : Contents) (x : SignalCell) : Type 0 where
-  pub sound : IsSound end_of cache.entries cache.cap
+  pub sound : IsSoundStore end_of cache.entries cache.cap
   pub view : contents cache.cap (cells_of cache.entries) ≡ s
   pub new : IsNew end_of cache.entries x
   pub span : IsSpan x.cell.span
@@ -39,9 +39,9 @@ shown cache cells capacity list is same =
 apart_numbers : (a b : ℕ) → a < b → (a == b) ≡ false
 apart_numbers a b h = ne_eqb a b (λ e. omega arith)
 
-module _ (end_of : Key → Option ℕ) (entries : List (Key × Cell)) (capacity : ℕ) (s : Contents) (x : SignalCell) (k : Key) (key : k ≡ key_of x) (view : contents capacity (cells_of entries) ≡ s) (sound : IsSound end_of entries capacity) (span : IsSpan x.cell.span) (fits : Fits x s.cells) where
-  fits_cells : Fits x (cells_of entries)
-  fits_cells = subst (λ (t : Contents). Fits x t.cells) (sym view) fits
+module _ (end_of : Key → Option ℕ) (entries : List (Key × Cell)) (capacity : ℕ) (s : Contents) (x : SignalCell) (k : Key) (key : k ≡ key_of x) (view : contents capacity (cells_of entries) ≡ s) (sound : IsSoundStore end_of entries capacity) (span : IsSpan x.cell.span) (fits : FitsStore x s.cells) where
+  fits_cells : FitsStore x (cells_of entries)
+  fits_cells = subst (λ (t : Contents). FitsStore x t.cells) (sym view) fits
 
   -- x was stored and is used
   pub put_again : (cache : LruCache Key Cell) → true ≡ is_some (lookup (key_eq k) entries) → cache ≡ lru_cache (promoted (key_eq k) entries) capacity → IsPut end_of cache s x true false
@@ -51,7 +51,7 @@ module _ (end_of : Key → Option ℕ) (entries : List (Key × Cell)) (capacity 
       let stored : is_stored x s.cells ≡ true = subst (λ (t : Contents). is_stored x t.cells ≡ true) view again.stored in
       let stays : pushes_out x s ≡ false = ap (λ b. not b && (length s.cells == s.capacity)) stored in
       record {
-        sound = subst (λ (l : LruCache Key Cell). IsSound end_of l.entries l.cap) (sym same) again.used.sound;
+        sound = subst (λ (l : LruCache Key Cell). IsSoundStore end_of l.entries l.cap) (sym same) again.used.sound;
         after = shown cache (to_front x (cells_of entries)) capacity (promoted (key_eq (key_of x)) entries) same again.used.list
             ∙ ap (λ (t : Contents). with_cells t (to_front x t.cells)) view
             ∙ sym (ap (λ b. with_cells s (to_front x (cond b (all_but_last s.cells) s.cells))) stays);
@@ -64,7 +64,7 @@ module _ (end_of : Key → Option ℕ) (entries : List (Key × Cell)) (capacity 
       let new : IsNew end_of entries x = is_new end_of entries capacity x sound fits_cells (sym (subst (λ (j : Key). false ≡ is_some (lookup (key_eq j) entries)) key h)) in
       let same : cache ≡ lru_cache entries capacity = subst (λ (j : Key). cache ≡ lru_cache (promoted (key_eq j) entries) capacity) key is ∙ ap (λ (l : List (Key × Cell)). lru_cache l capacity) new.same in
       record {
-        sound = subst (λ (l : LruCache Key Cell). IsSound end_of l.entries l.cap) (sym same) sound;
+        sound = subst (λ (l : LruCache Key Cell). IsSoundStore end_of l.entries l.cap) (sym same) sound;
         view = ap (λ (l : LruCache Key Cell). contents l.cap (cells_of l.entries)) same ∙ view;
         new = subst (λ (l : LruCache Key Cell). IsNew end_of l.entries x) (sym same) new;
         span = span;
@@ -93,7 +93,7 @@ module _ (end_of : Key → Option ℕ) (cache : LruCache Key Cell) (s : Contents
     with_x q = inserted q ∙ ap₂ (λ (j : Key) (n : ℕ). cond (is_eq (key_cmp j q)) (Some n) (end_of q)) key stop
 
     -- the end is taken back, where x did not come
-    pub put_refused : (after : Key → Option ℕ) → ((q : Key) → after q ≡ cond (is_eq (key_cmp k q)) None (after_insert q)) → IsSound after cache.entries cache.cap
+    pub put_refused : (after : Key → Option ℕ) → ((q : Key) → after q ≡ cond (is_eq (key_cmp k q)) None (after_insert q)) → IsSoundStore after cache.entries cache.cap
     put_refused after removed =
         same_sound after end_of cache.entries cache.cap
         (λ q. removed q ∙ ap₂ (λ (j : Key) (o : Option ℕ). cond (is_eq (key_cmp j q)) None o) key (with_x q) ∙ taken_back end_of x missed.new.no_end q)
@@ -108,7 +108,7 @@ module _ (end_of : Key → Option ℕ) (cache : LruCache Key Cell) (s : Contents
         let room : length s.cells < s.capacity = subst (λ (t : Contents). length t.cells < t.capacity) missed.view come.room in
         let stays : pushes_out x s ≡ false = ap (λ b. not b && (length s.cells == s.capacity)) new_in_s ∙ apart_numbers (length s.cells) s.capacity room in
         record {
-          sound = subst (λ (l : LruCache Key Cell). IsSound after_insert l.entries l.cap) (sym same) (same_sound after_insert (with_end end_of x) list cache.cap with_x come.sound);
+          sound = subst (λ (l : LruCache Key Cell). IsSoundStore after_insert l.entries l.cap) (sym same) (same_sound after_insert (with_end end_of x) list cache.cap with_x come.sound);
           after = shown full (x ∷ cells_of cache.entries) cache.cap list same come.list
               ∙ ap (λ (t : Contents). with_cells t (x ∷ t.cells)) missed.view ∙ ap (with_cells s) in_front_of_all
               ∙ sym (ap (λ b. with_cells s (to_front x (cond b (all_but_last s.cells) s.cells))) stays);
@@ -126,7 +126,7 @@ module _ (end_of : Key → Option ℕ) (cache : LruCache Key Cell) (s : Contents
         let whole : length s.cells ≡ s.capacity = subst (λ (t : Contents). length t.cells ≡ t.capacity) missed.view pushed.full in
         let goes : pushes_out x s ≡ true = ap (λ b. not b && (length s.cells == s.capacity)) new_in_s ∙ eq-eqb (length s.cells) s.capacity whole in (
           record {
-            sound = subst (λ (l : LruCache Key Cell). IsSound after l.entries l.cap) (sym same)
+            sound = subst (λ (l : LruCache Key Cell). IsSoundStore after l.entries l.cap) (sym same)
                 (same_sound after (without_end (with_end end_of x) e.0) list cache.cap (λ q. removed q ∙ ap (cond (is_eq (key_cmp e.0 q)) None) (with_x q)) pushed.sound);
             after = shown full (x ∷ all_but_last (cells_of cache.entries)) cache.cap list same pushed.list
                 ∙ ap (λ (t : Contents). with_cells t (x ∷ all_but_last t.cells)) missed.view ∙ ap (with_cells s) (in_front (length s.cells - 1))

@@ -8,7 +8,7 @@ use Rattle.valid_intervals.specs.declared.Cell.{Cell}
 use Rattle.valid_intervals.specs.declared.SignalCell.{SignalCell}
 use Rattle.cell_store.specs.declared.Key.{Key}
 use Rattle.cell_store.specs.Recency.{Contents, contents, with_cells, key_of}
-use Rattle.cell_store.specs.Index.{key_cmp, entry_of, entries_of, cell_of, cells_of, IsSound}
+use Rattle.cell_store.specs.inner.Index.{key_cmp, entry_of, entries_of, cell_in, cells_of, IsSoundStore}
 use Rattle.cell_store.proofs.Found.{some_same, none_some}
 use Rattle.cell_store.proofs.Calls.{popped, without_end, same_sound}
 
@@ -17,7 +17,7 @@ keys_in entries = map (λ (e : Key × Cell). e.0) entries
 
 -- what is left of the cache, and the keys that were taken out
 pub record IsTrimmed (end_of : Key → Option ℕ) (cache was : LruCache Key Cell) (n : ℕ) (taken : List Key) : Type 0 where
-  pub sound : IsSound end_of cache.entries cache.cap
+  pub sound : IsSoundStore end_of cache.entries cache.cap
   pub capacity : cache.cap ≡ was.cap
   pub kept : cache.entries ≡ take (length cache.entries) was.entries
   pub enough : min n (length was.entries) ≤ length cache.entries
@@ -41,7 +41,7 @@ slice_get_take (y ∷ ys) zero n x h = none_some x h
 slice_get_take (y ∷ ys) (suc m) zero x h = h
 slice_get_take (y ∷ ys) (suc m) (suc n) x h = slice_get_take ys m n x h
 
-pub begins : (end_of : Key → Option ℕ) (cache : LruCache Key Cell) (n : ℕ) → IsSound end_of cache.entries cache.cap → IsTrimmed end_of cache cache n []
+pub begins : (end_of : Key → Option ℕ) (cache : LruCache Key Cell) (n : ℕ) → IsSoundStore end_of cache.entries cache.cap → IsTrimmed end_of cache cache n []
 begins end_of cache n sound = record {
   sound = sound;
   capacity = refl;
@@ -91,7 +91,7 @@ shows end_of cache was n taken s trimmed few keyed view =
     let os : List (Key × Cell) = was.entries in
     let short : k ≤ length os = omega (arith, ap (λ (l : List (Key × Cell)). length l) trimmed.kept, length-take k os) in
     let off = taken_off n k os few short trimmed.enough in (
-      ap₂ contents trimmed.capacity (ap cells_of (trimmed.kept ∙ off.0) ∙ sym (take-map cell_of n os)) ∙ ap (λ (t : Contents). with_cells t (take n t.cells)) view,
+      ap₂ contents trimmed.capacity (ap cells_of (trimmed.kept ∙ off.0) ∙ sym (take-map cell_in n os)) ∙ ap (λ (t : Contents). with_cells t (take n t.cells)) view,
       trimmed.keys ∙ ap (λ (l : List (Key × Cell)). reverse (keys_in l)) (off.1 ∙ ap (drop n) keyed ∙ drop-map entry_of n (cells_of os))
           ∙ ap (λ (l : List Key). reverse l) (keys_in-entries_of (drop n (cells_of os)))
           ∙ ap (λ (t : Contents). reverse (map key_of (drop n t.cells))) view,

@@ -1,3 +1,2 @@
 pub mod Recency
-pub mod Index
-pub mod Beside
+pub mod inner

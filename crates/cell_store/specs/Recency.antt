@@ -1,9 +1,8 @@
 -- What a bounded store holds: cells of signals, the most recently used first.
-use Rattle.std.specs.Prelude.{◌≡◌, ℕ, ◌-◌, ◌==◌, Bool, true, not, ◌&&◌, ◌⊎◌, ⊤, List, [], ◌∷◌, length, find, slice_get, All, Option, option_map, if◌then◌else◌}
-use Rattle.std.specs.List.{list_any}
+use Rattle.std.specs.Prelude.{◌≡◌, ℕ, ◌-◌, ◌==◌, Bool, true, not, ◌&&◌, ◌⊎◌, ⊤, List, [], ◌∷◌, length, All, Option, option_map, if◌then◌else◌}
 use Rattle.valid_intervals.specs.declared.Point.{Point}
 use Rattle.valid_intervals.specs.declared.SignalCell.{SignalCell}
-use Rattle.valid_intervals.specs.Cells.{same_stored, covers, to_front, all_but_last}
+use Rattle.valid_intervals.specs.Cells.{same_stored, covers, is_stored, last_cell, to_front, all_but_last}
 use Rattle.cell_store.specs.declared.Key.{Key}
 
 -- how many cells there may be, and the cells
@@ -21,9 +20,6 @@ with_cells s cells = contents s.capacity cells
 abbrev pub key_of : SignalCell → Key
 key_of x = record { signal = x.signal; start = x.cell.span.start }
 
-abbrev pub is_stored : SignalCell → List SignalCell → Bool
-is_stored x cells = list_any (same_stored x) cells
-
 -- no point is covered by both
 abbrev pub IsApart : SignalCell → SignalCell → Type 0
 IsApart x y = (p : Point) → covers p x ≡ true → covers p y ≡ true → ⊥
@@ -34,12 +30,8 @@ AreApart [] = ⊤
 AreApart (x ∷ cells) = All (IsApart x) cells × AreApart cells
 
 -- each of the cells is x, or apart from it
-abbrev pub Fits : SignalCell → List SignalCell → Type 0
-Fits x cells = All (λ y. (same_stored x y ≡ true) ⊎ IsApart x y) cells
-
--- the cell that covers the point, and the cells once it has been used
-abbrev pub covering : Point → List SignalCell → Option SignalCell
-covering p cells = find (covers p) cells
+abbrev pub FitsStore : SignalCell → List SignalCell → Type 0
+FitsStore x cells = All (λ y. (same_stored x y ≡ true) ⊎ IsApart x y) cells
 
 -- whether x comes to a store that has no place left for it
 abbrev pub pushes_out : SignalCell → Contents → Bool
@@ -47,7 +39,7 @@ pushes_out x s = not (is_stored x s.cells) && (length s.cells == s.capacity)
 
 -- the key of the least recently used cell
 abbrev pub last_key : List SignalCell → Option Key
-last_key cells = option_map key_of (slice_get cells (length cells - 1))
+last_key cells = option_map key_of (last_cell cells)
 
 -- the store once x has come to it
 abbrev pub after_put : Contents → SignalCell → Contents

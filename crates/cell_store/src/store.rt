@@ -4,8 +4,9 @@ ghost use Rattle.std.specs.BTreeMap.{get};
 ghost use Rattle.valid_intervals.specs.declared.SignalCell.{SignalCell};
 ghost use Rattle.valid_intervals.specs.Cells as cells;
 ghost use Rattle.valid_intervals.specs.Cells.{cell_for, to_front};
-ghost use Rattle.cell_store.specs.Recency.{contents, with_cells, covering, key_of, last_key, is_stored, pushes_out, after_put, Fits, AreApart};
-ghost use Rattle.cell_store.specs.Index.{key_cmp, key_eq, IsIndexed};
+ghost use Rattle.cell_store.specs.Recency.{contents, with_cells, key_of, last_key, pushes_out, after_put, FitsStore, AreApart};
+ghost use Rattle.valid_intervals.specs.Cells.{stored_at, is_stored};
+ghost use Rattle.cell_store.specs.inner.Index.{key_cmp, key_eq, IsStoreIndex};
 ghost use Rattle.lru.specs.LruCache.{lru_cache, promoted};
 
 use crate::{Key, Put};
@@ -30,13 +31,13 @@ pub struct CellStore {
 impl Model for CellStore {
     ghost use Rattle.std.specs.BTreeMap.{get};
     ghost use Rattle.cell_store.specs.Recency.{Contents, contents};
-    ghost use Rattle.cell_store.specs.Index.{key_cmp, cells_of, IsSound};
+    ghost use Rattle.cell_store.specs.inner.Index.{key_cmp, cells_of, IsSoundStore};
 
     ghost Value = { Contents };
 
     ghost view = { λ s. contents s.cache.cap (cells_of s.cache.entries) };
 
-    ghost invariant = { λ s. IsSound (get key_cmp s.index) s.cache.entries s.cache.cap };
+    ghost invariant = { λ s. IsSoundStore (get key_cmp s.index) s.cache.entries s.cache.cap };
 }
 
 impl CellStore {
@@ -80,7 +81,7 @@ impl CellStore {
 
     /// The stored cell that covers the point, which becomes the most recently used.
     pub fn find(&mut self, p: Point) -> Option<Cell>
-        ensures found { result ≡ option_map (λ x. x.cell) (covering p self.old.cells) }
+        ensures found { result ≡ option_map (λ x. x.cell) (stored_at self.old.cells p) }
         ensures used { IfSome result (λ cell. self.new ≡ with_cells self.old (to_front (cell_for p cell) self.old.cells)) }
         ensures unchanged { IfNone result (self.new ≡ self.old) }
     {
@@ -98,7 +99,7 @@ impl CellStore {
     /// Puts a cell in front: one that is stored already moves there, and a new one takes the place of the
     /// least recently used cell where the store is full.
     pub fn put(&mut self, signal: u32, cell: Cell) -> Result<Put, OutOfMemory>
-        requires { Fits (record { signal = signal; cell = cell }) self.old.cells }
+        requires { FitsStore (record { signal = signal; cell = cell }) self.old.cells }
         ensures cells { let x : SignalCell = record { signal = signal; cell = cell } in OnOk result (self.new ≡ after_put self.old x) }
         ensures fresh { let x : SignalCell = record { signal = signal; cell = cell } in IfOk result (λ put. put.fresh ≡ not (is_stored x self.old.cells)) }
         ensures evicted { let x : SignalCell = record { signal = signal; cell = cell } in
@@ -161,7 +162,7 @@ impl CellStore {
 
 // The key of the cell that covers the point: of the cells of its signal that begin no later, the last is the only one that can.
 fn covering_key(index: &BTreeMap<Key, u32>, p: Point) -> Option<Key>
-    ensures { (cells : List SignalCell) → IsIndexed (get key_cmp index.now) cells → result ≡ option_map key_of (covering p cells) }
+    ensures { (cells : List SignalCell) → IsStoreIndex (get key_cmp index.now) cells → result ≡ option_map key_of (stored_at cells p) }
 {
     let at = Key {
         signal: p.signal,

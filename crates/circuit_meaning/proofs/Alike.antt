@@ -13,10 +13,10 @@ use Rattle.flip_flops.specs.Edges.{shown_edge}
 use Rattle.circuit_meaning.specs.Cells.{span, span_from, gate_span, pin_span, looked, least_delay}
 use Rattle.valid_intervals.specs.Spans.{moved}
 use Rattle.circuit_meaning.specs.Base.{base_from, base_answer}
-use Rattle.circuit_meaning.specs.Need.{children, sources, IsInCone, Itself, Reads}
+use Rattle.circuit_meaning.specs.Need.{children, children_from, IsInCone, Itself, Reads}
 use Rattle.valid_intervals.specs.declared.Point.{Point}
 use Rattle.circuit_meaning.specs.Laws.{Pins, look}
-use Rattle.circuit_meaning.specs.Held.{IsAlike, IsFree, held}
+use Rattle.circuit_meaning.specs.Forced.{IsAlike, IsFree, forced}
 use Rattle.circuit_meaning.proofs.Table.{at_all_times}
 use Rattle.circuit_meaning.proofs.Equations.{value_is, span_is, driver_fits, map_same, all_imply, all_cut}
 use Rattle.flip_flops.proofs.EdgeLemmas.{shown_edge-le}
@@ -45,11 +45,11 @@ module _ (c d : Circuit) (same_horizon : d.horizon ≡ c.horizon) (P : ℕ → T
     value : value_from (value d) t x ≡ value_from (value c) t x
     span : span_from d (span d) t x ≡ span_from c (span c) t x
     look : look d t x ≡ look c t x
-    sources : sources d t x ≡ sources c t x
+    children : children_from d t x ≡ children_from c t x
 
   driver-alike : (x : Driver) (n h : ℕ) → IsDriver n h x → AllByRecursion P (read_by x) → DriverAlike x
-  driver-alike (Input settings) n h ok k = record { value = refl; span = rw same_horizon; look = refl; sources = refl }
-  driver-alike (Flop f) n h ok k = record { value = flop-alike f ok.delay k.0 (shown_edge f.clock f.delay t) refl; span = rw same_horizon; look = refl; sources = refl }
+  driver-alike (Input settings) n h ok k = record { value = refl; span = rw same_horizon; look = refl; children = refl }
+  driver-alike (Flop f) n h ok k = record { value = flop-alike f ok.delay k.0 (shown_edge f.clock f.delay t) refl; span = rw same_horizon; look = refl; children = refl }
   driver-alike (Gate kind pins) n h ok k =
       let point : Pin → Point = λ p. record { signal = p.signal; time = t - p.delay } in
       let R : Pin → Type 0 = λ p. (seen (value d) t p ≡ seen (value c) t p) × (pin_span (span d) t p ≡ pin_span (span c) t p) in
@@ -64,7 +64,7 @@ module _ (c d : Circuit) (same_horizon : d.horizon ≡ c.horizon) (P : ℕ → T
         value = ap (gate_value kind) (map_same (seen (value d) t) (seen (value c) t) pins see);
         span = ap (λ h. gate_span (h + 1) t (least_delay pins) (map (pin_span (span d) t) (looked d t kind pins))) same_horizon ∙ (ap (gate_span (c.horizon + 1) t (least_delay pins)) (ap (map (pin_span (span d) t)) cut ∙ map_same (pin_span (span d) t) (pin_span (span c) t) (looked c t kind pins) spans));
         look = ap Pins cut;
-        sources = ap (λ ps. map point (filter (λ p. nat_le p.delay t) ps)) cut;
+        children = ap (λ ps. map point (filter (λ p. nat_le p.delay t) ps)) cut;
       }
 
 module _ (c d : Circuit) (c_ok : IsCircuit c) (d_ok : IsCircuit d) (same_horizon : d.horizon ≡ c.horizon) (P : ℕ → Type 0)
@@ -82,7 +82,7 @@ module _ (c d : Circuit) (c_ok : IsCircuit c) (d_ok : IsCircuit d) (same_horizon
   unfolding children
   alike s t h =
       let k = driver-alike c d same_horizon P t (λ w _ x p. values-alike w x p) (driver c s) (length c.drivers) c.horizon (driver_fits c c_ok s) (closed s h) in
-      record { value = (values-alike t s h).0; span = (values-alike t s h).1; look = rw (same s h) k.look; driver = same s h; base = base-alike s t (same s h); children = rw (same s h) k.sources }
+      record { value = (values-alike t s h).0; span = (values-alike t s h).1; look = rw (same s h) k.look; driver = same s h; base = base-alike s t (same s h); children = rw (same s h) k.children }
 
 -- the signals that are free of s are closed under what they read
 pub cone-step : (c : Circuit) (x p s : ℕ) → Contains (read_by (driver c x)) p → IsInCone c p s → IsInCone c x s
@@ -92,14 +92,14 @@ cone-step c x p u h (Reads {s} k r) = Reads (cone-step c x p s h k) r
 free-closed : (c : Circuit) (s x : ℕ) → IsFree c s x → AllByRecursion (IsFree c s) (read_by (driver c x))
 free-closed c s x free = recursion_from_All (IsFree c s) (read_by (driver c x)) (λ k d l h. free (cone-step c x (get_or (read_by (driver c x)) k d) s (Contains-get_or (read_by (driver c x)) k d l) h))
 
-held-drives : (c : Circuit) (s : ℕ) (w : Value) (x : ℕ) → IsFree c s x → driver (held c s w) x ≡ driver c x
+held-drives : (c : Circuit) (s : ℕ) (w : Value) (x : ℕ) → IsFree c s x → driver (forced c s w) x ≡ driver c x
 held-drives c s w x free = elim (cases_eq x s) [
   | inl e ↦ absurd (free (subst (λ y. IsInCone c x y) e Itself))
   | inr n ↦ get_or-set_other c.drivers s x (Input (record { time = 0; value = w } ∷ [])) (Input []) n
 ]
 
 -- a circuit with a signal held is a circuit
-pub held-fits : (c : Circuit) (s : ℕ) (w : Value) → IsCircuit c → IsCircuit (held c s w)
+pub held-fits : (c : Circuit) (s : ℕ) (w : Value) → IsCircuit c → IsCircuit (forced c s w)
 held-fits c s w ok =
     let settings : List Setting = record { time = 0; value = w } ∷ [] in
     let fits : IsDriver (length c.drivers) c.horizon (Input settings) = record {
@@ -109,5 +109,5 @@ held-fits c s w ok =
     subst (λ n. All (IsDriver n c.horizon) (set c.drivers s (Input settings))) (sym (length-set c.drivers s (Input settings)))
     (All-set (IsDriver (length c.drivers) c.horizon) c.drivers s (Input settings) fits ok)
 
-pub free-alike : (c : Circuit) (s : ℕ) (w : Value) → IsCircuit c → (x t : ℕ) → IsFree c s x → IsAlike c (held c s w) x t
-free-alike c s w ok x t free = alike c (held c s w) ok (held-fits c s w ok) refl (IsFree c s) (held-drives c s w) (free-closed c s) x t free
+pub free-alike : (c : Circuit) (s : ℕ) (w : Value) → IsCircuit c → (x t : ℕ) → IsFree c s x → IsAlike c (forced c s w) x t
+free-alike c s w ok x t free = alike c (forced c s w) ok (held-fits c s w ok) refl (IsFree c s) (held-drives c s w) (free-closed c s) x t free

@@ -7,7 +7,7 @@ use Rattle.circuit_meaning.specs.declared.Pin.{Pin}
 use Rattle.valid_intervals.specs.declared.Point.{Point}
 use Rattle.circuit_meaning.specs.Circuit.{Circuit, Gate, driver}
 use Rattle.circuit_meaning.specs.Forward.{seen, value}
-use Rattle.circuit_meaning.specs.Need.{children, sources}
+use Rattle.circuit_meaning.specs.Need.{children, children_from}
 
 -- membership by recursion on the list
 data IsIn {A : Type 0} (x : A) : List A → Type 0 where
@@ -45,5 +45,5 @@ unfolding children
 asked-child c s t kind pins e k d h none late =
     let p = get_or pins k d in
     let point : Pin → Point = λ p. record { signal = p.signal; time = t - p.delay } in
-    subst (λ x. Contains (sources c t x) (point p)) (sym e)
+    subst (λ x. Contains (children_from c t x) (point p)) (sym e)
     (contains (point p) _ (in_map point p _ (in_filter (λ p. nat_le p.delay t) p _ (le-leb p.delay t late) (in_cut (λ p. decides kind (seen (value c) t p)) d pins k h none))))

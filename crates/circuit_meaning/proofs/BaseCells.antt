@@ -12,9 +12,9 @@ use Rattle.valid_intervals.specs.Spans.{from_to}
 use Rattle.valid_intervals.specs.declared.Cell.{Cell}
 use Rattle.circuit_meaning.specs.Circuit.{Pin, FlipFlop, Driver, Input, Gate, Flop, Circuit, driver, IsCircuit, IsDriver}
 use Rattle.circuit_meaning.specs.Forward.{value, value_from, seen, flop_value}
-use Rattle.circuit_meaning.specs.Cells.{span, span_from, pin_span, looked, least_delay, cell}
+use Rattle.circuit_meaning.specs.Cells.{span, span_from, pin_span, looked, least_delay, cell_at, point_at}
 use Rattle.circuit_meaning.specs.Base.{cell_with, flop_base, base_from, base_answer}
-use Rattle.circuit_meaning.specs.Need.{HasSources, IsEvaluable}
+use Rattle.circuit_meaning.specs.Need.{HasChildren, IsEvaluable}
 use Rattle.circuit_meaning.proofs.Equations.{value_is, span_is, driver_fits, all_imply}
 use Rattle.circuit_meaning.proofs.Steady.{least, map_all, seen-early, gate_span-early}
 
@@ -33,7 +33,7 @@ module _ (c : Circuit) (t : ℕ) where
 
   -- the answer of a driver is what it gives, and there is one exactly where it has no sources
   abbrev IsAnswer : Driver → Option Cell → Type 0
-  IsAnswer d o = MatchOption o (HasSources t d) (λ x. (x ≡ given d) × (HasSources t d → ⊥))
+  IsAnswer d o = MatchOption o (HasChildren t d) (λ x. (x ≡ given d) × (HasChildren t d → ⊥))
 
   -- before its least delay each pin of a gate sees x
   early-unknown : (pins : List Pin) → t < least_delay pins → AllByRecursion (λ v. is_unknown v ≡ true) (map (seen (value c) t) pins)
@@ -46,9 +46,9 @@ module _ (c : Circuit) (t : ℕ) where
     | inl l ↦
         let early : span_from c (span c) t (Gate kind pins) ≡ from_to 0 (min (least_delay pins) (c.horizon + 1)) = gate_span-early (c.horizon + 1) t (least_delay pins) (map (pin_span (span c) t) (looked c t kind pins)) l in
         let x : gate_value kind (map (seen (value c) t) pins) ≡ X = gate_value-unknown kind (map (seen (value c) t) pins) (early-unknown pins l) (rw length-map some) in
-        answered (HasSources t (Gate kind pins)) (given (Gate kind pins)) (base_from (c.horizon + 1) t (Gate kind pins)) (cell_with (from_to 0 (min (least_delay pins) (c.horizon + 1))) X)
+        answered (HasChildren t (Gate kind pins)) (given (Gate kind pins)) (base_from (c.horizon + 1) t (Gate kind pins)) (cell_with (from_to 0 (min (least_delay pins) (c.horizon + 1))) X)
         (rw (lt-ltb t (least_delay pins) l) refl) (cc (early, x)) (λ h. omega arith)
-    | inr l ↦ unanswered (HasSources t (Gate kind pins)) (given (Gate kind pins)) (base_from (c.horizon + 1) t (Gate kind pins)) (rw (le-ltb t (least_delay pins) l) refl) l
+    | inr l ↦ unanswered (HasChildren t (Gate kind pins)) (given (Gate kind pins)) (base_from (c.horizon + 1) t (Gate kind pins)) (rw (le-ltb t (least_delay pins) l) refl) l
   ]
 
   flop-answer : (f : FlipFlop) (o : Option ℕ) → shown_edge f.clock f.delay t ≡ o → IsAnswer (Flop f) (flop_base (c.horizon + 1) f o)
@@ -62,9 +62,9 @@ module _ (c : Circuit) (t : ℕ) where
   driver-answer n h (Gate kind pins) ok = gate-answer kind pins ok.some
   driver-answer n h (Flop f) ok = flop-answer f (shown_edge f.clock f.delay t) refl
 
-pub base-answers : (c : Circuit) → IsCircuit c → (s t : ℕ) → MatchOption (base_answer c s t) (IsEvaluable c s t) (λ x. (x ≡ cell c s t) × (IsEvaluable c s t → ⊥))
+pub base-answers : (c : Circuit) → IsCircuit c → (s t : ℕ) → MatchOption (base_answer c s t) (IsEvaluable c s t) (λ x. (x ≡ cell_at c (point_at s t)) × (IsEvaluable c s t → ⊥))
 unfolding base_answer
 base-answers c ok s t =
-    let same : given c t (driver c s) ≡ cell c s t = cc (value_is c ok s t, span_is c ok s t) in
+    let same : given c t (driver c s) ≡ cell_at c (point_at s t) = cc (value_is c ok s t, span_is c ok s t) in
     subst (λ y. MatchOption (base_from (c.horizon + 1) t (driver c s)) (IsEvaluable c s t) (λ x. (x ≡ y) × (IsEvaluable c s t → ⊥))) same
     (driver-answer c t (length c.drivers) c.horizon (driver c s) (driver_fits c ok s))

@@ -8,9 +8,8 @@ use Rattle.gate_values.specs.Gates.{decides}
 use Rattle.circuit_meaning.specs.Circuit.{Pin, Driver, Input, Gate, Flop, Circuit, driver, IsCircuit, IsDriver}
 use Rattle.flip_flops.specs.declared.Clock.{Clock}
 use Rattle.circuit_meaning.specs.Forward.{value, seen}
-use Rattle.flip_flops.specs.Edges.{shown_edge}
+use Rattle.flip_flops.specs.Edges.{shown_edge, flop_span}
 use Rattle.circuit_meaning.specs.Cells.{span, span_from, pin_span, looked, least_delay}
-use Rattle.flip_flops.specs.Edges.{flop_span}
 use Rattle.valid_intervals.specs.Spans.{Span, IsIn, from_to}
 use Rattle.circuit_meaning.specs.Laws.{IsCovered}
 use Rattle.circuit_meaning.proofs.Table.{at_all_times}

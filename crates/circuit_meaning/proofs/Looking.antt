@@ -13,47 +13,47 @@ use Rattle.circuit_meaning.specs.declared.Pin.{Pin}
 use Rattle.circuit_meaning.specs.Circuit.{Circuit, Driver, Input, Gate, Flop, driver, IsCircuit}
 use Rattle.circuit_meaning.specs.Forward.{value, value_from, flop_value, seen}
 use Rattle.circuit_meaning.specs.Cells.{looked}
-use Rattle.circuit_meaning.specs.Need.{HasSources, IsEvaluable, children, sources, flop_source}
-use Rattle.circuit_meaning.specs.Looks.{somes, kind_of, source, flop_sources, sources_at, pin_sources, sees, looked_sources}
+use Rattle.circuit_meaning.specs.Need.{HasChildren, IsEvaluable, children, children_from, flop_child}
+use Rattle.circuit_meaning.specs.Looks.{somes, kind_of, pin_point, flop_points, pin_points_at, pin_points, sees, looked_points}
 use Rattle.circuit_meaning.proofs.Equations.{value_is, map_same}
 
 all_of : {A : Type 0} (P : A → Type 0) → ((a : A) → P a) → (xs : List A) → AllByRecursion P xs
 all_of P h [] = tt
 all_of P h (x ∷ xs) = (h x, all_of P h xs)
 
-sees-source : (c : Circuit) (t : ℕ) (p : Pin) → sees c (source t p) ≡ seen (value c) t p
+sees-source : (c : Circuit) (t : ℕ) (p : Pin) → sees c (pin_point t p) ≡ seen (value c) t p
 sees-source c t p = elim (nat_lt t p.delay) as (λ b. sees c (cond b None (Some (record { signal = p.signal; time = t - p.delay }))) ≡ cond b X (value c p.signal (t - p.delay))) [ true ↦ refl | false ↦ refl ]
 
 map-map : {A B C : Type 0} (f : B → C) (g : A → B) (xs : List A) → map f (map g xs) ≡ map (λ a. f (g a)) xs
 map-map f g [] = refl
 map-map f g (x ∷ xs) = ap (λ rest. f (g x) ∷ rest) (map-map f g xs)
 
-sees-sources : (c : Circuit) (t : ℕ) (pins : List Pin) → map (sees c) (map (source t) pins) ≡ map (seen (value c) t) pins
-sees-sources c t pins = map-map (sees c) (source t) pins ∙ map_same (λ p. sees c (source t p)) (seen (value c) t) pins (all_of (λ p. sees c (source t p) ≡ seen (value c) t p) (sees-source c t) pins)
+sees-sources : (c : Circuit) (t : ℕ) (pins : List Pin) → map (sees c) (map (pin_point t) pins) ≡ map (seen (value c) t) pins
+sees-sources c t pins = map-map (sees c) (pin_point t) pins ∙ map_same (λ p. sees c (pin_point t p)) (seen (value c) t) pins (all_of (λ p. sees c (pin_point t p) ≡ seen (value c) t p) (sees-source c t) pins)
 
 -- the value that a driver gives, of what its pins see
-seen-value : (c : Circuit) (t : ℕ) (d : Driver) → HasSources t d → value_from (value c) t d ≡ gate_value (kind_of d) (map (sees c) (sources_at t d))
+seen-value : (c : Circuit) (t : ℕ) (d : Driver) → HasChildren t d → value_from (value c) t d ≡ gate_value (kind_of d) (map (sees c) (pin_points_at t d))
 seen-value c t (Input settings) h = absurd h
 seen-value c t (Gate kind pins) h = ap (gate_value kind) (sym (sees-sources c t pins))
 seen-value c t (Flop f) h = go (shown_edge f.clock f.delay t) h
   where
-    go : (o : Option ℕ) → IsSome o → flop_value (value c) f o ≡ gate_value Dff (map (sees c) (flop_sources f.pin o))
+    go : (o : Option ℕ) → IsSome o → flop_value (value c) f o ≡ gate_value Dff (map (sees c) (flop_points f.pin o))
     go None h = absurd (cc h)
     go (Some e) h = refl
 
 module _ (c : Circuit) (s t : ℕ) where
   -- a point's value, of all its sources
-  pub sources-value : IsCircuit c → IsEvaluable c s t → value c s t ≡ gate_value (kind_of (driver c s)) (map (sees c) (pin_sources c s t))
+  pub sources-value : IsCircuit c → IsEvaluable c s t → value c s t ≡ gate_value (kind_of (driver c s)) (map (sees c) (pin_points c s t))
   sources-value ok e = value_is c ok s t ∙ seen-value c t (driver c s) e
 
   -- and of those that are looked at
-  pub looked-value : IsCircuit c → IsEvaluable c s t → gate_value (kind_of (driver c s)) (map (sees c) (looked_sources c s t)) ≡ value c s t
+  pub looked-value : IsCircuit c → IsEvaluable c s t → gate_value (kind_of (driver c s)) (map (sees c) (looked_points c s t)) ≡ value c s t
   looked-value ok e =
       let kind = kind_of (driver c s) in
-      ap (gate_value kind) (map-up_to_first (decides kind) (sees c) (pin_sources c s t)) ∙ gate_value-looked kind (map (sees c) (pin_sources c s t)) ∙ sym (sources-value ok e)
+      ap (gate_value kind) (map-up_to_first (decides kind) (sees c) (pin_points c s t)) ∙ gate_value-looked kind (map (sees c) (pin_points c s t)) ∙ sym (sources-value ok e)
 
 -- the children are the sources that are looked at
-late-somes : (t : ℕ) (pins : List Pin) → map (λ p. record { signal = p.signal; time = t - p.delay }) (filter (λ p. nat_le p.delay t) pins) ≡ somes (map (source t) pins)
+late-somes : (t : ℕ) (pins : List Pin) → map (λ p. record { signal = p.signal; time = t - p.delay }) (filter (λ p. nat_le p.delay t) pins) ≡ somes (map (pin_point t) pins)
 late-somes t [] = refl
 late-somes t (p ∷ pins) =
     let point : Pin → Point = λ p. record { signal = p.signal; time = t - p.delay } in
@@ -62,12 +62,12 @@ late-somes t (p ∷ pins) =
       | inr l ↦ rw (le-leb _ _ l, le-ltb _ _ l) (ap (λ rest. point p ∷ rest) (late-somes t pins))
     ]
 
-cut-sources : (c : Circuit) (t : ℕ) (kind : Kind) (pins : List Pin) → map (source t) (looked c t kind pins) ≡ up_to_first (λ o. decides kind (sees c o)) (map (source t) pins)
+cut-sources : (c : Circuit) (t : ℕ) (kind : Kind) (pins : List Pin) → map (pin_point t) (looked c t kind pins) ≡ up_to_first (λ o. decides kind (sees c o)) (map (pin_point t) pins)
 cut-sources c t kind pins =
-    ap (map (source t)) (cut_alike (decides kind) (λ p. sees c (source t p)) (seen (value c) t) pins (all_of (λ p. sees c (source t p) ≡ seen (value c) t p) (sees-source c t) (up_to_first (λ p. decides kind (sees c (source t p))) pins)))
-    ∙ map-up_to_first (λ o. decides kind (sees c o)) (source t) pins
+    ap (map (pin_point t)) (cut_alike (decides kind) (λ p. sees c (pin_point t p)) (seen (value c) t) pins (all_of (λ p. sees c (pin_point t p) ≡ seen (value c) t p) (sees-source c t) (up_to_first (λ p. decides kind (sees c (pin_point t p))) pins)))
+    ∙ map-up_to_first (λ o. decides kind (sees c o)) (pin_point t) pins
 
-flop-somes : (pin : ℕ) (o : Option ℕ) (test : Option Point → Bool) → flop_source pin o ≡ somes (up_to_first test (flop_sources pin o))
+flop-somes : (pin : ℕ) (o : Option ℕ) (test : Option Point → Bool) → flop_child pin o ≡ somes (up_to_first test (flop_points pin o))
 flop-somes pin None test = refl
 flop-somes pin (Some e) test = go (test (Some here))
   where
@@ -78,12 +78,12 @@ flop-somes pin (Some e) test = go (test (Some here))
     go true = refl
     go false = refl
 
-sources-somes : (c : Circuit) (t : ℕ) (d : Driver) → sources c t d ≡ somes (up_to_first (λ o. decides (kind_of d) (sees c o)) (sources_at t d))
+sources-somes : (c : Circuit) (t : ℕ) (d : Driver) → children_from c t d ≡ somes (up_to_first (λ o. decides (kind_of d) (sees c o)) (pin_points_at t d))
 sources-somes c t (Input settings) = refl
 sources-somes c t (Gate kind pins) = late-somes t (looked c t kind pins) ∙ ap somes (cut-sources c t kind pins)
 sources-somes c t (Flop f) = flop-somes f.pin (shown_edge f.clock f.delay t) (λ o. decides Dff (sees c o))
 
-pub children-somes : (c : Circuit) (s t : ℕ) → children c s t ≡ somes (looked_sources c s t)
+pub children-somes : (c : Circuit) (s t : ℕ) → children c s t ≡ somes (looked_points c s t)
 unfolding children
 children-somes c s t = sources-somes c t (driver c s)
 

@@ -9,7 +9,7 @@ use Rattle.circuit_meaning.specs.Circuit.{Pin, FlipFlop, Driver, Input, Gate, Fl
 use Rattle.circuit_meaning.specs.Forward.{seen, value}
 use Rattle.flip_flops.specs.Edges.{shown_edge}
 use Rattle.circuit_meaning.specs.Cells.{looked}
-use Rattle.circuit_meaning.specs.Need.{Window, flop_source, sources, children, IsNeeded, Root, Child, IsInCone, Itself, Reads}
+use Rattle.circuit_meaning.specs.Need.{Window, flop_child, children_from, children, IsNeeded, Root, Child, IsInCone, Itself, Reads}
 use Rattle.valid_intervals.specs.declared.Point.{Point}
 use Rattle.circuit_meaning.proofs.Equations.{driver_fits, all_cut}
 use Rattle.flip_flops.proofs.EdgeLemmas.{shown_edge-le}
@@ -36,14 +36,14 @@ imply P Q f [] h = tt
 imply P Q f (x ∷ xs) h = (f x h.0, imply P Q f xs h.1)
 
 -- the children of a gate
-gate_points : (c : Circuit) (t : ℕ) (kind : Kind) (pins : List Pin) (P : Point → Type 0) → AllByRecursion (λ p. p.delay ≤ t → P (record { signal = p.signal; time = t - p.delay })) pins → AllByRecursion P (sources c t (Gate kind pins))
+gate_points : (c : Circuit) (t : ℕ) (kind : Kind) (pins : List Pin) (P : Point → Type 0) → AllByRecursion (λ p. p.delay ≤ t → P (record { signal = p.signal; time = t - p.delay })) pins → AllByRecursion P (children_from c t (Gate kind pins))
 gate_points c t kind pins P h = all_points t P (looked c t kind pins) (all_cut (λ p. p.delay ≤ t → P (record { signal = p.signal; time = t - p.delay })) (λ p. decides kind (seen (value c) t p)) pins h)
 
-flop_points : (f : FlipFlop) (t : ℕ) (P : Point → Type 0) → ((e : ℕ) → shown_edge f.clock f.delay t ≡ Some e → P (record { signal = f.pin; time = e })) → (o : Option ℕ) → shown_edge f.clock f.delay t ≡ o → AllByRecursion P (flop_source f.pin o)
+flop_points : (f : FlipFlop) (t : ℕ) (P : Point → Type 0) → ((e : ℕ) → shown_edge f.clock f.delay t ≡ Some e → P (record { signal = f.pin; time = e })) → (o : Option ℕ) → shown_edge f.clock f.delay t ≡ o → AllByRecursion P (flop_child f.pin o)
 flop_points f t P h None e = tt
 flop_points f t P h (Some x) e = (h x e, tt)
 
-sources-earlier : (c : Circuit) (n h t : ℕ) (d : Driver) → IsDriver n h d → AllByRecursion (λ p. p.time < t) (sources c t d)
+sources-earlier : (c : Circuit) (n h t : ℕ) (d : Driver) → IsDriver n h d → AllByRecursion (λ p. p.time < t) (children_from c t d)
 sources-earlier c n h t (Input settings) ok = tt
 sources-earlier c n h t (Gate kind pins) ok = gate_points c t kind pins (λ p. p.time < t)
     (imply (λ p. 1 ≤ p.delay) (λ p. p.delay ≤ t → t - p.delay < t) (λ p pos le. omega arith) pins (recursion_from_All (λ p. 1 ≤ p.delay) pins ok.delay))
@@ -57,7 +57,7 @@ children-earlier c ok s t = All-from_recursion (λ p. p.time < t) (children c s 
 unmapped : {A B : Type 0} (P : B → Type 0) (f : A → B) (xs : List A) → All P (map f xs) → All (λ a. P (f a)) xs
 unmapped P f xs h k d l = subst P (get_or-map f xs k d) (h k (f d) (rw length-map l))
 
-sources-read : (c : Circuit) (t : ℕ) (d : Driver) → AllByRecursion (λ p. Contains (read_by d) p.signal) (sources c t d)
+sources-read : (c : Circuit) (t : ℕ) (d : Driver) → AllByRecursion (λ p. Contains (read_by d) p.signal) (children_from c t d)
 sources-read c t (Input settings) = tt
 sources-read c t (Gate kind pins) =
     let P : Point → Type 0 = λ p. Contains (map (λ p. p.signal) pins) p.signal in

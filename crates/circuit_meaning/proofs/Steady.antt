@@ -11,9 +11,8 @@ use Rattle.gate_values.proofs.Looked.{gate_value-looked, cut_alike, map-up_to_fi
 use Rattle.circuit_meaning.specs.Circuit.{Pin, Driver, Input, Gate, Flop, Circuit, driver, IsCircuit, IsDriver}
 use Rattle.flip_flops.specs.declared.Clock.{Clock}
 use Rattle.circuit_meaning.specs.Forward.{value, value_from, seen, flop_value, input_value}
-use Rattle.flip_flops.specs.Edges.{shown_edge}
+use Rattle.flip_flops.specs.Edges.{shown_edge, flop_span}
 use Rattle.circuit_meaning.specs.Cells.{span, span_from, gate_span, pin_span, looked, least_delay}
-use Rattle.flip_flops.specs.Edges.{flop_span}
 use Rattle.valid_intervals.specs.Spans.{Span, IsIn, from_to, meet, moved}
 use Rattle.circuit_meaning.specs.Laws.{Pins, Edge, look, IsSame}
 use Rattle.circuit_meaning.proofs.Table.{at_all_times}

@@ -11,7 +11,7 @@ use Rattle.circuit_meaning.specs.declared.Run.{Run}
 use Rattle.circuit_meaning.specs.Circuit.{Circuit, IsCircuit}
 use Rattle.circuit_meaning.specs.Forward.{value, wave}
 use Rattle.circuit_meaning.specs.Cells.{span}
-use Rattle.circuit_meaning.specs.Laws.{changes, new_run, AreCells, is_value, runs_of}
+use Rattle.circuit_meaning.specs.Laws.{changes, new_run, AreCells, is_value, runs_along}
 use Rattle.circuit_meaning.proofs.Steady.{cell-steady}
 use Rattle.circuit_meaning.proofs.Cover.{cell-covers}
 use Rattle.circuit_meaning.proofs.Waves.{wave-first, wave-empty, changes-add, changes-cell}
@@ -31,7 +31,7 @@ module _ (c : Circuit) (ok : IsCircuit c) (s : ℕ) where
       wave-first c s a (m + k) ∙ ap (λ rest. run_at a ∷ rest) (changes-add c s (a + 1) m k)
       ∙ ap (λ front. front ++ changes c s ((a + 1) + m) k) (sym (wave-first c s a m))
 
-  -- as far as the cell of t reaches there is no change behind t
+  -- as far as the cell of t reaches there is no change after t
   changes-first : (t u : ℕ) → (span c s t).start ≤ t → t < u → u ≤ (span c s t).stop → changes c s t (u - t) ≡ changes c s t 1
   changes-first t u low some high =
       let n = u - (t + 1) in
@@ -74,24 +74,24 @@ module _ (c : Circuit) (ok : IsCircuit c) (s : ℕ) where
       go false true e = rw e refl
       go false false e = rw e refl
 
-  -- behind the cell that reaches b there is none
+  -- after the cell that reaches b there is none
   none_left : (b u : ℕ) (xs : List Cell) → b ≤ u → AreCells c s b u xs → xs ≡ []
   none_left b u [] h k = refl
   none_left b u (x ∷ xs) h k = absurd (omega (arith, k.0))
 
   module _ (a b : ℕ) (within : b ≤ c.horizon + 1) where
     at_cell : (rest : List Cell) (t : ℕ) → a ≤ t → t < b
-        → ((u : ℕ) → a ≤ u → u ≤ b → AreCells c s b u rest → wave c s a b ≡ wave c s a u ++ runs_of (value_before a u) u rest)
+        → ((u : ℕ) → a ≤ u → u ≤ b → AreCells c s b u rest → wave c s a b ≡ wave c s a u ++ runs_along (value_before a u) u rest)
         → AreCells c s b (span c s t).stop rest
-        → wave c s a b ≡ wave c s a t ++ ((if is_value (value_before a t) (value c s t) then [] else run_at t ∷ []) ++ runs_of (Some (value c s t)) (span c s t).stop rest)
+        → wave c s a b ≡ wave c s a t ++ ((if is_value (value_before a t) (value c s t) then [] else run_at t ∷ []) ++ runs_along (Some (value c s t)) (span c s t).stop rest)
     at_cell rest t low high again h =
         let stop = (span c s t).stop in
-        let more = runs_of (Some (value c s t)) stop rest in
+        let more = runs_along (Some (value c s t)) stop rest in
         let inside : IsIn (span c s t) t = (cell-covers c ok t s (omega arith)).inside in
         elim (cases_lt b stop) [
           | inl l ↦
               let none : rest ≡ [] = none_left b stop rest (omega arith) h in
-              let ends : more ≡ [] = ap (runs_of (Some (value c s t)) stop) none in
+              let ends : more ≡ [] = ap (runs_along (Some (value c s t)) stop) none in
               wave-grows a t b low (omega arith) high (omega arith)
               ∙ ap (λ r. wave c s a t ++ r) (sym (run-first a t) ∙ sym (ap (λ r. (if is_value (value_before a t) (value c s t) then [] else run_at t ∷ []) ++ r) ends ∙ append-nil _))
           | inr l ↦
@@ -99,23 +99,23 @@ module _ (c : Circuit) (ok : IsCircuit c) (s : ℕ) where
               let other : (stop ≡ a) → ⊥ = λ e. omega (arith, inside) in
               let before : value_before a stop ≡ Some (value c s t) = rw (ne_eqb stop a other) (ap Some (cell-steady c ok t s (stop - 1) last).value) in
               again stop (omega (arith, inside)) l h
-              ∙ ap (λ o. wave c s a stop ++ runs_of o stop rest) before
+              ∙ ap (λ o. wave c s a stop ++ runs_along o stop rest) before
               ∙ ap (λ w. w ++ more) (wave-grows a t stop low (omega arith) (omega (arith, inside)) (omega arith))
               ∙ append_assoc (wave c s a t) (new_run c s a t) more
               ∙ ap (λ r. wave c s a t ++ (r ++ more)) (sym (run-first a t))
         ]
 
-    walk : (xs : List Cell) (t : ℕ) → a ≤ t → t ≤ b → AreCells c s b t xs → wave c s a b ≡ wave c s a t ++ runs_of (value_before a t) t xs
+    walk : (xs : List Cell) (t : ℕ) → a ≤ t → t ≤ b → AreCells c s b t xs → wave c s a b ≡ wave c s a t ++ runs_along (value_before a t) t xs
     walk [] t low high h = let e : b ≡ t = omega arith in ap (wave c s a) e ∙ sym (append-nil (wave c s a t))
     walk (x ∷ rest) t low high h =
-        subst (λ y. AreCells c s b y.span.stop rest → wave c s a b ≡ wave c s a t ++ ((if is_value (value_before a t) y.value then [] else record { time = t; value = y.value } ∷ []) ++ runs_of (Some y.value) y.span.stop rest))
+        subst (λ y. AreCells c s b y.span.stop rest → wave c s a b ≡ wave c s a t ++ ((if is_value (value_before a t) y.value then [] else record { time = t; value = y.value } ∷ []) ++ runs_along (Some y.value) y.span.stop rest))
         (sym h.1) (at_cell rest t low h.0 (walk rest)) h.2
 
-  pub cells-fix : (a b : ℕ) (xs : List Cell) → b ≤ c.horizon + 1 → AreCells c s b a xs → wave c s a b ≡ runs_of None a xs
+  pub cells-fix : (a b : ℕ) (xs : List Cell) → b ≤ c.horizon + 1 → AreCells c s b a xs → wave c s a b ≡ runs_along None a xs
   cells-fix a b xs within h = elim (cases_lt a b) [
     | inl l ↦
         let first : value_before a a ≡ None = rw (eq-eqb a a refl) refl in
         walk a b within xs a (omega arith) (omega arith) h
-        ∙ ap (λ w. w ++ runs_of (value_before a a) a xs) (wave-empty c s a a (omega arith)) ∙ ap (λ o. runs_of o a xs) first
-    | inr l ↦ let none : xs ≡ [] = none_left b a xs l h in wave-empty c s a b l ∙ sym (ap (runs_of None a) none)
+        ∙ ap (λ w. w ++ runs_along (value_before a a) a xs) (wave-empty c s a a (omega arith)) ∙ ap (λ o. runs_along o a xs) first
+    | inr l ↦ let none : xs ≡ [] = none_left b a xs l h in wave-empty c s a b l ∙ sym (ap (runs_along None a) none)
   ]

@@ -5,6 +5,7 @@ use Rattle.gate_values.specs.Gates.{decides, up_to_first}
 use Rattle.circuit_meaning.specs.Circuit.{Setting, Pin, Driver, Input, Gate, Flop, Circuit}
 use Rattle.valid_intervals.specs.Spans.{Span, from_to, meet, moved}
 use Rattle.valid_intervals.specs.declared.Cell.{Cell}
+use Rattle.valid_intervals.specs.declared.Point.{Point}
 use Rattle.circuit_meaning.specs.Forward.{row_at, last_setting, seen, value}
 use Rattle.flip_flops.specs.Edges.{shown_edge, flop_span}
 
@@ -51,6 +52,10 @@ next_spans c rows = map (span_from c (span_entry c rows) (length rows)) c.driver
 unfoldable pub span : Circuit → ℕ → ℕ → Span
 span c s t = get_or (row_at (next_spans c) t) s (from_to 0 (c.horizon + 1))
 
--- the cell of the signal s at the time t
-abbrev pub cell : Circuit → ℕ → ℕ → Cell
-cell c s t = record { span = span c s t; value = value c s t }
+-- the cell of a point
+abbrev pub cell_at : Circuit → Point → Cell
+cell_at c p = record { span = span c p.signal p.time; value = value c p.signal p.time }
+
+-- the point of the signal s at the time t
+abbrev pub point_at : ℕ → ℕ → Point
+point_at s t = record { signal = s; time = t }

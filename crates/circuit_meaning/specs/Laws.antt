@@ -6,7 +6,7 @@ use Rattle.circuit_meaning.specs.Circuit.{Pin, Driver, Input, Gate, Flop, Circui
 use Rattle.circuit_meaning.specs.Forward.{value, value_from, entry, forward, wave}
 use Rattle.circuit_meaning.specs.declared.Run.{Run}
 use Rattle.flip_flops.specs.Edges.{shown_edge}
-use Rattle.circuit_meaning.specs.Cells.{span, span_from, looked, cell}
+use Rattle.circuit_meaning.specs.Cells.{span, span_from, looked, cell_at, point_at}
 use Rattle.circuit_meaning.specs.Base.{base_answer}
 use Rattle.valid_intervals.specs.declared.Cell.{Cell}
 use Rattle.gate_values.specs.declared.Value.{Value}
@@ -84,7 +84,7 @@ pub record WavesAreChanges (c : Circuit) (s : ℕ) : Type 0 where
 
 -- where there is a base answer it is the cell; and there is one exactly where a point is not evaluable
 abbrev pub BaseAnswersAreCells : Type 0
-BaseAnswersAreCells = (c : Circuit) → IsCircuit c → (s t : ℕ) → MatchOption (base_answer c s t) (IsEvaluable c s t) (λ x. (x ≡ cell c s t) × (IsEvaluable c s t → ⊥))
+BaseAnswersAreCells = (c : Circuit) → IsCircuit c → (s t : ℕ) → MatchOption (base_answer c s t) (IsEvaluable c s t) (λ x. (x ≡ cell_at c (point_at s t)) × (IsEvaluable c s t → ⊥))
 
 abbrev pub IsDriven : Driver → Type 0
 IsDriven (Input settings) = ⊥
@@ -117,20 +117,20 @@ WavesGrowByCells = (c : Circuit) → IsCircuit c → (s a t u : ℕ) → a ≤ t
 -- the cells of the signal s one after another, from that of t to that which reaches the time b
 abbrev pub AreCells : Circuit → ℕ → ℕ → ℕ → List Cell → Type 0
 AreCells c s b t [] = b ≤ t
-AreCells c s b t (x ∷ rest) = (t < b) × (x ≡ cell c s t) × AreCells c s b x.span.stop rest
+AreCells c s b t (x ∷ rest) = (t < b) × (x ≡ cell_at c (point_at s t)) × AreCells c s b x.span.stop rest
 
 abbrev pub is_value : Option Value → Value → Bool
 is_value None v = false
 is_value (Some w) v = same_value v w
 
 -- the maximal runs of such cells from the time t on, where the signal had this value just before
-abbrev pub runs_of : Option Value → ℕ → List Cell → List Run
-runs_of before t [] = []
-runs_of before t (x ∷ rest) = (if is_value before x.value then [] else record { time = t; value = x.value } ∷ []) ++ runs_of (Some x.value) x.span.stop rest
+abbrev pub runs_along : Option Value → ℕ → List Cell → List Run
+runs_along before t [] = []
+runs_along before t (x ∷ rest) = (if is_value before x.value then [] else record { time = t; value = x.value } ∷ []) ++ runs_along (Some x.value) x.span.stop rest
 
 -- the cells of a window fix its waveform
 abbrev pub CellsFixWaves : Type 0
-CellsFixWaves = (c : Circuit) → IsCircuit c → (s a b : ℕ) (cells : List Cell) → b ≤ c.horizon + 1 → AreCells c s b a cells → wave c s a b ≡ runs_of None a cells
+CellsFixWaves = (c : Circuit) → IsCircuit c → (s a b : ℕ) (cells : List Cell) → b ≤ c.horizon + 1 → AreCells c s b a cells → wave c s a b ≡ runs_along None a cells
 
 -- What a query needs has the evaluable ones among its children; so do the free ones of what the query needs where a signal is held.
 abbrev pub NeedIsClosed : Type 0

@@ -1,5 +1,5 @@
 -- What an evaluable point looks at, said alike of gates and of flip-flops: each pin has a source, a value that it sees, and an interval.
-use Rattle.std.specs.Prelude.{ℕ, ◌+◌, ◌-◌, nat_lt, if◌then◌else◌, List, [], ◌∷◌, get_or, map, fold, Option, Some, None}
+use Rattle.std.specs.Prelude.{◌≡◌, ℕ, ◌+◌, ◌-◌, nat_lt, if◌then◌else◌, List, [], ◌∷◌, get_or, map, fold, Option, Some, None}
 use Rattle.std.specs.List.{range_with_len}
 use Rattle.gate_values.specs.declared.Value.{Value}
 use Rattle.gate_values.specs.declared.Value.TheVariants.{X}
@@ -10,6 +10,7 @@ use Rattle.valid_intervals.specs.declared.Point.{Point}
 use Rattle.valid_intervals.specs.Spans.{Span, from_to, meet, cut_at}
 use Rattle.flip_flops.specs.Edges.{shown_edge}
 use Rattle.circuit_meaning.specs.declared.Pin.{Pin}
+use Rattle.circuit_meaning.specs.Need.{children}
 use Rattle.circuit_meaning.specs.Circuit.{Circuit, Driver, Input, Gate, Flop, driver}
 use Rattle.circuit_meaning.specs.Forward.{value}
 use Rattle.circuit_meaning.specs.Cells.{span, pin_span}
@@ -21,22 +22,22 @@ kind_of (Gate kind pins) = kind
 kind_of (Flop f) = Dff
 
 -- the point that a pin of a gate reads at t; none where that is before time 0
-abbrev pub source : ℕ → Pin → Option Point
-source t p = if nat_lt t p.delay then None else Some (record { signal = p.signal; time = t - p.delay })
+abbrev pub pin_point : ℕ → Pin → Option Point
+pin_point t p = if nat_lt t p.delay then None else Some (record { signal = p.signal; time = t - p.delay })
 
 -- a flip-flop reads its pin at the edge that it shows
-abbrev pub flop_sources : ℕ → Option ℕ → List (Option Point)
-flop_sources pin None = []
-flop_sources pin (Some e) = Some (record { signal = pin; time = e }) ∷ []
+abbrev pub flop_points : ℕ → Option ℕ → List (Option Point)
+flop_points pin None = []
+flop_points pin (Some e) = Some (record { signal = pin; time = e }) ∷ []
 
 -- the sources of all pins, in the order of the pins
-abbrev pub sources_at : ℕ → Driver → List (Option Point)
-sources_at t (Input settings) = []
-sources_at t (Gate kind pins) = map (source t) pins
-sources_at t (Flop f) = flop_sources f.pin (shown_edge f.clock f.delay t)
+abbrev pub pin_points_at : ℕ → Driver → List (Option Point)
+pin_points_at t (Input settings) = []
+pin_points_at t (Gate kind pins) = map (pin_point t) pins
+pin_points_at t (Flop f) = flop_points f.pin (shown_edge f.clock f.delay t)
 
-abbrev pub pin_sources : Circuit → ℕ → ℕ → List (Option Point)
-pin_sources c s t = sources_at t (driver c s)
+abbrev pub pin_points : Circuit → ℕ → ℕ → List (Option Point)
+pin_points c s t = pin_points_at t (driver c s)
 
 -- those that there are
 abbrev pub somes : {A : Type 0} → List (Option A) → List A
@@ -50,8 +51,8 @@ sees c None = X
 sees c (Some p) = value c p.signal p.time
 
 -- the sources that are looked at: up to and including the first that decides
-abbrev pub looked_sources : Circuit → ℕ → ℕ → List (Option Point)
-looked_sources c s t = up_to_first (λ o. decides (kind_of (driver c s)) (sees c o)) (pin_sources c s t)
+abbrev pub looked_points : Circuit → ℕ → ℕ → List (Option Point)
+looked_points c s t = up_to_first (λ o. decides (kind_of (driver c s)) (sees c o)) (pin_points c s t)
 
 abbrev pub no_pin : Pin
 no_pin = record { signal = 0; delay = 0 }
@@ -68,3 +69,7 @@ pin_interval c s t k = interval_at c s t (driver c s) k
 -- the times that the intervals of the first n pins have in common
 abbrev pub met_interval : Circuit → ℕ → ℕ → ℕ → Span
 met_interval c s t n = fold meet (from_to 0 2000002) (map (pin_interval c s t) (range_with_len 0 n))
+
+-- the children of a point are what its looked pins read, in their order
+abbrev pub ChildrenAreLooked : Type 0
+ChildrenAreLooked = (c : Circuit) (s t : ℕ) → children c s t ≡ somes (looked_points c s t)

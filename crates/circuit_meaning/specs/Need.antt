@@ -7,27 +7,27 @@ use Rattle.flip_flops.specs.Edges.{shown_edge}
 use Rattle.circuit_meaning.specs.Cells.{least_delay, looked, span}
 
 -- Whether a signal's value at t comes from other points; every other point is answered at once.
-abbrev pub HasSources : ℕ → Driver → Type 0
-HasSources t (Input settings) = ⊥
-HasSources t (Gate kind pins) = least_delay pins ≤ t
-HasSources t (Flop f) = IsSome (shown_edge f.clock f.delay t)
+abbrev pub HasChildren : ℕ → Driver → Type 0
+HasChildren t (Input settings) = ⊥
+HasChildren t (Gate kind pins) = least_delay pins ≤ t
+HasChildren t (Flop f) = IsSome (shown_edge f.clock f.delay t)
 
 abbrev pub IsEvaluable : Circuit → ℕ → ℕ → Type 0
-IsEvaluable c s t = HasSources t (driver c s)
+IsEvaluable c s t = HasChildren t (driver c s)
 
-abbrev pub flop_source : ℕ → Option ℕ → List Point
-flop_source pin None = []
-flop_source pin (Some e) = record { signal = pin; time = e } ∷ []
+abbrev pub flop_child : ℕ → Option ℕ → List Point
+flop_child pin None = []
+flop_child pin (Some e) = record { signal = pin; time = e } ∷ []
 
 -- the points that the value at t comes from: the looked pins, as long ago as their delays; of a flip-flop its pin at the shown edge
-abbrev pub sources : Circuit → ℕ → Driver → List Point
-sources c t (Input settings) = []
-sources c t (Gate kind pins) = map (λ p. record { signal = p.signal; time = t - p.delay }) (filter (λ p. nat_le p.delay t) (looked c t kind pins))
-sources c t (Flop f) = flop_source f.pin (shown_edge f.clock f.delay t)
+abbrev pub children_from : Circuit → ℕ → Driver → List Point
+children_from c t (Input settings) = []
+children_from c t (Gate kind pins) = map (λ p. record { signal = p.signal; time = t - p.delay }) (filter (λ p. nat_le p.delay t) (looked c t kind pins))
+children_from c t (Flop f) = flop_child f.pin (shown_edge f.clock f.delay t)
 
 -- the children of the point of the signal s at the time t
 unfoldable pub children : Circuit → ℕ → ℕ → List Point
-children c s t = sources c t (driver c s)
+children c s t = children_from c t (driver c s)
 
 -- the times at which a query asks: where its window begins, the multiples of 65,536 inside it, and with each of these times
 -- the end of the cell there, where that is still inside

@@ -12,7 +12,7 @@
 //! - `Base`: the points that are answered at once; every other point is evaluable;
 //! - `Need`: the children of a point, the roots of a query, the points that it needs, and the fan-in cone of a signal;
 //! - `Looks`: what a point looks at, said alike of gates and flip-flops;
-//! - `Held`: a circuit with one signal held at a value, and the signals that are free of it;
+//! - `Forced`: a circuit with one signal forced to a value, and the signals that are free of it;
 //! - `Laws`: what follows.
 //!
 //! The source holds small structs that the definitions use as their records, and functions without a body. Each of them
@@ -29,7 +29,8 @@
 ghost use Rattle.circuit_meaning.specs.Laws.{ValuesFollow, SpansFollow, ForwardHolds, OnlyInputsShowZ, CellsCover, CellsAreSteady, BaseAnswersAreCells};
 ghost use Rattle.circuit_meaning.specs.Laws.{ChildrenAreEarlier, NeededAreInCone, RootsReach, NeededAlone, NeedIsClosed, PartsNeedNoMore};
 ghost use Rattle.circuit_meaning.specs.Laws.{WavesAreChanges, WavesAreMaximal, WavesGrowByCells, CellsFixWaves};
-ghost use Rattle.circuit_meaning.specs.Held.{FreeAreAlike, FreeNeedIsNeeded, HeldNeedIsClosed};
+ghost use Rattle.circuit_meaning.specs.Looks.{ChildrenAreLooked};
+ghost use Rattle.circuit_meaning.specs.Forced.{FreeAreAlike, FreeNeedIsNeeded, ForcedNeedIsClosed};
 ghost use Rattle.circuit_meaning.specs.Circuit.{Circuit};
 ghost use Rattle.std.specs.Prelude.{ℕ};
 
@@ -90,7 +91,7 @@ pub fn only_inputs_show_z()
     ensures { OnlyInputsShowZ }
 {}
 
-/// Each instant up to the horizon lies in its own cell, and no cell ends later than just behind the horizon. With
+/// Each instant up to the horizon lies in its own cell, and no cell ends later than just after the horizon. With
 /// [`cells_are_steady`]: the cells of a signal divide the simulated time.
 pub fn cells_cover()
     ensures { CellsCover }
@@ -109,6 +110,11 @@ pub fn base_answers_are_cells()
 /// A child's time is below its parent's. So a demand ends.
 pub fn children_are_earlier()
     ensures { ChildrenAreEarlier }
+{}
+
+/// The children of a point are the points that its looked pins read, in their order.
+pub fn children_are_looked()
+    ensures { ChildrenAreLooked }
 {}
 
 /// What a query needs is of signals in the fan-in cone of its own signal.
@@ -149,15 +155,15 @@ pub fn cells_fix_waves()
     ensures whole { CellsFixWaves }
 {}
 
-/// Signals that are free of a held signal, that is do not read it however far back, have the same values, cells, looked
+/// Signals that are free of a forced signal, that is do not read it however far back, have the same values, cells, looked
 /// pins and children in both circuits.
 pub fn free_are_alike()
     ensures { FreeAreAlike }
 {}
 
-/// What a query for a free signal needs is needed in the held circuit too. And the free points of what a query needs in
-/// the held circuit are closed under children in the circuit itself, so that its memo may answer them.
+/// What a query for a free signal needs is needed where the signal is forced too. And the free points of what a query needs
+/// there are closed under children in the circuit itself, so that its memo may answer them.
 pub fn free_need_is_needed()
     ensures held { FreeNeedIsNeeded }
-    ensures closed { HeldNeedIsClosed }
+    ensures closed { ForcedNeedIsClosed }
 {}

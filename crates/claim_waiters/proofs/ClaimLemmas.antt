@@ -8,9 +8,10 @@ use Rattle.std.specs.Map.{keys_of, lookup, remove_entry, set_value}
 use Rattle.std.specs.List.{slice_get}
 use Rattle.std.proofs.lemmas.List.Elements.{All-nil, All-cons, All-head, All-tail}
 use Rattle.std.proofs.lemmas.Bool.Decides.{nat_tests}
-use Rattle.claim_waiters.specs.Claims.{Claim, point_cmp, first_of, add_waiter, IsAtMost}
+use Rattle.claim_waiters.specs.Claims.{WaitedClaim, first_of, add_waiter, IsAtMost}
+use Rattle.valid_intervals.specs.Cells.{point_cmp}
 use Rattle.claim_waiters.specs.declared.table.Holding.{Holding}
-use Rattle.claim_waiters.specs.View.{claim_of, claims_of}
+use Rattle.claim_waiters.specs.inner.View.{claim_of, claims_of}
 use Rattle.valid_intervals.specs.declared.Point.{Point}
 
 pub by_case_ok : {X E : Type 0} (r : Result X E) (A P : Type 0) → OnOk r A → (A → P) → OnOk r P
@@ -46,7 +47,7 @@ module _ {W R : Type 0} (items : R → List W) where
   write-claims test [] h k w found e = absurd (cc found)
   write-claims test (x ∷ xs) h k w found e =
       (elim (test x.0) as (λ b. cond b (Some x.1) (lookup test xs) ≡ Some h → claims_of items (cond b ((x.0, k) ∷ xs) (x ∷ set_value test xs k)) ≡ cond b ((x.0, record { q = x.1.q; waiters = items x.1.room ++ w ∷ [] }) ∷ claims_of items xs) ((x.0, claim_of items x.1) ∷ add_waiter test (claims_of items xs) w)) [
-        | true ↦ λ f. ap (λ (c : Claim W). (x.0, c) ∷ claims_of items xs) (e ∙ ap (λ (y : Holding R). record { q = y.q; waiters = items y.room ++ w ∷ [] }) (some_same h x.1 (sym f)))
+        | true ↦ λ f. ap (λ (c : WaitedClaim W). (x.0, c) ∷ claims_of items xs) (e ∙ ap (λ (y : Holding R). record { q = y.q; waiters = items y.room ++ w ∷ [] }) (some_same h x.1 (sym f)))
         | false ↦ λ f. ap (λ r. (x.0, claim_of items x.1) ∷ r) (write-claims test xs h k w f e)
       ]) found
 
@@ -64,7 +65,7 @@ module _ {W R : Type 0} (items : R → List W) where
   write-alike test [] h k found e = refl
   write-alike test (x ∷ xs) h k found e =
       (elim (test x.0) as (λ b. cond b (Some x.1) (lookup test xs) ≡ Some h → claims_of items (cond b ((x.0, k) ∷ xs) (x ∷ set_value test xs k)) ≡ (x.0, claim_of items x.1) ∷ claims_of items xs) [
-        | true ↦ λ f. ap (λ (c : Claim W). (x.0, c) ∷ claims_of items xs) (e ∙ ap (claim_of items) (some_same h x.1 (sym f)))
+        | true ↦ λ f. ap (λ (c : WaitedClaim W). (x.0, c) ∷ claims_of items xs) (e ∙ ap (claim_of items) (some_same h x.1 (sym f)))
         | false ↦ λ f. ap (λ r. (x.0, claim_of items x.1) ∷ r) (write-alike test xs h k f e)
       ]) found
 
@@ -77,10 +78,10 @@ module _ {W R : Type 0} (items : R → List W) where
   first_of-claims (e ∷ es) = refl
 
   -- a point before all keys is before all claimed points
-  pub least-claims : (p : Point) (es : List (Point × Holding R)) → All (λ q. is_gt (point_cmp p q) ≡ false) (keys_of es) → All (λ (c : Point × Claim W). IsAtMost p c.0) (claims_of items es)
-  least-claims p [] all = All-nil (λ (c : Point × Claim W). IsAtMost p c.0)
+  pub least-claims : (p : Point) (es : List (Point × Holding R)) → All (λ q. is_gt (point_cmp p q) ≡ false) (keys_of es) → All (λ (c : Point × WaitedClaim W). IsAtMost p c.0) (claims_of items es)
+  least-claims p [] all = All-nil (λ (c : Point × WaitedClaim W). IsAtMost p c.0)
   least-claims p (e ∷ es) all =
-      All-cons (λ (c : Point × Claim W). IsAtMost p c.0) (e.0, claim_of items e.1) (claims_of items es)
+      All-cons (λ (c : Point × WaitedClaim W). IsAtMost p c.0) (e.0, claim_of items e.1) (claims_of items es)
       (point_le-numbers p e.0 (All-head (λ q. is_gt (point_cmp p q) ≡ false) e.0 (keys_of es) all))
       (least-claims p es (All-tail (λ q. is_gt (point_cmp p q) ≡ false) e.0 (keys_of es) all))
 

@@ -13,8 +13,8 @@ use Rattle.std.proofs.lemmas.Cmp.{then_total, on_total, nat_cmp_total, eq_by_cmp
 use Rattle.std.proofs.lemmas.Map.{lookup-remove_entry}
 use Rattle.std.proofs.lemmas.Map.Keys.{IsDistinct-from_sorted}
 use Rattle.valid_intervals.specs.declared.Point.{Point}
-use Rattle.valid_intervals.specs.Cells.{same_point}
-use Rattle.claim_waiters.specs.Claims.{Claim, Claims, IsInOrder, point_cmp, claim_at, holder_of, waiting_in, waiters_at, with_claim, without, add_waiter, with_waiter}
+use Rattle.valid_intervals.specs.Cells.{same_point, point_cmp}
+use Rattle.claim_waiters.specs.Claims.{WaitedClaim, Claims, IsInOrder, claim_at, holder_in, waiting_in, waiters_at, with_claim, without_claim, add_waiter, with_waiter}
 
 pub point_total : IsTotalOrder point_cmp
 point_total = then_total (on_total (λ (p : Point). p.signal) nat_cmp_total) (on_total (λ (p : Point). p.time) nat_cmp_total)
@@ -129,7 +129,7 @@ module _ {X : Type 0} where
       ]) refl h
 
 module _ {W : Type 0} where
-  abbrev with_one : W → Claim W → Claim W
+  abbrev with_one : W → WaitedClaim W → WaitedClaim W
   with_one w c = record { q = c.q; waiters = c.waiters ++ w ∷ [] }
 
   pub at-waited : (claims : Claims W) (p : Point) (w : W) (x : Point) → claim_at (with_waiter claims p w) x ≡ cond (same_point p x) (option_map (with_one w) (claim_at claims x)) (claim_at claims x)
@@ -169,7 +169,7 @@ module _ {W : Type 0} where
     | false ↦ ap suc (length-waited test es w)
   ]
 
-  pub each-waited : (P : Point × Claim W → Type 0) (claims : Claims W) (p : Point) (w : W) → ((c : Claim W) → P (p, c) → P (p, with_one w c)) → AllByRecursion P claims → AllByRecursion P (with_waiter claims p w)
+  pub each-waited : (P : Point × WaitedClaim W → Type 0) (claims : Claims W) (p : Point) (w : W) → ((c : WaitedClaim W) → P (p, c) → P (p, with_one w c)) → AllByRecursion P claims → AllByRecursion P (with_waiter claims p w)
   each-waited P [] p w f all = tt
   each-waited P (e ∷ es) p w f all =
       (elim (is_at (point_cmp p) e.0) as (λ b. is_at (point_cmp p) e.0 ≡ b → AllByRecursion P (cond b ((e.0, with_one w e.1) ∷ es) (e ∷ add_waiter (is_at (point_cmp p)) es w))) [
@@ -178,22 +178,22 @@ module _ {W : Type 0} where
       ]) refl
 
   -- the holder of each point
-  abbrev query : Claim W → ℕ
+  abbrev query : WaitedClaim W → ℕ
   query c = c.q
 
-  pub holder-claimed : (claims : Claims W) (q : ℕ) (p x : Point) → claim_at claims p ≡ None → holder_of (with_claim claims q p) x ≡ cond (same_point p x) (Some q) (holder_of claims x)
+  pub holder-claimed : (claims : Claims W) (q : ℕ) (p x : Point) → claim_at claims p ≡ None → holder_in (with_claim claims q p) x ≡ cond (same_point p x) (Some q) (holder_in claims x)
   holder-claimed claims q p x n = ap (option_map query) (at-inserted claims p (record { q = q; waiters = [] }) x n)
-      ∙ (elim (same_point p x) as (λ b. option_map query (cond b (Some (record { q = q; waiters = [] })) (claim_at claims x)) ≡ cond b (Some q) (holder_of claims x)) [ true ↦ refl | false ↦ refl ])
+      ∙ (elim (same_point p x) as (λ b. option_map query (cond b (Some (record { q = q; waiters = [] })) (claim_at claims x)) ≡ cond b (Some q) (holder_in claims x)) [ true ↦ refl | false ↦ refl ])
 
-  pub holder-without : (claims : Claims W) (p x : Point) → IsInOrder claims → holder_of (without claims p) x ≡ cond (same_point p x) None (holder_of claims x)
+  pub holder-without : (claims : Claims W) (p x : Point) → IsInOrder claims → holder_in (without_claim claims p) x ≡ cond (same_point p x) None (holder_in claims x)
   holder-without claims p x order = ap (option_map query) (at-removed claims p x order)
-      ∙ (elim (same_point p x) as (λ b. option_map query (cond b None (claim_at claims x)) ≡ cond b None (holder_of claims x)) [ true ↦ refl | false ↦ refl ])
+      ∙ (elim (same_point p x) as (λ b. option_map query (cond b None (claim_at claims x)) ≡ cond b None (holder_in claims x)) [ true ↦ refl | false ↦ refl ])
 
-  pub holder-waited : (claims : Claims W) (p : Point) (w : W) (x : Point) → holder_of (with_waiter claims p w) x ≡ holder_of claims x
+  pub holder-waited : (claims : Claims W) (p : Point) (w : W) (x : Point) → holder_in (with_waiter claims p w) x ≡ holder_in claims x
   holder-waited claims p w x = ap (option_map query) (at-waited claims p w x)
-      ∙ (elim (same_point p x) as (λ b. option_map query (cond b (option_map (with_one w) (claim_at claims x)) (claim_at claims x)) ≡ holder_of claims x) [ true ↦ same (claim_at claims x) | false ↦ refl ])
+      ∙ (elim (same_point p x) as (λ b. option_map query (cond b (option_map (with_one w) (claim_at claims x)) (claim_at claims x)) ≡ holder_in claims x) [ true ↦ same (claim_at claims x) | false ↦ refl ])
     where
-      same : (o : Option (Claim W)) → option_map query (option_map (with_one w) o) ≡ option_map query o
+      same : (o : Option (WaitedClaim W)) → option_map query (option_map (with_one w) o) ≡ option_map query o
       same None = refl
       same (Some c) = refl
 
@@ -206,7 +206,7 @@ module _ {W : Type 0} where
     | inr h ↦ ap waiting_in (at-inserted claims p (record { q = q; waiters = [] }) x n) ∙ rw h refl
   ]
 
-  pub waiters-without : (claims : Claims W) (p x : Point) → IsInOrder claims → waiters_at (without claims p) x ≡ cond (same_point p x) [] (waiters_at claims x)
+  pub waiters-without : (claims : Claims W) (p x : Point) → IsInOrder claims → waiters_at (without_claim claims p) x ≡ cond (same_point p x) [] (waiters_at claims x)
   waiters-without claims p x order = ap waiting_in (at-removed claims p x order)
       ∙ (elim (same_point p x) as (λ b. waiting_in (cond b None (claim_at claims x)) ≡ cond b [] (waiters_at claims x)) [ true ↦ refl | false ↦ refl ])
 
@@ -216,6 +216,6 @@ module _ {W : Type 0} where
     | inr h ↦ rw h refl
   ])
     where
-      more : (o : Option (Claim W)) → IsSome o → waiting_in (option_map (with_one w) o) ≡ waiting_in o ++ w ∷ []
+      more : (o : Option (WaitedClaim W)) → IsSome o → waiting_in (option_map (with_one w) o) ≡ waiting_in o ++ w ∷ []
       more None s = absurd (true≢false (sym s))
       more (Some c) s = refl

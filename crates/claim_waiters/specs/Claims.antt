@@ -1,22 +1,17 @@
 -- A table of claims: the claimed points in order, each with its query and its waiters.
 use Rattle.std.specs.Prelude.{ℕ, ◌≡◌, ◌<◌, ◌≤◌, ◌⊎◌, Bool, List, [], ◌∷◌, ◌++◌, Option, Some, None, option_map, if◌then◌else◌}
-use Rattle.std.specs.declared.cmp.Ordering.{Ordering}
 use Rattle.std.specs.BTreeMap.{insert_entry, is_at}
 use Rattle.std.specs.List.Sorted.{IsStrictlySortedBy}
 use Rattle.std.specs.Map.{keys_of, lookup, remove_entry}
-use Rattle.std.specs.Ordering.{ordering_then, nat_cmp}
 use Rattle.valid_intervals.specs.declared.Point.{Point}
+use Rattle.valid_intervals.specs.Cells.{point_cmp}
 
-pub record Claim (W : Type 0) : Type 0 where
+pub record WaitedClaim (W : Type 0) : Type 0 where
   pub q : ℕ
   pub waiters : List W
 
 abbrev pub Claims : Type 0 → Type 0
-Claims W = List (Point × Claim W)
-
--- by signal, then by time
-abbrev pub point_cmp : Point → Point → Ordering
-point_cmp a b = ordering_then (nat_cmp a.signal b.signal) (nat_cmp a.time b.time)
+Claims W = List (Point × WaitedClaim W)
 
 -- a has a lower signal, or the same signal and no later time
 abbrev pub IsAtMost : Point → Point → Type 0
@@ -28,17 +23,17 @@ module _ {W : Type 0} where
   IsInOrder claims = IsStrictlySortedBy point_cmp (keys_of claims)
 
   -- the claim of a point
-  abbrev pub claim_at : Claims W → Point → Option (Claim W)
+  abbrev pub claim_at : Claims W → Point → Option (WaitedClaim W)
   claim_at claims p = lookup (is_at (point_cmp p)) claims
 
-  abbrev pub holder_of : Claims W → Point → Option ℕ
-  holder_of claims p = option_map (λ c. c.q) (claim_at claims p)
+  abbrev pub holder_in : Claims W → Point → Option ℕ
+  holder_in claims p = option_map (λ c. c.q) (claim_at claims p)
 
   abbrev pub waiters_of : Claims W → Point → Option (List W)
   waiters_of claims p = option_map (λ c. c.waiters) (claim_at claims p)
 
   -- those that wait at a point, and at one that is not claimed there are none
-  abbrev pub waiting_in : Option (Claim W) → List W
+  abbrev pub waiting_in : Option (WaitedClaim W) → List W
   waiting_in None = []
   waiting_in (Some c) = c.waiters
 
@@ -54,10 +49,10 @@ module _ {W : Type 0} where
   abbrev pub with_claim : Claims W → ℕ → Point → Claims W
   with_claim claims q p = insert_entry point_cmp claims p (record { q = q; waiters = [] })
 
-  abbrev pub without : Claims W → Point → Claims W
-  without claims p = remove_entry (is_at (point_cmp p)) claims
+  abbrev pub without_claim : Claims W → Point → Claims W
+  without_claim claims p = remove_entry (is_at (point_cmp p)) claims
 
-  -- the claim whose point passes the test has one more waiter, behind the others
+  -- the claim whose point passes the test has one more waiter, after the others
   abbrev pub add_waiter : (Point → Bool) → Claims W → W → Claims W
   add_waiter test [] w = []
   add_waiter test (e ∷ claims) w = if test e.0 then (e.0, record { q = e.1.q; waiters = e.1.waiters ++ w ∷ [] }) ∷ claims else (e ∷ add_waiter test claims w)

@@ -2,9 +2,10 @@
 //!
 //! A [`ClaimTable`] is seen as the list of the claimed points in their order, by signal and then by time, each with the
 //! query that claimed it and its waiters in the order in which they came. A point is claimed at most once.
-//! [`ClaimTable::claim`] begins a claim, [`ClaimTable::wait`] puts a waiter behind the others at a claimed point, and
+//! [`ClaimTable::claim`] begins a claim, [`ClaimTable::wait`] puts a waiter after the others at a claimed point, and
 //! [`ClaimTable::take`] ends the claim and hands all its waiters back in their order. [`ClaimTable::holder`],
-//! [`ClaimTable::first`] and [`ClaimTable::len`] only ask. No call drops, copies or reorders a waiter; one that can't be taken in is handed back.
+//! [`ClaimTable::first`] and [`ClaimTable::len`] only ask. No call drops, copies or reorders a waiter; one that can't be taken
+//! in is handed back.
 //!
 //! The table is generic in what waits, a [`Waiter`], which says by its [`Waiter::Room`] how a claim keeps its waiters: most
 //! claims have none or one, so a small vector with room for two serves.

@@ -1,5 +1,5 @@
 ghost use Rattle.std.specs.Prelude.{◌≡◌, ◌↔◌, length, IsTrue, All, IfErr, IfSome, IsSome, None, OnErr, OnOk, Some, []};
-ghost use Rattle.claim_waiters.specs.Claims.{claim_at, first_of, holder_of, waiters_of, with_claim, with_waiter, without, IsAtMost, IsInOrder};
+ghost use Rattle.claim_waiters.specs.Claims.{claim_at, first_of, holder_in, waiters_of, with_claim, with_waiter, without_claim, IsAtMost, IsInOrder};
 
 use crate::waiter::Waiter;
 use backsim_io::OutOfMemory;
@@ -27,7 +27,7 @@ impl<W: Waiter> Model for ClaimTable<W> {
 
     ghost Value = { Claims W };
 
-    ghost use Rattle.claim_waiters.specs.View.{claims_of};
+    ghost use Rattle.claim_waiters.specs.inner.View.{claims_of};
 
     ghost view = { λ t. claims_of W.items t.map.entries };
 }
@@ -79,13 +79,13 @@ impl<W: Waiter> ClaimTable<W> {
 
     /// The query that has claimed the point.
     pub fn holder(&self, p: Point) -> Option<u32>
-        ensures { result ≡ holder_of self.now p }
+        ensures { result ≡ holder_in self.now p }
     {
         let claim = self.map.get(&p)?;
         Some(claim.q)
     }
 
-    /// Puts a waiter behind the others at a claimed point, or hands it back.
+    /// Puts a waiter after the others at a claimed point, or hands it back.
     pub fn wait(&mut self, p: Point, waiter: W) -> Result<(), (W, OutOfMemory)>
         requires { IsSome (claim_at self.old p) }
         ensures ok { OnOk result (self.new ≡ with_waiter self.old p waiter) }
@@ -102,7 +102,7 @@ impl<W: Waiter> ClaimTable<W> {
     pub fn take(&mut self, p: Point) -> W::Room
         requires { IsSome (claim_at self.old p) }
         ensures waiters { waiters_of self.old p ≡ Some (W.items result) }
-        ensures rest { self.new ≡ without self.old p }
+        ensures rest { self.new ≡ without_claim self.old p }
     {
         match self.map.remove(&p) {
             Some(claim) => {

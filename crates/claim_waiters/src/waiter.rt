@@ -16,7 +16,7 @@ pub trait Waiter: Drop + Sized {
     fn none(alloc: Global) -> Self::Room
         ensures { items result ≡ [] };
 
-    /// Puts a waiter behind the others. Where there is no memory, the room is as it was and the waiter comes back.
+    /// Puts a waiter after the others. Where there is no memory, the room is as it was and the waiter comes back.
     fn wait(room: &mut Self::Room, waiter: Self) -> Result<(), (Self, OutOfMemory)>
         ensures ok { OnOk result (items room.new ≡ items room.old ++ waiter ∷ []) }
         ensures err { OnErr result (items room.new ≡ items room.old) }

@@ -1,28 +1,25 @@
 -- What the parse answers, by the form that the words are.
 use Rattle.std.proofs.Common.{◌≡◌, ◌∙◌, ◌&&◌, ◌==◌, ℕ, List, [], ◌∷◌, Bool, true, false, refl, sym, subst, Option, Some, None, option_map, ap, ap₂, length, suc, arith, inl, inr, map}
 use Rattle.std.specs.Borrow.{Bor}
-use Rattle.std.specs.List.{All}
-use Rattle.std.specs.Str.{IsUtf8}
+use Rattle.std.specs.List.{All, list_all}
+use Rattle.std.specs.Str.{IsUtf8, bytes_eq}
 use Rattle.std.proofs.lemmas.Bool.Decides.{nat_tests}
 use Rattle.std.proofs.lemmas.List.Elements.{All-get_or, All-drop}
-use Rattle.clap.specs.Kinds.{IsAmong, HasKind}
+use Rattle.clap.specs.Kinds.{IsAmong, HasKind, Kinds, or_else}
 use Rattle.clap.specs.Values.{kind_of}
 use Rattle.clap.specs.declared.error.Error.{Error}
 use Rattle.clap.specs.declared.error.kind.ErrorKind.TheVariants.{OutOfMemory}
 use Rattle.std.specs.Prelude.{option_and_then, slice_get, fold, find, unwrap_or}
-use Rattle.std.specs.List.{list_all}
-use Rattle.std.specs.Str.{bytes_eq}
 use Rattle.clap.specs.Matches.{first_value, matched_of, raw_values}
 use Rattle.clap.specs.Walk.{Row, Rule, Text, all_of, first_of, rows_of, is_empty, with_default, default_rows, has_row, settled, nothing_held, idle, Walk}
 use Rattle.clap.specs.Simple.{matches_of, built}
 use Rattle.clap.specs.Faults.{fault_of, default_fault, defaults_fault, settle_fault, walk_fault}
-use Rattle.clap.specs.Kinds.{Kinds, or_else}
 use Rattle.clap.specs.declared.builder.value_parser.Reading.{Reading}
 use Rattle.clap.specs.declared.parser.matches.Found.{Found}
 use Rattle.clap.proofs.FaultLemmas.{leaf_fault}
 use Rattle.clap.proofs.WalkLemmas.{first_value-rows, raw_values-rows}
-use Rattle.command_words.specs.Answer.{said_in}
-use Rattle.command_words.specs.Command.{command_app}
+use Rattle.command_words.specs.inner.Answer.{said_in}
+use Rattle.command_words.specs.inner.Command.{command_app}
 use Rattle.command_words.specs.Words.{Key, Workers, Shards, Cells, Work, Said, form_of, nothing_said, words_of, value_at}
 use Rattle.command_words.proofs.Rules.{id_of, names_id, rules, shape}
 use Rattle.command_words.proofs.Rows.{Shows}

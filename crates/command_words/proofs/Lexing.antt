@@ -31,7 +31,7 @@ Lexes word Name = (bytes_eq word two_dashes ≡ false) × (long_of word ≡ None
 Lexes word Refused = (bytes_eq word two_dashes ≡ false)
     × ((rows : List Row) (pending : Option (Text × List Text)) → flag_word_fault rules false (long_of word) word (held rows pending) ≡ kind.UnknownArgument ∷ [])
 
--- a text that begins with `-` and isn't `-` alone has a character behind it
+-- a text that begins with `-` and isn't `-` alone has a character after it
 some_char : (x : ℕ) (xs : List ℕ) → IsUtf8 (45 ∷ x ∷ xs) → (c : ℕ) × (slice_get (chars (x ∷ xs)) 0 ≡ Some c)
 unfolding chars encode_utf8
 some_char x xs utf8 = go (chars (x ∷ xs)) refl

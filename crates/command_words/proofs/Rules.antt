@@ -7,7 +7,7 @@ use Rattle.clap.specs.declared.error.kind.ErrorKind.TheVariants as kind
 use Rattle.clap.specs.declared.parser.matches.ValueSource.TheVariants.{CommandLine}
 use Rattle.std.specs.Str.{bytes_eq}
 use Rattle.std.specs.Prelude.{if◌then◌else◌}
-use Rattle.command_words.specs.Command.{option_rule, names_rule, command_app}
+use Rattle.command_words.specs.inner.Command.{option_rule, names_rule, command_app}
 use Rattle.command_words.specs.Words.{Key, Workers, Shards, Cells, Work, key_of}
 
 abbrev pub id_of : Key → Text

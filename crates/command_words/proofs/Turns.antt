@@ -19,7 +19,7 @@ abbrev pub free : Bool → Waiting
 free true = idle
 free false = positional
 
--- the kinds at which the word fails, and the walk behind it
+-- the kinds at which the word fails, and the walk after it
 abbrev pub Turn : Walk → Text → Kinds → Walk → Type 0
 Turn w word kinds after = (turn_fault shape [] w word ≡ kinds) × (walked rules [] w word ≡ after)
 

@@ -74,7 +74,7 @@ turn_passes w after word words t =
 rows_pass : (w after : Walk) (word : Text) (words : List Text) → walked rules [] w word ≡ after → rows_from w (word ∷ words) ≡ rows_from after words
 rows_pass w after word words e = ap (λ v. rows_from v words) e
 
--- what meets the walk behind the word, meets the walk before it
+-- what meets the walk after the word, meets the walk before it
 passes : (o : Option Said) (w after : Walk) (word : Text) (words : List Text) → Turn w word [] after → Meets o after words → Meets o w (word ∷ words)
 passes None w after word words t m = λ e. m (sym (turn_passes w after word words t) ∙ e)
 passes (Some said) w after word words t m =
@@ -101,7 +101,7 @@ name_settles : (word : Text) (rows : List Row)
     → (settle rows (Some (names_id, word ∷ [])) ≡ []) × (settled_rows rules (Some (names_id, word ∷ [])) rows ≡ used names_built (word ∷ []) rows)
 name_settles word rows = (refl, refl)
 
--- ---- behind the first `--`
+-- ---- after the first `--`
 
 trailing_fails : (words : List Text) (rows : List Row) (pending : Pending) (waiting : Waiting) → Fails (settle rows pending)
     → Fails (fault_from (walk_at rows pending waiting true) words)
@@ -155,7 +155,7 @@ abbrev pub Stands : Option Key → Said → List Row → Pending → Waiting →
 Stands None said rows pending waiting = (b : Bool) × (waiting ≡ free b) × (settle rows pending ≡ []) × Shows said (settled_rows rules pending rows)
 Stands (Some key) said rows pending waiting = (waiting ≡ option (id_of key)) × (pending ≡ Some (id_of key, [])) × Shows said rows
 
--- the words behind one are read as clap walks over them
+-- the words after one are read as clap walks over them
 abbrev pub Rest : List Text → Type 0
 Rest words = (k : Option Key) (said : Said) (rows : List Row) (pending : Pending) (waiting : Waiting) → Stands k said rows pending waiting
     → Meets (taken words k said) (walk_at rows pending waiting false) words

@@ -8,7 +8,7 @@ option_word Shards = codes "--shards"
 option_word Cells = codes "--cells"
 option_word Work = codes "--work"
 
--- a value is said in a word of its own or behind `=` (61)
+-- a value is said in a word of its own or after `=` (61)
 abbrev pub OneWordOrTwo : Type 0
 OneWordOrTwo = (key : Key) (value : Text) (words : List Text) (said : Said)
     → read (option_word key ∷ value ∷ words) None said ≡ read ((option_word key ++ 61 ∷ value) ∷ words) None said

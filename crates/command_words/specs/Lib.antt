@@ -1,4 +1,4 @@
 pub mod Answer
-pub mod Command
 pub mod Laws
 pub mod Words
+pub mod inner

@@ -2,7 +2,7 @@
 use Rattle.std.specs.Prelude.{ℕ, ◌==◌, Bool, ◌&&◌, ◌||◌, List, [], ◌∷◌, ◌++◌, length, nat_le, Option, Some, None, is_some, if◌then◌else◌, codes, option_and_then}
 use Rattle.std.specs.List.{list_any, before_first, after_first}
 use Rattle.std.specs.Str.{bytes_eq}
-use Rattle.text_rules.specs.Text.{is_number, decimal}
+use Rattle.text_rules.specs.Text.{is_number, decimal_value}
 
 abbrev pub Text : Type 0
 Text = List ℕ
@@ -37,18 +37,18 @@ key_of text =
 abbrev pub is_equals : ℕ → Bool
 is_equals b = b == 61
 
--- behind `--`: the name of an option, and what stands behind the first `=`, if there is one
+-- after `--`: the name of an option, and what stands after the first `=`, if there is one
 abbrev pub option_by : Option Key → Text → Word
 option_by None text = Refused
 option_by (Some key) text =
     if list_any is_equals text then Valued key (after_first is_equals text) else Alone key
 
--- behind `--`
+-- after `--`
 abbrev pub after_two_dashes : Text → Word
 after_two_dashes [] = Dashes
 after_two_dashes (b ∷ bytes) = option_by (key_of (before_first is_equals (b ∷ bytes))) (b ∷ bytes)
 
--- behind `-` (45)
+-- after `-` (45)
 abbrev pub after_dash : Text → Word
 after_dash [] = Name
 after_dash (b ∷ bytes) = if b == 45 then after_two_dashes bytes else Refused
@@ -89,7 +89,7 @@ with_value key text said = if is_some (value_at key said) then None else Some (w
 abbrev pub with_names : List Text → Said → Said
 with_names names said = record said { names = said.names ++ names }
 
--- one word, where `next` reads the words behind it
+-- one word, where `next` reads the words after it
 abbrev pub by_word : Word → Text → Said → (Option Key → Said → Option Said) → List Text → Option Said
 by_word Dashes word said next words = Some (with_names words said)
 by_word (Alone key) word said next words = next (Some key) said
@@ -97,7 +97,7 @@ by_word (Valued key text) word said next words = option_and_then (next None) (wi
 by_word Name word said next words = next None (with_names (word ∷ []) said)
 by_word Refused word said next words = None
 
--- what the words say, behind what was said before them; where an option waits, the first word is its value
+-- what the words say, after what was said before them; where an option waits, the first word is its value
 abbrev pub read : List Text → Option Key → Said → Option Said
 read [] None said = Some said
 read [] (Some key) said = None
@@ -114,8 +114,8 @@ pub data Form : Type 0 where
 -- one to ten digits, from `least` to `most`
 abbrev pub number_in : ℕ → ℕ → Text → Option ℕ
 number_in least most text =
-    if is_number text && nat_le (length text) 10 && nat_le least (decimal text) && nat_le (decimal text) most
-    then Some (decimal text) else None
+    if is_number text && nat_le (length text) 10 && nat_le least (decimal_value text) && nat_le (decimal_value text) most
+    then Some (decimal_value text) else None
 
 abbrev pub number_at : Key → Text → Option ℕ
 number_at Workers = number_in 1 64

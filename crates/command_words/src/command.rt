@@ -2,7 +2,7 @@
 
 ghost use Rattle.std.specs.Prelude.{◌≡◌, IfOk, map, false};
 ghost use Rattle.clap.specs.Words.{app_of, rule_of, with_rule, FailsBy, fault_of, matches_of, found_of, rows_of};
-ghost use Rattle.command_words.specs.Command.{option_rule, names_rule, empty_app, command_app};
+ghost use Rattle.command_words.specs.inner.Command.{option_rule, names_rule, empty_app, command_app};
 
 use clap::{Arg, ArgAction, ArgMatches, Command, Error};
 use std::alloc::{AllocError, Global};

@@ -5,7 +5,8 @@ ghost use Rattle.std.specs.List.{All};
 ghost use Rattle.std.specs.Str.{IsUtf8};
 ghost use Rattle.clap.specs.Words.{found_of};
 ghost use Rattle.command_words.specs.Words.{Workers, Shards, Cells, number_in, number_or, first_form, second_form, form_of, words_of};
-ghost use Rattle.command_words.specs.Answer.{said_in, form_in};
+ghost use Rattle.command_words.specs.inner.Answer.{said_in};
+ghost use Rattle.command_words.specs.Answer.{form_in};
 
 use crate::Words;
 use crate::command::find_words;

@@ -2,7 +2,7 @@
 
 ghost use Rattle.command_words.specs.Laws.{AnyOrder, OneWordOrTwo};
 
-/// The value of an option is said in a word of its own or behind `=`.
+/// The value of an option is said in a word of its own or after `=`.
 pub fn one_word_or_two()
     ensures { OneWordOrTwo }
 {}

@@ -4,7 +4,7 @@
 //! `--workers`, `--shards`, `--cells` or `--work` is an option and the next word
 //! is its value, and `--workers=V` has the value V. Any other word there that
 //! begins with `-` is refused, except the single `-`, which is a name. The first
-//! `--` is passed over, and every word behind it is a name. Options and names
+//! `--` is passed over, and every word after it is a name. Options and names
 //! come in any order. An option without a value or that comes twice, and a value
 //! that isn't one to ten digits inside its range, are refused.
 //!
@@ -13,7 +13,7 @@
 //! and neither `--shards` nor `--cells`, and it answers a `Workload`.
 //!
 //! The definition `words_of` in `specs/Words` says this by its own recursion
-//! over the words. The parser is `clap`, whose command is in `specs/Command`:
+//! over the words. The parser is `clap`, whose command is in `specs/inner/Command`:
 //! four options that each take one text, and one positional that takes all
 //! names. It takes some words that are none of the forms: a value that is empty
 //! or no number, a number out of range, another count of names, `--shards` beside

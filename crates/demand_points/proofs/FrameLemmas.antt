@@ -17,18 +17,18 @@ use Rattle.flip_flops.specs.Edges.{shown_edge}
 use Rattle.circuit_meaning.specs.declared.Pin.{Pin}
 use Rattle.circuit_meaning.specs.Circuit.{Circuit, Driver, Input, Gate, Flop, driver, read_by, IsCircuit, IsDriver}
 use Rattle.circuit_meaning.specs.Forward.{value}
-use Rattle.circuit_meaning.specs.Cells.{span, pin_span}
-use Rattle.circuit_meaning.specs.Need.{HasSources, IsEvaluable}
-use Rattle.circuit_meaning.specs.Looks.{kind_of, source, flop_sources, sources_at, sees, interval_at, pin_interval, met_interval, no_pin}
+use Rattle.circuit_meaning.specs.Cells.{span, pin_span, cell_at}
+use Rattle.circuit_meaning.specs.Need.{HasChildren, IsEvaluable}
+use Rattle.circuit_meaning.specs.Looks.{kind_of, pin_point, flop_points, pin_points_at, sees, interval_at, pin_interval, met_interval, no_pin}
 use Rattle.circuit_meaning.proofs.Equations.{driver_fits}
 use Rattle.circuit_meaning.proofs.Steady.{in_meet, pin_span-early, pin_span-late}
 use Rattle.circuit_meaning.proofs.Cover.{cell-covers}
 use Rattle.circuit_meaning.proofs.Looking.{looked-value, cut-take, cut-ends, cut-whole, cut-more}
 use Rattle.valid_intervals.specs.declared.Cell.{Cell}
-use Rattle.journal_meaning.specs.Batch.{cell_at}
 use Rattle.design.specs.Pins.{pin_at, heard_of}
 use Rattle.demand_points.specs.declared.frame.Frame.{Frame}
-use Rattle.demand_points.specs.Frames.{cell_there, value_there, span_there, kind_at, all_sources, looked_at, next_source, IsPoint, IsFrame, IsLooking, LooksOn}
+use Rattle.demand_points.specs.Frames.{cell_there, kind_at, all_points, looked_at, next_point, IsPoint, IsFrame, IsLooking, LooksOn}
+use Rattle.demand_points.specs.inner.Frames.{value_there, span_there}
 
 pub cut-get : {A : Type 0} (test : A → Bool) (xs : List A) (n : ℕ) (d : A) → n < length (up_to_first test xs) → get_or (up_to_first test xs) n d ≡ get_or xs n d
 cut-get test xs n d h =
@@ -36,27 +36,27 @@ cut-get test xs n d h =
     sym (get_or-take (n + 1) (up_to_first test xs) n d (omega arith)) ∙ ap (λ l. get_or l n d) same ∙ get_or-take (n + 1) xs n d (omega arith)
 
 -- the numbers of sources and of pins
-pub sources-count : (t : ℕ) (d : Driver) → HasSources t d → length (sources_at t d) ≡ length (read_by d)
+pub sources-count : (t : ℕ) (d : Driver) → HasChildren t d → length (pin_points_at t d) ≡ length (read_by d)
 sources-count t (Input settings) h = absurd h
-sources-count t (Gate kind pins) h = length-map pins (source t) ∙ sym (length-map pins (λ p. p.signal))
+sources-count t (Gate kind pins) h = length-map pins (pin_point t) ∙ sym (length-map pins (λ p. p.signal))
 sources-count t (Flop f) h = go (shown_edge f.clock f.delay t) h
   where
-    go : (o : Option ℕ) → IsSome o → length (flop_sources f.pin o) ≡ 1
+    go : (o : Option ℕ) → IsSome o → length (flop_points f.pin o) ≡ 1
     go None h = absurd (cc h)
     go (Some e) h = refl
 
-unary-sources : (n h t : ℕ) (d : Driver) → IsDriver n h d → IsTrue (is_unary (kind_of d)) → length (sources_at t d) ≤ 1
+unary-sources : (n h t : ℕ) (d : Driver) → IsDriver n h d → IsTrue (is_unary (kind_of d)) → length (pin_points_at t d) ≤ 1
 unary-sources n h t (Input settings) ok u = omega arith
-unary-sources n h t (Gate kind pins) ok u = let e = ok.one u in let l = length-map pins (source t) in omega arith
+unary-sources n h t (Gate kind pins) ok u = let e = ok.one u in let l = length-map pins (pin_point t) in omega arith
 unary-sources n h t (Flop f) ok u = go (shown_edge f.clock f.delay t)
   where
-    go : (o : Option ℕ) → length (flop_sources f.pin o) ≤ 1
+    go : (o : Option ℕ) → length (flop_points f.pin o) ≤ 1
     go None = omega arith
     go (Some e) = omega arith
 
-some-pin : (n h t : ℕ) (d : Driver) → IsDriver n h d → HasSources t d → 1 ≤ length (sources_at t d)
+some-pin : (n h t : ℕ) (d : Driver) → IsDriver n h d → HasChildren t d → 1 ≤ length (pin_points_at t d)
 some-pin n h t (Input settings) ok e = absurd e
-some-pin n h t (Gate kind pins) ok e = let l = length-map pins (source t) in let k = ok.some in omega arith
+some-pin n h t (Gate kind pins) ok e = let l = length-map pins (pin_point t) in let k = ok.some in omega arith
 some-pin n h t (Flop f) ok e = let k = sources-count t (Flop f) e in omega arith
 
 few-pins : (n h : ℕ) (d : Driver) → IsDriver n h d → length (read_by d) ≤ 64
@@ -151,35 +151,35 @@ module _ (c : Circuit) (ok : IsCircuit c) (s t : ℕ) (within : t ≤ c.horizon)
   met-has n small = in_meet (from_to 0 2000002) (map (pin_interval c s t) (range_with_len 0 n)) t (record { low = omega arith; high = small }) (all-have (range_with_len 0 n))
 
 module _ (c : Circuit) (ok : IsCircuit c) (f : Frame) (is : IsFrame c f) where
-  none-decides : IsLooking c f → list_any (λ o. decides (kind_at c f.point) (sees c o)) (take f.looked (all_sources c f.point)) ≡ false
+  none-decides : IsLooking c f → list_any (λ o. decides (kind_at c f.point) (sees c o)) (take f.looked (all_points c f.point)) ≡ false
   none-decides looking =
       let test : Option Point → Bool = λ o. decides (kind_at c f.point) (sees c o) in
-      elim (cases_Bool (list_any test (take f.looked (all_sources c f.point)))) [
-        | inl t ↦ let e : f.looked ≡ length (looked_at c f.point) = cut-ends test (all_sources c f.point) f.looked is.looked t in absurd (omega arith)
+      elim (cases_Bool (list_any test (take f.looked (all_points c f.point)))) [
+        | inl t ↦ let e : f.looked ≡ length (looked_at c f.point) = cut-ends test (all_points c f.point) f.looked is.looked t in absurd (omega arith)
         | inr h ↦ h
       ]
 
-  pub looking-below : IsLooking c f → f.looked < length (all_sources c f.point)
-  looking-below looking = let k = cut-whole (λ o. decides (kind_at c f.point) (sees c o)) (all_sources c f.point) in omega arith
+  pub looking-below : IsLooking c f → f.looked < length (all_points c f.point)
+  looking-below looking = let k = cut-whole (λ o. decides (kind_at c f.point) (sees c o)) (all_points c f.point) in omega arith
 
   -- the next source, among all sources
-  pub next-among : IsLooking c f → next_source c f ≡ get_or (all_sources c f.point) f.looked None
-  next-among looking = cut-get (λ o. decides (kind_at c f.point) (sees c o)) (all_sources c f.point) f.looked None looking
+  pub next-among : IsLooking c f → next_point c f ≡ get_or (all_points c f.point) f.looked None
+  next-among looking = cut-get (λ o. decides (kind_at c f.point) (sees c o)) (all_points c f.point) f.looked None looking
 
   -- a unary gate has looked at nothing before its one pin
-  pub unary-first : IsLooking c f → IsTrue (is_unary f.evaluation.kind) → map (sees c) (take f.looked (all_sources c f.point)) ≡ []
+  pub unary-first : IsLooking c f → IsTrue (is_unary f.evaluation.kind) → map (sees c) (take f.looked (all_points c f.point)) ≡ []
   unary-first looking u =
-      let few : length (all_sources c f.point) ≤ 1 = unary-sources (length c.drivers) c.horizon f.point.time (driver c f.point.signal) (driver_fits c ok f.point.signal) (subst (λ k. IsTrue (is_unary k)) is.kind u) in
+      let few : length (all_points c f.point) ≤ 1 = unary-sources (length c.drivers) c.horizon f.point.time (driver c f.point.signal) (driver_fits c ok f.point.signal) (subst (λ k. IsTrue (is_unary k)) is.kind u) in
       let below = looking-below looking in
       let zero : f.looked ≡ 0 = omega arith in
-      rw zero (ap (map (sees c)) (take-none (all_sources c f.point)))
+      rw zero (ap (map (sees c)) (take-none (all_points c f.point)))
 
   -- one pin more
-  pub looks-on : IsLooking c f → (e : Evaluation) (v : Value) (x : Span) → v ≡ sees c (next_source c f) → e.kind ≡ f.evaluation.kind
-      → e.value ≡ gate_value e.kind (map (sees c) (take f.looked (all_sources c f.point)) ++ v ∷ []) → x ≡ meet f.interval (pin_interval c f.point.signal f.point.time f.looked)
+  pub looks-on : IsLooking c f → (e : Evaluation) (v : Value) (x : Span) → v ≡ sees c (next_point c f) → e.kind ≡ f.evaluation.kind
+      → e.value ≡ gate_value e.kind (map (sees c) (take f.looked (all_points c f.point)) ++ v ∷ []) → x ≡ meet f.interval (pin_interval c f.point.signal f.point.time f.looked)
       → LooksOn c f (record { point = f.point; looked = f.looked + 1; interval = x; evaluation = e; decided = decides f.evaluation.kind v })
   looks-on looking e v x seen kind value met =
-      let xs = all_sources c f.point in
+      let xs = all_points c f.point in
       let n = f.looked in
       let K = kind_at c f.point in
       let test : Option Point → Bool = λ o. decides K (sees c o) in
@@ -208,20 +208,20 @@ module _ (c : Circuit) (ok : IsCircuit c) (f : Frame) (is : IsFrame c f) where
 
   -- it has looked at all that it looks at exactly where one has decided or none is left
   pub ends-here : f.decided ≡ true → f.looked ≡ length (looked_at c f.point)
-  ends-here h = cut-ends (λ o. decides (kind_at c f.point) (sees c o)) (all_sources c f.point) f.looked is.looked (sym is.decided ∙ h)
+  ends-here h = cut-ends (λ o. decides (kind_at c f.point) (sees c o)) (all_points c f.point) f.looked is.looked (sym is.decided ∙ h)
 
-  pub ends-last : f.looked ≡ length (all_sources c f.point) → f.looked ≡ length (looked_at c f.point)
-  ends-last h = let k = cut-whole (λ o. decides (kind_at c f.point) (sees c o)) (all_sources c f.point) in let l = is.looked in omega arith
+  pub ends-last : f.looked ≡ length (all_points c f.point) → f.looked ≡ length (looked_at c f.point)
+  ends-last h = let k = cut-whole (λ o. decides (kind_at c f.point) (sees c o)) (all_points c f.point) in let l = is.looked in omega arith
 
-  pub goes-on : f.decided ≡ false → f.looked < length (all_sources c f.point) → IsLooking c f
-  goes-on h below = cut-more (λ o. decides (kind_at c f.point) (sees c o)) (all_sources c f.point) f.looked below (sym is.decided ∙ h)
+  pub goes-on : f.decided ≡ false → f.looked < length (all_points c f.point) → IsLooking c f
+  goes-on h below = cut-more (λ o. decides (kind_at c f.point) (sees c o)) (all_points c f.point) f.looked below (sym is.decided ∙ h)
 
   -- then it has the value of its point
   pub done-value : f.looked ≡ length (looked_at c f.point) → f.evaluation.value ≡ value c f.point.signal f.point.time
   done-value h =
       let test : Option Point → Bool = λ o. decides (kind_at c f.point) (sees c o) in
-      let all : take f.looked (all_sources c f.point) ≡ looked_at c f.point =
-      sym (cut-take test (all_sources c f.point) f.looked is.looked) ∙ take_all f.looked (looked_at c f.point) (omega arith) in
+      let all : take f.looked (all_points c f.point) ≡ looked_at c f.point =
+      sym (cut-take test (all_points c f.point) f.looked is.looked) ∙ take_all f.looked (looked_at c f.point) (omega arith) in
       is.value ∙ ap (λ xs. gate_value (kind_at c f.point) (map (sees c) xs)) all ∙ looked-value c f.point.signal f.point.time ok is.evaluable
 
   -- the next pin is a pin of the point
@@ -232,8 +232,8 @@ module _ (c : Circuit) (ok : IsCircuit c) (f : Frame) (is : IsFrame c f) where
   few-looked looking = let k = pin-below looking in let l = few-pins (length c.drivers) c.horizon (driver c f.point.signal) (driver_fits c ok f.point.signal) in omega arith
 
   -- what the next pin reads
-  pub next-read : IsLooking c f → (o : Option ℕ) → slice_get (all_sources c f.point) f.looked ≡ Some (option_map (pin_at c f.point.signal f.looked) o) → option_map (pin_at c f.point.signal f.looked) o ≡ next_source c f
-  next-read looking o e = sym (get-is (all_sources c f.point) f.looked None (option_map (pin_at c f.point.signal f.looked) o) e) ∙ sym (next-among looking)
+  pub next-read : IsLooking c f → (o : Option ℕ) → slice_get (all_points c f.point) f.looked ≡ Some (option_map (pin_at c f.point.signal f.looked) o) → option_map (pin_at c f.point.signal f.looked) o ≡ next_point c f
+  next-read looking o e = sym (get-is (all_points c f.point) f.looked None (option_map (pin_at c f.point.signal f.looked) o) e) ∙ sym (next-among looking)
 
   pub read-within : IsLooking c f → get_or (read_by (driver c f.point.signal)) f.looked 0 < length c.drivers
   read-within looking = reads-within (length c.drivers) c.horizon (driver c f.point.signal) f.looked (driver_fits c ok f.point.signal) (pin-below looking)
@@ -253,19 +253,19 @@ module _ (c : Circuit) (ok : IsCircuit c) (f : Frame) (is : IsFrame c f) where
 
   pub done-last : f.decided ≡ false → (n : ℕ) → n ≡ length (read_by (driver c f.point.signal)) → nat_eq f.looked n ≡ nat_eq f.looked (length (looked_at c f.point))
   done-last h n e =
-      let count : length (all_sources c f.point) ≡ n = sources-count f.point.time (driver c f.point.signal) is.evaluable ∙ sym e in
+      let count : length (all_points c f.point) ≡ n = sources-count f.point.time (driver c f.point.signal) is.evaluable ∙ sym e in
       elim (eqb_tells f.looked n) [
         | inl t ↦ t.0 ∙ sym (eqb_is f.looked (length (looked_at c f.point)) (ends-last (t.1 ∙ sym count)))
         | inr t ↦
-            let l = cut-whole (λ o. decides (kind_at c f.point) (sees c o)) (all_sources c f.point) in
+            let l = cut-whole (λ o. decides (kind_at c f.point) (sees c o)) (all_points c f.point) in
             let m = is.looked in
-            let below : f.looked < length (all_sources c f.point) = apart-below f.looked (length (all_sources c f.point)) n (omega arith) count t.1 in
+            let below : f.looked < length (all_points c f.point) = apart-below f.looked (length (all_points c f.point)) n (omega arith) count t.1 in
             t.0 ∙ sym (eqb_not f.looked (length (looked_at c f.point)) (below-not f.looked (length (looked_at c f.point)) (goes-on h below)))
       ]
 
   -- the point that is read
-  pub read-is : IsLooking c f → (xs : List ℕ) (t : ℕ) → xs ≡ read_by (driver c f.point.signal) → slice_get (all_sources c f.point) f.looked ≡ Some (option_map (pin_at c f.point.signal f.looked) (Some t))
-      → Some (record { signal = get_or xs f.looked 0; time = t }) ≡ next_source c f
+  pub read-is : IsLooking c f → (xs : List ℕ) (t : ℕ) → xs ≡ read_by (driver c f.point.signal) → slice_get (all_points c f.point) f.looked ≡ Some (option_map (pin_at c f.point.signal f.looked) (Some t))
+      → Some (record { signal = get_or xs f.looked 0; time = t }) ≡ next_point c f
   read-is looking xs t e k = let at : ℕ → Option Point = λ s. Some (record { signal = s; time = t }) in ap (λ l. at (get_or l f.looked 0)) e ∙ next-read looking (Some t) k
 
   pub read-point : IsLooking c f → (xs : List ℕ) (t : ℕ) → xs ≡ read_by (driver c f.point.signal) → t < f.point.time → IsPoint c (record { signal = get_or xs f.looked 0; time = t })
@@ -273,16 +273,16 @@ module _ (c : Circuit) (ok : IsCircuit c) (f : Frame) (is : IsFrame c f) where
       let within = is.point.time in
       record { signal = subst (λ l. get_or l f.looked 0 < length c.drivers) (sym e) (read-within looking); time = omega arith }
 
-  pub heard-there : IsLooking c f → (h : Option Cell) → h ≡ cell_there c (next_source c f) → span_there h ≡ heard_of c f.point.signal f.point.time f.looked
-  heard-there looking h e = heard-span c (next_source c f) h e ∙ ap (option_map (λ p. span c p.signal p.time)) (next-among looking)
+  pub heard-there : IsLooking c f → (h : Option Cell) → h ≡ cell_there c (next_point c f) → span_there h ≡ heard_of c f.point.signal f.point.time f.looked
+  heard-there looking h e = heard-span c (next_point c f) h e ∙ ap (option_map (λ p. span c p.signal p.time)) (next-among looking)
 
   pub some-time : c.horizon ≤ 1000000 → (x : Span) → x ≡ pin_interval c f.point.signal f.point.time f.looked → (meet f.interval x).start < (meet f.interval x).stop
   some-time small x e = let h = shares small in let low = h.low in let high = h.high in subst (λ y. (meet f.interval y).start < (meet f.interval y).stop) (sym e) (omega arith)
 
   -- what was seen with the value that is seen now
   pub sees-more : IsLooking c f → (e : Evaluation) (v : Value) → ((seen : List Value) → (IsTrue (is_unary f.evaluation.kind) → seen ≡ []) → f.evaluation.value ≡ gate_value f.evaluation.kind seen → e.value ≡ gate_value e.kind (seen ++ v ∷ []))
-      → e.value ≡ gate_value e.kind (map (sees c) (take f.looked (all_sources c f.point)) ++ v ∷ [])
-  sees-more looking e v h = let seen = map (sees c) (take f.looked (all_sources c f.point)) in h seen (unary-first looking) (is.value ∙ ap (λ k. gate_value k seen) (sym is.kind))
+      → e.value ≡ gate_value e.kind (map (sees c) (take f.looked (all_points c f.point)) ++ v ∷ [])
+  sees-more looking e v h = let seen = map (sees c) (take f.looked (all_points c f.point)) in h seen (unary-first looking) (is.value ∙ ap (λ k. gate_value k seen) (sym is.kind))
 
   pub done-cell : f.looked ≡ length (looked_at c f.point) → (a : Span) → a ≡ span c f.point.signal f.point.time → ◌≡◌ {A = Cell} (record { span = a; value = f.evaluation.value }) (cell_at c f.point)
   done-cell h a e = let at : Span → Value → Cell = λ x v. record { span = x; value = v } in ap (λ x. at x f.evaluation.value) e ∙ ap (at (span c f.point.signal f.point.time)) (done-value h)
@@ -291,7 +291,7 @@ module _ (c : Circuit) (ok : IsCircuit c) (f : Frame) (is : IsFrame c f) where
 pub new-frame : (c : Circuit) (p : Point) (e : Evaluation) → IsPoint c p → IsEvaluable c p.signal p.time → e.kind ≡ kind_at c p → e.value ≡ gate_value e.kind []
     → IsFrame c (record { point = p; looked = 0; interval = from_to 0 2000002; evaluation = e; decided = false })
 new-frame c p e here evaluable kind value =
-    let none : take 0 (all_sources c p) ≡ [] = take-none (all_sources c p) in
+    let none : take 0 (all_points c p) ≡ [] = take-none (all_points c p) in
     record {
       point = here;
       evaluable = evaluable;

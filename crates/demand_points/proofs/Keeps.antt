@@ -5,17 +5,18 @@ use Rattle.valid_intervals.specs.declared.Cell.{Cell}
 use Rattle.valid_intervals.specs.declared.Point.{Point}
 use Rattle.circuit_meaning.specs.Circuit.{Circuit}
 use Rattle.circuit_meaning.specs.Need.{IsRoot}
-use Rattle.journal_meaning.specs.declared.Query.{Query}
-use Rattle.journal_meaning.specs.Batch.{Batch, window_of}
+use Rattle.batch_meaning.specs.declared.Query.{Query}
+use Rattle.batch_meaning.specs.Batches.{Batch, window_of}
 use Rattle.strand_meaning.specs.declared.Next.TheVariants.{Ask, Fill}
-use Rattle.strand_meaning.specs.Batches.{IsLawful, IsQueryOf}
+use Rattle.batch_meaning.specs.Lawful.{IsLawful, IsQueryOf}
 use Rattle.strand_meaning.specs.Strands.{Strand, IsStrand, next, heard, claimed}
 use Rattle.strand_meaning.proofs.Stacks.{heard-keeps, claimed-keeps, length-heard, length-rest, fill-top}
 use Rattle.strand_meaning.proofs.Started.{started-right, query-within}
 use Rattle.demand_points.specs.declared.frame.Frame.{Frame}
 use Rattle.demand_points.specs.declared.parts.Parts.{Parts}
-use Rattle.demand_points.specs.Frames.{shown}
-use Rattle.demand_points.specs.Demands.{IsLast, IsRootCell, demand_of, strand_of, itself, StepsBy, IsDemand}
+use Rattle.demand_points.specs.inner.Frames.{shown}
+use Rattle.demand_points.specs.Demands.{IsLastHeard, IsRootCell, itself}
+use Rattle.demand_points.specs.inner.Demands.{demand_of, strand_of, TakesStepTo, IsDemand}
 use Rattle.demand_points.proofs.PartLemmas.{steps-on}
 
 -- the counts of a strand fit
@@ -29,7 +30,7 @@ stack-count c s = length-map s.stack (shown c)
 pub fits-of : (b : Batch) (s : Parts) → IsDemand b s → Fits (strand_of b.circuit s)
 fits-of b s is = let n = stack-count b.circuit s in let k = is.claims in record { charge = is.charge; claims = omega arith }
 
-pub demand-steps : (b : Batch) (old new : Parts) (f : Strand → Strand) → IsDemand b old → StepsBy b.circuit f old new
+pub demand-steps : (b : Batch) (old new : Parts) (f : Strand → Strand) → IsDemand b old → TakesStepTo b.circuit f old new
     → (IsStrand b (strand_of b.circuit old) → IsStrand b (f (strand_of b.circuit old))) → Fits (f (strand_of b.circuit old)) → IsDemand b new
 demand-steps b old new f is steps keeps fits =
     let n = stack-count b.circuit new in
@@ -44,23 +45,23 @@ demand-steps b old new f is steps keeps fits =
       claims = omega arith;
     }
 
-module _ (b : Batch) (d : Circuit) (e : d ≡ b.circuit) (old middle new : Parts) (is : IsDemand b old) (settled : StepsBy d itself old middle) where
-  pub heard-demand : StepsBy d heard middle new → IsDemand b new
+module _ (b : Batch) (d : Circuit) (e : d ≡ b.circuit) (old middle new : Parts) (is : IsDemand b old) (settled : TakesStepTo d itself old middle) where
+  pub heard-demand : TakesStepTo d heard middle new → IsDemand b new
   heard-demand h =
       let fits = fits-of b old is in
       let n = length-heard (strand_of b.circuit old).stack in
       let claims = fits.claims in
-      demand-steps b old new heard is (subst (λ x. StepsBy x heard old new) e (steps-on d heard old middle new settled h))
+      demand-steps b old new heard is (subst (λ x. TakesStepTo x heard old new) e (steps-on d heard old middle new settled h))
       (λ s. heard-keeps b (strand_of b.circuit old) s)
       (record { charge = fits.charge; claims = omega arith })
 
 pub claimed-demand : (b : Batch) (d : Circuit) → d ≡ b.circuit → (old new : Parts) → IsDemand b old → (p : Point) → next (strand_of b.circuit old) ≡ Ask p → old.charged < old.budget
-    → StepsBy d (λ x. claimed d x p) old new → IsDemand b new
+    → TakesStepTo d (λ x. claimed d x p) old new → IsDemand b new
 claimed-demand b d e old new is p asks room h =
     let fits = fits-of b old is in
     let claims = fits.claims in
     let f : Circuit → Strand → Strand = λ x s. claimed x s p in
-    demand-steps b old new (f b.circuit) is (subst (λ x. StepsBy x (f x) old new) e h)
+    demand-steps b old new (f b.circuit) is (subst (λ x. TakesStepTo x (f x) old new) e h)
     (λ s. claimed-keeps b (strand_of b.circuit old) s p asks room)
     (record { charge = omega arith; claims = omega arith })
 
@@ -101,7 +102,7 @@ module _ (b : Batch) (l : IsLawful b) (number : ℕ) (q : Query) (from to budget
       subst (λ x. IsDemand b (new_parts x)) (sym e) empty
 
 -- the cell that was heard last, as contracts see it
-last-in : (b : Batch) (s : Parts) (o : Option Cell) → MatchOption o (s.root ≡ s.from) (IsLast b.circuit s.query s.from s.to s.root) → IfSome o (IsRootCell b.circuit (demand_of b.circuit s))
+last-in : (b : Batch) (s : Parts) (o : Option Cell) → MatchOption o (s.root ≡ s.from) (IsLastHeard b.circuit s.query s.from s.to s.root) → IfSome o (IsRootCell b.circuit (demand_of b.circuit s))
 last-in b s None h = tt
 last-in b s (Some cell) h = record { time = h.time; since = h.since; before = h.before; right = h.right }
 

@@ -6,17 +6,18 @@ use Rattle.valid_intervals.specs.declared.Point.{Point}
 use Rattle.circuit_meaning.specs.declared.Window.{Window}
 use Rattle.circuit_meaning.specs.Circuit.{Circuit, Driver, Input, Gate, Flop, driver, IsCircuit}
 use Rattle.circuit_meaning.specs.Cells.{span}
-use Rattle.circuit_meaning.specs.Need.{HasSources, IsEvaluable}
+use Rattle.circuit_meaning.specs.Need.{HasChildren, IsEvaluable}
 use Rattle.circuit_meaning.specs.Looks.{somes}
 use Rattle.circuit_meaning.proofs.Cover.{cell-covers}
 use Rattle.circuit_meaning.proofs.Looking.{children-somes}
-use Rattle.strand_meaning.specs.Strands.{has_sources, is_evaluable, sources_of, roots_from}
+use Rattle.strand_meaning.specs.Strands.{has_children, is_evaluable, asked_children, roots_from}
 use Rattle.strand_meaning.proofs.Stacks.{evaluable-true}
 use Rattle.demand_points.specs.declared.frame.Frame.{Frame}
-use Rattle.demand_points.specs.Frames.{looked_at, next_source, left_after, IsFrame, IsLooking, LooksOn, SkipsOn, Advances}
+use Rattle.demand_points.specs.Frames.{looked_at, next_point, left_after, IsFrame, IsLooking, LooksOn, Advances}
+use Rattle.demand_points.specs.inner.Frames.{SkipsOn}
 use Rattle.demand_points.specs.Demands.{roots_left}
 
-evaluable-bool : (t : ℕ) (d : Driver) → HasSources t d → has_sources t d ≡ true
+evaluable-bool : (t : ℕ) (d : Driver) → HasChildren t d → has_children t d ≡ true
 evaluable-bool t (Input settings) h = absurd h
 evaluable-bool t (Gate kind pins) h = le-leb _ _ h
 evaluable-bool t (Flop f) h = h
@@ -41,36 +42,36 @@ drop-none (x ∷ xs) = refl
 pub left-done : (c : Circuit) (f : Frame) → f.looked ≡ length (looked_at c f.point) → left_after c f.point f.looked ≡ []
 left-done c f h = ap (λ os. filter (is_evaluable c) (somes os)) (drop-all (looked_at c f.point) f.looked (omega arith))
 
-pub left-all : (c : Circuit) (p : Point) → left_after c p 0 ≡ sources_of c p
-unfolding sources_of
+pub left-all : (c : Circuit) (p : Point) → left_after c p 0 ≡ asked_children c p
+unfolding asked_children
 left-all c p = ap (λ os. filter (is_evaluable c) (somes os)) (drop-none (looked_at c p)) ∙ ap (filter (is_evaluable c)) (sym (children-somes c p.signal p.time))
 
 module _ (c : Circuit) (f : Frame) (looking : IsLooking c f) where
   after : List Point
   after = left_after c f.point (f.looked + 1)
 
-  next-left : (o : Option Point) → next_source c f ≡ o → left_after c f.point f.looked ≡ filter (is_evaluable c) (somes (o ∷ drop (f.looked + 1) (looked_at c f.point)))
+  next-left : (o : Option Point) → next_point c f ≡ o → left_after c f.point f.looked ≡ filter (is_evaluable c) (somes (o ∷ drop (f.looked + 1) (looked_at c f.point)))
   next-left o e =
       let one : suc f.looked ≡ f.looked + 1 = omega arith in
       ap (λ os. filter (is_evaluable c) (somes os)) (drop-cons (looked_at c f.point) f.looked None looking ∙ ap (λ x. x ∷ drop (suc f.looked) (looked_at c f.point)) e ∙ ap (λ k. o ∷ drop k (looked_at c f.point)) one)
 
-  pub left-early : next_source c f ≡ None → left_after c f.point f.looked ≡ left_after c f.point (f.looked + 1)
+  pub left-early : next_point c f ≡ None → left_after c f.point f.looked ≡ left_after c f.point (f.looked + 1)
   left-early e = next-left None e
 
-  pub left-base : (p : Point) → next_source c f ≡ Some p → (IsEvaluable c p.signal p.time → ⊥) → left_after c f.point f.looked ≡ left_after c f.point (f.looked + 1)
+  pub left-base : (p : Point) → next_point c f ≡ Some p → (IsEvaluable c p.signal p.time → ⊥) → left_after c f.point f.looked ≡ left_after c f.point (f.looked + 1)
   left-base p e h = next-left (Some p) e ∙ ap (λ b. cond b (p ∷ left_after c f.point (f.looked + 1)) (left_after c f.point (f.looked + 1))) (not-evaluable c p h)
 
-  pub left-ask : (p : Point) → next_source c f ≡ Some p → IsEvaluable c p.signal p.time → left_after c f.point f.looked ≡ p ∷ left_after c f.point (f.looked + 1)
+  pub left-ask : (p : Point) → next_point c f ≡ Some p → IsEvaluable c p.signal p.time → left_after c f.point f.looked ≡ p ∷ left_after c f.point (f.looked + 1)
   left-ask p e h = next-left (Some p) e ∙ ap (λ b. cond b (p ∷ left_after c f.point (f.looked + 1)) (left_after c f.point (f.looked + 1))) (is-evaluable c p h)
 
   module _ (g : Frame) (l : LooksOn c f g) where
     moved-left : left_after c g.point g.looked ≡ left_after c f.point (f.looked + 1)
     moved-left = ap (λ p. left_after c p g.looked) l.point ∙ ap (left_after c f.point) l.looked
 
-    pub skip-early : next_source c f ≡ None → SkipsOn c f g
+    pub skip-early : next_point c f ≡ None → SkipsOn c f g
     skip-early e = record { looks = l; left = moved-left ∙ sym (left-early e) }
 
-    pub skip-base : (p : Point) → next_source c f ≡ Some p → (IsEvaluable c p.signal p.time → ⊥) → SkipsOn c f g
+    pub skip-base : (p : Point) → next_point c f ≡ Some p → (IsEvaluable c p.signal p.time → ⊥) → SkipsOn c f g
     skip-base p e h = record { looks = l; left = moved-left ∙ sym (left-base p e h) }
 
     pub looked-left : left_after c g.point g.looked ≡ left_after c f.point (f.looked + 1)

@@ -7,21 +7,23 @@ use Rattle.valid_intervals.specs.declared.Point.{Point}
 use Rattle.flip_flops.specs.Edges.{shown_edge}
 use Rattle.flip_flops.proofs.EdgeLemmas.{shown_edge-le}
 use Rattle.circuit_meaning.specs.Circuit.{Circuit, Driver, Input, Gate, Flop, driver, IsCircuit, IsDriver}
-use Rattle.circuit_meaning.specs.Cells.{span}
+use Rattle.circuit_meaning.specs.Cells.{span, cell_at}
 use Rattle.circuit_meaning.specs.Need.{IsEvaluable, IsRoot, Next}
-use Rattle.circuit_meaning.specs.Looks.{source, flop_sources, sources_at, no_pin}
+use Rattle.circuit_meaning.specs.Looks.{pin_point, flop_points, pin_points_at, no_pin}
 use Rattle.circuit_meaning.proofs.Equations.{driver_fits}
 use Rattle.circuit_meaning.proofs.Cover.{cell-covers}
-use Rattle.journal_meaning.specs.Batch.{cell_at, window_of}
+use Rattle.batch_meaning.specs.Batches.{window_of}
 use Rattle.strand_meaning.specs.declared.Next.TheVariants.{Ask, Fill, Drop, Done}
 use Rattle.strand_meaning.specs.declared.Next as declared
 use Rattle.strand_meaning.specs.Strands as strands
-use Rattle.strand_meaning.specs.Strands.{Strand, ask_or, next, next_in, heard, claimed, dropped, finished, rest, sources_of}
+use Rattle.strand_meaning.specs.Strands.{Strand, ask_or, next, next_in, heard, claimed, dropped, finished, rest, asked_children}
 use Rattle.demand_points.specs.declared.frame.Frame.{Frame}
 use Rattle.demand_points.specs.declared.parts.Parts.{Parts}
-use Rattle.demand_points.specs.Stacks.{IsTop}
-use Rattle.demand_points.specs.Frames.{cell_there, shown, left_after, looked_at, next_source, IsPoint, IsFrame, IsLooking, IsReady, LooksOn, Advances}
-use Rattle.demand_points.specs.Demands.{window_in, root_point, roots_left, strand_of, IsReadyIn, IsReadyAt, WaitsFor, AreFrames, IsRunning, IsRootKnown, IsAnswer, StepsBy, itself}
+use Rattle.demand_points.specs.inner.Stacks.{IsTop}
+use Rattle.demand_points.specs.Frames.{cell_there, left_after, looked_at, next_point, IsPoint, IsFrame, IsLooking, IsReady, LooksOn, Advances}
+use Rattle.demand_points.specs.inner.Frames.{shown}
+use Rattle.demand_points.specs.inner.Demands.{window_in, root_point, strand_of, IsReadyIn, IsReadyAt, WaitsFor, AreFrames, IsRunning, IsRootKnown, TakesStepTo}
+use Rattle.demand_points.specs.Demands.{roots_left, IsAskedCell, itself}
 use Rattle.demand_points.proofs.FrameLemmas.{looking-below, next-among}
 use Rattle.demand_points.proofs.Lists.{left-done, left-all, left-ask, looked-left, no-roots, root-base, root-ask}
 
@@ -31,26 +33,26 @@ get_or-default (x ∷ xs) zero d e h = refl
 get_or-default (x ∷ xs) (suc k) d e h = get_or-default xs k d e (omega arith)
 
 -- the point that a pin of a frame reads is one of the circuit
-source-within : (n h t : ℕ) (d : Driver) (k : ℕ) (p : Point) → IsDriver n h d → t ≤ h → k < length (sources_at t d) → get_or (sources_at t d) k None ≡ Some p → (p.signal < n) × (p.time ≤ h)
+source-within : (n h t : ℕ) (d : Driver) (k : ℕ) (p : Point) → IsDriver n h d → t ≤ h → k < length (pin_points_at t d) → get_or (pin_points_at t d) k None ≡ Some p → (p.signal < n) × (p.time ≤ h)
 source-within n h t (Input settings) k p ok le below e = absurd (omega arith)
 source-within n h t (Gate kind pins) k p ok le below e =
-    let l = length-map pins (source t) in
+    let l = length-map pins (pin_point t) in
     let q = get_or pins k no_pin in
-    let at : source t q ≡ Some p = sym (get_or-map (source t) pins k no_pin) ∙ e' (source t no_pin) in
+    let at : pin_point t q ≡ Some p = sym (get_or-map (pin_point t) pins k no_pin) ∙ e' (pin_point t no_pin) in
     elim (cases_lt t q.delay) [
-      | inl m ↦ let none : source t q ≡ None = rw (lt-ltb t q.delay m) refl in absurd (cc (at, none))
+      | inl m ↦ let none : pin_point t q ≡ None = rw (lt-ltb t q.delay m) refl in absurd (cc (at, none))
       | inr m ↦
-          let some : source t q ≡ Some (record { signal = q.signal; time = t - q.delay }) = rw (le-ltb t q.delay m) refl in
+          let some : pin_point t q ≡ Some (record { signal = q.signal; time = t - q.delay }) = rw (le-ltb t q.delay m) refl in
           let same : record { signal = q.signal; time = t - q.delay } ≡ p = cc (at, some) in
           let fits : q.signal < n = ok.signal k no_pin (omega arith) in
           (subst (λ (x : Point). x.signal < n) same fits, subst (λ (x : Point). x.time ≤ h) same (omega arith))
     ]
   where
-    e' : (d : Option Point) → get_or (map (source t) pins) k d ≡ Some p
-    e' d = get_or-default (map (source t) pins) k d None below ∙ e
+    e' : (d : Option Point) → get_or (map (pin_point t) pins) k d ≡ Some p
+    e' d = get_or-default (map (pin_point t) pins) k d None below ∙ e
 source-within n h t (Flop f) k p ok le below e = go (shown_edge f.clock f.delay t) refl k below e
   where
-    go : (o : Option ℕ) → shown_edge f.clock f.delay t ≡ o → (j : ℕ) → j < length (flop_sources f.pin o) → get_or (flop_sources f.pin o) j None ≡ Some p → (p.signal < n) × (p.time ≤ h)
+    go : (o : Option ℕ) → shown_edge f.clock f.delay t ≡ o → (j : ℕ) → j < length (flop_points f.pin o) → get_or (flop_points f.pin o) j None ≡ Some p → (p.signal < n) × (p.time ≤ h)
     go None w j b q = absurd (omega arith)
     go (Some x) w zero b q =
         let same : record { signal = f.pin; time = x } ≡ p = cc q in
@@ -58,7 +60,7 @@ source-within n h t (Flop f) k p ok le below e = go (shown_edge f.clock f.delay 
         (subst (λ (y : Point). y.signal < n) same ok.pin, subst (λ (y : Point). y.time ≤ h) same (omega arith))
     go (Some x) w (suc j) b q = absurd (omega arith)
 
-source-point : (c : Circuit) → IsCircuit c → (f : Frame) (p : Point) → IsFrame c f → IsLooking c f → next_source c f ≡ Some p → IsPoint c p
+source-point : (c : Circuit) → IsCircuit c → (f : Frame) (p : Point) → IsFrame c f → IsLooking c f → next_point c f ≡ Some p → IsPoint c p
 source-point c ok f p is looking e =
     let k = source-within (length c.drivers) c.horizon f.point.time (driver c f.point.signal) f.looked p (driver_fits c ok f.point.signal) is.point.time (looking-below c ok f is looking) (sym (next-among c ok f is looking) ∙ e) in
     record { signal = k.0; time = k.1 }
@@ -151,7 +153,7 @@ module _ (c : Circuit) (ok : IsCircuit c) (s : Parts) (r : IsRunning c s) where
   stacked st rs = record (strand_of c s) { stack = st; roots = rs }
 
   -- the top has heard base answers
-  pub moves-top : (f g : Frame) (fs : List Frame) → s.stack ≡ f ∷ fs → Advances c f g → StepsBy c itself s (record s { stack = g ∷ fs })
+  pub moves-top : (f g : Frame) (fs : List Frame) → s.stack ≡ f ∷ fs → Advances c f g → TakesStepTo c itself s (record s { stack = g ∷ fs })
   moves-top f g fs e a = record {
     running = with_frame f g fs e a.frame a.point;
     number = refl;
@@ -173,7 +175,7 @@ module _ (c : Circuit) (ok : IsCircuit c) (s : Parts) (r : IsRunning c s) where
   pub next-fill : (f : Frame) (fs : List Frame) → s.stack ≡ f ∷ fs → s.spent ≡ false → f.looked ≡ length (looked_at c f.point) → next (strand_of c s) ≡ Fill f.point
   next-fill f fs e h d = step-of false (f ∷ fs) h e ∙ ap (ask_or (Fill f.point)) (left-done c f d)
 
-  pub next-ask : (f : Frame) (fs : List Frame) (p : Point) → s.stack ≡ f ∷ fs → s.spent ≡ false → IsLooking c f → next_source c f ≡ Some p → IsEvaluable c p.signal p.time → next (strand_of c s) ≡ Ask p
+  pub next-ask : (f : Frame) (fs : List Frame) (p : Point) → s.stack ≡ f ∷ fs → s.spent ≡ false → IsLooking c f → next_point c f ≡ Some p → IsEvaluable c p.signal p.time → next (strand_of c s) ≡ Ask p
   next-ask f fs p e h l src v = step-of false (f ∷ fs) h e ∙ ap (ask_or (Fill f.point)) (left-ask c f l p src v)
 
   pub next-root : s.stack ≡ [] → s.spent ≡ false → s.root < s.to → IsEvaluable c s.query.signal s.root → next (strand_of c s) ≡ Ask (root_point s)
@@ -219,7 +221,7 @@ module _ (c : Circuit) (ok : IsCircuit c) (s : Parts) (r : IsRunning c s) where
         last = record { time = s.root; heard = r.root l; since = r.since; before = l; right = right; stop = refl };
       }
 
-  pub moves-root : (cell : Cell) → s.stack ≡ [] → s.root < s.to → (IsEvaluable c s.query.signal s.root → ⊥) → cell ≡ cell_at c (root_point s) → StepsBy c itself s (record s { root = cell.span.stop; last = Some cell })
+  pub moves-root : (cell : Cell) → s.stack ≡ [] → s.root < s.to → (IsEvaluable c s.query.signal s.root → ⊥) → cell ≡ cell_at c (root_point s) → TakesStepTo c itself s (record s { root = cell.span.stop; last = Some cell })
   moves-root cell e l base right = record {
     running = root-running cell e l right;
     number = refl;
@@ -232,7 +234,7 @@ module _ (c : Circuit) (ok : IsCircuit c) (s : Parts) (r : IsRunning c s) where
   abbrev heard_by : List strands.Frame → List Point → Strand
   heard_by st rs = record (strand_of c s) { roots = strands.roots_heard rs st; stack = strands.stack_heard st }
 
-  pub hears-root : (cell : Cell) (p : Point) → s.stack ≡ [] → IsAsked c s s.stack p → cell ≡ cell_at c p → StepsBy c heard s (record s { root = cell.span.stop; last = Some cell })
+  pub hears-root : (cell : Cell) (p : Point) → s.stack ≡ [] → IsAsked c s s.stack p → cell ≡ cell_at c p → TakesStepTo c heard s (record s { root = cell.span.stop; last = Some cell })
   hears-root cell p e a right =
       let w : WaitsFor c (root_point s) [] p = subst (λ st. WaitsFor c (root_point s) st p) e a.waits in
       let l : s.root < s.to = a.live (ap length e) in
@@ -249,7 +251,7 @@ module _ (c : Circuit) (ok : IsCircuit c) (s : Parts) (r : IsRunning c s) where
             ∙ sym (ap (λ st. heard_by (map (shown c) st) w_roots) e ∙ ap (heard_by []) (root-ask c ok (window_in s) stop-within s.root l v));
       }
 
-  pub hears-top : (f g : Frame) (fs : List Frame) (p : Point) → s.stack ≡ f ∷ fs → IsAsked c s s.stack p → LooksOn c f g → StepsBy c heard s (record s { stack = g ∷ fs })
+  pub hears-top : (f g : Frame) (fs : List Frame) (p : Point) → s.stack ≡ f ∷ fs → IsAsked c s s.stack p → LooksOn c f g → TakesStepTo c heard s (record s { stack = g ∷ fs })
   hears-top f g fs p e a on =
       let w : WaitsFor c (root_point s) (f ∷ fs) p = subst (λ st. WaitsFor c (root_point s) st p) e a.waits in
       let w_roots = roots_left c (window_in s) s.root in
@@ -269,7 +271,7 @@ module _ (c : Circuit) (ok : IsCircuit c) (s : Parts) (r : IsRunning c s) where
   pub record IsHearing (f : Frame) (cell : Cell) : Type 0 where
     pub frame : IsFrame c f
     pub looking : IsLooking c f
-    pub heard : Some cell ≡ cell_there c (next_source c f)
+    pub heard : Some cell ≡ cell_there c (next_point c f)
 
   pub hearing : (f : Frame) (fs : List Frame) (p : Point) (cell : Cell) → s.stack ≡ f ∷ fs → IsAsked c s s.stack p → cell ≡ cell_at c p → IsHearing f cell
   hearing f fs p cell e a right =
@@ -293,11 +295,11 @@ module _ (c : Circuit) (ok : IsCircuit c) (s : Parts) (r : IsRunning c s) where
   busy-when (x ∷ xs) f g = g (omega arith)
 
   -- a point is claimed
-  pub claims : (g : Frame) (p : Point) (n : ℕ) → IsAsked c s s.stack p → IsFrame c g → g.point ≡ p → g.looked ≡ 0 → n ≡ s.charged + 1 → StepsBy c (λ x. claimed c x p) s (record s { stack = g ∷ s.stack; charged = n })
+  pub claims : (g : Frame) (p : Point) (n : ℕ) → IsAsked c s s.stack p → IsFrame c g → g.point ≡ p → g.looked ≡ 0 → n ≡ s.charged + 1 → TakesStepTo c (λ x. claimed c x p) s (record s { stack = g ∷ s.stack; charged = n })
   claims g p n a is same none count =
       let at : Point → List Point → strands.Frame = λ x y. record { point = x; left = y } in
       let with : List strands.Frame → ℕ → Strand = λ st k. record (strand_of c s) { stack = st; charged = k } in
-      let top : shown c g ≡ at p (sources_of c p) = ap (λ k. at g.point (left_after c g.point k)) none ∙ ap (λ x. at x (left_after c x 0)) same ∙ ap (at p) (left-all c p) in
+      let top : shown c g ≡ at p (asked_children c p) = ap (λ k. at g.point (left_after c g.point k)) none ∙ ap (λ x. at x (left_after c x 0)) same ∙ ap (at p) (left-all c p) in
       record {
         running = record {
           signal = r.signal;
@@ -312,7 +314,7 @@ module _ (c : Circuit) (ok : IsCircuit c) (s : Parts) (r : IsRunning c s) where
         number = refl;
         from = refl;
         to = refl;
-        strand = ap (λ x. with (x ∷ map (shown c) s.stack) n) top ∙ ap (with (at p (sources_of c p) ∷ map (shown c) s.stack)) count;
+        strand = ap (λ x. with (x ∷ map (shown c) s.stack) n) top ∙ ap (with (at p (asked_children c p) ∷ map (shown c) s.stack)) count;
       }
 
   -- the top is gone
@@ -328,7 +330,7 @@ module _ (c : Circuit) (ok : IsCircuit c) (s : Parts) (r : IsRunning c s) where
     last = r.last;
   }
 
-  pub drops : (f : Frame) (fs : List Frame) → s.stack ≡ f ∷ fs → StepsBy c dropped s (record s { stack = fs })
+  pub drops : (f : Frame) (fs : List Frame) → s.stack ≡ f ∷ fs → TakesStepTo c dropped s (record s { stack = fs })
   drops f fs e = record {
     running = without-top f fs s.filled e;
     number = refl;
@@ -405,10 +407,10 @@ whole-done c f g a (inl done) h = done
 whole-done c f g a (inr (looking, (p, src, v))) h = let k : p ∷ left_after c g.point (g.looked + 1) ≡ [] = sym (left-ask c g looking p src v) ∙ a.left ∙ h in absurd (cc k)
 
 -- steps that follow one another
-pub steps-none : (c : Circuit) (s : Parts) → IsRunning c s → StepsBy c itself s s
+pub steps-none : (c : Circuit) (s : Parts) → IsRunning c s → TakesStepTo c itself s s
 steps-none c s r = record { running = r; number = refl; from = refl; to = refl; strand = refl }
 
-pub steps-on : (c : Circuit) (f : Strand → Strand) (a b d : Parts) → StepsBy c itself a b → StepsBy c f b d → StepsBy c f a d
+pub steps-on : (c : Circuit) (f : Strand → Strand) (a b d : Parts) → TakesStepTo c itself a b → TakesStepTo c f b d → TakesStepTo c f a d
 steps-on c f a b d h k = record {
   running = k.running;
   number = k.number ∙ h.number;
@@ -419,7 +421,7 @@ steps-on c f a b d h k = record {
 
 -- while roots with base answers are heard
 pub record SkipsRoots (c : Circuit) (old new : Parts) : Type 0 where
-  pub steps : StepsBy c itself old new
+  pub steps : TakesStepTo c itself old new
   pub empty : new.stack ≡ []
 
 pub skips-none : (c : Circuit) (s : Parts) → IsRunning c s → s.stack ≡ [] → SkipsRoots c s s
@@ -446,7 +448,7 @@ module _ (c : Circuit) (ok : IsCircuit c) (a s : Parts) (h : SkipsRoots c a s) (
       omega arith
 
 -- what is pending of a strand that asks or fills
-pub answered : (c : Circuit) (ok : IsCircuit c) (s : Parts) (r : IsRunning c s) → IsReadyAt c s → (cell : Cell) → (a : IsAnswer c (strand_of c s) cell) → IsAsked c s s.stack a.0
+pub answered : (c : Circuit) (ok : IsCircuit c) (s : Parts) (r : IsRunning c s) → IsReadyAt c s → (cell : Cell) → (a : IsAskedCell c (strand_of c s) cell) → IsAsked c s s.stack a.0
 answered c ok s r ready cell a = asked c ok s r a.0 ready a.1
 
 -- the top is filled, and what lies under it hears its cell
@@ -471,10 +473,10 @@ module _ (c : Circuit) (ok : IsCircuit c) (s : Parts) (r : IsRunning c s) (p : P
       let a = beneath.asks in
       waits-ask c ok popped popped-running f.point below refl a.awake a.waits a.evaluable (r.busy (count-of c ok s r f below e)) ∙ ap Ask filled-top.point
 
-  pub popped-answer : (cell : Cell) → cell ≡ cell_at c p → IsAnswer c (strand_of c popped) cell
+  pub popped-answer : (cell : Cell) → cell ≡ cell_at c p → IsAskedCell c (strand_of c popped) cell
   popped-answer cell h = (p, popped-asks, h)
 
-  pub popped-finishes : (t : Parts) → StepsBy c heard popped t → StepsBy c finished s t
+  pub popped-finishes : (t : Parts) → TakesStepTo c heard popped t → TakesStepTo c finished s t
   popped-finishes t h = record {
     running = h.running;
     number = h.number;

@@ -1,4 +1,3 @@
-pub mod Names
 pub mod Frames
-pub mod Stacks
 pub mod Demands
+pub mod inner

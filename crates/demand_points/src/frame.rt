@@ -4,8 +4,9 @@ ghost use Rattle.std.specs.Prelude.{◌≡◌, ◌≤◌, ◌<◌, length, nat_e
 ghost use Rattle.valid_intervals.specs.Spans as spans;
 ghost use Rattle.valid_intervals.specs.Spans.{from_to, IsIn};
 ghost use Rattle.circuit_meaning.specs.Need.{IsEvaluable};
-ghost use Rattle.journal_meaning.specs.Batch.{cell_at};
-ghost use Rattle.demand_points.specs.Frames.{IsPoint, IsFrame, IsLooking, IsReady, LooksOn, Advances, SkipsOn, looked_at, next_source, cell_there, span_there, value_there};
+ghost use Rattle.circuit_meaning.specs.Cells.{cell_at};
+ghost use Rattle.demand_points.specs.Frames.{IsPoint, IsFrame, IsLooking, IsReady, LooksOn, Advances, looked_at, next_point, cell_there};
+ghost use Rattle.demand_points.specs.inner.Frames.{SkipsOn, span_there, value_there};
 
 use design::Design;
 use gate_values::{Evaluation, Value};
@@ -83,7 +84,7 @@ impl Frame {
         }
     }
 
-    /// Whether all is looked at that is looked at: one pin has decided, or none is left.
+    /// Whether the look is over: one pin has decided, or none is left.
     pub fn is_done(&self, design: &Design) -> bool
         requires { IsFrame design.now.circuit self.now }
         ensures { result ≡ nat_eq self.now.looked (length (looked_at design.now.circuit self.now.point)) }
@@ -97,7 +98,7 @@ impl Frame {
     pub fn next_source(&self, design: &Design) -> Option<Point>
         requires frame { IsFrame design.now.circuit self.now }
         requires looking { IsLooking design.now.circuit self.now }
-        ensures source { result ≡ next_source design.now.circuit self.now }
+        ensures source { result ≡ next_point design.now.circuit self.now }
         ensures point { IfSome result (IsPoint design.now.circuit) }
     {
         design.facts();
@@ -113,7 +114,7 @@ impl Frame {
     pub fn see(&self, design: &Design, heard: Option<Cell>) -> Frame
         requires frame { IsFrame design.now.circuit self.now }
         requires looking { IsLooking design.now.circuit self.now }
-        requires heard { heard ≡ cell_there design.now.circuit (next_source design.now.circuit self.now) }
+        requires heard { heard ≡ cell_there design.now.circuit (next_point design.now.circuit self.now) }
         ensures { LooksOn design.now.circuit self.now result }
     {
         design.facts();
@@ -165,7 +166,7 @@ impl Frame {
         }
     }
 
-    /// The cell of the point, once all is looked at.
+    /// The cell of the point, once the look is over.
     pub fn cell(&self, design: &Design) -> Cell
         requires frame { IsFrame design.now.circuit self.now }
         requires done { self.now.looked ≡ length (looked_at design.now.circuit self.now.point) }

@@ -7,8 +7,11 @@
 //! where the budget is spent, or none. `strand_meaning` says what each step makes of a strand; the contracts here say that the code
 //! does just that, and that each cell that it makes is the cell of the definitions.
 //!
-//! A strand is of the batch that its parameter B names ([`BatchName`]), a name of meanings alone. By its type, every point that it asks for or
-//! holds is needed by its query, and it has charged at most its budget.
+//! A strand asks the `design` what its points come from, and a shard of the memo (`memo_shards`) makes its steps.
+//!
+//! A strand is of the batch that its parameter B names ([`BatchName`]). The name exists in proofs alone and costs nothing when the
+//! program runs. By its type, every point that a strand asks for or holds is needed by its query, and it has charged at most its
+//! budget.
 //!
 //! A claimed point takes 24 bytes on the stack. A step takes constant time, but for the base answers that it hears: each is a
 //! look-up in the design. Only `claimed` takes memory.
@@ -34,8 +37,9 @@ mod strand;
 #[cfg(test)]
 mod tests;
 
+pub use batch_meaning::Query;
 pub use frame::Frame;
-pub use journal_meaning::{Entry, Query};
+pub use journal_meaning::Entry;
 pub use names::BatchName;
 pub use strand::{Strand, Task};
 pub use strand_meaning::Next;

@@ -1,16 +1,17 @@
 //! What a strand is made of, apart from the batch that it belongs to.
 
 ghost use Rattle.std.specs.Prelude.{◌≡◌, ◌+◌, ◌<◌, ◌^◌, [], OnOk, OnErr, MatchOption};
-ghost use Rattle.journal_meaning.specs.Batch.{cell_at};
+ghost use Rattle.circuit_meaning.specs.Cells.{cell_at};
 ghost use Rattle.strand_meaning.specs.Strands.{next, heard, claimed, finished};
 ghost use Rattle.strand_meaning.specs.declared.Next.TheVariants.{Ask, Fill};
 ghost use Rattle.valid_intervals.specs.declared.Point.{Point};
-ghost use Rattle.demand_points.specs.Demands.{strand_of, itself, IsRunning, IsReadyAt, IsRootReady, IsRootKnown, IsAnswer, IsFilling, IsUndone, StepsBy};
+ghost use Rattle.demand_points.specs.inner.Demands.{strand_of, IsRunning, IsReadyAt, IsRootReady, IsRootKnown, IsUndone, TakesStepTo};
+ghost use Rattle.demand_points.specs.Demands.{itself, IsAskedCell, IsFilling};
 
 use crate::frame::Frame;
 use crate::stack::Stack;
+use batch_meaning::Query;
 use design::Design;
-use journal_meaning::Query;
 use std::alloc::AllocError;
 use strand_meaning::Next;
 use valid_intervals::{Cell, Point};
@@ -57,7 +58,7 @@ impl Parts {
     fn skip_roots(&mut self, design: &Design)
         requires running { IsRunning design.now.circuit self.old }
         requires empty { self.old.stack ≡ [] }
-        ensures steps { StepsBy design.now.circuit itself self.old self.new }
+        ensures steps { TakesStepTo design.now.circuit itself self.old self.new }
         ensures empty { self.new.stack ≡ [] }
         ensures ready { IsRootReady design.now.circuit self.new }
     {
@@ -76,7 +77,7 @@ impl Parts {
     /// Hears base answers, until a point has to be asked for or the point on top is whole.
     pub fn settle(&mut self, design: &Design)
         requires { IsRunning design.now.circuit self.old }
-        ensures steps { StepsBy design.now.circuit itself self.old self.new }
+        ensures steps { TakesStepTo design.now.circuit itself self.old self.new }
         ensures ready { IsReadyAt design.now.circuit self.new }
         ensures undone { IsUndone self.old self.new }
     {
@@ -123,8 +124,8 @@ impl Parts {
     pub fn hear(&mut self, design: &Design, cell: &Cell)
         requires running { IsRunning design.now.circuit self.old }
         requires ready { IsReadyAt design.now.circuit self.old }
-        requires answer { IsAnswer design.now.circuit (strand_of design.now.circuit self.old) cell.now }
-        ensures { StepsBy design.now.circuit heard self.old self.new }
+        requires answer { IsAskedCell design.now.circuit (strand_of design.now.circuit self.old) cell.now }
+        ensures { TakesStepTo design.now.circuit heard self.old self.new }
     {
         design.facts();
         match self.stack.top() {
@@ -142,7 +143,7 @@ impl Parts {
         requires ready { IsReadyAt design.now.circuit self.old }
         requires asks { next (strand_of design.now.circuit self.old) ≡ Ask p }
         requires room { self.old.charged < self.old.budget }
-        ensures ok { OnOk result (StepsBy design.now.circuit (λ s. claimed design.now.circuit s p) self.old self.new) }
+        ensures ok { OnOk result (TakesStepTo design.now.circuit (λ s. claimed design.now.circuit s p) self.old self.new) }
         ensures err { OnErr result (self.new ≡ self.old) }
     {
         design.facts();
@@ -156,7 +157,7 @@ impl Parts {
         requires running { IsRunning design.now.circuit self.old }
         requires asks { next (strand_of design.now.circuit self.old) ≡ Ask p }
         requires room { self.old.charged < self.old.budget }
-        ensures ok { OnOk result (StepsBy design.now.circuit (λ s. claimed design.now.circuit s p) self.old self.new) }
+        ensures ok { OnOk result (TakesStepTo design.now.circuit (λ s. claimed design.now.circuit s p) self.old self.new) }
         ensures err { OnErr result (self.new ≡ self.old) }
     {
         let root = self.root;
@@ -198,7 +199,7 @@ impl Parts {
         requires fills { IsFilling (strand_of design.now.circuit self.old) }
         requires room { self.old.filled + 1 < 2 ^ 32 }
         ensures cell { (p : Point) → next (strand_of design.now.circuit self.old) ≡ Fill p → result ≡ cell_at design.now.circuit p }
-        ensures steps { StepsBy design.now.circuit finished self.old self.new }
+        ensures steps { TakesStepTo design.now.circuit finished self.old self.new }
     {
         let cell = self.top_cell(design);
         design.facts();

@@ -1,7 +1,7 @@
 //! A stack of claimed points.
 
 ghost use Rattle.std.specs.Prelude.{◌≡◌, [], ◌∷◌, length, OnOk, OnErr, MatchOption};
-ghost use Rattle.demand_points.specs.Stacks.{IsTop, with_top};
+ghost use Rattle.demand_points.specs.inner.Stacks.{IsTop, with_top};
 
 use crate::frame::Frame;
 use std::alloc::{AllocError, Global};

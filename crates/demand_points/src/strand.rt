@@ -2,21 +2,22 @@
 
 ghost use Rattle.std.specs.Prelude.{◌≡◌, ◌≤◌, ◌<◌, [], length, None, IfSome, OnOk, OnErr};
 ghost use Rattle.circuit_meaning.specs.Need.{IsRoot};
-ghost use Rattle.journal_meaning.specs.Batch.{cell_at, window_of};
+ghost use Rattle.circuit_meaning.specs.Cells.{cell_at};
+ghost use Rattle.batch_meaning.specs.Batches.{window_of};
 ghost use Rattle.strand_meaning.specs.declared.Next.TheVariants.{Ask, Fill, Drop, Done};
-ghost use Rattle.strand_meaning.specs.Batches.{IsLawful, IsQueryOf};
+ghost use Rattle.batch_meaning.specs.Lawful.{IsLawful, IsQueryOf};
 ghost use Rattle.strand_meaning.specs.Strands as strands;
 ghost use Rattle.strand_meaning.specs.Strands.{next, started};
-ghost use Rattle.demand_points.specs.Demands.{IsAnswer, IsAsking, IsFilling, IsKnown, IsRootCell, Steps, itself};
+ghost use Rattle.demand_points.specs.Demands.{IsAskedCell, IsAsking, IsFilling, IsKnownStrand, IsRootCell, TakesStep, itself};
 ghost use Rattle.valid_intervals.specs.declared.Point.{Point};
 
 use crate::names::BatchName;
 use crate::parts::Parts;
 use crate::stack::Stack;
 use backsim_io::OutOfMemory;
+use batch_meaning::Query;
 use claim_waiters::Waiter;
 use design::Design;
-use journal_meaning::Query;
 use smallvec::SmallVec;
 use std::alloc::Global;
 use std::default::MadeWith;
@@ -41,7 +42,8 @@ pub struct Strand<B: BatchName> {
 }
 
 impl<B: BatchName> Model for Strand<B> {
-    ghost use Rattle.demand_points.specs.Demands.{Demand, demand_of, IsDemand};
+    ghost use Rattle.demand_points.specs.Demands.{Demand};
+    ghost use Rattle.demand_points.specs.inner.Demands.{demand_of, IsDemand};
 
     ghost Value = { Demand };
 
@@ -94,7 +96,7 @@ impl<B: BatchName> Strand<B> {
 
     /// What is known of every strand.
     pub fn facts(&self)
-        ensures { IsKnown B.batch self.now }
+        ensures { IsKnownStrand B.batch self.now }
     {
         let _number = self.parts.number;
     }
@@ -166,7 +168,7 @@ impl<B: BatchName> Strand<B> {
     pub fn next_step(&mut self, design: &Design) -> Next
         requires { design.now.circuit ≡ B.batch.circuit }
         ensures next { result ≡ next self.new.strand }
-        ensures steps { Steps itself self.old self.new }
+        ensures steps { TakesStep itself self.old self.new }
     {
         self.parts.settle(design);
         self.parts.next(design)
@@ -175,8 +177,8 @@ impl<B: BatchName> Strand<B> {
     /// Hears the cell of the point that it asks for.
     pub fn heard(&mut self, design: &Design, cell: Cell)
         requires design { design.now.circuit ≡ B.batch.circuit }
-        requires answer { IsAnswer B.batch.circuit self.old.strand cell }
-        ensures { Steps strands.heard self.old self.new }
+        requires answer { IsAskedCell B.batch.circuit self.old.strand cell }
+        ensures { TakesStep strands.heard self.old self.new }
     {
         self.parts.settle(design);
         self.parts.hear(design, &cell);
@@ -187,7 +189,7 @@ impl<B: BatchName> Strand<B> {
         requires design { design.now.circuit ≡ B.batch.circuit }
         requires asks { next self.old.strand ≡ Ask p }
         requires room { self.old.strand.charged < self.old.strand.budget }
-        ensures ok { OnOk result (Steps (λ s. strands.claimed B.batch.circuit s p) self.old self.new) }
+        ensures ok { OnOk result (TakesStep (λ s. strands.claimed B.batch.circuit s p) self.old self.new) }
         ensures err { OnErr result (self.new ≡ self.old) }
     {
         self.parts.claim(design, p)?;
@@ -197,7 +199,7 @@ impl<B: BatchName> Strand<B> {
     /// It is refused the point that it asks for: its budget is spent.
     pub fn give_up(&mut self)
         requires { IsAsking self.old.strand }
-        ensures { Steps strands.given_up self.old self.new }
+        ensures { TakesStep strands.given_up self.old self.new }
     {
         self.parts.spent = true;
     }
@@ -216,7 +218,7 @@ impl<B: BatchName> Strand<B> {
         requires design { design.now.circuit ≡ B.batch.circuit }
         requires fills { IsFilling self.old.strand }
         ensures cell { (p : Point) → next self.old.strand ≡ Fill p → result ≡ cell_at B.batch.circuit p }
-        ensures steps { Steps strands.finished self.old self.new }
+        ensures steps { TakesStep strands.finished self.old self.new }
     {
         let _budget = self.parts.budget;
         self.parts.finish(design)
@@ -226,7 +228,7 @@ impl<B: BatchName> Strand<B> {
     pub fn drop_top(&mut self) -> Point
         requires { (p : Point) × (next self.old.strand ≡ Drop p) }
         ensures point { next self.old.strand ≡ Drop result }
-        ensures steps { Steps strands.dropped self.old self.new }
+        ensures steps { TakesStep strands.dropped self.old self.new }
     {
         match self.parts.stack.pop() {
             Some(frame) => frame.point,

@@ -1,12 +1,12 @@
 ghost use Rattle.std.specs.Prelude.{◌≡◌, ◌+◌, ◌<◌, ◌≤◌, length, IfSome};
-ghost use Rattle.journal_meaning.specs.Batch.{cell_at};
-ghost use Rattle.strand_meaning.specs.Batches.{IsLawful, IsQueryOf};
+ghost use Rattle.circuit_meaning.specs.Cells.{cell_at};
+ghost use Rattle.batch_meaning.specs.Lawful.{IsLawful, IsQueryOf};
 
 use super::*;
+use batch_meaning::Query;
 use bench_reader::read_bench;
 use design::{Design, JoinFault};
 use gate_values::Value;
-use journal_meaning::Query;
 use std::alloc::Global;
 use std::marker::Brand;
 use std::test::Fail;

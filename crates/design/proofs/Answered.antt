@@ -18,13 +18,13 @@ use Rattle.circuit_meaning.specs.declared.Setting.{Setting}
 use Rattle.circuit_meaning.specs.declared.Pin.{Pin}
 use Rattle.circuit_meaning.specs.Circuit.{Input, Circuit, driver, IsCircuit, read_by}
 use Rattle.circuit_meaning.specs.Forward.{value, value_from, seen, flop_value, input_value, last_setting}
-use Rattle.circuit_meaning.specs.Cells.{span, span_from, least_delay, input_start, next_setting, looked, pin_span}
-use Rattle.circuit_meaning.specs.Need.{IsEvaluable, HasSources}
+use Rattle.circuit_meaning.specs.Cells.{span, span_from, least_delay, input_start, next_setting, looked, pin_span, cell_at, point_at}
+use Rattle.circuit_meaning.specs.Need.{IsEvaluable, HasChildren}
 use Rattle.circuit_meaning.proofs.Equations.{value_is, span_is, all_imply}
 use Rattle.circuit_meaning.proofs.Steady.{seen-early, map_all, gate_span-early}
-use Rattle.design.specs.declared.rows.Source.TheVariants as row
-use Rattle.design.specs.Sources.{IsSourceOf, pins_with}
-use Rattle.design.specs.Pins.{cell_of}
+use Rattle.design.specs.declared.rows.SignalView.TheVariants as row
+use Rattle.design.specs.inner.KeptDesigns.{IsViewOf}
+use Rattle.design.specs.KeptDesigns.{pins_with}
 
 -- the pins as a whole
 pub signals-pins_with : (signals delays : List ℕ) → length delays ≡ length signals → map (λ (p : Pin). p.signal) (pins_with signals delays) ≡ signals
@@ -58,24 +58,24 @@ cell-is : (x : Cell) (a : Span) (v : Value) → x.span ≡ a → x.value ≡ v �
 cell-is x a v e f = ap₂ (λ (b : Span) (w : Value). record { span = b; value = w }) e f
 
 module _ (c : Circuit) (ok : IsCircuit c) (s t limit : ℕ) (top : limit ≡ c.horizon + 1) where
-  module _ (xs : Bor (List Setting)) (src : IsSourceOf c s (row.Input xs)) where
-    pub input-is : (cell : Cell) → cell.span ≡ from_to (input_start (last_setting xs.now t)) (next_setting xs.now t limit) → cell.value ≡ input_value (last_setting xs.now t) → cell ≡ cell_of c s t
+  module _ (xs : Bor (List Setting)) (src : IsViewOf c s (row.Input xs)) where
+    pub input-is : (cell : Cell) → cell.span ≡ from_to (input_start (last_setting xs.now t)) (next_setting xs.now t limit) → cell.value ≡ input_value (last_setting xs.now t) → cell ≡ cell_at c (point_at s t)
     input-is cell e v =
         let there : cell.span ≡ span c s t = e ∙ ap (λ n. from_to (input_start (last_setting xs.now t)) (next_setting xs.now t n)) top ∙ sym (span_is c ok s t ∙ ap (span_from c (span c) t) src.driver) in
         let shown : cell.value ≡ value c s t = v ∙ sym (value_is c ok s t ∙ ap (value_from (value c) t) src.driver) in
         cell-is cell (span c s t) (value c s t) there shown
 
     pub input-asks : IsEvaluable c s t → ⊥
-    input-asks h = subst (HasSources t) src.driver h
+    input-asks h = subst (HasChildren t) src.driver h
 
     pub input-reads : (n : ℕ) → n < length (read_by (driver c s)) → ⊥
     input-reads n h = let k : n < length (read_by (Input xs.now)) = subst (λ d. n < length (read_by d)) src.driver h in omega arith
 
-  module _ (kind : Kind) (signals delays : Bor (List ℕ)) (m : ℕ) (src : IsSourceOf c s (row.Gate kind signals delays m)) where
+  module _ (kind : Kind) (signals delays : Bor (List ℕ)) (m : ℕ) (src : IsViewOf c s (row.Gate kind signals delays m)) where
     abbrev pins : List Pin
     pins = pins_with signals.now delays.now
 
-    pub gate-early : t < m → (cell : Cell) → cell ≡ record { span = from_to 0 (min m limit); value = X } → cell ≡ cell_of c s t
+    pub gate-early : t < m → (cell : Cell) → cell ≡ record { span = from_to 0 (min m limit); value = X } → cell ≡ cell_at c (point_at s t)
     gate-early l cell e =
         let l' : t < least_delay pins = subst (λ n. t < n) src.fits.1 l in
         let early : AllByRecursion (λ p. is_unknown (seen (value c) t p) ≡ true) pins =
@@ -87,29 +87,29 @@ module _ (c : Circuit) (ok : IsCircuit c) (s t limit : ℕ) (top : limit ≡ c.h
         e ∙ cell-is (record { span = from_to 0 (min m limit); value = X }) (span c s t) (value c s t) (ap (λ n. from_to 0 (min m n)) top ∙ sym there) (sym shown)
 
     pub gate-rests : t < m → IsEvaluable c s t → ⊥
-    gate-rests l h = let k : least_delay pins ≤ t = subst (HasSources t) src.driver h in let e = src.fits.1 in omega (arith, e, k, l)
+    gate-rests l h = let k : least_delay pins ≤ t = subst (HasChildren t) src.driver h in let e = src.fits.1 in omega (arith, e, k, l)
 
     pub gate-asks : m ≤ t → IsEvaluable c s t
-    gate-asks l = subst (HasSources t) (sym src.driver) (subst (λ n. n ≤ t) src.fits.1 l)
+    gate-asks l = subst (HasChildren t) (sym src.driver) (subst (λ n. n ≤ t) src.fits.1 l)
 
     pub gate-reads : read_by (driver c s) ≡ signals.now
     gate-reads = ap read_by src.driver ∙ signals-pins_with signals.now delays.now src.fits.0
 
-  module _ (f : FlipFlop) (signals : Bor (List ℕ)) (src : IsSourceOf c s (row.Flop f signals)) where
+  module _ (f : FlipFlop) (signals : Bor (List ℕ)) (src : IsViewOf c s (row.Flop f signals)) where
     pub flop-spans : span c s t ≡ flop_span (c.horizon + 1) f.delay f.clock (shown_edge f.clock f.delay t)
     flop-spans = span_is c ok s t ∙ ap (span_from c (span c) t) src.driver
 
-    pub flop-idle : shown_edge f.clock f.delay t ≡ None → (cell : Cell) → cell ≡ record { span = flop_span limit f.delay f.clock None; value = f.initial } → cell ≡ cell_of c s t
+    pub flop-idle : shown_edge f.clock f.delay t ≡ None → (cell : Cell) → cell ≡ record { span = flop_span limit f.delay f.clock None; value = f.initial } → cell ≡ cell_at c (point_at s t)
     flop-idle none cell e =
         let shown : value c s t ≡ f.initial = value_is c ok s t ∙ ap (value_from (value c) t) src.driver ∙ ap (flop_value (value c) f) none in
         let there : span c s t ≡ flop_span (c.horizon + 1) f.delay f.clock None = flop-spans ∙ ap (flop_span (c.horizon + 1) f.delay f.clock) none in
         e ∙ cell-is (record { span = flop_span limit f.delay f.clock None; value = f.initial }) (span c s t) (value c s t) (ap (λ n. flop_span n f.delay f.clock None) top ∙ sym there) (sym shown)
 
     pub flop-rests : shown_edge f.clock f.delay t ≡ None → IsEvaluable c s t → ⊥
-    flop-rests none h = let k : IsSome (shown_edge f.clock f.delay t) = subst (HasSources t) src.driver h in absurd (cc (subst IsSome none k))
+    flop-rests none h = let k : IsSome (shown_edge f.clock f.delay t) = subst (HasChildren t) src.driver h in absurd (cc (subst IsSome none k))
 
     pub flop-asks : IsSome (shown_edge f.clock f.delay t) → IsEvaluable c s t
-    flop-asks h = subst (HasSources t) (sym src.driver) h
+    flop-asks h = subst (HasChildren t) (sym src.driver) h
 
     pub flop-reads : read_by (driver c s) ≡ signals.now
     flop-reads = ap read_by src.driver ∙ sym src.fits
@@ -119,7 +119,7 @@ if_some P Q f None h = h
 if_some P Q f (Some x) h = f x h
 
 -- the signals of the pins are those of the circuit
-pub gate-signals : (c : Circuit) → IsCircuit c → (s : ℕ) (kind : Kind) (signals delays : Bor (List ℕ)) (m : ℕ) → IsSourceOf c s (row.Gate kind signals delays m) → (k d : ℕ) → k < length signals.now → get_or signals.now k d < length c.drivers
+pub gate-signals : (c : Circuit) → IsCircuit c → (s : ℕ) (kind : Kind) (signals delays : Bor (List ℕ)) (m : ℕ) → IsViewOf c s (row.Gate kind signals delays m) → (k d : ℕ) → k < length signals.now → get_or signals.now k d < length c.drivers
 gate-signals c ok s kind signals delays m src k d l =
     let pins = pins_with signals.now delays.now in
     let p : Pin = record { signal = 0; delay = 0 } in

@@ -10,7 +10,7 @@ use Rattle.stimulus_file.specs.declared.SetRow.{SetRow}
 use Rattle.design.specs.declared.fault.JoinFile.TheVariants as file
 use Rattle.design.specs.declared.fault.JoinCause.TheVariants.{NotInput, PastHorizon}
 use Rattle.design.specs.Join.{number, driver_at, is_input, is_signal, setting_of, fault_of, cause_of_set, set_fault, unless}
-use Rattle.design.specs.Said.{bucket_of, lists_in, HasSets}
+use Rattle.design.specs.inner.Said.{bucket_of, lists_in, HasSets}
 
 filter-push : {A : Type 0} (p : A → Bool) (xs : List A) (x : A) → filter p (xs ++ x ∷ []) ≡ filter p xs ++ cond (p x) (x ∷ []) []
 filter-push p [] x = refl

@@ -8,19 +8,19 @@ use Rattle.stimulus_file.specs.declared.SetRow.{SetRow}
 use Rattle.design.specs.declared.fault.JoinFault.{JoinFault}
 use Rattle.design.specs.Causes.{out_of_memory}
 use Rattle.design.specs.Joined.{Joined}
-use Rattle.design.specs.Join.{or_else, unless_fault, first_fault, timing_fault, set_fault, circuit_from, design_of, Answers}
+use Rattle.design.specs.Join.{or_else, unless_fault, first_fault, timing_fault, set_fault, circuit_from, design_of, AnswersDesign}
 
 module _ (netlist : netlists.Content) (timing : timings.Content) (stimulus : stimuli.Content) where
   abbrev joined : Joined
   joined = record { netlist = netlist; circuit = circuit_from netlist timing stimulus }
 
-  pub refused-timing : (f : JoinFault) → (f ≡ out_of_memory) ⊎ (first_fault (timing_fault netlist timing) timing.rows ≡ Some f) → Answers (Err f) (design_of netlist timing stimulus)
+  pub refused-timing : (f : JoinFault) → (f ≡ out_of_memory) ⊎ (first_fault (timing_fault netlist timing) timing.rows ≡ Some f) → AnswersDesign (Err f) (design_of netlist timing stimulus)
   unfolding design_of
   refused-timing f (inl h) = inl h
   refused-timing f (inr h) = inr (ap (λ o. unless_fault (or_else o (first_fault (set_fault netlist stimulus.horizon) stimulus.sets)) joined) h)
 
   pub refused-set : (h : ℕ) (sets : List SetRow) (f : JoinFault) → h ≡ stimulus.horizon → sets ≡ stimulus.sets → first_fault (timing_fault netlist timing) timing.rows ≡ None
-      → (f ≡ out_of_memory) ⊎ (first_fault (set_fault netlist h) sets ≡ Some f) → Answers (Err f) (design_of netlist timing stimulus)
+      → (f ≡ out_of_memory) ⊎ (first_fault (set_fault netlist h) sets ≡ Some f) → AnswersDesign (Err f) (design_of netlist timing stimulus)
   unfolding design_of
   refused-set h sets f a b none (inl o) = inl o
   refused-set h sets f a b none (inr o) =

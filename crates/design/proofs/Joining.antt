@@ -20,7 +20,7 @@ use Rattle.circuit_meaning.specs.Circuit as circuits
 use Rattle.circuit_meaning.specs.Circuit.{Circuit, IsCircuit, IsDriver, AreDriverLimits, pin_count, read_by}
 use Rattle.circuit_meaning.specs.Cells.{least_delay}
 use Rattle.bench_reader.specs.Netlists as netlists
-use Rattle.bench_reader.specs.Netlists.{Driver, Primary, Driven, pins_of, IsNetlist}
+use Rattle.bench_reader.specs.Netlists.{NetlistDriver, Primary, Driven, pins_of, IsNetlist}
 use Rattle.timing_file.specs.Timing as timings
 use Rattle.timing_file.specs.Timing.{default_of, kind_delay}
 use Rattle.timing_file.specs.Subjects.{same_kind}
@@ -34,10 +34,11 @@ use Rattle.stimulus_file.specs.declared.SetRow.{SetRow}
 use Rattle.design.specs.declared.rows.Row.{Row}
 use Rattle.design.specs.declared.rows.Row.TheVariants as row
 use Rattle.design.specs.Joined.{IsDesign}
-use Rattle.design.specs.Sources.{Kept, IsKept, joined_of, circuit_of, driver_of, pins_with, InTimeOrder, Fits, FitsAt}
-use Rattle.design.specs.Sources as kept
+use Rattle.design.specs.inner.KeptDesigns.{KeptDesign, IsKeptDesign, joined_of, circuit_of, driver_of, InTimeOrder, FitsRow, FitsAt}
+use Rattle.design.specs.KeptDesigns.{pins_with}
+use Rattle.design.specs.inner.KeptDesigns as kept
 use Rattle.design.specs.Join.{number, driver_at, is_dff, or_else, last_said, when, said_of, rows_say, delay_said, pin_said, initial_said, clock_said, clock_named, clock_of_row, delay_of, pin_delay, pin_delays, joined_driver, joined_gate, circuit_from, settings_of, is_signal, setting_of, is_input, fault_of, cause_of_set, set_fault, unless, first_fault, scheduled}
-use Rattle.design.specs.Said.{least_of, delays_of, gate_delays, row_of, gate_row, HasSets, lists_in}
+use Rattle.design.specs.inner.Said.{least_of, delays_of, gate_delays, row_of, gate_row, HasSets, lists_in}
 use Rattle.design.specs.declared.fault.JoinFault.{JoinFault}
 use Rattle.design.specs.declared.fault.JoinFile.TheVariants as file
 use Rattle.design.specs.declared.fault.JoinCause.TheVariants.{NotInput, PastHorizon}
@@ -91,7 +92,7 @@ same-sums f g a b m (x ∷ xs) (y ∷ ys) e h =
 
 -- what is kept stands for the joined driver
 module _ (netlist : netlists.Content) (timing : timings.Content) (sets : List SetRow) (s : ℕ) where
-  abbrev kept-row : Driver → Row
+  abbrev kept-row : NetlistDriver → Row
   kept-row d = row_of netlist timing s d (delays_of netlist timing s d)
 
   kept-gate : (b : Bool) (kind : Kind) (pins : List ℕ) (settings : List Setting)
@@ -99,16 +100,16 @@ module _ (netlist : netlists.Content) (timing : timings.Content) (sets : List Se
   kept-gate true kind pins settings = refl
   kept-gate false kind pins settings = refl
 
-  pub kept-driver : (d : Driver) → driver_of (kept-row d) (pins_of d) (delays_of netlist timing s d) (settings_of netlist sets s) ≡ joined_driver netlist timing sets s d
+  pub kept-driver : (d : NetlistDriver) → driver_of (kept-row d) (pins_of d) (delays_of netlist timing s d) (settings_of netlist sets s) ≡ joined_driver netlist timing sets s d
   kept-driver Primary = refl
   kept-driver (Driven kind pins) = kept-gate (is_dff kind) kind pins (settings_of netlist sets s)
 
   fits-gate : (b : Bool) (kind : Kind) (pins : List ℕ) (settings : List Setting) → is_dff kind ≡ b → (IsTrue (is_unary kind) → length pins ≡ 1)
-      → Fits (gate_row netlist timing s b kind pins (gate_delays netlist timing s b kind pins)) pins (gate_delays netlist timing s b kind pins) settings
+      → FitsRow (gate_row netlist timing s b kind pins (gate_delays netlist timing s b kind pins)) pins (gate_delays netlist timing s b kind pins) settings
   fits-gate true kind pins settings e one = single pins (one (dff-unary kind e))
   fits-gate false kind pins settings e one = (length-pin_delays netlist timing s kind pins, least-is pins (pin_delays netlist timing s kind pins) (length-pin_delays netlist timing s kind pins))
 
-  pub kept-fits : (d : Driver) (n : ℕ) → netlists.IsDriver n d → (settings : List Setting) → InTimeOrder settings → Fits (kept-row d) (pins_of d) (delays_of netlist timing s d) settings
+  pub kept-fits : (d : NetlistDriver) (n : ℕ) → netlists.IsNetlistDriver n d → (settings : List Setting) → InTimeOrder settings → FitsRow (kept-row d) (pins_of d) (delays_of netlist timing s d) settings
   kept-fits Primary n ok settings order = order
   kept-fits (Driven kind pins) n ok settings order = fits-gate (is_dff kind) kind pins settings refl ok.one
 
@@ -271,7 +272,7 @@ module _ (netlist : netlists.Content) (timing : timings.Content) (stimulus : sti
             (subst (λ x. 1 ≤ x) (sym (get_or-map-range_with_len (pin_delay netlist timing s kind) 0 (length pins) k k 0 (omega (arith, same, l)) (omega arith))) (pin-range netlist timing t-ok s kind k).0);
       }
 
-  joined-sound : (s : ℕ) (d : Driver) → netlists.IsDriver n d → IsDriver n stimulus.horizon (joined_driver netlist timing stimulus.sets s d)
+  joined-sound : (s : ℕ) (d : NetlistDriver) → netlists.IsNetlistDriver n d → IsDriver n stimulus.horizon (joined_driver netlist timing stimulus.sets s d)
   joined-sound s Primary ok = settings-sound s
   joined-sound s (Driven kind pins) ok = gate-sound s (is_dff kind) kind pins ok
 
@@ -284,7 +285,7 @@ module _ (netlist : netlists.Content) (timing : timings.Content) (stimulus : sti
       λ k d l. subst (λ (p : Pin). p.delay ≤ 1000000) (sym (get_or-pins_with pins delays k d long (omega (arith, same, l))))
       (subst (λ x. x ≤ 1000000) (sym (get_or-map-range_with_len (pin_delay netlist timing s kind) 0 (length pins) k k 0 (omega (arith, same, l)) (omega arith))) (pin-range netlist timing t-ok s kind k).1)
 
-  joined-within : (s : ℕ) (d : Driver) → AreDriverLimits (joined_driver netlist timing stimulus.sets s d)
+  joined-within : (s : ℕ) (d : NetlistDriver) → AreDriverLimits (joined_driver netlist timing stimulus.sets s d)
   joined-within s Primary = tt
   joined-within s (Driven kind pins) = gate-within s (is_dff kind) kind pins
 
@@ -295,7 +296,7 @@ module _ (netlist : netlists.Content) (timing : timings.Content) (stimulus : sti
       let delays = pin_delays netlist timing s kind pins in
       length-map (pins_with pins delays) (λ p. p.signal) ∙ length-pins_with pins delays (length-pin_delays netlist timing s kind pins)
 
-  joined-count : (s : ℕ) (d : Driver) → netlists.IsDriver n d → pin_count (joined_driver netlist timing stimulus.sets s d) ≡ length (pins_of d)
+  joined-count : (s : ℕ) (d : NetlistDriver) → netlists.IsNetlistDriver n d → pin_count (joined_driver netlist timing stimulus.sets s d) ≡ length (pins_of d)
   joined-count s Primary ok = refl
   joined-count s (Driven kind pins) ok = gate-count s (is_dff kind) kind pins refl ok
 
@@ -330,7 +331,7 @@ module _ (netlist : netlists.Content) (timing : timings.Content) (stimulus : sti
       (rr : rows ≡ map (λ s. row_of netlist timing s (driver_at netlist s) (delays_of netlist timing s (driver_at netlist s))) (range_with_len 0 n))
       (dd : delays ≡ map (λ s. delays_of netlist timing s (driver_at netlist s)) (range_with_len 0 n))
       (ss : settings ≡ map (settings_of netlist stimulus.sets) (range_with_len 0 n)) where
-    abbrev keeps : Kept
+    abbrev keeps : KeptDesign
     keeps = record { horizon = h; netlist = netlist; rows = rows; delays = delays; settings = settings }
 
     at-row : (s : ℕ) → s < n → get_or rows s row.Input ≡ row_of netlist timing s (driver_at netlist s) (delays_of netlist timing s (driver_at netlist s))
@@ -356,7 +357,7 @@ module _ (netlist : netlists.Content) (timing : timings.Content) (stimulus : sti
     pub joined-is : joined_of keeps ≡ record { netlist = netlist; circuit = circuit_from netlist timing stimulus }
     joined-is = ap₂ (λ (k : ℕ) (ds : List circuits.Driver). record { netlist = netlist; circuit = record { horizon = k; drivers = ds } }) hh drivers-are
 
-    pub is-kept : IsKept keeps
+    pub is-kept : IsKeptDesign keeps
     is-kept = record {
       design = subst IsDesign (sym joined-is) from-design;
       shapes = n-ok.rows;

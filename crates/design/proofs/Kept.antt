@@ -12,20 +12,20 @@ use Rattle.circuit_meaning.specs.Circuit.{Input, driver, IsDriver, AreDriverLimi
 use Rattle.circuit_meaning.proofs.Equations.{driver_fits}
 use Rattle.design.specs.declared.rows.Row.{Row}
 use Rattle.design.specs.declared.rows.Row.TheVariants as row
-use Rattle.design.specs.declared.rows.Source.{Source as SourceRow}
-use Rattle.design.specs.declared.rows.Source.TheVariants as source
+use Rattle.design.specs.declared.rows.SignalView.{SignalView as View}
+use Rattle.design.specs.declared.rows.SignalView.TheVariants as view
 use Rattle.design.specs.Joined.{Joined}
-use Rattle.design.specs.Sources.{Kept, IsKept, joined_of, circuit_of, driver_at, driver_of, signals_of, driver_from, FitsFrom, Fits, FitsAt, IsSourceOf}
+use Rattle.design.specs.inner.KeptDesigns.{KeptDesign, IsKeptDesign, joined_of, circuit_of, driver_at, driver_of, signals_of, driver_seen, FitsFrom, FitsRow, FitsAt, IsViewOf}
 
-module _ (k : Kept) (ok : IsKept k) (s : ℕ) where
+module _ (k : KeptDesign) (ok : IsKeptDesign k) (s : ℕ) where
   here : s < length (circuit_of k).drivers → s < length k.netlist.names
   here l = subst (λ m. s < m) (length-map-range_with_len (driver_at k) 0 (length k.netlist.names)) l
 
   at : s < length (circuit_of k).drivers → driver (circuit_of k) s ≡ driver_at k s
   at l = get_or-map-range_with_len (driver_at k) 0 (length k.netlist.names) s s (Input []) (here l) (omega arith)
 
-  kept-source : s < length (circuit_of k).drivers → (r : SourceRow) → driver_at k s ≡ driver_from r → FitsFrom r → IsSourceOf (circuit_of k) s r
-  kept-source l r e fits =
+  kept-view : s < length (circuit_of k).drivers → (r : View) → driver_at k s ≡ driver_seen r → FitsFrom r → IsViewOf (circuit_of k) s r
+  kept-view l r e fits =
       let c = circuit_of k in
       let is = at l ∙ e in
       record {
@@ -35,19 +35,19 @@ module _ (k : Kept) (ok : IsKept k) (s : ℕ) where
         fits = fits;
       }
 
-pub in_range : (k : Kept) (d : Joined) → joined_of k ≡ d → (s : ℕ) → s < length d.circuit.drivers → s < length k.netlist.names
+pub in_range : (k : KeptDesign) (d : Joined) → joined_of k ≡ d → (s : ℕ) → s < length d.circuit.drivers → s < length k.netlist.names
 in_range k d e s l = subst (λ m. s < m) (length-map-range_with_len (driver_at k) 0 (length k.netlist.names)) (subst (λ (x : Joined). s < length x.circuit.drivers) (sym e) l)
 
-pub fits-same : (x y : Row) (a a' b b' : List ℕ) (c c' : List Setting) → x ≡ y → a ≡ a' → b ≡ b' → c ≡ c' → Fits x a b c → Fits y a' b' c'
+pub fits-same : (x y : Row) (a a' b b' : List ℕ) (c c' : List Setting) → x ≡ y → a ≡ a' → b ≡ b' → c ≡ c' → FitsRow x a b c → FitsRow y a' b' c'
 fits-same x y a a' b b' c c' e f g h k =
-    subst (λ q. Fits y a' b' q) h (subst (λ q. Fits y a' q c) g (subst (λ q. Fits y q b c) f (subst (λ q. Fits q a b c) e k)))
+    subst (λ q. FitsRow y a' b' q) h (subst (λ q. FitsRow y a' q c) g (subst (λ q. FitsRow y q b c) f (subst (λ q. FitsRow q a b c) e k)))
 
 pub driver-same : (x y : Row) (a a' b b' : List ℕ) (c c' : List Setting) → x ≡ y → a ≡ a' → b ≡ b' → c ≡ c' → driver_of x a b c ≡ driver_of y a' b' c'
 driver-same x y a a' b b' c c' e f g h = cc (e, f, g, h)
 
-module _ (k : Kept) (ok : IsKept k) (d : Joined) (e : joined_of k ≡ d) (s : ℕ) (l : s < length d.circuit.drivers) (x : Row) (read : x ≡ get_or k.rows s x) where
-  source-is : (r : SourceRow) → driver_at k s ≡ driver_from r → FitsFrom r → IsSourceOf d.circuit s r
-  source-is r is fits = subst (λ (j : Joined). s < length j.circuit.drivers → IsSourceOf j.circuit s r) e (λ h. kept-source k ok s h r is fits) l
+module _ (k : KeptDesign) (ok : IsKeptDesign k) (d : Joined) (e : joined_of k ≡ d) (s : ℕ) (l : s < length d.circuit.drivers) (x : Row) (read : x ≡ get_or k.rows s x) where
+  view-is : (r : View) → driver_at k s ≡ driver_seen r → FitsFrom r → IsViewOf d.circuit s r
+  view-is r is fits = subst (λ (j : Joined). s < length j.circuit.drivers → IsViewOf j.circuit s r) e (λ h. kept-view k ok s h r is fits) l
 
   row-is : get_or k.rows s row.Input ≡ x
   row-is = sym (get_or_read k.rows s x (let h = in_range k d e s l in omega (arith, h, ok.rows)) read row.Input)
@@ -55,17 +55,17 @@ module _ (k : Kept) (ok : IsKept k) (d : Joined) (e : joined_of k ≡ d) (s : �
   row-fits : FitsAt k s
   row-fits = ok.fits s (in_range k d e s l)
 
-  pub input-source : (xs : Bor (List Setting)) → x ≡ row.Input → slice_get k.settings s ≡ Some xs.now → IsSourceOf d.circuit s (source.Input xs)
-  input-source xs is at =
+  pub input-view : (xs : Bor (List Setting)) → x ≡ row.Input → slice_get k.settings s ≡ Some xs.now → IsViewOf d.circuit s (view.Input xs)
+  input-view xs is at =
       let settings = get_or_from_slice_get k.settings s xs.now [] at in
-      source-is (source.Input xs) (driver-same _ _ _ _ _ _ _ _ (row-is ∙ is) refl refl settings) (fits-same _ row.Input _ _ _ _ _ _ (row-is ∙ is) refl refl settings row-fits)
+      view-is (view.Input xs) (driver-same _ _ _ _ _ _ _ _ (row-is ∙ is) refl refl settings) (fits-same _ row.Input _ _ _ _ _ _ (row-is ∙ is) refl refl settings row-fits)
 
-  pub gate-source : (kind : Kind) (least : ℕ) (signals delays : Bor (List ℕ)) → x ≡ row.Gate kind least → signals.now ≡ signals_of k s → slice_get k.delays s ≡ Some delays.now
-      → IsSourceOf d.circuit s (source.Gate kind signals delays least)
-  gate-source kind least signals delays is reads at =
+  pub gate-view : (kind : Kind) (least : ℕ) (signals delays : Bor (List ℕ)) → x ≡ row.Gate kind least → signals.now ≡ signals_of k s → slice_get k.delays s ≡ Some delays.now
+      → IsViewOf d.circuit s (view.Gate kind signals delays least)
+  gate-view kind least signals delays is reads at =
       let late = get_or_from_slice_get k.delays s delays.now [] at in
-      source-is (source.Gate kind signals delays least) (driver-same _ _ _ _ _ _ _ _ (row-is ∙ is) (sym reads) late refl) (fits-same _ (row.Gate kind least) _ _ _ _ _ _ (row-is ∙ is) (sym reads) late refl row-fits)
+      view-is (view.Gate kind signals delays least) (driver-same _ _ _ _ _ _ _ _ (row-is ∙ is) (sym reads) late refl) (fits-same _ (row.Gate kind least) _ _ _ _ _ _ (row-is ∙ is) (sym reads) late refl row-fits)
 
-  pub flop-source : (f : FlipFlop) (signals : Bor (List ℕ)) → x ≡ row.Flop f → signals.now ≡ signals_of k s → IsSourceOf d.circuit s (source.Flop f signals)
-  flop-source f signals is reads =
-      source-is (source.Flop f signals) (driver-same _ _ _ _ _ _ _ _ (row-is ∙ is) (sym reads) refl refl) (fits-same _ (row.Flop f) _ _ _ _ _ _ (row-is ∙ is) (sym reads) refl refl row-fits)
+  pub flop-view : (f : FlipFlop) (signals : Bor (List ℕ)) → x ≡ row.Flop f → signals.now ≡ signals_of k s → IsViewOf d.circuit s (view.Flop f signals)
+  flop-view f signals is reads =
+      view-is (view.Flop f signals) (driver-same _ _ _ _ _ _ _ _ (row-is ∙ is) (sym reads) refl refl) (fits-same _ (row.Flop f) _ _ _ _ _ _ (row-is ∙ is) (sym reads) refl refl row-fits)

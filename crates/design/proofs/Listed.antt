@@ -1,10 +1,10 @@
--- Lists kept one behind another.
+-- Lists kept one after another.
 use Rattle.std.proofs.Common.{◌≡◌, ℕ, ◌≤◌, List, [], ◌∷◌, ◌++◌, length, take, drop, refl, ap, ap₂, ◌∙◌, arith}
 use Rattle.std.specs.List.{AllByRecursion}
 use Rattle.std.proofs.lemmas.List.Elements.{recursion_from_All, All-from_recursion}
 use Rattle.std.proofs.lemmas.List.{map-append, length-append, drop_at, take_all, drop-append-le, take-append-le, length-drop}
 use Rattle.design.specs.declared.lists.Range.{Range}
-use Rattle.design.specs.Lists.{piece, pieces, IsPiece, ArePieces}
+use Rattle.design.specs.inner.Lists.{piece, pieces, IsPiece, ArePieces}
 
 within-longer : (ranges : List Range) (m n : ℕ) → m ≤ n → AllByRecursion (IsPiece m) ranges → AllByRecursion (IsPiece n) ranges
 within-longer [] m n l h = tt
@@ -33,7 +33,7 @@ module _ {T : Type 0} where
       All-from_recursion _ ranges (within-longer ranges (length items) (length all) (let k = ap length e ∙ length-append items more in omega (arith, k)) (recursion_from_All _ ranges h))
 
   module _ (ranges : List Range) (items more all : List T) (h : ArePieces ranges items) (e : all ≡ items ++ more) (range : Range) (start : range.start ≡ length items) (long : range.length ≡ length more) where
-    -- the items behind are the last piece
+    -- the items after are the last piece
     pub are-pushed : ArePieces (ranges ++ range ∷ []) all
     are-pushed =
         All-from_recursion _ (ranges ++ range ∷ []) (with-last (length all) ranges range (recursion_from_All _ ranges (are-longer ranges items more all h e))

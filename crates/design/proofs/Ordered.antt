@@ -7,8 +7,8 @@ use Rattle.std.specs.List.Sorted.{IsPartitionedBy}
 use Rattle.circuit_meaning.specs.declared.Setting.{Setting}
 use Rattle.circuit_meaning.specs.Forward.{last_setting, later}
 use Rattle.circuit_meaning.specs.Cells.{next_setting}
-use Rattle.design.specs.Sources.{InTimeOrder}
-use Rattle.design.specs.Given.{last_of, next_of}
+use Rattle.design.specs.inner.KeptDesigns.{InTimeOrder}
+use Rattle.design.specs.inner.Given.{last_of, next_of}
 
 -- in the order of time, those at or before t stand in front
 pub parted : (settings : List Setting) (t : ℕ) → InTimeOrder settings → IsPartitionedBy (λ s. leb s.time t) settings

@@ -16,13 +16,14 @@ use Rattle.circuit_meaning.specs.declared.Pin.{Pin}
 use Rattle.circuit_meaning.specs.Circuit.{Circuit, IsCircuit}
 use Rattle.circuit_meaning.specs.Forward.{value, seen}
 use Rattle.circuit_meaning.specs.Cells.{span, least_delay, looked, pin_span}
-use Rattle.circuit_meaning.specs.Need.{IsEvaluable, HasSources}
-use Rattle.circuit_meaning.specs.Looks.{kind_of, source, flop_sources, sources_at, sees, looked_sources, no_pin, interval_at, pin_interval, met_interval}
+use Rattle.circuit_meaning.specs.Need.{IsEvaluable, HasChildren}
+use Rattle.circuit_meaning.specs.Looks.{kind_of, pin_point, flop_points, pin_points_at, sees, looked_points, no_pin, interval_at, pin_interval, met_interval}
 use Rattle.circuit_meaning.proofs.Cover.{cell-covers}
 use Rattle.circuit_meaning.proofs.Meets.{met-all, gate-span}
 use Rattle.circuit_meaning.proofs.Looking.{cut-take}
-use Rattle.design.specs.declared.rows.Source.TheVariants as row
-use Rattle.design.specs.Sources.{IsSourceOf, pins_with}
+use Rattle.design.specs.declared.rows.SignalView.TheVariants as row
+use Rattle.design.specs.inner.KeptDesigns.{IsViewOf}
+use Rattle.design.specs.KeptDesigns.{pins_with}
 
 all_of : {A : Type 0} (P : A → Type 0) → ((a : A) → P a) → (xs : List A) → AllByRecursion P xs
 all_of P h [] = tt
@@ -41,13 +42,13 @@ module _ {A B : Type 0} (f : A → B) (d : A) where
       ap₂ (λ (y : B) (ys : List B). y ∷ ys) (ap f (let e : a + 0 ≡ a = omega arith in subst (λ m. g m ≡ x) e (h 0)))
       (by-place xs g (a + 1) n (omega arith) (λ k. let e : a + suc k ≡ a + 1 + k = omega arith in subst (λ m. g m ≡ get_or xs k d) e (h (suc k))))
 
-sees-source : (c : Circuit) (t : ℕ) (p : Pin) → sees c (source t p) ≡ seen (value c) t p
+sees-source : (c : Circuit) (t : ℕ) (p : Pin) → sees c (pin_point t p) ≡ seen (value c) t p
 sees-source c t p = elim (nat_lt t p.delay) as (λ b. sees c (cond b None (Some (record { signal = p.signal; time = t - p.delay }))) ≡ cond b X (value c p.signal (t - p.delay))) [ true ↦ refl | false ↦ refl ]
 
-length-cut : (c : Circuit) (t : ℕ) (kind : Kind) (pins : List Pin) → length (up_to_first (λ o. decides kind (sees c o)) (map (source t) pins)) ≡ length (looked c t kind pins)
+length-cut : (c : Circuit) (t : ℕ) (kind : Kind) (pins : List Pin) → length (up_to_first (λ o. decides kind (sees c o)) (map (pin_point t) pins)) ≡ length (looked c t kind pins)
 length-cut c t kind pins =
-    ap length (sym (map-up_to_first (λ o. decides kind (sees c o)) (source t) pins)) ∙ length-map (up_to_first (λ p. decides kind (sees c (source t p))) pins) (source t)
-    ∙ ap length (sym (cut_alike (decides kind) (λ p. sees c (source t p)) (seen (value c) t) pins (all_of (λ p. sees c (source t p) ≡ seen (value c) t p) (sees-source c t) (up_to_first (λ p. decides kind (sees c (source t p))) pins))))
+    ap length (sym (map-up_to_first (λ o. decides kind (sees c o)) (pin_point t) pins)) ∙ length-map (up_to_first (λ p. decides kind (sees c (pin_point t p))) pins) (pin_point t)
+    ∙ ap length (sym (cut_alike (decides kind) (λ p. sees c (pin_point t p)) (seen (value c) t) pins (all_of (λ p. sees c (pin_point t p) ≡ seen (value c) t p) (sees-source c t) (up_to_first (λ p. decides kind (sees c (pin_point t p))) pins))))
 
 cut-le : {A : Type 0} (test : A → Bool) (xs : List A) → length (up_to_first test xs) ≤ length xs
 cut-le test [] = omega arith
@@ -66,24 +67,24 @@ cut-some test [] l = l
 cut-some test (x ∷ xs) l = omega arith
 
 module _ (c : Circuit) (ok : IsCircuit c) (s t limit : ℕ) (top : limit ≡ c.horizon + 1) (small : limit ≤ 1000001) (within : t ≤ c.horizon) (asks : IsEvaluable c s t) where
-  module _ (kind : Kind) (signals delays : Bor (List ℕ)) (m : ℕ) (src : IsSourceOf c s (row.Gate kind signals delays m)) where
+  module _ (kind : Kind) (signals delays : Bor (List ℕ)) (m : ℕ) (src : IsViewOf c s (row.Gate kind signals delays m)) where
     abbrev pins : List Pin
     pins = pins_with signals.now delays.now
 
     passed : m ≤ t
-    passed = let k : least_delay pins ≤ t = subst (HasSources t) src.driver asks in let e = src.fits.1 in omega (arith, e, k)
+    passed = let k : least_delay pins ≤ t = subst (HasChildren t) src.driver asks in let e = src.fits.1 in omega (arith, e, k)
 
     pub gate-passed : m ≤ t
     gate-passed = passed
 
     -- the intervals of the looked pins
-    parts : map (pin_interval c s t) (range_with_len 0 (length (looked_sources c s t))) ≡ map (cut_at (c.horizon + 1)) (map (pin_span (span c) t) (looked c t kind pins))
+    parts : map (pin_interval c s t) (range_with_len 0 (length (looked_points c s t))) ≡ map (cut_at (c.horizon + 1)) (map (pin_span (span c) t) (looked c t kind pins))
     parts =
         let cut = looked c t kind pins in
         let n = length cut in
         let part : Pin → Span = λ p. cut_at (c.horizon + 1) (pin_span (span c) t p) in
-        ap (λ d. map (interval_at c s t d) (range_with_len 0 (length (looked_sources c s t)))) src.driver
-        ∙ ap (λ l. map (λ k. part (get_or pins k no_pin)) (range_with_len 0 l)) (ap (λ d. length (up_to_first (λ o. decides (kind_of d) (sees c o)) (sources_at t d))) src.driver ∙ length-cut c t kind pins)
+        ap (λ d. map (interval_at c s t d) (range_with_len 0 (length (looked_points c s t)))) src.driver
+        ∙ ap (λ l. map (λ k. part (get_or pins k no_pin)) (range_with_len 0 l)) (ap (λ d. length (up_to_first (λ o. decides (kind_of d) (sees c o)) (pin_points_at t d))) src.driver ∙ length-cut c t kind pins)
         ∙ by-place part no_pin pins (λ k. get_or pins k no_pin) 0 n (cut-le (λ p. decides kind (seen (value c) t p)) pins) (λ k. ap (λ j. get_or pins j no_pin) (omega arith))
         ∙ ap (map part) (sym (cut-take (λ p. decides kind (seen (value c) t p)) pins n (omega arith)))
         ∙ ap (map part) (take_all n cut (omega arith))
@@ -92,7 +93,7 @@ module _ (c : Circuit) (ok : IsCircuit c) (s t limit : ℕ) (top : limit ≡ c.h
     some-part : 1 ≤ length (map (pin_span (span c) t) (looked c t kind pins))
     some-part = rw (length-map (looked c t kind pins) (pin_span (span c) t)) (cut-some (λ p. decides kind (seen (value c) t p)) pins src.sound.some)
 
-    gate-meets : meet (met_interval c s t (length (looked_sources c s t))) (from_to m limit) ≡ span c s t
+    gate-meets : meet (met_interval c s t (length (looked_points c s t))) (from_to m limit) ≡ span c s t
     gate-meets =
         let spans = map (pin_span (span c) t) (looked c t kind pins) in
         ap₂ (λ (xs : List Span) (n : ℕ). meet (fold meet (from_to 0 2000002) xs) (from_to m n)) parts top
@@ -100,7 +101,7 @@ module _ (c : Circuit) (ok : IsCircuit c) (s t limit : ℕ) (top : limit ≡ c.h
         ∙ ap (λ n. fold meet (from_to n (c.horizon + 1)) spans) src.fits.1
         ∙ sym (gate-span c ok s t kind pins src.driver (let e = src.fits.1 in let l = gate-passed in omega (arith, e, l)))
 
-    module _ (a b : Span) (e : a ≡ met_interval c s t (length (looked_sources c s t))) (f : b ≡ from_to m limit) where
+    module _ (a b : Span) (e : a ≡ met_interval c s t (length (looked_points c s t))) (f : b ≡ from_to m limit) where
       pub gate-over : meet a b ≡ span c s t
       gate-over = ap₂ meet e f ∙ gate-meets
 
@@ -112,8 +113,8 @@ module _ (c : Circuit) (ok : IsCircuit c) (s t limit : ℕ) (top : limit ≡ c.h
           let k : (span c s t).stop ≤ (span c s t).start = subst (λ (x : Span). x.stop ≤ x.start) gate-over h in
           omega (arith, low, high, k)
 
-  module _ (f : FlipFlop) (signals : Bor (List ℕ)) (src : IsSourceOf c s (row.Flop f signals)) where
-    flop-one : (test : Option Point → Bool) (o : Option ℕ) → IsSome o → length (up_to_first test (flop_sources f.pin o)) ≡ 1
+  module _ (f : FlipFlop) (signals : Bor (List ℕ)) (src : IsViewOf c s (row.Flop f signals)) where
+    flop-one : (test : Option Point → Bool) (o : Option ℕ) → IsSome o → length (up_to_first test (flop_points f.pin o)) ≡ 1
     flop-one test None h = absurd (cc h)
     flop-one test (Some e) h = go (test (Some here))
       where
@@ -124,11 +125,11 @@ module _ (c : Circuit) (ok : IsCircuit c) (s t limit : ℕ) (top : limit ≡ c.h
         go true = refl
         go false = refl
 
-    pub flop-over : (a : Span) → a ≡ met_interval c s t (length (looked_sources c s t)) → a ≡ span c s t
+    pub flop-over : (a : Span) → a ≡ met_interval c s t (length (looked_points c s t)) → a ≡ span c s t
     flop-over a e =
         let covered = (cell-covers c ok t s within).within in
-        e ∙ ap (met_interval c s t) (ap (λ d. length (up_to_first (λ o. decides (kind_of d) (sees c o)) (sources_at t d))) src.driver
-        ∙ flop-one (λ o. decides Dff (sees c o)) (shown_edge f.clock f.delay t) (subst (HasSources t) src.driver asks))
+        e ∙ ap (met_interval c s t) (ap (λ d. length (up_to_first (λ o. decides (kind_of d) (sees c o)) (pin_points_at t d))) src.driver
+        ∙ flop-one (λ o. decides Dff (sees c o)) (shown_edge f.clock f.delay t) (subst (HasChildren t) src.driver asks))
         ∙ ap (λ d. meet (from_to 0 2000002) (interval_at c s t d 0)) src.driver
         ∙ ap₂ from_to (omega arith) (omega (arith, covered, top, small))
 

@@ -13,18 +13,19 @@ use Rattle.circuit_meaning.specs.declared.Pin.{Pin}
 use Rattle.circuit_meaning.specs.Circuit.{Circuit, driver, IsCircuit, read_by}
 use Rattle.gate_values.specs.declared.Kind.{Kind}
 use Rattle.circuit_meaning.specs.Cells.{span, pin_span}
-use Rattle.circuit_meaning.specs.Need.{IsEvaluable, HasSources}
-use Rattle.circuit_meaning.specs.Looks.{source, flop_sources, sources_at, pin_sources, no_pin, interval_at, pin_interval}
+use Rattle.circuit_meaning.specs.Need.{IsEvaluable, HasChildren}
+use Rattle.circuit_meaning.specs.Looks.{pin_point, flop_points, pin_points_at, pin_points, no_pin, interval_at, pin_interval}
 use Rattle.flip_flops.proofs.EdgeLemmas.{shown_edge-le}
 use Rattle.circuit_meaning.proofs.Cover.{cell-covers}
-use Rattle.design.specs.declared.rows.Source.TheVariants as row
-use Rattle.design.specs.Sources.{IsSourceOf, pins_with}
+use Rattle.design.specs.declared.rows.SignalView.TheVariants as row
+use Rattle.design.specs.inner.KeptDesigns.{IsViewOf}
+use Rattle.design.specs.KeptDesigns.{pins_with}
 use Rattle.design.specs.Pins.{pin_at, heard_of}
-use Rattle.design.specs.Given.{later_of}
+use Rattle.design.specs.inner.Given.{later_of}
 use Rattle.design.proofs.Answered.{get_or-pins_with, length-pins_with, gate-reads, flop-spans}
 
 module _ (c : Circuit) (ok : IsCircuit c) (s t k limit : ℕ) (top : limit ≡ c.horizon + 1) (within : t ≤ c.horizon) where
-  module _ (kind : Kind) (signals delays : Bor (List ℕ)) (m : ℕ) (src : IsSourceOf c s (row.Gate kind signals delays m)) (l : k < length (read_by (driver c s))) where
+  module _ (kind : Kind) (signals delays : Bor (List ℕ)) (m : ℕ) (src : IsViewOf c s (row.Gate kind signals delays m)) (l : k < length (read_by (driver c s))) where
     abbrev pins : List Pin
     pins = pins_with signals.now delays.now
 
@@ -54,13 +55,13 @@ module _ (c : Circuit) (ok : IsCircuit c) (s t k limit : ℕ) (top : limit ≡ c
         (omega (arith, low, e), omega (arith, high, e))
 
     -- what the pin reads
-    reads : slice_get (pin_sources c s t) k ≡ Some (source t pin)
-    reads = ap (λ d. slice_get (sources_at t d) k) src.driver ∙ slice_get-map (source t) pins k ∙ ap (option_map (source t)) at
+    reads : slice_get (pin_points c s t) k ≡ Some (pin_point t pin)
+    reads = ap (λ d. slice_get (pin_points_at t d) k) src.driver ∙ slice_get-map (pin_point t) pins k ∙ ap (option_map (pin_point t)) at
 
-    pub gate-source : (d : ℕ) → d ≡ get_or delays.now k 0 → (o : Option ℕ) → SomeIff o (d ≤ t) (t - d) → slice_get (pin_sources c s t) k ≡ Some (option_map (pin_at c s k) o)
-    gate-source d e None h =
+    pub gate-view : (d : ℕ) → d ≡ get_or delays.now k 0 → (o : Option ℕ) → SomeIff o (d ≤ t) (t - d) → slice_get (pin_points c s t) k ≡ Some (option_map (pin_at c s k) o)
+    gate-view d e None h =
         reads ∙ ap (λ b. Some (cond b None (Some (record { signal = pin.signal; time = t - pin.delay })))) (lt-ltb t pin.delay (grind (arith, h, e)))
-    gate-source d e (Some u) h =
+    gate-view d e (Some u) h =
         reads ∙ ap (λ b. Some (cond b None (Some (record { signal = pin.signal; time = t - pin.delay })))) (le-ltb t pin.delay (let low = h.0 in omega (arith, low, e)))
         ∙ ap₂ (λ (a : ℕ) (b : ℕ). Some (Some (record { signal = a; time = b }))) (ap (λ xs. get_or xs k 0) (sym (gate-reads c ok s t limit top kind signals delays m src))) (let is = h.1 in omega (arith, is, e))
 
@@ -68,8 +69,8 @@ module _ (c : Circuit) (ok : IsCircuit c) (s t k limit : ℕ) (top : limit ≡ c
     gate-earlier d e None h = tt
     gate-earlier d e (Some u) h = let low = (gate-delay d e).0 in let is = h.1 in let le = h.0 in omega (arith, low, is, le)
 
-    heard-is : heard_of c s t k ≡ option_map (λ (p : Point). span c p.signal p.time) (source t pin)
-    heard-is = ap (option_map (λ (p : Point). span c p.signal p.time)) (get_or_from_slice_get (pin_sources c s t) k (source t pin) None reads)
+    heard-is : heard_of c s t k ≡ option_map (λ (p : Point). span c p.signal p.time) (pin_point t pin)
+    heard-is = ap (option_map (λ (p : Point). span c p.signal p.time)) (get_or_from_slice_get (pin_points c s t) k (pin_point t pin) None reads)
 
     unheard : t < pin.delay → heard_of c s t k ≡ None
     unheard l = heard-is ∙ ap (λ b. option_map (λ (p : Point). span c p.signal p.time) (cond b None (Some (record { signal = pin.signal; time = t - pin.delay })))) (lt-ltb t pin.delay l)
@@ -99,19 +100,19 @@ module _ (c : Circuit) (ok : IsCircuit c) (s t k limit : ℕ) (top : limit ≡ c
         is ∙ ap₂ (λ (n : ℕ) (q : Option Span). cut_at limit (later_of n q)) e h ∙ ap (cut_at limit) seen-span ∙ ap (λ n. cut_at n (pin_span (span c) t pin)) top
         ∙ ap (λ p. cut_at (c.horizon + 1) (pin_span (span c) t p)) (sym (pin-is no_pin)) ∙ ap (λ d. interval_at c s t d k) (sym src.driver)
 
-  module _ (f : FlipFlop) (signals : Bor (List ℕ)) (src : IsSourceOf c s (row.Flop f signals)) (l : k < length (read_by (driver c s))) (asks : IsEvaluable c s t) where
+  module _ (f : FlipFlop) (signals : Bor (List ℕ)) (src : IsViewOf c s (row.Flop f signals)) (l : k < length (read_by (driver c s))) (asks : IsEvaluable c s t) where
     first : k ≡ 0
     first = let h : k < 1 = subst (λ d. k < length (read_by d)) src.driver l in omega arith
 
-    flop-at : (o : Option ℕ) → IsSome o → slice_get (flop_sources f.pin o) k ≡ Some (option_map (λ (u : ℕ). record { signal = f.pin; time = u }) o)
+    flop-at : (o : Option ℕ) → IsSome o → slice_get (flop_points f.pin o) k ≡ Some (option_map (λ (u : ℕ). record { signal = f.pin; time = u }) o)
     flop-at None h = absurd (cc h)
     flop-at (Some e) h = rw first refl
 
-    pub flop-source : (o : Option ℕ) → o ≡ shown_edge f.clock f.delay t → slice_get (pin_sources c s t) k ≡ Some (option_map (pin_at c s k) o)
-    flop-source o e =
-        let shown : IsSome (shown_edge f.clock f.delay t) = subst (HasSources t) src.driver asks in
+    pub flop-view : (o : Option ℕ) → o ≡ shown_edge f.clock f.delay t → slice_get (pin_points c s t) k ≡ Some (option_map (pin_at c s k) o)
+    flop-view o e =
+        let shown : IsSome (shown_edge f.clock f.delay t) = subst (HasChildren t) src.driver asks in
         let pin : get_or (read_by (driver c s)) k 0 ≡ f.pin = ap (λ d. get_or (read_by d) k 0) src.driver ∙ rw first refl in
-        ap (λ d. slice_get (sources_at t d) k) src.driver ∙ ap (λ q. slice_get (flop_sources f.pin q) k) (sym e) ∙ flop-at o (subst IsSome (sym e) shown)
+        ap (λ d. slice_get (pin_points_at t d) k) src.driver ∙ ap (λ q. slice_get (flop_points f.pin q) k) (sym e) ∙ flop-at o (subst IsSome (sym e) shown)
         ∙ ap (λ (n : ℕ). Some (option_map (λ (u : ℕ). record { signal = n; time = u }) o)) (sym pin)
 
     pub flop-earlier : (o : Option ℕ) → o ≡ shown_edge f.clock f.delay t → IfSome o (λ u. u < t)

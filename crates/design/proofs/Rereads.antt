@@ -8,7 +8,7 @@ use Rattle.std.proofs.lemmas.List.{drop_more, drop_all, take_more}
 use Rattle.std.proofs.lemmas.Cmp.{nat_list_eq_equiv}
 use Rattle.indexmap.specs.IndexMap.{insert_entry}
 use Rattle.flip_flops.specs.declared.Clock.{Clock}
-use Rattle.design.specs.Said.{KnowsClocks, HasStated, TakesRow}
+use Rattle.design.specs.inner.Said.{KnowsClocks, HasStated, TakesRow}
 use Rattle.bench_reader.specs.Netlists as netlists
 use Rattle.timing_file.specs.Timing as timings
 use Rattle.timing_file.specs.declared.ClockRow.{ClockRow}

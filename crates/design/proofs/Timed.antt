@@ -9,7 +9,7 @@ use Rattle.std.specs.declared.cmp.Ordering.TheVariants.{Equal, Greater}
 use Rattle.std.proofs.lemmas.Bool.{cases_lt, lt-leb}
 use Rattle.std.proofs.lemmas.List.Elements.{recursion_from_All, All-from_recursion}
 use Rattle.circuit_meaning.specs.declared.Setting.{Setting}
-use Rattle.design.specs.Sources.{InTimeOrder}
+use Rattle.design.specs.inner.KeptDesigns.{InTimeOrder}
 use Rattle.design.specs.Join.{placed, in_time_order, is_at_one_time, scheduled}
 
 abbrev pub time_of : Setting → ℕ

@@ -7,7 +7,7 @@ use Rattle.std.proofs.lemmas.List.Folds.{list_any-append}
 use Rattle.std.proofs.lemmas.Map.Views.{list_any-from_Contains, Contains-from_any}
 use Rattle.circuit_meaning.specs.Circuit.{Circuit, driver, read_by}
 use Rattle.circuit_meaning.specs.Need.{IsInCone, Itself, Reads}
-use Rattle.design.specs.Walk.{has, is_marked, Marks}
+use Rattle.design.specs.inner.Walk.{has, is_marked, Marks}
 
 -- what the walk keeps
 pub record Walked (c : Circuit) (root : ℕ) (marks : List Bool) (ahead : List ℕ) : Type 0 where

@@ -12,7 +12,7 @@ use Rattle.circuit_meaning.specs.declared.FlipFlop.{FlipFlop}
 use Rattle.circuit_meaning.specs.Circuit as circuits
 use Rattle.circuit_meaning.specs.Circuit.{Circuit}
 use Rattle.bench_reader.specs.Netlists as netlists
-use Rattle.bench_reader.specs.Netlists.{Driver, Primary, Driven}
+use Rattle.bench_reader.specs.Netlists.{NetlistDriver, Primary, Driven}
 use Rattle.timing_file.specs.Timing as timings
 use Rattle.timing_file.specs.Timing.{default_of}
 use Rattle.timing_file.specs.declared.ClockRow.{ClockRow}
@@ -28,29 +28,29 @@ use Rattle.design.specs.declared.fault.JoinFile.TheVariants as file
 use Rattle.design.specs.declared.fault.JoinFault.{JoinFault}
 use Rattle.design.specs.Causes.{out_of_memory}
 use Rattle.design.specs.Joined.{Joined}
-use Rattle.design.specs.Sources.{pins_with}
+use Rattle.design.specs.KeptDesigns.{pins_with}
 
 -- the number of the signal with a name
 abbrev pub number : netlists.Content → List ℕ → Option ℕ
 number netlist name = position (bytes_eq name) netlist.names
 
-abbrev pub driver_at : netlists.Content → ℕ → Driver
+abbrev pub driver_at : netlists.Content → ℕ → NetlistDriver
 driver_at netlist s = get_or netlist.rows s Primary
 
 abbrev pub is_dff : Kind → Bool
 is_dff Dff = true
 is_dff _ = false
 
-abbrev pub is_input : Driver → Bool
+abbrev pub is_input : NetlistDriver → Bool
 is_input Primary = true
 is_input (Driven kind pins) = false
 
-abbrev pub is_flop : Driver → Bool
+abbrev pub is_flop : NetlistDriver → Bool
 is_flop Primary = false
 is_flop (Driven kind pins) = is_dff kind
 
 -- whether it is a gate with this pin
-abbrev pub has_pin : Driver → ℕ → Bool
+abbrev pub has_pin : NetlistDriver → ℕ → Bool
 has_pin Primary place = false
 has_pin (Driven kind pins) place = not (is_dff kind) && nat_lt place (length pins)
 
@@ -76,7 +76,7 @@ unless true cause later = later
 unless false cause later = Some cause
 
 -- of what a timing row says of a signal with this driver
-abbrev pub cause_of_what : timings.Content → Driver → TimingWhat → Option JoinCause
+abbrev pub cause_of_what : timings.Content → NetlistDriver → TimingWhat → Option JoinCause
 cause_of_what timing driver (Delay delay) = unless (not (is_input driver)) NotGate None
 cause_of_what timing driver (Init value) = unless (is_flop driver) NotFlop None
 cause_of_what timing driver (Pin place delay) = unless (has_pin driver place) NotPin None
@@ -184,7 +184,7 @@ abbrev pub joined_gate : netlists.Content → timings.Content → ℕ → Bool �
 joined_gate netlist timing s true kind pins = circuits.Flop (flop_of netlist timing s pins)
 joined_gate netlist timing s false kind pins = circuits.Gate kind (pins_with pins (pin_delays netlist timing s kind pins))
 
-abbrev pub joined_driver : netlists.Content → timings.Content → List SetRow → ℕ → Driver → circuits.Driver
+abbrev pub joined_driver : netlists.Content → timings.Content → List SetRow → ℕ → NetlistDriver → circuits.Driver
 joined_driver netlist timing sets s Primary = circuits.Input (settings_of netlist sets s)
 joined_driver netlist timing sets s (Driven kind pins) = joined_gate netlist timing s (is_dff kind) kind pins
 
@@ -205,6 +205,6 @@ design_of netlist timing stimulus =
     (record { netlist = netlist; circuit = circuit_from netlist timing stimulus })
 
 -- the answer is this one, unless memory ran out
-abbrev pub Answers : Result Joined JoinFault → Result Joined JoinFault → Type 0
-Answers (Ok joined) said = said ≡ Ok joined
-Answers (Err fault) said = (fault ≡ out_of_memory) ⊎ (said ≡ Err fault)
+abbrev pub AnswersDesign : Result Joined JoinFault → Result Joined JoinFault → Type 0
+AnswersDesign (Ok joined) said = said ≡ Ok joined
+AnswersDesign (Err fault) said = (fault ≡ out_of_memory) ⊎ (said ≡ Err fault)

@@ -1,9 +1,6 @@
 pub mod Joined
-pub mod Sources
+pub mod KeptDesigns
 pub mod Pins
-pub mod Lists
-pub mod Given
-pub mod Walk
 pub mod Causes
 pub mod Join
-pub mod Said
+pub mod inner

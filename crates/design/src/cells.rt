@@ -9,8 +9,8 @@ ghost use Rattle.circuit_meaning.specs.Circuit.{AreFlopLimits};
 ghost use Rattle.circuit_meaning.specs.Forward as forward;
 ghost use Rattle.circuit_meaning.specs.Forward.{input_value};
 ghost use Rattle.circuit_meaning.specs.Cells.{next_setting, input_start};
-ghost use Rattle.design.specs.Sources.{InTimeOrder};
-ghost use Rattle.design.specs.Given.{last_of, next_of, later_of};
+ghost use Rattle.design.specs.inner.KeptDesigns.{InTimeOrder};
+ghost use Rattle.design.specs.inner.Given.{last_of, next_of, later_of};
 
 use circuit_meaning::{FlipFlop, Setting};
 use flip_flops::last_edge;
@@ -150,11 +150,11 @@ pub fn later_span(delay: u32, heard: Option<Span>, time: u32, limit: u32) -> Spa
     requires delay { (1 ≤ delay) × (delay ≤ 1000000) }
     requires time { time < limit }
     requires limit { limit ≤ 1000001 }
-    requires heard { IfSome heard (λ source. source.start + delay ≤ time) }
+    requires heard { IfSome heard (λ span. span.start + delay ≤ time) }
     ensures { result ≡ cut_at limit (later_of delay heard) }
 {
     match heard {
         None => span_of(0, delay.min(limit)),
-        Some(source) => source.moved(delay, limit).unwrap(),
+        Some(span) => span.moved(delay, limit).unwrap(),
     }
 }

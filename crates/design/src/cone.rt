@@ -2,13 +2,13 @@
 
 ghost use Rattle.std.specs.Prelude.{◌≡◌, ◌<◌, ◌↔◌, ◌∷◌, [], length, All, IsTrue, OnOk, IfOk};
 ghost use Rattle.circuit_meaning.specs.Need.{IsInCone};
-ghost use Rattle.design.specs.Walk.{Marks};
+ghost use Rattle.design.specs.inner.Walk.{Marks};
 
 use crate::design::Design;
 use backsim_io::OutOfMemory;
 use std::alloc::{AllocError, Global};
 
-/// A walk: for each signal whether it is marked, and the marked signals that still lie ahead.
+/// A walk: for each signal whether it is marked, and the marked signals that are still to be visited.
 #[derive(Drop)]
 struct Walk {
     marks: Vec<bool>,
@@ -16,7 +16,7 @@ struct Walk {
 }
 
 impl Walk {
-    /// Marks a signal; if it was not marked, it comes ahead.
+    /// Marks a signal; if it was not marked, it is still to be visited.
     fn mark(&mut self, signal: u32) -> Result<(), AllocError>
         requires { signal < length self.old.marks.items }
         ensures { OnOk result (Marks (signal ∷ []) self.old.marks.items self.new.marks.items self.old.ahead.items self.new.ahead.items) }
@@ -28,7 +28,7 @@ impl Walk {
         Ok(())
     }
 
-    /// Marks these signals; those that were not marked come ahead.
+    /// Marks these signals; those that were not marked are still to be visited.
     fn mark_all(&mut self, signals: &[u32]) -> Result<(), AllocError>
         requires { All (λ x. x < length self.old.marks.items) signals.now }
         ensures { OnOk result (Marks signals.now self.old.marks.items self.new.marks.items self.old.ahead.items self.new.ahead.items) }

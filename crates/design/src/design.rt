@@ -4,16 +4,17 @@ ghost use Rattle.std.specs.Prelude.{◌≡◌, ◌+◌, ◌<◌, ◌≤◌, leng
 ghost use Rattle.circuit_meaning.specs.Circuit.{driver, read_by};
 ghost use Rattle.circuit_meaning.specs.Cells.{span};
 ghost use Rattle.circuit_meaning.specs.Need.{IsEvaluable};
-ghost use Rattle.circuit_meaning.specs.Looks.{kind_of, pin_sources, looked_sources, pin_interval, met_interval};
-ghost use Rattle.design.specs.Join.{Answers, design_of};
+ghost use Rattle.circuit_meaning.specs.Looks.{kind_of, pin_points, looked_points, pin_interval, met_interval};
+ghost use Rattle.design.specs.Join.{AnswersDesign, design_of};
 ghost use Rattle.design.specs.Joined.{IsDesign};
-ghost use Rattle.design.specs.Pins.{cell_of, pin_at, heard_of};
-ghost use Rattle.design.specs.Sources.{IsSourceOf};
+ghost use Rattle.circuit_meaning.specs.Cells.{cell_at, point_at};
+ghost use Rattle.design.specs.Pins.{pin_at, heard_of};
+ghost use Rattle.design.specs.inner.KeptDesigns.{IsViewOf};
 
 use crate::cells::{early_gate, flop_span, idle_flop, input_cell, later_span, shown_edge, span_of};
 use crate::fault::JoinFault;
 use crate::lists::Lists;
-use crate::rows::{Row, Source, signals_of};
+use crate::rows::{Row, SignalView, signals_of};
 use crate::settings;
 use crate::stated::{Rows, Stated};
 use bench_reader::Netlist;
@@ -40,11 +41,11 @@ impl Model for Design {
 
     ghost Value = { Joined };
 
-    ghost use Rattle.design.specs.Sources.{joined_of, IsKept};
+    ghost use Rattle.design.specs.inner.KeptDesigns.{joined_of, IsKeptDesign};
 
     ghost view = { λ d. joined_of (record { horizon = d.horizon; netlist = d.netlist; rows = d.rows.items; delays = d.delays; settings = d.settings }) };
 
-    ghost invariant = { λ d. IsKept (record { horizon = d.horizon; netlist = d.netlist; rows = d.rows.items; delays = d.delays; settings = d.settings }) };
+    ghost invariant = { λ d. IsKeptDesign (record { horizon = d.horizon; netlist = d.netlist; rows = d.rows.items; delays = d.delays; settings = d.settings }) };
 }
 
 impl Design {
@@ -56,7 +57,7 @@ impl Design {
         timing: &Timing,
         stimulus: &Stimulus,
     ) -> Result<Design, JoinFault>
-        ensures { Answers result (design_of netlist timing.now stimulus.now) }
+        ensures { AnswersDesign result (design_of netlist timing.now stimulus.now) }
     {
         netlist.facts();
         timing.facts();
@@ -105,20 +106,20 @@ impl Design {
     }
 
     /// What is kept of a signal.
-    fn source(&self, signal: u32) -> Source<'_>
+    fn view(&self, signal: u32) -> SignalView<'_>
         requires { signal < length self.now.circuit.drivers }
-        ensures source { IsSourceOf self.now.circuit signal result }
+        ensures view { IsViewOf self.now.circuit signal result }
         ensures design { IsDesign self.now }
     {
         match self.rows[signal as usize] {
-            Row::Input => Source::Input(self.settings.list(signal)),
-            Row::Gate { kind, least } => Source::Gate {
+            Row::Input => SignalView::Input(self.settings.list(signal)),
+            Row::Gate { kind, least } => SignalView::Gate {
                 kind,
                 signals: signals_of(&self.netlist, signal),
                 delays: self.delays.list(signal),
                 least,
             },
-            Row::Flop(flop) => Source::Flop {
+            Row::Flop(flop) => SignalView::Flop {
                 flop,
                 signals: signals_of(&self.netlist, signal),
             },
@@ -138,10 +139,10 @@ impl Design {
         ensures reads { result.now ≡ read_by (driver self.now.circuit signal) }
         ensures signals { All (λ read. read < length self.now.circuit.drivers) result.now }
     {
-        match self.source(signal) {
-            Source::Input(_) => &[],
-            Source::Gate { signals, .. } => signals,
-            Source::Flop { signals, .. } => signals,
+        match self.view(signal) {
+            SignalView::Input(_) => &[],
+            SignalView::Gate { signals, .. } => signals,
+            SignalView::Flop { signals, .. } => signals,
         }
     }
 
@@ -149,15 +150,15 @@ impl Design {
     pub fn base(&self, signal: u32, time: u32) -> Option<Cell>
         requires signal { signal < length self.now.circuit.drivers }
         requires time { time ≤ self.now.circuit.horizon }
-        ensures cell { IfSome result (λ cell. cell ≡ cell_of self.now.circuit signal time) }
+        ensures cell { IfSome result (λ cell. cell ≡ cell_at self.now.circuit (point_at signal time)) }
         ensures some { OnSome result (IsEvaluable self.now.circuit signal time → ⊥) }
         ensures none { IfNone result (IsEvaluable self.now.circuit signal time) }
     {
         let limit = self.limit();
-        match self.source(signal) {
-            Source::Input(settings) => Some(input_cell(settings, time, limit)),
-            Source::Gate { least, .. } => early_gate(least, time, limit),
-            Source::Flop { flop, .. } => idle_flop(&flop, time, limit),
+        match self.view(signal) {
+            SignalView::Input(settings) => Some(input_cell(settings, time, limit)),
+            SignalView::Gate { least, .. } => early_gate(least, time, limit),
+            SignalView::Flop { flop, .. } => idle_flop(&flop, time, limit),
         }
     }
 
@@ -168,10 +169,10 @@ impl Design {
         ensures kind { result.0 ≡ kind_of (driver self.now.circuit signal) }
         ensures pins { result.1.now ≡ read_by (driver self.now.circuit signal) }
     {
-        match self.source(signal) {
-            Source::Input(_) => unreachable!(),
-            Source::Gate { kind, signals, .. } => (kind, signals),
-            Source::Flop { signals, .. } => (Kind::Dff, signals),
+        match self.view(signal) {
+            SignalView::Input(_) => unreachable!(),
+            SignalView::Gate { kind, signals, .. } => (kind, signals),
+            SignalView::Flop { signals, .. } => (Kind::Dff, signals),
         }
     }
 
@@ -181,13 +182,13 @@ impl Design {
         requires time { time ≤ self.now.circuit.horizon }
         requires evaluable { IsEvaluable self.now.circuit signal time }
         requires pin { pin < length (read_by (driver self.now.circuit signal)) }
-        ensures source { slice_get (pin_sources self.now.circuit signal time) pin ≡ Some (option_map (pin_at self.now.circuit signal pin) result) }
+        ensures source { slice_get (pin_points self.now.circuit signal time) pin ≡ Some (option_map (pin_at self.now.circuit signal pin) result) }
         ensures earlier { IfSome result (λ child. child < time) }
     {
-        match self.source(signal) {
-            Source::Input(_) => unreachable!(),
-            Source::Gate { delays, .. } => time.checked_sub(delays[pin as usize]),
-            Source::Flop { flop, .. } => shown_edge(&flop, time),
+        match self.view(signal) {
+            SignalView::Input(_) => unreachable!(),
+            SignalView::Gate { delays, .. } => time.checked_sub(delays[pin as usize]),
+            SignalView::Flop { flop, .. } => shown_edge(&flop, time),
         }
     }
 
@@ -202,10 +203,10 @@ impl Design {
         ensures { result ≡ pin_interval self.now.circuit signal time pin }
     {
         let limit = self.limit();
-        match self.source(signal) {
-            Source::Input(_) => unreachable!(),
-            Source::Gate { delays, .. } => later_span(delays[pin as usize], heard, time, limit),
-            Source::Flop { flop, .. } => flop_span(&flop, time, limit),
+        match self.view(signal) {
+            SignalView::Input(_) => unreachable!(),
+            SignalView::Gate { delays, .. } => later_span(delays[pin as usize], heard, time, limit),
+            SignalView::Flop { flop, .. } => flop_span(&flop, time, limit),
         }
     }
 
@@ -214,14 +215,14 @@ impl Design {
         requires signal { signal < length self.now.circuit.drivers }
         requires time { time ≤ self.now.circuit.horizon }
         requires evaluable { IsEvaluable self.now.circuit signal time }
-        requires looked { looked ≡ met_interval self.now.circuit signal time (length (looked_sources self.now.circuit signal time)) }
+        requires looked { looked ≡ met_interval self.now.circuit signal time (length (looked_points self.now.circuit signal time)) }
         ensures { result ≡ span self.now.circuit signal time }
     {
         let limit = self.limit();
-        match self.source(signal) {
-            Source::Input(_) => unreachable!(),
-            Source::Gate { least, .. } => looked.meet(span_of(least, limit)).unwrap(),
-            Source::Flop { .. } => looked,
+        match self.view(signal) {
+            SignalView::Input(_) => unreachable!(),
+            SignalView::Gate { least, .. } => looked.meet(span_of(least, limit)).unwrap(),
+            SignalView::Flop { .. } => looked,
         }
     }
 }

@@ -28,7 +28,7 @@ pub enum JoinCause {
 }
 
 impl JoinCause {
-    /// The number of the cause.
+    /// The number of the cause. A refusal prints it and 10 more; that of `OutOfMemory` is never printed.
     pub fn number(self) -> u8
         ensures { result ≡ number_of self }
     {

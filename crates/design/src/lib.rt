@@ -1,9 +1,9 @@
 //! A design: a netlist joined with its delays, clocks and settings.
 //!
-//! [`Design::join`] makes it of a `Netlist`, a `Timing` and a `Stimulus`, or answers the first row at fault. From then on a signal
-//! is a number. Contracts see a design as the netlist's content and one circuit of `circuit_meaning`; the calls answer what that
-//! circuit's definitions say of a signal at a time, so that a caller needs no word of how delays, clocks and settings are kept.
-//! [`Design::facts`] hands out what holds of every design.
+//! [`Design::join`] makes it of a `Netlist`, a `Timing` and a `Stimulus`, or answers the first row at fault: `specs/Join` says which
+//! row has which cause, and what the design is. From then on a signal is a number. Contracts see a design as the netlist's content
+//! and one circuit of `circuit_meaning`; the calls answer what that circuit's definitions say of a signal at a time, so that a
+//! caller needs no word of how delays, clocks and settings are kept. [`Design::facts`] hands out what holds of every design.
 //!
 //! What a call costs: `base` finds an input's setting by binary search, in O(log n) for its n settings, and takes constant time for
 //! a gate or a flip-flop; `gate_of`, `child_time`, `pin_span`, `span_over`, `netlist` and `horizon` take constant time; none of

@@ -12,7 +12,7 @@ pub struct Range {
     pub length: usize,
 }
 
-/// A list of lists, one behind another in one array.
+/// A list of lists, one after another in one array.
 #[derive(Drop)]
 pub struct Lists<T: Copy> {
     ranges: Vec<Range>,
@@ -21,7 +21,7 @@ pub struct Lists<T: Copy> {
 
 impl<T: Copy> Model for Lists<T> {
     ghost use Rattle.std.specs.Prelude.{List};
-    ghost use Rattle.design.specs.Lists.{pieces, ArePieces};
+    ghost use Rattle.design.specs.inner.Lists.{pieces, ArePieces};
 
     ghost Value = { List (List T) };
 
@@ -49,7 +49,7 @@ impl<T: Copy> Lists<T> {
         }
     }
 
-    /// Adds a list behind the others.
+    /// Adds a list after the others.
     pub fn push(&mut self, list: &[T]) -> Result<(), AllocError>
         ensures { OnOk result (self.new ≡ self.old ++ list.now ∷ []) }
     {

@@ -19,7 +19,7 @@ pub enum Row {
 
 /// All that is kept of a signal.
 #[derive(Clone, Copy)]
-pub enum Source<'a> {
+pub enum SignalView<'a> {
     /// Its settings in the order of time.
     Input(&'a [Setting]),
     Gate {

@@ -4,7 +4,7 @@ ghost use Rattle.std.specs.Prelude.{◌≡◌, List, [], IfOk, map, length, repl
 ghost use Rattle.design.specs.declared.fault.JoinFile.TheVariants as file;
 ghost use Rattle.stimulus_file.specs.declared.SetRow.{SetRow as RowOf};
 ghost use Rattle.design.specs.Join as join;
-ghost use Rattle.design.specs.Said.{HasSets, TakesSet, TakesSets};
+ghost use Rattle.design.specs.inner.Said.{HasSets, TakesSet, TakesSets};
 
 use crate::fault::{JoinCause, JoinFault, JoinFile};
 use crate::lists::Lists;

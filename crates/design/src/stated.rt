@@ -3,15 +3,15 @@
 ghost use Rattle.std.specs.Prelude.{◌≡◌, ◌++◌, ◌∷◌, [], ◌<◌, List, Some, IfOk, IfErr, OnOk, length, map};
 ghost use Rattle.std.specs.List.{range_with_len};
 ghost use Rattle.bench_reader.specs.Netlists as netlists;
-ghost use Rattle.bench_reader.specs.Kept.{driver_of_row};
+ghost use Rattle.bench_reader.specs.KeptNetlists.{driver_of_row};
 ghost use Rattle.timing_file.specs.Timing as timings;
 ghost use Rattle.timing_file.specs.declared.TimingRow.{TimingRow as RowOf};
 ghost use Rattle.design.specs.declared.fault.JoinFile.TheVariants as file;
 ghost use Rattle.design.specs.Causes.{out_of_memory};
 ghost use Rattle.design.specs.Join as join;
 ghost use Rattle.design.specs.Join.{number, cause_of_what, clock_named, flop_of};
-ghost use Rattle.design.specs.Said as said;
-ghost use Rattle.design.specs.Said.{KnowsClocks, HasStated, TakesRow, TakesRows, KeepsRows, delays_of, row_of};
+ghost use Rattle.design.specs.inner.Said as said;
+ghost use Rattle.design.specs.inner.Said.{KnowsClocks, HasStated, TakesRow, TakesRows, KeepsRows, delays_of, row_of};
 
 use crate::fault::{JoinCause, JoinFault, JoinFile};
 use crate::lists::Lists;
@@ -73,7 +73,7 @@ fn refused(cause: JoinCause, row: &TimingRow) -> JoinFault
 fn row_at(netlist: &Netlist, signal: u32) -> NetlistRow<'_>
     requires { signal < length netlist.now.names }
     ensures driver { driver_of_row result ≡ join.driver_at netlist.now signal }
-    ensures sound { netlists.IsDriver (length netlist.now.names) (driver_of_row result) }
+    ensures sound { netlists.IsNetlistDriver (length netlist.now.names) (driver_of_row result) }
 {
     netlist.facts();
     netlist.row(signal)

@@ -394,7 +394,7 @@ fn cones_of_signals(rt: HostRuntime) -> Result<(), Fail> {
         (C17, "22", "19", false),
         (C17, "22", "23", false),
         (C17, "3", "22", false),
-        // a cone goes on behind a flip-flop, and may lead back to its signal
+        // a cone goes on after a flip-flop, and may lead back to its signal
         (S27, "G13", "G7", true),
         (S27, "G13", "G1", true),
         (S27, "G13", "G0", false),

@@ -44,7 +44,7 @@ pub fn last_edge(clock: &Clock, delay: u32, t: u32) -> Option<u32>
 }
 
 /// The times about `t` at which a flip-flop with this delay shows the same edge, or none: the first of them, and the first
-/// time behind them, which is at most `cut`.
+/// time after them, which is at most `cut`.
 pub fn flop_span(clock: &Clock, delay: u32, t: u32, cut: u32) -> (u32, u32)
     requires clock { IsClock clock.now }
     requires delay { (1 ≤ delay) × (delay ≤ 1000000) }

@@ -1,7 +1,8 @@
 //! The values that signals take, the kinds of gates, and the truth table.
 //!
 //! A [`Value`] is 0, 1, x (unknown) or z (not driven). The tables are those of the gate primitives of IEEE 1364: a pin
-//! that is z counts as x, and no gate gives z. [`eval_all`] is the table over the whole list of a gate's pins.
+//! that is z counts as x, and no gate gives z. [`eval_all`] is the table over the whole list of a gate's pins, as `specs/Gates`
+//! has it.
 //!
 //! Often the first pins settle the value: a 0 at an AND decides it, whatever the others are. Two types look at the pins
 //! one at a time for that reason. A [`Look`] keeps the values that it has seen, up to 64 of them. An [`Evaluation`] keeps
@@ -347,7 +348,7 @@ impl Look {
         requires some { 1 ≤ length self.now.values }
         requires one { IsTrue (is_unary self.now.kind) → length self.now.values ≡ 1 }
         ensures value { result ≡ gate_value self.now.kind self.now.values }
-        // once a value has decided, so it is whatever the pins behind it are
+        // once a value has decided, so it is whatever the pins after it are
         ensures decided { Decided self.now → (rest : List Value) → gate_value self.now.kind (self.now.values ++ rest) ≡ result }
     {
         eval_all(self.kind, &self.seen[..self.count])

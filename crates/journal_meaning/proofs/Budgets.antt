@@ -6,16 +6,17 @@ use Rattle.std.specs.Option.{option_or}
 use Rattle.std.specs.List.{cons_option}
 use Rattle.valid_intervals.specs.declared.Point.{Point}
 use Rattle.circuit_meaning.specs.Circuit.{IsCircuit}
-use Rattle.journal_meaning.specs.declared.Query.{Query}
+use Rattle.batch_meaning.specs.declared.Query.{Query}
 use Rattle.journal_meaning.specs.declared.Entry.{Entry}
 use Rattle.journal_meaning.specs.declared.Entry.TheVariants.{Told, Claimed, Filled, Evicted, Dropped, Spent}
 use Rattle.journal_meaning.specs.States.{fresh}
 use Rattle.valid_intervals.specs.Cells.{same_point}
 use Rattle.valid_intervals.specs.declared.SignalCell.{SignalCell}
-use Rattle.journal_meaning.specs.Batch.{Batch, IsNeededBy}
+use Rattle.batch_meaning.specs.Batches.{Batch, IsNeededBy}
 use Rattle.journal_meaning.specs.Replay.{IsLegalBatch}
 use Rattle.journal_meaning.specs.Answers.{is_of, last_of, is_fill_of, filled, IsSpent, IsAnswer}
-use Rattle.journal_meaning.specs.Laws.{NoEviction, HasRoom, of_batch, IsLegalFrom, IsRoomy, IsOwnQuery, NeedsMoreThan, NeedsAtMost}
+use Rattle.journal_meaning.specs.Laws.{NoEviction, HasRoom, IsLegalFrom, IsRoomy, IsOwnQuery, NeedsMoreThan, NeedsAtMost}
+use Rattle.journal_meaning.specs.Sections.{of_batch}
 use Rattle.circuit_meaning.specs.Forward.{wave}
 use Rattle.circuit_meaning.specs.declared.Run.{Run}
 use Rattle.journal_meaning.proofs.Same.{same_point-true, same_point-itself}

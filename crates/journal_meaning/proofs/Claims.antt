@@ -6,11 +6,11 @@ use Rattle.circuit_meaning.specs.Circuit.{Circuit, IsCircuit}
 use Rattle.circuit_meaning.proofs.Cover.{cell-covers}
 use Rattle.journal_meaning.specs.declared.Entry.{Entry}
 use Rattle.journal_meaning.specs.declared.Entry.TheVariants.{Told, Claimed, Filled, Evicted, Dropped, Spent}
-use Rattle.journal_meaning.specs.States.{Claim, State, is_covered, holder, without}
+use Rattle.journal_meaning.specs.States.{Claim, State, is_covered, holder, without_point}
 use Rattle.journal_meaning.specs.Table.{Needs, after}
 use Rattle.valid_intervals.specs.Cells.{same_point, covers, cell_for}
 use Rattle.valid_intervals.specs.declared.SignalCell.{SignalCell}
-use Rattle.journal_meaning.specs.Batch.{cell_at}
+use Rattle.circuit_meaning.specs.Cells.{cell_at}
 use Rattle.journal_meaning.proofs.Same.{same_point-true, same_point-itself}
 use Rattle.journal_meaning.proofs.Lists.{Each, Stands, stands-any, test-false}
 
@@ -28,10 +28,10 @@ holder-filter test (c ∷ claims) p h =
       ]
     ] refl h
 
-pub holder-without : (claims : List Claim) (p : Point) → holder (without claims p) p ≡ None
+pub holder-without : (claims : List Claim) (p : Point) → holder (without_point claims p) p ≡ None
 holder-without [] p = refl
 holder-without (c ∷ claims) p =
-    elim (same_point p c.point) as (λ b. same_point p c.point ≡ b → holder (cond (not b) (c ∷ without claims p) (without claims p)) p ≡ None) [
+    elim (same_point p c.point) as (λ b. same_point p c.point ≡ b → holder (cond (not b) (c ∷ without_point claims p) (without_point claims p)) p ≡ None) [
       | true ↦ λ e. holder-without claims p
       | false ↦ λ e. rw e (holder-without claims p)
     ] refl
@@ -63,11 +63,11 @@ claim-here claims p q = rw (same_point-itself p) refl
 pub claim-other : (claims : List Claim) (p r : Point) (q : ℕ) → r ≢ p → holder (record { query = q; point = p } ∷ claims) r ≡ holder claims r
 claim-other claims p r q h = rw (test-false same_point same_point-true same_point-itself r p h) refl
 
-pub without-other : (claims : List Claim) (p r : Point) → r ≢ p → holder (without claims p) r ≡ holder claims r
+pub without-other : (claims : List Claim) (p r : Point) → r ≢ p → holder (without_point claims p) r ≡ holder claims r
 without-other [] p r h = refl
 without-other (c ∷ claims) p r h = elim (cases_point p c.point) [
   | inl e ↦ rw (e.0, test-false same_point same_point-true same_point-itself r c.point (λ k. h (k ∙ sym e.1))) (without-other claims p r h)
-  | inr e ↦ rw e.0 (elim (same_point r c.point) as (λ t. option_map (λ (c : Claim). c.query) (cond t (Some c) (find (λ c. same_point r c.point) (without claims p))) ≡ option_map (λ (c : Claim). c.query) (cond t (Some c) (find (λ c. same_point r c.point) claims))) [
+  | inr e ↦ rw e.0 (elim (same_point r c.point) as (λ t. option_map (λ (c : Claim). c.query) (cond t (Some c) (find (λ c. same_point r c.point) (without_point claims p))) ≡ option_map (λ (c : Claim). c.query) (cond t (Some c) (find (λ c. same_point r c.point) claims))) [
     | true ↦ refl
     | false ↦ without-other claims p r h
   ])
@@ -80,9 +80,9 @@ holder-claimed claims q p x = elim (cases_point p x) [
   | inr e ↦ claim-other claims p x q (λ k. e.1 (sym k)) ∙ rw e.0 refl
 ]
 
-pub holder-ended : (claims : List Claim) (p x : Point) → holder (without claims p) x ≡ cond (same_point p x) None (holder claims x)
+pub holder-ended : (claims : List Claim) (p x : Point) → holder (without_point claims p) x ≡ cond (same_point p x) None (holder claims x)
 holder-ended claims p x = elim (cases_point p x) [
-  | inl e ↦ subst (λ z. holder (without claims p) z ≡ None) e.1 (holder-without claims p) ∙ rw e.0 refl
+  | inl e ↦ subst (λ z. holder (without_point claims p) z ≡ None) e.1 (holder-without claims p) ∙ rw e.0 refl
   | inr e ↦ without-other claims p x (λ k. e.1 (sym k)) ∙ rw e.0 refl
 ]
 

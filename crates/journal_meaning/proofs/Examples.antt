@@ -1,9 +1,9 @@
 -- Worked examples: journals that are legal, computed from the definitions.
-use Rattle.std.proofs.Common.{◌≡◌, ℕ, refl, arith, [], ◌∷◌, List, Some, None}
+use Rattle.std.proofs.Common.{◌≡◌, ℕ, refl, arith, [], ◌∷◌, List, Some, None, true≢false, ap, nat_eq}
 use Rattle.gate_values.specs.declared.Value.{Value}
 use Rattle.gate_values.specs.declared.Value.TheVariants.{Zero, One, X}
 use Rattle.gate_values.specs.declared.Kind.TheVariants.{And, Nand, Not, Buff}
-use Rattle.circuit_meaning.specs.Held.{held}
+use Rattle.circuit_meaning.specs.Forced.{forced}
 use Rattle.valid_intervals.specs.declared.Point.{Point}
 use Rattle.circuit_meaning.specs.declared.Window.{Window}
 use Rattle.circuit_meaning.specs.declared.Setting.{Setting}
@@ -14,12 +14,11 @@ use Rattle.circuit_meaning.specs.Cells.{span, least_delay, next_setting}
 use Rattle.valid_intervals.specs.Spans.{from_to}
 use Rattle.circuit_meaning.specs.Need.{children, IsRoot, First, Next, IsNeeded, Root, Child}
 use Rattle.valid_intervals.specs.declared.Cell.{Cell}
-use Rattle.journal_meaning.specs.declared.Query.{Query}
+use Rattle.batch_meaning.specs.declared.Query.{Query}
 use Rattle.journal_meaning.specs.declared.Entry.{Entry}
 use Rattle.journal_meaning.specs.declared.Entry.TheVariants.{Told, Claimed, Filled, Evicted, Dropped, Spent}
 use Rattle.journal_meaning.specs.States.{fresh}
-use Rattle.journal_meaning.specs.Batch.{Batch, window_of, OfQuery, IsNeededBy}
-use Rattle.std.proofs.Common.{true≢false, ap, nat_eq}
+use Rattle.batch_meaning.specs.Batches.{Batch, window_of, OfQuery, IsNeededBy}
 use Rattle.std.proofs.lemmas.List.Elements.{All-from_recursion}
 use Rattle.journal_meaning.specs.Answers.{IsSpent, last_of}
 use Rattle.journal_meaning.proofs.Lists.{pairs_to}
@@ -249,7 +248,7 @@ abbrev pub stuck_query : Query
 stuck_query = record { number = 1; signal = 1; from = 0; to = 11; budget = 50000 }
 
 abbrev pub stuck_chain : Circuit
-stuck_chain = held chain 2 Zero
+stuck_chain = forced chain 2 Zero
 
 abbrev pub apart : Batch
 apart = record { circuit = stuck_chain; shards = 1; capacity = 65536; queries = stuck_query ∷ []; site = None }

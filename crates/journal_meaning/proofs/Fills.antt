@@ -10,7 +10,9 @@ use Rattle.journal_meaning.specs.declared.Entry.{Entry}
 use Rattle.journal_meaning.specs.declared.Entry.TheVariants.{Told, Claimed, Filled, Evicted, Dropped, Spent}
 use Rattle.journal_meaning.specs.States.{State, fresh, holder}
 use Rattle.journal_meaning.specs.Table.{Needs, after}
-use Rattle.journal_meaning.specs.Batch.{Batch, IsAllowed, cell_at}
+use Rattle.batch_meaning.specs.Batches.{Batch}
+use Rattle.journal_meaning.specs.Allowed.{IsAllowed}
+use Rattle.circuit_meaning.specs.Cells.{cell_at}
 use Rattle.journal_meaning.specs.Replay.{IsLegal}
 use Rattle.journal_meaning.specs.Counts.{is_fill_at, fills_at, is_eviction_of, evictions_of}
 use Rattle.journal_meaning.proofs.Same.{same_point-true, same_point-itself}

@@ -12,14 +12,17 @@ use Rattle.circuit_meaning.specs.Circuit.{Circuit}
 use Rattle.circuit_meaning.specs.Need.{children}
 use Rattle.journal_meaning.specs.declared.Entry.{Entry}
 use Rattle.journal_meaning.specs.declared.Entry.TheVariants.{Told, Claimed, Filled, Evicted, Dropped, Spent}
-use Rattle.journal_meaning.specs.declared.Query.{Query}
+use Rattle.batch_meaning.specs.declared.Query.{Query}
 use Rattle.journal_meaning.specs.States.{State}
 use Rattle.journal_meaning.specs.Table.{after}
-use Rattle.journal_meaning.specs.Batch.{Batch, IsAllowed}
+use Rattle.batch_meaning.specs.Batches.{Batch}
+use Rattle.journal_meaning.specs.Allowed.{IsAllowed}
 use Rattle.journal_meaning.specs.Replay.{IsLegal}
 use Rattle.journal_meaning.specs.Answers.{IsCovered, ChildrenCovered, is_of, last_of, is_fill_of, filled, IsSpent}
-use Rattle.journal_meaning.specs.Laws.{of_batch}
-use Rattle.journal_meaning.specs.Grown.{IsSaid, IsFor, IsForOther, IsHome, AreHome, count, is_booked, booked, is_spent_of, refusals, Grows, IsLonger, AreAdded}
+use Rattle.journal_meaning.specs.Sections.{of_batch}
+use Rattle.journal_meaning.specs.Grown.{IsSaid, IsFor, is_spent_of, refusals, GrowsBy, IsLonger, AreAdded}
+use Rattle.journal_meaning.specs.Counts.{count, is_booked, booked}
+use Rattle.journal_meaning.specs.inner.Grown.{IsForOther, IsHome, AreHome}
 use Rattle.journal_meaning.proofs.Same.{same_point-true}
 use Rattle.journal_meaning.proofs.Lists.{Each, each-append, each-imply}
 
@@ -46,8 +49,8 @@ last-none (e ∷ es) q p h = rw (last-none es q p h.1, h.0) refl
 pub count-append : (test : Entry → Bool) (xs ys : List Entry) → count test (xs ++ ys) ≡ count test xs + count test ys
 count-append test xs ys = ap length (filter-append test xs ys) ∙ length-append (filter test xs) (filter test ys)
 
--- one list of entries behind another
-pub grows-append : (old added : List Entry) → Grows old added (old ++ added)
+-- one list of entries after another
+pub grows-append : (old added : List Entry) → GrowsBy old added (old ++ added)
 grows-append old added = record {
   kept = Contains-append_left old added;
   now = Contains-append_right old added;
@@ -56,10 +59,10 @@ grows-append old added = record {
   last = last-append old added;
 }
 
-pub grows-none : (old : List Entry) → Grows old [] old
-grows-none old = subst (Grows old []) (append-nil old) (grows-append old [])
+pub grows-none : (old : List Entry) → GrowsBy old [] old
+grows-none old = subst (GrowsBy old []) (append-nil old) (grows-append old [])
 
-pub grows-more : (a x b y c : List Entry) → Grows a x b → Grows b y c → Grows a (x ++ y) c
+pub grows-more : (a x b y c : List Entry) → GrowsBy a x b → GrowsBy b y c → GrowsBy a (x ++ y) c
 grows-more a x b y c g h = record {
   kept = λ e k. h.kept e (g.kept e k);
   now = λ e k. elim (Contains-append_cases x y e k) [ inl l ↦ h.kept e (g.now e l) | inr l ↦ h.now e l ];
@@ -156,8 +159,8 @@ splits shards j (suc k) (es ∷ rest) now h l =
       behind = λ q p at. s.behind q p (at ∙ omega arith);
     }
 
--- entries that are put between others grow them, where none behind them is of the same query and point
-between : (front list added back : List Entry) → ((q : ℕ) (p : Point) → last_of added q p ≢ None → last_of back q p ≡ None) → Grows (front ++ (list ++ back)) added (front ++ ((list ++ added) ++ back))
+-- entries that are put between others grow them, where none after them is of the same query and point
+between : (front list added back : List Entry) → ((q : ℕ) (p : Point) → last_of added q p ≢ None → last_of back q p ≡ None) → GrowsBy (front ++ (list ++ back)) added (front ++ ((list ++ added) ++ back))
 between front list added back none = record {
   kept = λ e k. elim (Contains-append_cases front (list ++ back) e k) [
     | inl l ↦ Contains-append_left front ((list ++ added) ++ back) e l
@@ -205,11 +208,11 @@ module _ (lists : List (List Entry)) (home : AreHome lists) (k : ℕ) (low : k <
   from-first : From (length lists) 0 lists
   from-first = λ i l. subst (λ n. Each (IsHome (length lists) n) (get_or lists i [])) (omega arith) (home.home i l)
 
-  one-together : Grows (of_batch lists) added (of_batch (slice_set lists k now))
+  one-together : GrowsBy (of_batch lists) added (of_batch (slice_set lists k now))
   one-together =
       let s = splits (length lists) 0 k lists now from-first low in
       let none = λ (q : ℕ) (p : Point) (some : last_of added q p ≢ None). last-none s.back q p (s.behind q p (at q p (last_of added q p) refl some ∙ omega arith)) in
-      subst (λ l. Grows l added (of_batch (slice_set lists k now))) (sym s.old) (subst (λ l. Grows (s.front ++ (get_or lists k [] ++ s.back)) added l) (sym s.new) (between s.front (get_or lists k []) added s.back none))
+      subst (λ l. GrowsBy l added (of_batch (slice_set lists k now))) (sym s.old) (subst (λ l. GrowsBy (s.front ++ (get_or lists k [] ++ s.back)) added l) (sym s.new) (between s.front (get_or lists k []) added s.back none))
     where
       at : (q : ℕ) (p : Point) (o : Option Entry) → last_of added q p ≡ o → last_of added q p ≢ None → p.signal % length lists ≡ k
       at q p None e some = absurd (some e)
@@ -262,15 +265,15 @@ record IsGrown (shards j : ℕ) (old new : List (List Entry)) : Type 0 where
 record AllGrown (shards j : ℕ) (old new : List (List Entry)) : Type 0 where
   added : List Entry
   lists : (i : ℕ) → i < length old → IsLonger (get_or old i []) added (get_or new i [])
-  together : Grows (of_batch old) added (of_batch new)
+  together : GrowsBy (of_batch old) added (of_batch new)
   from : (e : Entry) → Contains added e → (i : ℕ) × (i < length old) × ((more : List Entry) → get_or new i [] ≡ get_or old i [] ++ more → Contains more e)
 
--- what stands behind a list is all that does
+-- what stands after a list is all that does
 behind-same : (xs ys zs : List Entry) → xs ++ ys ≡ xs ++ zs → ys ≡ zs
 behind-same [] ys zs h = h
 behind-same (x ∷ xs) ys zs h = behind-same xs ys zs (cc h)
 
-grows-both : (l m rest mores news : List Entry) → Grows rest mores news → ((q : ℕ) (p : Point) → last_of m q p ≢ None → last_of rest q p ≡ None) → Grows (l ++ rest) (m ++ mores) ((l ++ m) ++ news)
+grows-both : (l m rest mores news : List Entry) → GrowsBy rest mores news → ((q : ℕ) (p : Point) → last_of m q p ≢ None → last_of rest q p ≡ None) → GrowsBy (l ++ rest) (m ++ mores) ((l ++ m) ++ news)
 grows-both l m rest mores news g none = record {
   kept = λ e k. elim (Contains-append_cases l rest e k) [
     | inl n ↦ Contains-append_left (l ++ m) news e (Contains-append_left l m e n)
@@ -326,7 +329,7 @@ all-grown shards j (x ∷ old) (y ∷ new) h g =
     record {
       added = m ++ rest.added;
       lists = lists m first.1 rest.added rest.lists;
-      together = subst (λ l. Grows (x ++ of_batch old) (m ++ rest.added) (l ++ of_batch new)) (sym first.1) (grows-both x m (of_batch old) rest.added (of_batch new) rest.together none);
+      together = subst (λ l. GrowsBy (x ++ of_batch old) (m ++ rest.added) (l ++ of_batch new)) (sym first.1) (grows-both x m (of_batch old) rest.added (of_batch new) rest.together none);
       from = λ e k. elim (Contains-append_cases m rest.added e k) [
         | inl l ↦ (0, omega arith, λ more same. subst (λ z. Contains z e) (behind-same x m more (sym first.1 ∙ same)) l)
         | inr l ↦ let n = rest.from e l in (suc n.0, (let i = n.1 in omega arith), n.2)
@@ -381,7 +384,7 @@ legal-home b k s [] h = tt
 legal-home b k s (e ∷ es) h = (allowed-home b k e h.1, legal-home b k (after s e) es h.2)
 
 -- what is said stays said, and what is covered stays covered
-module _ (old added new : List Entry) (g : Grows old added new) where
+module _ (old added new : List Entry) (g : GrowsBy old added new) where
   pub said-kept : (p : Point) → IsSaid old p → IsSaid new p
   said-kept p h = (h.0, g.kept h.0 h.1, h.2)
 
@@ -471,7 +474,7 @@ module _ (q : ℕ) (es : List Entry) (others : Each (IsForOther q) es) where
   others-refusals = count-none (is_spent_of q) es (each-imply (IsForOther q) (λ e. is_spent_of q e ≡ false) (other-refusals q) es others)
 
 -- what holds of a query over a batch's entries holds of more of them
-module _ (old added new : List Entry) (g : Grows old added new) where
+module _ (old added new : List Entry) (g : GrowsBy old added new) where
   -- the children of what the query evaluated stay covered, where those of what it evaluates now are
   pub children-kept : (c : Circuit) (q : ℕ) → ChildrenCovered c old q → ((p : Point) (x : Cell) → Contains added (Filled q p x) → All (IsCovered c new) (children c p.signal p.time)) → ChildrenCovered c new q
   children-kept c q h k = λ p x known. elim (g.only (Filled q p x) known) [

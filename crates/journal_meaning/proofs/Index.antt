@@ -8,18 +8,18 @@ use Rattle.valid_intervals.specs.declared.Cell.{Cell}
 use Rattle.valid_intervals.specs.declared.Point.{Point}
 use Rattle.valid_intervals.specs.Spans.{Span, IsIn}
 use Rattle.circuit_meaning.specs.Circuit.{Circuit, IsCircuit}
-use Rattle.circuit_meaning.specs.Cells.{span}
+use Rattle.circuit_meaning.specs.Cells.{span, cell_at}
 use Rattle.circuit_meaning.proofs.Cover.{cell-covers}
-use Rattle.journal_meaning.specs.Batch.{cell_at}
 use Rattle.journal_meaning.proofs.More.{right-within}
 use Rattle.journal_meaning.specs.declared.Entry.{Entry}
 use Rattle.journal_meaning.specs.declared.Entry.TheVariants.{Told, Claimed, Filled, Evicted, Dropped, Spent}
-use Rattle.valid_intervals.specs.Cells.{covers, cell_for}
+use Rattle.valid_intervals.specs.Cells.{covers, cell_for, point_cmp}
 use Rattle.journal_meaning.specs.Answers.{Says}
-use Rattle.journal_meaning.specs.Laws.{of_batch}
-use Rattle.journal_meaning.specs.Grown.{IsSaid, IsRightEntry}
+use Rattle.journal_meaning.specs.Sections.{of_batch}
+use Rattle.journal_meaning.specs.Grown.{IsSaid}
+use Rattle.journal_meaning.specs.inner.Grown.{IsRightEntry}
 use Rattle.journal_meaning.proofs.Lists.{Each, each-imply}
-use Rattle.journal_meaning.specs.Index.{Said, said_by, said, Covers, IsFound, point_cmp, place_of, StandsAt, IsIndexed}
+use Rattle.journal_meaning.specs.inner.Index.{SaidCell, cell_said, cells_said, Covers, IsFound, place_of, StandsAt, IsCellIndex}
 
 point-is : (a b : Point) → a.signal ≡ b.signal → a.time ≡ b.time → a ≡ b
 point-is a b e f = let at : ℕ → ℕ → Point = λ s t. record { signal = s; time = t } in ap₂ at e f
@@ -64,11 +64,11 @@ between low k high up down e =
     record { signal = same; low_time = time-down k low down other; high_time = time-up k high up same }
 
 -- a cell is right, within the horizon
-record IsCellOf (c : Circuit) (f : Said) : Type 0 where
+record IsCellOf (c : Circuit) (f : SaidCell) : Type 0 where
   right : f.cell ≡ cell_at c f.point
   within : f.point.time ≤ c.horizon
 
-is-cell : (c : Circuit) (cells : List Said) → All (λ f. f.cell ≡ cell_at c f.point) cells → All (λ f. f.point.time ≤ c.horizon) cells → (f : Said) → Contains cells f → IsCellOf c f
+is-cell : (c : Circuit) (cells : List SaidCell) → All (λ f. f.cell ≡ cell_at c f.point) cells → All (λ f. f.point.time ≤ c.horizon) cells → (f : SaidCell) → Contains cells f → IsCellOf c f
 is-cell c cells right within f known = record {
   right = All-contains (λ f. f.cell ≡ cell_at c f.point) cells f right known;
   within = All-contains (λ f. f.point.time ≤ c.horizon) cells f within known;
@@ -76,11 +76,11 @@ is-cell c cells right within f known = record {
 
 module _ (c : Circuit) (ok : IsCircuit c) where
   -- it is the cell at each of its times
-  steady : (f : Said) → IsCellOf c f → (t : ℕ) → IsIn f.cell.span t → f.cell ≡ cell_at c (record { signal = f.point.signal; time = t })
+  steady : (f : SaidCell) → IsCellOf c f → (t : ℕ) → IsIn f.cell.span t → f.cell ≡ cell_at c (record { signal = f.point.signal; time = t })
   steady f is t inside = right-within c ok (record { signal = f.point.signal; cell = f.cell }) (record { time = f.point.time; within = is.within; cell = is.right }) t inside
 
   -- its first time is one of them
-  own : (f : Said) → IsCellOf c f → IsIn f.cell.span f.cell.span.start
+  own : (f : SaidCell) → IsCellOf c f → IsIn f.cell.span f.cell.span.start
   own f is =
       let inside : IsIn (span c f.point.signal f.point.time) f.point.time = (cell-covers c ok f.point.time f.point.signal is.within).inside in
       let spans : f.cell.span ≡ span c f.point.signal f.point.time = ap (λ (x : Cell). x.span) is.right in
@@ -88,18 +88,18 @@ module _ (c : Circuit) (ok : IsCircuit c) where
       record { low = omega arith; high = omega (arith, here.low, here.high) }
 
   -- cells of a signal that have a time in common are the same
-  meets : (f g : Said) → IsCellOf c f → IsCellOf c g → f.point.signal ≡ g.point.signal → (t : ℕ) → IsIn f.cell.span t → IsIn g.cell.span t → f.cell ≡ g.cell
+  meets : (f g : SaidCell) → IsCellOf c f → IsCellOf c g → f.point.signal ≡ g.point.signal → (t : ℕ) → IsIn f.cell.span t → IsIn g.cell.span t → f.cell ≡ g.cell
   meets f g a b e t in_f in_g =
       let at : ℕ → Cell = λ s. cell_at c (record { signal = s; time = t }) in
       steady f a t in_f ∙ ap at e ∙ sym (steady g b t in_g)
 
-  same-cell : (f g : Said) → IsCellOf c f → IsCellOf c g → place_of f ≡ place_of g → f.cell ≡ g.cell
+  same-cell : (f g : SaidCell) → IsCellOf c f → IsCellOf c g → place_of f ≡ place_of g → f.cell ≡ g.cell
   same-cell f g a b e =
       let starts : f.cell.span.start ≡ g.cell.span.start = ap (λ (p : Point). p.time) e in
       let here : IsIn g.cell.span f.cell.span.start = subst (λ t. IsIn g.cell.span t) (sym starts) (own g b) in
       meets f g a b (ap (λ (p : Point). p.signal) e) f.cell.span.start (own f a) here
 
-  module _ (cells : List Said) (index : Point → Option Cell) (i : IsIndexed c cells index) (p : Point) where
+  module _ (cells : List SaidCell) (index : Point → Option Cell) (i : IsCellIndex c cells index) (p : Point) where
     stands-right : (k : Point) (cell : Cell) → StandsAt cells k cell → k.signal ≡ p.signal → IsIn cell.span p.time → (cell ≡ cell_at c p) × IsFound cells p
     stands-right k cell s same inside =
         let is = is-cell c cells i.right i.within s.of s.known in
@@ -116,10 +116,10 @@ module _ (c : Circuit) (ok : IsCircuit c) where
     found-some k cell e same inside = (stands-right k cell (i.only k cell e) same inside).1
 
     -- a cell that covers the point stands at or before it
-    stands-before : (f : Said) → Covers f p → is_gt (point_cmp (place_of f) p) ≡ false
+    stands-before : (f : SaidCell) → Covers f p → is_gt (point_cmp (place_of f) p) ≡ false
     stands-before f h = not-behind (place_of f) p h.signal h.time.low
 
-    stands : (f : Said) → Contains cells f → index (place_of f) ≡ Some f.cell
+    stands : (f : SaidCell) → Contains cells f → index (place_of f) ≡ Some f.cell
     stands f known = All-contains (λ f. index (place_of f) ≡ Some f.cell) cells f i.has known
 
     -- none is found where nothing stands at or before the point
@@ -148,9 +148,9 @@ module _ (c : Circuit) (ok : IsCircuit c) where
         other b.signal (subst (λ (x : Cell). IsIn x.span p.time) (same ∙ s.cell_is) h.2.time)
 
   -- one cell more
-  module _ (cells : List Said) (before after : Point → Option Cell) (i : IsIndexed c cells before) (point : Point) (cell : Cell) (right : cell ≡ cell_at c point) (within : point.time ≤ c.horizon) (place : Point) (place-is : place ≡ record { signal = point.signal; time = cell.span.start })
+  module _ (cells : List SaidCell) (before after : Point → Option Cell) (i : IsCellIndex c cells before) (point : Point) (cell : Cell) (right : cell ≡ cell_at c point) (within : point.time ≤ c.horizon) (place : Point) (place-is : place ≡ record { signal = point.signal; time = cell.span.start })
       (updates : (q : Point) → after q ≡ cond (is_eq (point_cmp place q)) (Some cell) (before q)) where
-    abbrev pub new : Said
+    abbrev pub new : SaidCell
     new = record { point = point; cell = cell }
 
     new-is : IsCellOf c new
@@ -159,7 +159,7 @@ module _ (c : Circuit) (ok : IsCircuit c) where
     at-place : (q : Point) → place ≡ q → after q ≡ Some cell
     at-place q e = updates q ∙ ap (λ b. cond b (Some cell) (before q)) (subst (λ x. is_eq (point_cmp place x) ≡ true) e (itself place))
 
-    has-old : (f : Said) → Contains cells f → after (place_of f) ≡ Some f.cell
+    has-old : (f : SaidCell) → Contains cells f → after (place_of f) ≡ Some f.cell
     has-old f known = elim (cases_Bool (is_eq (point_cmp place (place_of f)))) [
       | inl t ↦
           let e : place ≡ place_of f = same-place place (place_of f) t in
@@ -180,7 +180,7 @@ module _ (c : Circuit) (ok : IsCircuit c) where
           record { of = s.of; known = Contains-append_left cells (new ∷ []) s.of s.known; cell_is = s.cell_is; place = s.place }
     ]
 
-    pub index-more : IsIndexed c (cells ++ new ∷ []) after
+    pub index-more : IsCellIndex c (cells ++ new ∷ []) after
     index-more = record {
       right = All-push (λ f. f.cell ≡ cell_at c f.point) cells new i.right right;
       within = All-push (λ f. f.point.time ≤ c.horizon) cells new i.within within;
@@ -191,7 +191,7 @@ module _ (c : Circuit) (ok : IsCircuit c) where
     }
 
 -- before anything is said
-pub index-none : (c : Circuit) (index : Point → Option Cell) → ((q : Point) → index q ≡ None) → IsIndexed c [] index
+pub index-none : (c : Circuit) (index : Point → Option Cell) → ((q : Point) → index q ≡ None) → IsCellIndex c [] index
 index-none c index none = record {
   right = All-nil (λ f. f.cell ≡ cell_at c f.point);
   within = All-nil (λ f. f.point.time ≤ c.horizon);
@@ -210,10 +210,10 @@ module _ (p : Point) where
   covers-to : (x : Point) (cell : Cell) → Covers (record { point = x; cell = cell }) p → covers p (cell_for x cell) ≡ true
   covers-to x cell h = and_from _ _ (and_from _ _ (eq-eqb x.signal p.signal h.signal) (le-leb _ _ h.time.low)) (lt-ltb _ _ h.time.high)
 
-  push : (f : Said) (cells : List Said) → IsFound cells p → IsFound (f ∷ cells) p
+  push : (f : SaidCell) (cells : List SaidCell) → IsFound cells p → IsFound (f ∷ cells) p
   push f cells h = (h.0, (suc h.1.0, (let l = h.1.1 in omega arith), h.1.2), h.2)
 
-  found-by : (e : Entry) (es : List Entry) → Says p e → IsFound (said (e ∷ es)) p
+  found-by : (e : Entry) (es : List Entry) → Says p e → IsFound (cells_said (e ∷ es)) p
   found-by (Told q x cell) es h = (record { point = x; cell = cell }, (0, omega arith, refl), covers-from x cell h)
   found-by (Claimed q x) es h = absurd h
   found-by (Filled q x cell) es h = (record { point = x; cell = cell }, (0, omega arith, refl), covers-from x cell h)
@@ -221,15 +221,15 @@ module _ (p : Point) where
   found-by (Dropped q x) es h = absurd h
   found-by (Spent q x n) es h = absurd h
 
-  found-behind : (e : Entry) (es : List Entry) → IsFound (said es) p → IsFound (said (e ∷ es)) p
-  found-behind (Told q x cell) es h = push (record { point = x; cell = cell }) (said es) h
+  found-behind : (e : Entry) (es : List Entry) → IsFound (cells_said es) p → IsFound (cells_said (e ∷ es)) p
+  found-behind (Told q x cell) es h = push (record { point = x; cell = cell }) (cells_said es) h
   found-behind (Claimed q x) es h = h
-  found-behind (Filled q x cell) es h = push (record { point = x; cell = cell }) (said es) h
+  found-behind (Filled q x cell) es h = push (record { point = x; cell = cell }) (cells_said es) h
   found-behind (Evicted s t) es h = h
   found-behind (Dropped q x) es h = h
   found-behind (Spent q x n) es h = h
 
-  pub said-found : (es : List Entry) → IsSaid es p → IsFound (said es) p
+  pub said-found : (es : List Entry) → IsSaid es p → IsFound (cells_said es) p
   said-found [] (e, (k, l, same), h) = absurd (omega arith)
   said-found (x ∷ es) (e, (zero, l, same), h) = found-by x es (subst (Says p) (sym same) h)
   said-found (x ∷ es) (e, (suc k, l, same), h) = found-behind x es (said-found es (e, (k, omega arith, same), h))
@@ -237,11 +237,11 @@ module _ (p : Point) where
   later : (e : Entry) (es : List Entry) → IsSaid es p → IsSaid (e ∷ es) p
   later e es h = (h.0, (suc h.1.0, (let l = h.1.1 in omega arith), h.1.2), h.2)
 
-  first : (e : Entry) (es : List Entry) (x : Point) (cell : Cell) → (covers p (cell_for x cell) ≡ true → Says p e) → (IsFound (said es) p → IsSaid es p) → IsFound (record { point = x; cell = cell } ∷ said es) p → IsSaid (e ∷ es) p
+  first : (e : Entry) (es : List Entry) (x : Point) (cell : Cell) → (covers p (cell_for x cell) ≡ true → Says p e) → (IsFound (cells_said es) p → IsSaid es p) → IsFound (record { point = x; cell = cell } ∷ cells_said es) p → IsSaid (e ∷ es) p
   first e es x cell says more (f, (zero, l, same), h) = (e, (0, omega arith, refl), says (covers-to x cell (subst (λ z. Covers z p) (sym same) h)))
   first e es x cell says more (f, (suc k, l, same), h) = later e es (more (f, (k, omega arith, same), h))
 
-  pub found-said : (es : List Entry) → IsFound (said es) p → IsSaid es p
+  pub found-said : (es : List Entry) → IsFound (cells_said es) p → IsSaid es p
   found-said [] (f, (k, l, same), h) = absurd (omega arith)
   found-said (Told q x cell ∷ es) h = first (Told q x cell) es x cell (λ k. k) (found-said es) h
   found-said (Claimed q x ∷ es) h = later (Claimed q x) es (found-said es h)
@@ -252,10 +252,10 @@ module _ (p : Point) where
 
 -- what right entries say is right
 module _ (c : Circuit) where
-  abbrev IsRightCell : Said → Type 0
+  abbrev IsRightCell : SaidCell → Type 0
   IsRightCell f = (f.point.time ≤ c.horizon) × (f.cell ≡ cell_at c f.point)
 
-  said-each : (es : List Entry) → Each (IsRightEntry c) es → Each IsRightCell (said es)
+  said-each : (es : List Entry) → Each (IsRightEntry c) es → Each IsRightCell (cells_said es)
   said-each [] h = tt
   said-each (Told q x cell ∷ es) h = (h.0, said-each es h.1)
   said-each (Claimed q x ∷ es) h = said-each es h.1
@@ -264,15 +264,15 @@ module _ (c : Circuit) where
   said-each (Dropped q x ∷ es) h = said-each es h.1
   said-each (Spent q x n ∷ es) h = said-each es h.1
 
-  pub said-right : (es : List Entry) → Each (IsRightEntry c) es → All (λ f. f.cell ≡ cell_at c f.point) (said es)
-  said-right es h = All-from_recursion (λ f. f.cell ≡ cell_at c f.point) (said es) (each-imply IsRightCell (λ f. f.cell ≡ cell_at c f.point) (λ f k. k.1) (said es) (said-each es h))
+  pub said-right : (es : List Entry) → Each (IsRightEntry c) es → All (λ f. f.cell ≡ cell_at c f.point) (cells_said es)
+  said-right es h = All-from_recursion (λ f. f.cell ≡ cell_at c f.point) (cells_said es) (each-imply IsRightCell (λ f. f.cell ≡ cell_at c f.point) (λ f k. k.1) (cells_said es) (said-each es h))
 
-  pub said-within : (es : List Entry) → Each (IsRightEntry c) es → All (λ f. f.point.time ≤ c.horizon) (said es)
-  said-within es h = All-from_recursion (λ (f : Said). f.point.time ≤ c.horizon) (said es) (each-imply IsRightCell (λ (f : Said). f.point.time ≤ c.horizon) (λ f k. k.0) (said es) (said-each es h))
+  pub said-within : (es : List Entry) → Each (IsRightEntry c) es → All (λ f. f.point.time ≤ c.horizon) (cells_said es)
+  said-within es h = All-from_recursion (λ (f : SaidCell). f.point.time ≤ c.horizon) (cells_said es) (each-imply IsRightCell (λ (f : SaidCell). f.point.time ≤ c.horizon) (λ f k. k.0) (cells_said es) (said-each es h))
 
--- behind more entries stands what they say
-pub said-append : (es more : List Entry) → said (es ++ more) ≡ said es ++ said more
-said-append es more = filter_map-append said_by es more
+-- after more entries stands what they say
+pub said-append : (es more : List Entry) → cells_said (es ++ more) ≡ cells_said es ++ cells_said more
+said-append es more = filter_map-append cell_said es more
 
 -- what the journals of all shards say, one of them says
 module _ (p : Point) where

@@ -6,16 +6,16 @@ use Rattle.circuit_meaning.specs.Circuit.{Circuit, IsCircuit}
 use Rattle.valid_intervals.specs.declared.Cell.{Cell}
 use Rattle.journal_meaning.specs.declared.Entry.{Entry}
 use Rattle.journal_meaning.specs.declared.Entry.TheVariants.{Told, Claimed, Filled, Evicted, Dropped, Spent}
-use Rattle.journal_meaning.specs.States.{State, fresh, holder, IsLast}
+use Rattle.journal_meaning.specs.States.{State, fresh, holder, IsLeastRecent}
 use Rattle.journal_meaning.specs.Table.{Needs, after}
-use Rattle.valid_intervals.specs.Cells.{covers, cell_for, all_but_last}
+use Rattle.valid_intervals.specs.Cells.{covers, cell_for, all_but_last, same_stored}
 use Rattle.valid_intervals.specs.declared.SignalCell.{SignalCell}
-use Rattle.journal_meaning.specs.Batch.{Batch, cell_at}
+use Rattle.batch_meaning.specs.Batches.{Batch}
+use Rattle.circuit_meaning.specs.Cells.{cell_at}
 use Rattle.journal_meaning.specs.Replay.{replay, IsLegal, IsLegalTrim}
-use Rattle.journal_meaning.specs.Sections.{Purpose, Asks, Trims, Holds, Section, IsLegalIn, own, list_of, cells_left, AreLegal, joined}
+use Rattle.journal_meaning.specs.Sections.{Purpose, Asks, Trims, Forces, SectionEntries, IsLegalIn, own, list_of, cells_left, AreLegal, joined}
 use Rattle.journal_meaning.specs.Laws.{OfCircuit}
 use Rattle.journal_meaning.proofs.Same.{same_stored-true, same_stored-itself}
-use Rattle.valid_intervals.specs.Cells.{same_stored}
 use Rattle.journal_meaning.proofs.Lists.{Each, Stands, Here, There, stands-front, stands-last, contains_from}
 use Rattle.journal_meaning.proofs.Claims.{Quiet, quiet, still_unclaimed, holder-without, own-covers}
 
@@ -35,7 +35,7 @@ module _ (p : Point) (x : Cell) (c : covers p (cell_for p x) ≡ true) where
     stands : Stands (cell_for p x) s.cells
     unclaimed : holder s.claims p ≡ None
 
-  evict : (s : State) (signal start : ℕ) → Stands (cell_for p x) s.cells → IsLast s.cells signal start → Evicts p x (Evicted signal start) ⊎ Stands (cell_for p x) (all_but_last s.cells)
+  evict : (s : State) (signal start : ℕ) → Stands (cell_for p x) s.cells → IsLeastRecent s.cells signal start → Evicts p x (Evicted signal start) ⊎ Stands (cell_for p x) (all_but_last s.cells)
   evict s signal start st l = elim (stands-last (cell_for p x) l.0 (all_but_last s.cells) (subst (Stands (cell_for p x)) l.1 st)) [
     | inl k ↦ inr k
     | inr e ↦ inl (ap₂ Evicted (sym l.2 ∙ sym (ap (λ y. y.signal) e)) (sym l.3 ∙ sym (ap (λ y. y.cell.span.start) e)))
@@ -75,9 +75,9 @@ module _ (p : Point) (x : Cell) (c : covers p (cell_for p x) ≡ true) where
       → (Stands (cell_for p x) (replay (fresh cells) (own purpose es)).cells → Kept p x rest) → Kept p x (own purpose es ++ rest)
   walk_section shard rest (Asks b) es cells st l f = walk b shard rest es (fresh cells) (record { stands = st; unclaimed = refl }) l.legal (λ k. f k.stands)
   walk_section shard rest Trims es cells st l f = walk_trim rest es (fresh cells) st l f
-  walk_section shard rest (Holds b) es cells st l f = f st
+  walk_section shard rest (Forces b) es cells st l f = f st
 
-  walk_sections : (shard : ℕ) (sections : List Section) (cells : List SignalCell) → Stands (cell_for p x) cells → AreLegal shard cells sections → Kept p x (joined shard sections)
+  walk_sections : (shard : ℕ) (sections : List SectionEntries) (cells : List SignalCell) → Stands (cell_for p x) cells → AreLegal shard cells sections → Kept p x (joined shard sections)
   walk_sections shard [] cells st l = tt
   walk_sections shard (section ∷ rest) cells st l =
       walk_section shard (joined shard rest) section.purpose (list_of section shard) cells st l.0 (λ k. walk_sections shard rest (cells_left shard cells section) k l.1)
@@ -100,7 +100,7 @@ Finals c [] = Unit {0}
 Finals c (e ∷ es) = AfterFill c e es × Finals c es
 
 module _ (c : Circuit) (ok : IsCircuit c) where
-  -- what goes on behind the entries of a section
+  -- what goes on after the entries of a section
   abbrev GoesOn : State → List Entry → Type 0
   GoesOn s rest = (p : Point) (x : Cell) → covers p (cell_for p x) ≡ true → Stands (cell_for p x) s.cells → Kept p x rest
 
@@ -131,9 +131,9 @@ module _ (c : Circuit) (ok : IsCircuit c) where
       → IsLegalIn purpose shard cells es → GoesOn (replay (fresh cells) (own purpose es)) rest → Finals c rest → Finals c (own purpose es ++ rest)
   finals_section shard rest (Asks b) es cells same l f g = finals b (same b refl) shard rest es (fresh cells) l.legal f g
   finals_section shard rest Trims es cells same l f g = finals_trim rest es (fresh cells) l g
-  finals_section shard rest (Holds b) es cells same l f g = g
+  finals_section shard rest (Forces b) es cells same l f g = g
 
-  finals_sections : (shard : ℕ) (sections : List Section) (cells : List SignalCell) → Each (OfCircuit c) sections → AreLegal shard cells sections → Finals c (joined shard sections)
+  finals_sections : (shard : ℕ) (sections : List SectionEntries) (cells : List SignalCell) → Each (OfCircuit c) sections → AreLegal shard cells sections → Finals c (joined shard sections)
   finals_sections shard [] cells same l = tt
   finals_sections shard (section ∷ rest) cells same l =
       finals_section shard (joined shard rest) section.purpose (list_of section shard) cells same.0 l.0
@@ -145,7 +145,7 @@ module _ (c : Circuit) (ok : IsCircuit c) where
   final_at q p x [] behind h = h.0
   final_at q p x (e ∷ before) behind h = final_at q p x before behind h.1
 
-  pub again_after_eviction : (shard : ℕ) (sections : List Section) → All (OfCircuit c) sections → AreLegal shard [] sections
+  pub again_after_eviction : (shard : ℕ) (sections : List SectionEntries) → All (OfCircuit c) sections → AreLegal shard [] sections
       → (q r : ℕ) (p : Point) (x y : Cell) (before between behind : List Entry)
       → joined shard sections ≡ before ++ Filled q p x ∷ between ++ Filled r p y ∷ behind
       → Contains between (Evicted p.signal y.span.start)

@@ -7,15 +7,16 @@ use Rattle.valid_intervals.specs.declared.Cell.{Cell}
 use Rattle.valid_intervals.specs.declared.Point.{Point}
 use Rattle.valid_intervals.specs.Spans.{Span, IsIn}
 use Rattle.circuit_meaning.specs.Circuit.{Circuit, IsCircuit}
-use Rattle.circuit_meaning.specs.Cells.{span}
+use Rattle.circuit_meaning.specs.Cells.{span, cell_at}
 use Rattle.circuit_meaning.proofs.Steady.{cell-steady}
 use Rattle.valid_intervals.specs.declared.SignalCell.{SignalCell}
 use Rattle.journal_meaning.specs.declared.Entry.{Entry}
 use Rattle.journal_meaning.specs.declared.Entry.TheVariants.{Told, Claimed, Filled, Evicted, Dropped, Spent}
-use Rattle.journal_meaning.specs.States.{State, is_stored}
+use Rattle.journal_meaning.specs.States.{State}
+use Rattle.valid_intervals.specs.Cells.{is_stored, same_stored, cell_for, covers, to_front}
 use Rattle.journal_meaning.specs.Table.{Needs, after}
-use Rattle.valid_intervals.specs.Cells.{same_stored, cell_for, covers, to_front}
-use Rattle.journal_meaning.specs.Batch.{Batch, IsAllowed, IsRight, cell_at}
+use Rattle.batch_meaning.specs.Batches.{Batch}
+use Rattle.journal_meaning.specs.Allowed.{IsAllowed, IsRight}
 use Rattle.journal_meaning.specs.Counts.{booked, is_booked}
 use Rattle.journal_meaning.specs.Replay.{replay, IsLegal}
 use Rattle.journal_meaning.proofs.Same.{same_stored-true, same_stored-itself}
@@ -86,7 +87,7 @@ length-stored x (y ∷ cells) h = elim (same_stored x y) as (λ b. (b || list_an
 
 pub still-fits : (capacity : ℕ) (s : State) (e : Entry) → Needs capacity s e → length s.cells ≤ capacity → length (after s e).cells ≤ capacity
 still-fits capacity s (Told q p x) n l = let k = length-stored (cell_for p x) s.cells n.1 in omega (arith, k, l)
-still-fits capacity s (Filled q p x) n l = elim (cases_Bool (is_stored s (cell_for p x))) [
+still-fits capacity s (Filled q p x) n l = elim (cases_Bool (is_stored (cell_for p x) s.cells)) [
   | inl y ↦ let k = length-stored (cell_for p x) s.cells y in omega (arith, k, l)
   | inr z ↦ let k = length-filter (λ y. not (same_stored (cell_for p x) y)) s.cells in let m = n.2 z in omega (arith, k, m)
 ]

@@ -6,13 +6,12 @@ use Rattle.valid_intervals.specs.declared.Cell.{Cell}
 use Rattle.valid_intervals.specs.declared.SignalCell.{SignalCell}
 use Rattle.circuit_meaning.specs.Forward.{rows_below, row_at, last_setting, value}
 use Rattle.circuit_meaning.specs.Cells.{span, least_delay, next_setting}
-use Rattle.circuit_meaning.specs.Need.{IsInCone, Itself, Reads}
+use Rattle.circuit_meaning.specs.Need.{IsInCone, Itself, Reads, IsNeeded}
 use Rattle.journal_meaning.specs.declared.Entry.TheVariants.{Claimed, Filled, Evicted, Dropped}
-use Rattle.journal_meaning.specs.Batch.{Batch, window_of}
+use Rattle.batch_meaning.specs.Batches.{Batch, window_of}
 use Rattle.journal_meaning.specs.Replay.{IsLegalBatch}
 use Rattle.journal_meaning.proofs.Examples.{at, cell, both, first_query, tight, both15, second_query, again, third}
 use Rattle.circuit_meaning.specs.Circuit.{driver, read_by}
-use Rattle.circuit_meaning.specs.Need.{IsNeeded}
 use Rattle.circuit_meaning.proofs.Points.{needed-in_cone}
 use Rattle.journal_meaning.proofs.Claims.{some≢none}
 

@@ -8,11 +8,13 @@ use Rattle.circuit_meaning.specs.Circuit.{IsCircuit}
 use Rattle.valid_intervals.specs.declared.Cell.{Cell}
 use Rattle.journal_meaning.specs.declared.Entry.{Entry}
 use Rattle.journal_meaning.specs.declared.Entry.TheVariants.{Told, Claimed, Filled, Evicted, Dropped, Spent}
-use Rattle.journal_meaning.specs.States.{State, fresh, holder, IsLast, is_stored}
+use Rattle.journal_meaning.specs.States.{State, fresh, holder, IsLeastRecent}
+use Rattle.valid_intervals.specs.Cells.{is_stored, same_stored, covers, cell_for, to_front, all_but_last}
 use Rattle.journal_meaning.specs.Table.{Needs, after}
-use Rattle.valid_intervals.specs.Cells.{same_stored, covers, cell_for, to_front, all_but_last}
 use Rattle.valid_intervals.specs.declared.SignalCell.{SignalCell}
-use Rattle.journal_meaning.specs.Batch.{Batch, IsAllowed, cell_at}
+use Rattle.batch_meaning.specs.Batches.{Batch}
+use Rattle.journal_meaning.specs.Allowed.{IsAllowed}
+use Rattle.circuit_meaning.specs.Cells.{cell_at}
 use Rattle.journal_meaning.specs.Replay.{IsLegal}
 use Rattle.journal_meaning.specs.Laws.{IsWanted, HasRoom}
 use Rattle.journal_meaning.proofs.Same.{same_stored-true, same_stored-itself}
@@ -100,7 +102,7 @@ module _ (b : Batch) (ok : IsCircuit b.circuit) (shard : ℕ) where
   ours-wanted q p x o e = record { point = p; wanted = (o.0, (o.1.0, o.1.1, o.1.3)); is = ap (cell_for p) e }
 
   -- a cell comes to the front of the store
-  shape-front : (x : SignalCell) (s t : State) (f : List SignalCell) → t.cells ≡ to_front x s.cells → Shape s f → (s.made ≡ true → is_stored s x ≡ false) → Wanted x → Differ f → Each Wanted f → Shape t (to_front x f)
+  shape-front : (x : SignalCell) (s t : State) (f : List SignalCell) → t.cells ≡ to_front x s.cells → Shape s f → (s.made ≡ true → is_stored x s.cells ≡ false) → Wanted x → Differ f → Each Wanted f → Shape t (to_front x f)
   shape-front x s t f e (Front old k) u w d h = Front (filter (λ y. not (same_stored x y)) old) (e ∙ ap (to_front x) k ∙ front-append x f old)
   shape-front x s t f e (Tight room made y k n) u w d h = elim (cases_Bool (same_stored x y)) [
     | inl same ↦
@@ -121,7 +123,7 @@ module _ (b : Batch) (ok : IsCircuit b.circuit) (shard : ℕ) where
   unmoved s t f e m (Front old k) = Front old (e ∙ k)
   unmoved s t f e m (Tight room made y k n) = absurd (true≢false (sym made ∙ m))
 
-  shape-evict : (s t : State) (f : List SignalCell) (signal start : ℕ) → HasRoom b shard → t.cells ≡ all_but_last s.cells → t.made ≡ true → s.made ≡ false → length s.cells ≡ b.capacity → IsLast s.cells signal start → Shape s f → Shape t f
+  shape-evict : (s t : State) (f : List SignalCell) (signal start : ℕ) → HasRoom b shard → t.cells ≡ all_but_last s.cells → t.made ≡ true → s.made ≡ false → length s.cells ≡ b.capacity → IsLeastRecent s.cells signal start → Shape s f → Shape t f
   shape-evict s t f signal start room e made m n l (Tight room' made' y k n') = absurd (true≢false (sym made' ∙ m))
   shape-evict s t f signal start room e made m n l (Front old k) = elim (snoc_cases old) [
     | inl none ↦

@@ -5,10 +5,10 @@ use Rattle.valid_intervals.specs.declared.SignalCell.{SignalCell}
 use Rattle.valid_intervals.specs.Cells.{all_but_last}
 use Rattle.journal_meaning.specs.declared.Entry.{Entry}
 use Rattle.journal_meaning.specs.declared.Entry.TheVariants.{Evicted}
-use Rattle.journal_meaning.specs.States.{State, fresh, IsLast}
+use Rattle.journal_meaning.specs.States.{State, fresh, IsLeastRecent}
 use Rattle.journal_meaning.specs.Table.{after}
 use Rattle.journal_meaning.specs.Replay.{replay, EvictsLast, IsLegalTrim}
-use Rattle.journal_meaning.specs.Trims.{evictions_back, trim_entries}
+use Rattle.journal_meaning.specs.inner.Trims.{evictions_back, trim_evictions}
 use Rattle.journal_meaning.proofs.Lists.{front-snoc}
 use Rattle.journal_meaning.proofs.More.{replay-more}
 
@@ -27,14 +27,14 @@ trimmed s front (x ∷ back) e =
     let es = evictions_back back in
     let entry = Evicted x.signal x.cell.span.start in
     let but : all_but_last (replay s es).cells ≡ front = ap all_but_last k.cells ∙ front-snoc front x in
-    let last : IsLast (replay s es).cells x.signal x.cell.span.start = (x, k.cells ∙ ap (λ l. l ++ x ∷ []) (sym but), refl, refl) in
+    let last : IsLeastRecent (replay s es).cells x.signal x.cell.span.start = (x, k.cells ∙ ap (λ l. l ++ x ∷ []) (sym but), refl, refl) in
     record {
       legal = trim-more s es entry k.legal last;
       cells = ap (λ (z : State). z.cells) (replay-more s es entry) ∙ but;
     }
 
-pub trim-legal : (n : ℕ) (cells : List SignalCell) → IsLegalTrim (fresh cells) (trim_entries n cells)
+pub trim-legal : (n : ℕ) (cells : List SignalCell) → IsLegalTrim (fresh cells) (trim_evictions n cells)
 trim-legal n cells = (trimmed (fresh cells) (take n cells) (drop n cells) (sym (take-append-drop n cells))).legal
 
-pub trim-leaves : (n : ℕ) (cells : List SignalCell) → (replay (fresh cells) (trim_entries n cells)).cells ≡ take n cells
+pub trim-leaves : (n : ℕ) (cells : List SignalCell) → (replay (fresh cells) (trim_evictions n cells)).cells ≡ take n cells
 trim-leaves n cells = (trimmed (fresh cells) (take n cells) (drop n cells) (sym (take-append-drop n cells))).cells

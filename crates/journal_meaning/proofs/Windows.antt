@@ -6,22 +6,24 @@ use Rattle.valid_intervals.specs.declared.Point.{Point}
 use Rattle.valid_intervals.specs.Spans.{Span, IsIn}
 use Rattle.valid_intervals.specs.Cells.{covers, cell_for}
 use Rattle.circuit_meaning.specs.Circuit.{Circuit, Driver, Input, Gate, Flop, driver, IsCircuit}
-use Rattle.circuit_meaning.specs.Cells.{span, span_from, pin_span, looked, least_delay}
+use Rattle.circuit_meaning.specs.Cells.{span, span_from, pin_span, looked, least_delay, cell_at}
 use Rattle.circuit_meaning.specs.Laws.{look, Edge}
 use Rattle.circuit_meaning.specs.declared.Window.{Window}
-use Rattle.circuit_meaning.specs.Need.{HasSources, IsEvaluable, IsRoot, First, Piece, Next, children}
+use Rattle.circuit_meaning.specs.Need.{HasChildren, IsEvaluable, IsRoot, First, Piece, Next, children}
 use Rattle.circuit_meaning.proofs.Cover.{cell-covers}
 use Rattle.circuit_meaning.proofs.Equations.{span_is}
 use Rattle.circuit_meaning.proofs.Steady.{cell-steady, gate_span-early}
-use Rattle.journal_meaning.specs.declared.Query.{Query}
+use Rattle.batch_meaning.specs.declared.Query.{Query}
 use Rattle.journal_meaning.specs.declared.Entry.{Entry}
 use Rattle.journal_meaning.specs.declared.Entry.TheVariants.{Told, Claimed, Filled, Evicted, Dropped, Spent}
 use Rattle.journal_meaning.specs.States.{State}
 use Rattle.journal_meaning.specs.Table.{after}
-use Rattle.journal_meaning.specs.Batch.{Batch, IsAllowed, cell_at, window_of}
+use Rattle.batch_meaning.specs.Batches.{Batch, window_of}
+use Rattle.journal_meaning.specs.Allowed.{IsAllowed}
 use Rattle.journal_meaning.specs.Replay.{IsLegal}
 use Rattle.journal_meaning.specs.Answers.{Says, IsCovered, ChildrenCovered, IsClosed}
-use Rattle.journal_meaning.specs.Grown.{Grows, IsRightEntry, AreTimesCovered}
+use Rattle.journal_meaning.specs.Grown.{GrowsBy}
+use Rattle.journal_meaning.specs.inner.Grown.{IsRightEntry, AreTimesCovered}
 use Rattle.journal_meaning.proofs.Lists.{Each}
 use Rattle.journal_meaning.proofs.Grown.{covered-kept}
 
@@ -43,7 +45,7 @@ same-edge a b e h = let same : a ≡ b = cc in subst IsSome same h
 
 module _ (c : Circuit) (ok : IsCircuit c) where
   -- where a time of a cell has sources, each time of the cell has
-  sources-back : (t u : ℕ) (d : Driver) → IsIn (span_from c (span c) t d) u → look c u d ≡ look c t d → HasSources u d → HasSources t d
+  sources-back : (t u : ℕ) (d : Driver) → IsIn (span_from c (span c) t d) u → look c u d ≡ look c t d → HasChildren u d → HasChildren t d
   sources-back t u (Input settings) inside same h = absurd h
   sources-back t u (Gate kind pins) inside same h = elim (cases_lt t (least_delay pins)) [
     | inl l ↦
@@ -123,5 +125,5 @@ module _ (c : Circuit) (ok : IsCircuit c) where
   }
 
 -- covered times stay covered
-pub times-kept : (c : Circuit) (old added new : List Entry) → Grows old added new → (s from u : ℕ) → AreTimesCovered c old s from u → AreTimesCovered c new s from u
+pub times-kept : (c : Circuit) (old added new : List Entry) → GrowsBy old added new → (s from u : ℕ) → AreTimesCovered c old s from u → AreTimesCovered c new s from u
 times-kept c old added new g s from u h = λ t low high. covered-kept old added new g c (record { signal = s; time = t }) (h t low high)

@@ -1,11 +1,14 @@
 -- How often points are evaluated, and cells evicted.
-use Rattle.std.specs.Prelude.{ℕ, ◌+◌, nat_eq, Bool, true, false, not, ◌&&◌, if◌then◌else◌, List, [], ◌∷◌, length, filter, filter_map, flat_map, Option, Some, None}
-use Rattle.std.specs.List.{list_any, range_with_len}
+use Rattle.std.specs.Prelude.{ℕ, ◌+◌, nat_eq, Bool, true, false, not, ◌&&◌, if◌then◌else◌, List, [], ◌∷◌, length, filter, filter_map, Option, Some, None}
+use Rattle.std.specs.List.{list_any}
 use Rattle.valid_intervals.specs.declared.Point.{Point}
 use Rattle.journal_meaning.specs.declared.Entry.{Entry}
 use Rattle.journal_meaning.specs.declared.Entry.TheVariants.{Claimed, Filled, Evicted}
 use Rattle.valid_intervals.specs.Cells.{same_point}
-use Rattle.journal_meaning.specs.Sections.{Section, joined}
+
+-- how many entries pass the test
+abbrev pub count : (Entry → Bool) → List Entry → ℕ
+count test es = length (filter test es)
 
 abbrev pub evaluated : Entry → Option Point
 evaluated (Filled q p x) = Some p
@@ -24,10 +27,6 @@ different (p ∷ rest) = p ∷ filter (λ x. not (same_point p x)) (different re
 abbrev pub repeated : List Point → List Point → ℕ
 repeated earlier [] = 0
 repeated earlier (p ∷ rest) = (if list_any (same_point p) earlier then 1 else 0) + repeated (p ∷ earlier) rest
-
--- the entries of the session's own memo, shard by shard
-abbrev pub all_joined : ℕ → List Section → List Entry
-all_joined shards sections = flat_map (λ shard. joined shard sections) (range_with_len 0 shards)
 
 abbrev pub evaluations : List Entry → ℕ
 evaluations es = length (points_of es)

@@ -1,16 +1,18 @@
 -- Laws of the journal.
-use Rattle.std.specs.Prelude.{◌≡◌, ℕ, ◌+◌, ◌≤◌, ◌<◌, List, [], ◌∷◌, ◌++◌, length, All, AllPairs, Contains, ◌≢◌, ◌⊎◌, flat_map, get_or, Option, Some}
+use Rattle.std.specs.Prelude.{◌≡◌, ℕ, ◌+◌, ◌≤◌, ◌<◌, List, [], ◌∷◌, ◌++◌, length, All, AllPairs, Contains, ◌≢◌, ◌⊎◌, get_or, Option, Some}
 use Rattle.valid_intervals.specs.declared.Point.{Point}
 use Rattle.circuit_meaning.specs.Circuit.{Circuit, IsCircuit}
 use Rattle.valid_intervals.specs.declared.Cell.{Cell}
-use Rattle.journal_meaning.specs.declared.Query.{Query}
+use Rattle.batch_meaning.specs.declared.Query.{Query}
 use Rattle.journal_meaning.specs.declared.Entry.{Entry}
 use Rattle.journal_meaning.specs.declared.Entry.TheVariants.{Filled, Evicted}
 use Rattle.valid_intervals.specs.Cells.{cell_for}
 use Rattle.valid_intervals.specs.declared.SignalCell.{SignalCell}
-use Rattle.journal_meaning.specs.Batch.{Batch, IsNeededBy, cell_at, IsAt}
+use Rattle.batch_meaning.specs.Batches.{Batch, IsNeededBy}
+use Rattle.circuit_meaning.specs.Cells.{cell_at}
+use Rattle.journal_meaning.specs.Allowed.{IsAt}
 use Rattle.journal_meaning.specs.Replay.{IsLegal, IsLegalBatch}
-use Rattle.journal_meaning.specs.Sections.{Section, AreLegal, joined, Asks}
+use Rattle.journal_meaning.specs.Sections.{of_batch, SectionEntries, AreLegal, joined, Asks}
 use Rattle.journal_meaning.specs.Counts.{evaluations, distinct, again, fills_at, evictions_of}
 use Rattle.journal_meaning.specs.Answers.{IsSpent, IsAnswer}
 use Rattle.journal_meaning.specs.States.{fresh}
@@ -22,12 +24,12 @@ abbrev pub CountsAdd : Type 0
 CountsAdd = (es : List Entry) → evaluations es ≡ distinct es + again es
 
 -- the batches of a section's memo are those of this circuit
-abbrev pub OfCircuit : Circuit → Section → Type 0
+abbrev pub OfCircuit : Circuit → SectionEntries → Type 0
 OfCircuit c section = (b : Batch) → section.purpose ≡ Asks b → b.circuit ≡ c
 
 -- between two evaluations of a point its cell was evicted
 abbrev pub AgainAfterEviction : Type 0
-AgainAfterEviction = (c : Circuit) → IsCircuit c → (shard : ℕ) (sections : List Section) → All (OfCircuit c) sections → AreLegal shard [] sections
+AgainAfterEviction = (c : Circuit) → IsCircuit c → (shard : ℕ) (sections : List SectionEntries) → All (OfCircuit c) sections → AreLegal shard [] sections
     → (q r : ℕ) (p : Point) (x y : Cell) (before between behind : List Entry)
     → joined shard sections ≡ before ++ Filled q p x ∷ between ++ Filled r p y ∷ behind
     → Contains between (Evicted p.signal y.span.start)
@@ -50,10 +52,6 @@ abbrev pub HasRoom : Batch → ℕ → Type 0
 HasRoom b shard = (points : List Point) → All (IsWanted b shard) points
     → AllPairs (λ p r. cell_for p (cell_at b.circuit p) ≢ cell_for r (cell_at b.circuit r)) points
     → length points ≤ b.capacity
-
--- each shard's entries in a batch, one shard after another
-abbrev pub of_batch : List (List Entry) → List Entry
-of_batch lists = flat_map (λ es. es) lists
 
 -- the journals of a batch, one for each shard, are legal from the cells that the shards held before
 pub record IsLegalFrom (b : Batch) (opening : ℕ → List SignalCell) (lists : List (List Entry)) : Type 0 where

@@ -3,9 +3,10 @@ use Rattle.std.specs.Prelude.{◌≡◌, ℕ, false, List, [], ◌∷◌}
 use Rattle.valid_intervals.specs.declared.SignalCell.{SignalCell}
 use Rattle.journal_meaning.specs.declared.Entry.{Entry}
 use Rattle.journal_meaning.specs.declared.Entry.TheVariants.{Evicted}
-use Rattle.journal_meaning.specs.States.{State, fresh, IsLast}
+use Rattle.journal_meaning.specs.States.{State, fresh, IsLeastRecent}
 use Rattle.journal_meaning.specs.Table.{Needs, after}
-use Rattle.journal_meaning.specs.Batch.{Batch, IsAllowed}
+use Rattle.batch_meaning.specs.Batches.{Batch}
+use Rattle.journal_meaning.specs.Allowed.{IsAllowed}
 
 -- the state to which the entries lead
 abbrev pub replay : State → List Entry → State
@@ -29,7 +30,7 @@ pub record IsLegalBatch (b : Batch) (shard : ℕ) (cells : List SignalCell) (es 
 
 -- in a trim each entry evicts the last cell
 abbrev pub EvictsLast : State → Entry → Type 0
-EvictsLast s (Evicted signal start) = IsLast s.cells signal start
+EvictsLast s (Evicted signal start) = IsLeastRecent s.cells signal start
 EvictsLast s e = ⊥
 
 abbrev pub IsLegalTrim : State → List Entry → Type 0

@@ -3,7 +3,7 @@ use Rattle.std.specs.Prelude.{◌≡◌, ℕ, Bool, false, not, List, [], ◌∷
 use Rattle.std.specs.List.{list_any}
 use Rattle.valid_intervals.specs.declared.Point.{Point}
 use Rattle.valid_intervals.specs.declared.SignalCell.{SignalCell}
-use Rattle.valid_intervals.specs.Cells.{same_point, same_stored, covers, all_but_last}
+use Rattle.valid_intervals.specs.Cells.{same_point, covers, all_but_last}
 
 -- a point that the query with this number is evaluating
 pub record Claim : Type 0 where
@@ -24,17 +24,14 @@ fresh cells = record { cells = cells; claims = []; made = false }
 abbrev pub is_covered : State → Point → Bool
 is_covered s p = list_any (covers p) s.cells
 
-abbrev pub is_stored : State → SignalCell → Bool
-is_stored s x = list_any (same_stored x) s.cells
-
 -- the number of the query that has claimed the point
 abbrev pub holder : List Claim → Point → Option ℕ
 holder claims p = option_map (λ c. c.query) (find (λ c. same_point p c.point) claims)
 
 -- all claims but that of the point
-abbrev pub without : List Claim → Point → List Claim
-without claims p = filter (λ c. not (same_point p c.point)) claims
+abbrev pub without_point : List Claim → Point → List Claim
+without_point claims p = filter (λ c. not (same_point p c.point)) claims
 
 -- the least recent of the cells has this signal and start
-abbrev pub IsLast : List SignalCell → ℕ → ℕ → Type 0
-IsLast cells signal start = (x : SignalCell) × (cells ≡ all_but_last cells ++ x ∷ []) × (x.signal ≡ signal) × (x.cell.span.start ≡ start)
+abbrev pub IsLeastRecent : List SignalCell → ℕ → ℕ → Type 0
+IsLeastRecent cells signal start = (x : SignalCell) × (cells ≡ all_but_last cells ++ x ∷ []) × (x.signal ≡ signal) × (x.cell.span.start ≡ start)

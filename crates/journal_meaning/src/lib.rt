@@ -4,10 +4,10 @@
 //! stored cell, a point is claimed for a query, filled or dropped, a cell is evicted, a query is refused a point. The entries of
 //! a batch of queries are its journal.
 //!
-//! - [`Query`] and [`Entry`] are the plain values that every crate above passes on; the definitions in `specs/` use them as
-//!   their records, together with the points and cells of `valid_intervals`.
+//! - [`Entry`] is the plain value that every crate above passes on; the definitions in `specs/` use it as their record, together
+//!   with the points and cells of `valid_intervals` and the queries of `batch_meaning`.
 //! - `specs/States` is the state of a shard, and `specs/Table` the table of legal entries in two columns: what an entry needs,
-//!   and what it changes. `specs/Batch` says what an entry may name: points that a query of the batch needs, and right cells.
+//!   and what it changes. `specs/Allowed` says what an entry may name: points that a query of the batch needs, and right cells.
 //! - `specs/Replay` is the fold of the table over a journal, and says which journals of a batch and of a trim are legal;
 //!   `specs/Sections` puts them one after another into the journal of a session.
 //! - `specs/Counts` counts evaluations, those of different points, and those that come again. `specs/Answers` says when a query
@@ -15,9 +15,11 @@
 //! - `specs/Laws` holds what follows for every legal journal. The functions below carry these laws as their contracts, and do
 //!   nothing.
 //!
-//! What a shard's type needs to keep these facts as it records one entry more are lemmas of `proofs/More`.
+//! Code that records entries, and reads them, needs more words: `specs/Grown` says what the entries of a batch say, count and name
+//! once more of them are recorded, `specs/inner/Index` what an index of their cells has, and `specs/inner/Trims` which entries a trim
+//! makes. Lemmas on one entry more stand in `proofs/More`.
 //!
-//! No function here does anything, and no definition costs anything; a query and an entry are a few numbers, which are copied.
+//! No function here does anything, and no definition costs anything; an entry is a few numbers, which are copied.
 //!
 //! An example: signal 1 is a buffer with a delay of 1, and its input is 1 from time 0 to the horizon, 10. A query for time 5 and
 //! then one for time 6, asked of an empty shard, leave the journal
@@ -34,17 +36,6 @@
 ghost use Rattle.journal_meaning.specs.Laws.{CountsAdd, AgainAfterEviction, OneFillPerEviction, SpentNeedsMore, EnoughBudget};
 
 use valid_intervals::{Cell, Point};
-
-/// A window of a signal that a script line asks for: the times from `from` on and below `to`. The number is that of the line;
-/// at most `budget` points are evaluated for it.
-#[derive(Clone, Copy, Debug, PartialEq, Eq)]
-pub struct Query {
-    pub number: u32,
-    pub signal: u32,
-    pub from: u32,
-    pub to: u32,
-    pub budget: u32,
-}
 
 /// What a shard of the memo did. `q` is the number of the query for which it did so, and `p` the point.
 #[derive(Clone, Copy, Debug, PartialEq, Eq)]

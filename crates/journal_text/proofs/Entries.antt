@@ -8,7 +8,7 @@ use Rattle.journal_meaning.specs.declared.Entry.{Entry}
 use Rattle.journal_meaning.specs.declared.Entry.TheVariants.{Told, Claimed, Filled, Evicted, Dropped, Spent}
 use Rattle.journal_text.specs.Spelling.{field, point, cell, line_feed, entry_line}
 use Rattle.journal_text.specs.Written.{IsNumber, IsPoint, IsCell, IsEntry}
-use Rattle.journal_text.specs.Reading.{◌>>=◌, behind, after_word, field_at, point_at, cell_at, told_at, claimed_at, filled_at, evicted_at, dropped_at, spent_at, entry_at, put_first, entries_at}
+use Rattle.journal_text.specs.inner.Reading.{◌>>=◌, behind, after_word, field_at, point_at, cell_at, told_at, claimed_at, filled_at, evicted_at, dropped_at, spent_at, entry_at, put_first, entries_at}
 use Rattle.journal_text.proofs.Numbers.{EndsNumber}
 use Rattle.journal_text.proofs.Fields.{bind_some, some_is, after_takes, field_takes, field_again, point_takes, point_again, cell_takes, cell_again}
 
@@ -17,7 +17,7 @@ pub behind_some : {A : Type 0} (o : Option (List ℕ)) (read : List ℕ → Opti
 behind_some (Some r) read other y e = inl (r, refl, e)
 behind_some None read other y e = inr e
 
--- the entry that was read, behind its word
+-- the entry that was read, after its word
 abbrev Line : List ℕ → List ℕ → Entry × List ℕ → Type 0
 Line word text read = (word ++ text ≡ entry_line read.0 ++ read.1) × IsEntry read.0
 

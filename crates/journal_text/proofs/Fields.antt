@@ -12,7 +12,7 @@ use Rattle.valid_intervals.specs.declared.Point.{Point}
 use Rattle.valid_intervals.specs.Spans.{IsSpan, from_to}
 use Rattle.journal_text.specs.Spelling.{field, point, cell}
 use Rattle.journal_text.specs.Written.{IsNumber, IsPoint, IsCell}
-use Rattle.journal_text.specs.Reading.{◌>>=◌, behind_is, after_word, number_at, field_at, point_at, value_at, cell_at}
+use Rattle.journal_text.specs.inner.Reading.{◌>>=◌, behind_is, after_word, number_at, field_at, point_at, value_at, cell_at}
 use Rattle.journal_text.proofs.Numbers.{EndsNumber, and_both, number_takes, number_again}
 
 -- the value of a step that read something
@@ -34,7 +34,7 @@ after_takes [] text rest e = some_is text rest e
 after_takes (b ∷ word) [] rest e = absurd cc
 after_takes (b ∷ word) (c ∷ text) rest e = word_byte b c (eqb c b) word text rest refl (λ r. after_takes word text r) e
 
--- ---- a number behind a blank
+-- ---- a number after a blank
 
 pub field_takes : (text : List ℕ) (n : ℕ) (rest : List ℕ) → field_at text ≡ Some (n, rest) → (text ≡ field n ++ rest) × IsNumber n
 unfolding field_at

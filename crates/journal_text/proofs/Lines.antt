@@ -9,7 +9,7 @@ use Rattle.journal_meaning.specs.declared.Entry.{Entry}
 use Rattle.journal_meaning.specs.declared.Entry.TheVariants.{Told, Claimed, Filled, Evicted, Dropped, Spent}
 use Rattle.journal_text.specs.Spelling.{field, point, cell, line_feed, entry_line}
 use Rattle.journal_text.specs.Written.{IsNumber, IsPoint, IsCell, IsEntry}
-use Rattle.journal_text.specs.Reading.{◌>>=◌, field_at, point_at, cell_at, told_at, claimed_at, filled_at, evicted_at, dropped_at, spent_at, entry_at, put_first, entries_at}
+use Rattle.journal_text.specs.inner.Reading.{◌>>=◌, field_at, point_at, cell_at, told_at, claimed_at, filled_at, evicted_at, dropped_at, spent_at, entry_at, put_first, entries_at}
 use Rattle.journal_text.proofs.Fields.{field_again, point_again, cell_again}
 use Rattle.journal_text.proofs.Entries.{entry_takes}
 
@@ -84,7 +84,7 @@ line_some (Evicted signal start) = omega arith
 line_some (Dropped q p) = omega arith
 line_some (Spent q p held) = omega arith
 
--- what stands behind an entry is shorter
+-- what stands after an entry is shorter
 pub shorter : (text : List ℕ) (e : Entry) (rest : List ℕ) → entry_at text ≡ Some (e, rest) → length rest < length text
 shorter text e rest is =
     let parts = (entry_takes text e rest is).0 in

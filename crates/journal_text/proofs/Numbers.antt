@@ -8,9 +8,9 @@ use Rattle.std.proofs.lemmas.Fmt.{digits_decimal, digits_value-decimal, decimal-
 use Rattle.std.specs.Char.{is_ascii_digit}
 use Rattle.std.specs.Fmt.{decimal}
 use Rattle.std.specs.Str.{all_ascii_digits}
-use Rattle.journal_text.specs.Reading.{digits_at, is_number_at, digit_at, number_at}
+use Rattle.journal_text.specs.inner.Reading.{digits_at, is_number_at, digit_at, number_at}
 
--- the value of digits behind others of this value
+-- the value of digits after others of this value
 abbrev value_after : ℕ → List ℕ → ℕ
 value_after n [] = n
 value_after n (c ∷ cs) = value_after (10 * n + (c - 48)) cs

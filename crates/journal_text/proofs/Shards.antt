@@ -7,7 +7,7 @@ use Rattle.std.specs.List.{AllByRecursion}
 use Rattle.journal_meaning.specs.declared.Entry.{Entry}
 use Rattle.journal_text.specs.Spelling.{field, line_feed, entry_line, shard_lines}
 use Rattle.journal_text.specs.Written.{IsNumber, IsEntry}
-use Rattle.journal_text.specs.Reading.{◌>>=◌, behind, after_word, field_at, entry_at, entries_at, shard_at, shards_at}
+use Rattle.journal_text.specs.inner.Reading.{◌>>=◌, behind, after_word, field_at, entry_at, entries_at, shard_at, shards_at}
 use Rattle.journal_text.proofs.Fields.{bind_some, some_is, after_takes, field_takes, field_again}
 use Rattle.journal_text.proofs.Entries.{behind_some}
 use Rattle.journal_text.proofs.Lines.{entries_takes, entries_again}

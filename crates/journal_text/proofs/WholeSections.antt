@@ -10,7 +10,7 @@ use Rattle.journal_text.specs.declared.sections.SectionKind.TheVariants.{Batch, 
 use Rattle.journal_text.specs.declared.sections.Section.{Section}
 use Rattle.journal_text.specs.Spelling.{field, line_feed, entry_line, shard_lines, kind_word, section_lines, head_line, journal_lines}
 use Rattle.journal_text.specs.Written.{IsNumber, IsEntry, IsNumbered, IsSection, most_shards}
-use Rattle.journal_text.specs.Reading.{◌>>=◌, behind, after_word, field_at, entry_at, shards_at, kind_at, section_at}
+use Rattle.journal_text.specs.inner.Reading.{◌>>=◌, behind, after_word, field_at, entry_at, shards_at, kind_at, section_at}
 use Rattle.journal_text.proofs.Numbers.{and_both}
 use Rattle.journal_text.proofs.Fields.{bind_some, some_is, after_takes, field_takes, field_again}
 use Rattle.journal_text.proofs.Entries.{behind_some}

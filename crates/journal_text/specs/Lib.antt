@@ -1,4 +1,4 @@
 pub mod Laws
-pub mod Reading
 pub mod Spelling
 pub mod Written
+pub mod inner

@@ -9,7 +9,7 @@ use Rattle.journal_text.specs.declared.sections.SectionKind.{SectionKind}
 use Rattle.journal_text.specs.declared.sections.SectionKind.TheVariants.{Batch, Trim, Held}
 use Rattle.journal_text.specs.declared.sections.Section.{Section}
 
--- a number behind a blank, with no leading zero
+-- a number after a blank, with no leading zero
 abbrev pub field : ℕ → List ℕ
 field n = 32 ∷ decimal n
 

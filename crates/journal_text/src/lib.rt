@@ -10,8 +10,8 @@
 //! ```
 //!
 //! A journal begins with a head, the number of shards and the capacity of each. Then comes a [`Section`]
-//! for each batch of queries and each trim of the memo, and one for each memo of a circuit in which a signal
-//! is held. A section has a line for each shard, and behind it a line for each [`Entry`] of that shard:
+//! for each batch of queries and each trim of the memo, and a held one for each memo of a circuit in which a
+//! signal is forced. A section has a line for each shard, and after it a line for each [`Entry`] of that shard:
 //!
 //! | entry | line |
 //! |---|---|
@@ -25,8 +25,7 @@
 //! Numbers are decimal with no leading zero and at most 4,294,967,295; VALUE is `0`, `1`, `x` or `z`; words
 //! are divided by one blank, and every line ends with a line feed. `specs/Spelling` is this grammar, as the
 //! text of a value, and `specs/Written` says which sections have a text: START lies below END, which is at
-//! most 2,000,002; the section's number is at least 1; a section has 1 to 64 shards, and that of a held
-//! signal has 1.
+//! most 2,000,002; the section's number is at least 1; a section has 1 to 64 shards, and a held one has 1.
 //!
 //! What callers may rely on: [`section_text`] writes exactly that text. [`read_section`] reads exactly the
 //! section whose text stands at the front of the bytes, and nothing only where no section's text stands

@@ -1,9 +1,9 @@
-//! Reading a section. Each function reads what stands at the front of the bytes, and gives the bytes behind it.
+//! Reading a section. Each function reads what stands at the front of the bytes, and gives the bytes after it.
 ghost use Rattle.std.specs.Prelude.{◌≡◌, ◌≢◌, ℕ, List, ◌++◌, ◌≤◌, ◌^◌, length, drop, Some, IfOk, IfSome, IfNone};
 ghost use Rattle.journal_text.specs.declared.sections.Section.{Section};
 ghost use Rattle.journal_text.specs.Spelling.{section_lines};
 ghost use Rattle.journal_text.specs.Written.{IsSection, most_shards};
-ghost use Rattle.journal_text.specs.Reading.{behind_is, read_is, after_word, digit_at, digits_at, number_at, field_at, point_at, value_at, cell_at, told_at, claimed_at, filled_at, evicted_at, dropped_at, spent_at, entry_at, entries_at, shard_at, shards_at, kind_at, section_at};
+ghost use Rattle.journal_text.specs.inner.Reading.{behind_is, read_is, after_word, digit_at, digits_at, number_at, field_at, point_at, value_at, cell_at, told_at, claimed_at, filled_at, evicted_at, dropped_at, spent_at, entry_at, entries_at, shard_at, shards_at, kind_at, section_at};
 
 use crate::{EntryList, EntryLists, Section, SectionKind};
 use backsim_io::OutOfMemory;
@@ -28,7 +28,7 @@ pub fn read_section(alloc: Global, text: &[u8]) -> Result<Option<(Section, usize
     Ok(Some((section, len)))
 }
 
-#[tactic(auto, unfolding(crate::specs::Reading::section_at))]
+#[tactic(auto, unfolding(crate::specs::inner::Reading::section_at))]
 fn section_of(alloc: Global, text: &[u8]) -> Result<Option<(Section, &[u8])>, OutOfMemory>
     ensures { IfOk result (λ read. read_is read ≡ section_at text.now) }
 {
@@ -68,7 +68,7 @@ fn most(kind: SectionKind) -> usize
     }
 }
 
-#[tactic(auto, unfolding(crate::specs::Reading::kind_at))]
+#[tactic(auto, unfolding(crate::specs::inner::Reading::kind_at))]
 fn kind_of(text: &[u8]) -> Option<(SectionKind, &[u8])>
     ensures { read_is result ≡ kind_at text.now }
 {
@@ -105,7 +105,7 @@ fn shards_of(
     Ok(Some((EntryLists::from_vec(shards), rest)))
 }
 
-#[tactic(auto, unfolding(crate::specs::Reading::shard_at))]
+#[tactic(auto, unfolding(crate::specs::inner::Reading::shard_at))]
 fn shard_of(
     alloc: Global,
     number: u32,
@@ -139,7 +139,7 @@ fn entries_of(alloc: Global, text: &[u8]) -> Result<(EntryList, &[u8]), OutOfMem
     Ok((EntryList::from_vec(entries), rest))
 }
 
-#[tactic(auto, unfolding(crate::specs::Reading::entry_at))]
+#[tactic(auto, unfolding(crate::specs::inner::Reading::entry_at))]
 fn entry_of(text: &[u8]) -> Option<(Entry, &[u8])>
     ensures { read_is result ≡ entry_at text.now }
 {
@@ -159,7 +159,7 @@ fn entry_of(text: &[u8]) -> Option<(Entry, &[u8])>
     }
 }
 
-#[tactic(auto, unfolding(crate::specs::Reading::told_at))]
+#[tactic(auto, unfolding(crate::specs::inner::Reading::told_at))]
 fn told_of(text: &[u8]) -> Option<(Entry, &[u8])>
     ensures { read_is result ≡ told_at text.now }
 {
@@ -172,7 +172,7 @@ fn told_of(text: &[u8]) -> Option<(Entry, &[u8])>
     Some((Entry::Told { q, p, cell }, rest))
 }
 
-#[tactic(auto, unfolding(crate::specs::Reading::claimed_at))]
+#[tactic(auto, unfolding(crate::specs::inner::Reading::claimed_at))]
 fn claimed_of(text: &[u8]) -> Option<(Entry, &[u8])>
     ensures { read_is result ≡ claimed_at text.now }
 {
@@ -182,7 +182,7 @@ fn claimed_of(text: &[u8]) -> Option<(Entry, &[u8])>
     Some((Entry::Claimed { q, p }, rest))
 }
 
-#[tactic(auto, unfolding(crate::specs::Reading::filled_at))]
+#[tactic(auto, unfolding(crate::specs::inner::Reading::filled_at))]
 fn filled_of(text: &[u8]) -> Option<(Entry, &[u8])>
     ensures { read_is result ≡ filled_at text.now }
 {
@@ -195,7 +195,7 @@ fn filled_of(text: &[u8]) -> Option<(Entry, &[u8])>
     Some((Entry::Filled { q, p, cell }, rest))
 }
 
-#[tactic(auto, unfolding(crate::specs::Reading::evicted_at))]
+#[tactic(auto, unfolding(crate::specs::inner::Reading::evicted_at))]
 fn evicted_of(text: &[u8]) -> Option<(Entry, &[u8])>
     ensures { read_is result ≡ evicted_at text.now }
 {
@@ -205,7 +205,7 @@ fn evicted_of(text: &[u8]) -> Option<(Entry, &[u8])>
     Some((Entry::Evicted { signal, start }, rest))
 }
 
-#[tactic(auto, unfolding(crate::specs::Reading::dropped_at))]
+#[tactic(auto, unfolding(crate::specs::inner::Reading::dropped_at))]
 fn dropped_of(text: &[u8]) -> Option<(Entry, &[u8])>
     ensures { read_is result ≡ dropped_at text.now }
 {
@@ -215,7 +215,7 @@ fn dropped_of(text: &[u8]) -> Option<(Entry, &[u8])>
     Some((Entry::Dropped { q, p }, rest))
 }
 
-#[tactic(auto, unfolding(crate::specs::Reading::spent_at))]
+#[tactic(auto, unfolding(crate::specs::inner::Reading::spent_at))]
 fn spent_of(text: &[u8]) -> Option<(Entry, &[u8])>
     ensures { read_is result ≡ spent_at text.now }
 {
@@ -226,7 +226,7 @@ fn spent_of(text: &[u8]) -> Option<(Entry, &[u8])>
     Some((Entry::Spent { q, p, held }, rest))
 }
 
-#[tactic(auto, unfolding(crate::specs::Reading::point_at))]
+#[tactic(auto, unfolding(crate::specs::inner::Reading::point_at))]
 fn point_of(text: &[u8]) -> Option<(Point, &[u8])>
     ensures { read_is result ≡ point_at text.now }
 {
@@ -235,7 +235,7 @@ fn point_of(text: &[u8]) -> Option<(Point, &[u8])>
     Some((Point { signal, time }, rest))
 }
 
-#[tactic(auto, unfolding(crate::specs::Reading::cell_at))]
+#[tactic(auto, unfolding(crate::specs::inner::Reading::cell_at))]
 fn cell_of(text: &[u8]) -> Option<(Cell, &[u8])>
     ensures { read_is result ≡ cell_at text.now }
 {
@@ -259,8 +259,8 @@ fn value_of(text: &[u8]) -> Option<(Value, &[u8])>
     }
 }
 
-/// A blank, and a number behind it.
-#[tactic(auto, unfolding(crate::specs::Reading::field_at))]
+/// A blank, and a number after it.
+#[tactic(auto, unfolding(crate::specs::inner::Reading::field_at))]
 fn field_of(text: &[u8]) -> Option<(u32, &[u8])>
     ensures { read_is result ≡ field_at text.now }
 {
@@ -314,7 +314,7 @@ fn digit_of(text: &[u8]) -> Option<(u32, &[u8])>
     }
 }
 
-/// The bytes behind a word.
+/// The bytes after a word.
 fn after<'a>(text: &'a [u8], word: &[u8]) -> Option<&'a [u8]>
     ensures { behind_is result ≡ after_word word.now text.now }
 {

@@ -6,7 +6,7 @@ use journal_meaning::Entry;
 use std::marker::Model;
 
 /// What a section is for: a batch of queries, a trim of the memo, or the memo of a circuit in which a
-/// signal is held.
+/// signal is forced.
 #[derive(Clone, Copy, Debug, PartialEq, Eq)]
 pub enum SectionKind {
     Batch,

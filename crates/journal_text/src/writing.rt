@@ -55,7 +55,7 @@ fn kind_text(kind: SectionKind) -> &'static [u8]
     }
 }
 
-/// Writes the line of each shard and its entries behind the text.
+/// Writes the line of each shard and its entries at the end of the text.
 fn push_shards(text: &mut Vec<u8>, shards: &EntryLists) -> Result<(), AllocError>
     requires { length shards.now ≤ 64 }
     ensures { OnOk result (text.new.items ≡ text.old.items ++ shard_lines 0 shards.now) }
@@ -71,7 +71,7 @@ fn push_shards(text: &mut Vec<u8>, shards: &EntryLists) -> Result<(), AllocError
     Ok(())
 }
 
-/// Writes the lines of entries behind the text.
+/// Writes the lines of entries at the end of the text.
 fn push_entries(text: &mut Vec<u8>, entries: &EntryList) -> Result<(), AllocError>
     ensures { OnOk result (text.new.items ≡ text.old.items ++ flat_map entry_line entries.now) }
 {
@@ -81,7 +81,7 @@ fn push_entries(text: &mut Vec<u8>, entries: &EntryList) -> Result<(), AllocErro
     Ok(())
 }
 
-/// Writes the line of an entry behind the text.
+/// Writes the line of an entry at the end of the text.
 fn push_entry(text: &mut Vec<u8>, entry: &Entry) -> Result<(), AllocError>
     ensures { OnOk result (text.new.items ≡ text.old.items ++ entry_line entry.now) }
 {
@@ -124,7 +124,7 @@ fn push_entry(text: &mut Vec<u8>, entry: &Entry) -> Result<(), AllocError>
     Ok(())
 }
 
-/// Writes a signal and a time, each behind a blank.
+/// Writes a signal and a time, each after a blank.
 fn push_point(text: &mut Vec<u8>, p: &Point) -> Result<(), AllocError>
     ensures { OnOk result (text.new.items ≡ text.old.items ++ point p.now) }
 {
@@ -132,7 +132,7 @@ fn push_point(text: &mut Vec<u8>, p: &Point) -> Result<(), AllocError>
     push_field(text, p.time)
 }
 
-/// Writes a start, an end and a value, each behind a blank.
+/// Writes a start, an end and a value, each after a blank.
 fn push_cell(text: &mut Vec<u8>, c: &Cell) -> Result<(), AllocError>
     ensures { OnOk result (text.new.items ≡ text.old.items ++ cell c.now) }
 {
@@ -143,7 +143,7 @@ fn push_cell(text: &mut Vec<u8>, c: &Cell) -> Result<(), AllocError>
     Ok(())
 }
 
-/// Writes a number behind a blank.
+/// Writes a number after a blank.
 fn push_field(text: &mut Vec<u8>, n: u32) -> Result<(), AllocError>
     ensures { OnOk result (text.new.items ≡ text.old.items ++ field n) }
 {

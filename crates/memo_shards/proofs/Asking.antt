@@ -5,20 +5,20 @@ use Rattle.valid_intervals.specs.declared.Point.{Point}
 use Rattle.circuit_meaning.specs.declared.Window.{Window}
 use Rattle.circuit_meaning.specs.Circuit.{Circuit}
 use Rattle.circuit_meaning.proofs.Roots.{needed-before}
-use Rattle.journal_meaning.specs.Batch.{Batch, IsNeededBy, OfQuery, window_of}
-use Rattle.strand_meaning.specs.Batches.{IsLawful}
+use Rattle.batch_meaning.specs.Batches.{Batch, IsNeededBy, OfQuery, window_of}
+use Rattle.batch_meaning.specs.Lawful.{IsLawful}
 use Rattle.strand_meaning.specs.declared.Next.TheVariants.{Ask, Done}
 use Rattle.strand_meaning.specs.Strands.{Frame, Strand, IsStrand, IsHeld, roots_from, next, next_in, ask_or}
 use Rattle.strand_meaning.proofs.Stacks.{asks-first, first-askable}
 use Rattle.strand_meaning.proofs.Started.{query-within}
 use Rattle.strand_meaning.proofs.Wanted.{asks-needed, held-within}
-use Rattle.demand_points.specs.Demands.{Demand, IsKnown, roots_left}
+use Rattle.demand_points.specs.Demands.{Demand, IsKnownStrand, roots_left}
 
 no-window : (c : Circuit) (w : Window) (root : ℕ) → w.stop ≤ root → roots_left c w root ≡ []
 unfolding roots_from
 no-window c w root h = let z : w.stop - root ≡ 0 = omega arith in rw z refl
 
-module _ (b : Batch) (s : Demand) (known : IsKnown b s) where
+module _ (b : Batch) (s : Demand) (known : IsKnownStrand b s) where
   live-in : (st : List Frame) → st ≡ s.strand.stack → (spent : Bool) (p : Point) → next_in spent s.strand.roots st ≡ Ask p → s.root < s.to
   live-in [] e true p h = absurd (cc h)
   live-in [] e false p h = elim (cases_lt s.root s.to) [

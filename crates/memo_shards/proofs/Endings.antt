@@ -6,28 +6,32 @@ use Rattle.std.proofs.lemmas.List.Elements.{All-from_recursion}
 use Rattle.valid_intervals.specs.declared.Cell.{Cell}
 use Rattle.valid_intervals.specs.declared.Point.{Point}
 use Rattle.valid_intervals.specs.declared.SignalCell.{SignalCell}
-use Rattle.valid_intervals.specs.Cells.{same_point, same_stored, cell_for, to_front, all_but_last}
-use Rattle.cell_store.specs.Recency.{Contents, contents, Fits, IsApart, key_of, last_key, pushes_out, after_put}
+use Rattle.valid_intervals.specs.Cells.{same_point, same_stored, cell_for, to_front, all_but_last, is_stored, stored_at, last_cell, point_cmp}
+use Rattle.cell_store.specs.Recency.{Contents, contents, FitsStore, IsApart, key_of, last_key, pushes_out, after_put}
 use Rattle.journal_meaning.specs.declared.Entry.{Entry}
 use Rattle.journal_meaning.specs.declared.Entry.TheVariants as entry
 use Rattle.journal_meaning.specs.States as states
-use Rattle.journal_meaning.specs.States.{holder, is_stored}
-use Rattle.journal_meaning.specs.Batch.{Batch, OfQuery, IsRight, cell_at}
+use Rattle.journal_meaning.specs.States.{holder}
+use Rattle.batch_meaning.specs.Batches.{Batch, OfQuery}
+use Rattle.journal_meaning.specs.Allowed.{IsRight}
+use Rattle.circuit_meaning.specs.Cells.{cell_at}
 use Rattle.journal_meaning.proofs.Claims.{holder-ended}
 use Rattle.journal_meaning.proofs.Same.{same_stored-itself}
 use Rattle.journal_meaning.proofs.More.{right-answers}
 use Rattle.circuit_meaning.specs.Circuit.{Circuit, IsCircuit}
 use Rattle.strand_meaning.specs.Strands.{next, next_in, heard, finished, dropped}
 use Rattle.strand_meaning.specs.declared.Next.TheVariants.{Ask}
-use Rattle.plan_machine.specs.Shards.{Shard, IsShard, stored_at, last_cell, recorded, evicted, with_room, filled_shard}
+use Rattle.plan_machine.specs.Shards.{Shard, IsShard, recorded, evicted, with_room, filled_shard}
 use Rattle.plan_machine.proofs.Shards.{spent-shard, dropped-shard, filled-keeps, filled-claims}
-use Rattle.claim_waiters.specs.Claims.{Claim, Claims, IsInOrder, point_cmp, claim_at, holder_of, waiting_in, waiters_of, waiters_at, without}
+use Rattle.claim_waiters.specs.Claims.{WaitedClaim, Claims, IsInOrder, claim_at, holder_in, waiting_in, waiters_of, waiters_at, without_claim}
 use Rattle.claim_waiters.proofs.Tables as tables
 use Rattle.demand_points.specs.Demands as demands
-use Rattle.demand_points.specs.Demands.{Demand, IsAnswer, Steps}
-use Rattle.memo_shards.specs.Kept.{shard_at, waits_in}
-use Rattle.memo_shards.specs.View.{AsksThere, Agrees}
-use Rattle.memo_shards.specs.Ends.{LeavesNone, FillsIt, DropsIt, after_eviction, with_shard}
+use Rattle.demand_points.specs.Demands.{Demand, IsAskedCell, TakesStep}
+use Rattle.memo_shards.specs.KeptShards.{shard_at}
+use Rattle.memo_shards.specs.inner.KeptShards.{waits_in}
+use Rattle.memo_shards.specs.inner.View.{AsksThere, Agrees}
+use Rattle.memo_shards.specs.Ends.{LeavesNone, FillsIt, DropsIt, with_shard}
+use Rattle.memo_shards.specs.inner.Ends.{after_eviction}
 use Rattle.memo_shards.proofs.Asking.{refused}
 use Rattle.memo_shards.proofs.Waits.{waits-at}
 use Rattle.memo_shards.proofs.Entries.{ours, agrees-at, shard-is, shown, shown_with}
@@ -44,7 +48,7 @@ module _ (c : Circuit) (ok : IsCircuit c) (x : SignalCell) (right : IsRight c x)
   fits-each [] h = tt
   fits-each (y ∷ cells) h = (fits-one y h.0 (same_stored x y) refl, fits-each cells h.1)
 
-  pub right-fits : (cells : List SignalCell) → AllByRecursion (IsRight c) cells → Fits x cells
+  pub right-fits : (cells : List SignalCell) → AllByRecursion (IsRight c) cells → FitsStore x cells
   right-fits cells h = All-from_recursion (λ y. (same_stored x y ≡ true) ⊎ IsApart x y) cells (fits-each cells h)
 
 -- the last of a list
@@ -68,7 +72,7 @@ evicted-items h (Some x) = refl
 -- what a put does to a store is what the entries do to a state
 module _ (capacity : ℕ) (x : SignalCell) (h : Shard) where
   abbrev full : Bool
-  full = not (is_stored h.state x) && nat_eq (length h.state.cells) capacity
+  full = not (is_stored x h.state.cells) && nat_eq (length h.state.cells) capacity
 
   pub put-cells : after_put (contents capacity h.state.cells) x ≡ contents capacity (to_front x (with_room capacity x h).state.cells)
   put-cells = ap (λ l. contents capacity (to_front x l))
@@ -84,20 +88,20 @@ module _ (capacity : ℕ) (x : SignalCell) (h : Shard) where
   ]
 
 -- what a claim's end hands out
-pub waiters-are : (o : Option (Claim Demand)) (ws : List Demand) → option_map (λ (c : Claim Demand). c.waiters) o ≡ Some ws → waiting_in o ≡ ws
+pub waiters-are : (o : Option (WaitedClaim Demand)) (ws : List Demand) → option_map (λ (c : WaitedClaim Demand). c.waiters) o ≡ Some ws → waiting_in o ≡ ws
 waiters-are None ws k = absurd (cc k)
 waiters-are (Some c) ws k = cc k
 
-pub waiters-ask : (claims : Claims Demand) → AllByRecursion AsksThere claims → (p : Point) (o : Option (Claim Demand)) → claim_at claims p ≡ o → (ws : List Demand) → option_map (λ (c : Claim Demand). c.waiters) o ≡ Some ws
+pub waiters-ask : (claims : Claims Demand) → AllByRecursion AsksThere claims → (p : Point) (o : Option (WaitedClaim Demand)) → claim_at claims p ≡ o → (ws : List Demand) → option_map (λ (c : WaitedClaim Demand). c.waiters) o ≡ Some ws
     → AllByRecursion (λ (w : Demand). next w.strand ≡ Ask p) ws
 waiters-ask claims all p None e ws k = absurd (cc k)
 waiters-ask claims all p (Some c) e ws k = let same : c.waiters ≡ ws = cc k in subst (AllByRecursion (λ (w : Demand). next w.strand ≡ Ask p)) same (tables.each-at AsksThere claims p c all e)
 
-pub answers-all : (c : Circuit) (p : Point) (cell : Cell) → cell ≡ cell_at c p → (ws : List Demand) → AllByRecursion (λ (w : Demand). next w.strand ≡ Ask p) ws → AllByRecursion (λ (w : Demand). IsAnswer c w.strand cell) ws
+pub answers-all : (c : Circuit) (p : Point) (cell : Cell) → cell ≡ cell_at c p → (ws : List Demand) → AllByRecursion (λ (w : Demand). next w.strand ≡ Ask p) ws → AllByRecursion (λ (w : Demand). IsAskedCell c w.strand cell) ws
 answers-all c p cell e [] h = tt
 answers-all c p cell e (w ∷ ws) h = ((p, h.0, e), answers-all c p cell e ws h.1)
 
-some-length : (claims : Claims Demand) (p : Point) (c : Claim Demand) → claim_at claims p ≡ Some c → 1 ≤ length claims
+some-length : (claims : Claims Demand) (p : Point) (c : WaitedClaim Demand) → claim_at claims p ≡ Some c → 1 ≤ length claims
 some-length [] p c h = absurd (cc h)
 some-length (e ∷ es) p c h = omega arith
 
@@ -106,7 +110,7 @@ module _ (b : Batch) (opening : List SignalCell) (n : ℕ) (store : Contents) (c
   h = shard_at opening es
 
   -- a strand is spent
-  module _ (w : Demand) (known : demands.IsKnown b w) (p : Point) (refuse : next_in false w.strand.roots w.strand.stack ≡ Ask p) (here : p.signal % b.shards ≡ n) (missed : stored_at h.state.cells p ≡ None) (free : holder h.state.claims p ≡ None) (held : ℕ) where
+  module _ (w : Demand) (known : demands.IsKnownStrand b w) (p : Point) (refuse : next_in false w.strand.roots w.strand.stack ≡ Ask p) (here : p.signal % b.shards ≡ n) (missed : stored_at h.state.cells p ≡ None) (free : holder h.state.claims p ≡ None) (held : ℕ) where
     spent-is : IsShard b n opening (recorded (entry.Spent w.strand.query.number p held) h)
     spent-is = let a = refused b w known p refuse in spent-shard b n opening h is.shard w.strand.query.number p (here, a.within) held a.needed missed free
 
@@ -125,18 +129,18 @@ module _ (b : Batch) (opening : List SignalCell) (n : ℕ) (store : Contents) (c
     dropped-is = dropped-shard b n opening h is.shard q p (ours b opening n store claims es is p q claim).0 known-query claim
 
     module _ (order : IsInOrder claims) where
-      without-holders : (x : Point) → holder_of (without claims p) x ≡ holder (states.without h.state.claims p) x
+      without-holders : (x : Point) → holder_in (without_claim claims p) x ≡ holder (states.without_point h.state.claims p) x
       without-holders x = tables.holder-without claims p x order ∙ ap (cond (same_point p x) None) (is.holders x) ∙ sym (holder-ended h.state.claims p x)
 
-      pub dropped-agrees : Agrees b opening n store (without claims p) (es ++ entry.Dropped q p ∷ [])
-      dropped-agrees = agrees-at b opening n is.lawful is.among (recorded (entry.Dropped q p) h) dropped-is store (without claims p) is.stored without-holders
+      pub dropped-agrees : Agrees b opening n store (without_claim claims p) (es ++ entry.Dropped q p ∷ [])
+      dropped-agrees = agrees-at b opening n is.lawful is.among (recorded (entry.Dropped q p) h) dropped-is store (without_claim claims p) is.stored without-holders
           (tables.each-removed AsksThere (is_at (point_cmp p)) claims is.asks)
 
-      pub leaves-none : (left : Claims Demand) → left ≡ without claims p → IsInOrder left → (k : Shard) (l : Shard) → LeavesNone (record { number = n; shard = k; waiting = waits_in claims }) (record { number = n; shard = l; waiting = waits_in left }) p
+      pub leaves-none : (left : Claims Demand) → left ≡ without_claim claims p → IsInOrder left → (k : Shard) (l : Shard) → LeavesNone (record { number = n; shard = k; waiting = waits_in claims }) (record { number = n; shard = l; waiting = waits_in left }) p
       leaves-none left e ordered k l x =
           waits-at left ordered x ∙ ap (λ z. waiters_at z x) e ∙ tables.waiters-without claims p x order ∙ sym (ap (cond (same_point p x) []) (waits-at claims order x))
 
-      pub dropped-shown : (w s : Demand) → w.strand.query.number ≡ q → Steps dropped w s → (woken : List Demand) → waiters_of claims p ≡ Some woken → (left : Claims Demand) → left ≡ without claims p → IsInOrder left
+      pub dropped-shown : (w s : Demand) → w.strand.query.number ≡ q → TakesStep dropped w s → (woken : List Demand) → waiters_of claims p ≡ Some woken → (left : Claims Demand) → left ≡ without_claim claims p → IsInOrder left
           → (fs : List Entry) → fs ≡ es ++ entry.Dropped q p ∷ [] → DropsIt (shown b opening n store claims es is) (shown_with b opening n store claims es is fs left) p w s woken
       dropped-shown w s number steps woken e left rest ordered fs items = record {
         strand = steps;
@@ -156,8 +160,8 @@ module _ (b : Batch) (opening : List SignalCell) (n : ℕ) (store : Contents) (c
       filled-is : IsShard b n opening k
       filled-is = filled-keeps b n opening is.lawful.some_cell h is.shard q p (ours b opening n store claims es is p q claim).0 claim known-query
 
-      pub filled-agrees : (left : Contents) → left ≡ after_put store x → Agrees b opening n left (without claims p) k.journal
-      filled-agrees left e = agrees-at b opening n is.lawful is.among k filled-is left (without claims p)
+      pub filled-agrees : (left : Contents) → left ≡ after_put store x → Agrees b opening n left (without_claim claims p) k.journal
+      filled-agrees left e = agrees-at b opening n is.lawful is.among k filled-is left (without_claim claims p)
           (e ∙ ap (λ (z : Contents). after_put z x) is.stored ∙ put-cells b.capacity x h)
           (λ y. without-holders y ∙ sym (ap (λ z. holder z y) (filled-claims b n opening is.lawful.some_cell h is.shard q p (ours b opening n store claims es is p q claim).0 claim)))
           (tables.each-removed AsksThere (is_at (point_cmp p)) claims is.asks)
@@ -166,18 +170,18 @@ module _ (b : Batch) (opening : List SignalCell) (n : ℕ) (store : Contents) (c
       filled-items fs e = e ∙ ap (λ (z : Contents). after_eviction (cond (pushes_out x z) (last_key z.cells) None) es ++ entry.Filled q p (cell_at b.circuit p) ∷ []) is.stored
           ∙ ap (λ l. l ++ entry.Filled q p (cell_at b.circuit p) ∷ []) (put-items b.capacity x h)
 
-      pub filled-shown : (w s : Demand) → w.strand.query.number ≡ q → Steps finished w s → (waited woken : List Demand) → waiters_of claims p ≡ Some waited → AllZip (Steps heard) waited woken → (left : Claims Demand) → left ≡ without claims p → IsInOrder left
+      pub filled-shown : (w s : Demand) → w.strand.query.number ≡ q → TakesStep finished w s → (waited woken : List Demand) → waiters_of claims p ≡ Some waited → AllZip (TakesStep heard) waited woken → (left : Claims Demand) → left ≡ without_claim claims p → IsInOrder left
           → (fs : List Entry) → fs ≡ k.journal → FillsIt b (shown b opening n store claims es is) (shown_with b opening n store claims es is fs left) p w s woken
       filled-shown w s number steps waited woken e hears left rest ordered fs items = record {
         strand = steps;
-        hears = subst (λ l. AllZip (Steps heard) l woken) (sym (waits-at claims order p ∙ waiters-are (claim_at claims p) waited e)) hears;
+        hears = subst (λ l. AllZip (TakesStep heard) l woken) (sym (waits-at claims order p ∙ waiters-are (claim_at claims p) waited e)) hears;
         number = refl;
         shard = ap (shard_at opening) items ∙ shard-is b opening n k filled-is ∙ ap (λ m. filled_shard b.capacity m p (cell_at b.circuit p) h) (sym number);
         waiting = leaves-none left rest ordered h (shard_at opening fs);
       }
 
     -- the cell of a claimed point fits the store
-    pub filled-fits : (cell : Cell) → cell ≡ cell_at b.circuit p → Fits (cell_for p cell) store.cells
+    pub filled-fits : (cell : Cell) → cell ≡ cell_at b.circuit p → FitsStore (cell_for p cell) store.cells
     filled-fits cell e =
         let right : IsRight b.circuit (cell_for p cell) = record { time = p.time; within = (ours b opening n store claims es is p q claim).0.1; cell = e } in
-        subst (λ (z : Contents). Fits (cell_for p cell) z.cells) (sym is.stored) (right-fits b.circuit is.lawful.circuit (cell_for p cell) right h.state.cells is.shard.right)
+        subst (λ (z : Contents). FitsStore (cell_for p cell) z.cells) (sym is.stored) (right-fits b.circuit is.lawful.circuit (cell_for p cell) right h.state.cells is.shard.right)

@@ -5,28 +5,32 @@ use Rattle.backsim_io.specs.declared.OutOfMemory.{OutOfMemory}
 use Rattle.valid_intervals.specs.declared.Cell.{Cell}
 use Rattle.valid_intervals.specs.declared.Point.{Point}
 use Rattle.valid_intervals.specs.declared.SignalCell.{SignalCell}
-use Rattle.valid_intervals.specs.Cells.{same_point, covers, cell_for, to_front}
-use Rattle.cell_store.specs.Recency.{Contents, contents, with_cells, covering}
+use Rattle.valid_intervals.specs.Cells.{same_point, covers, cell_for, to_front, stored_at}
+use Rattle.cell_store.specs.Recency.{Contents, contents, with_cells}
 use Rattle.journal_meaning.specs.declared.Entry.{Entry}
 use Rattle.journal_meaning.specs.declared.Entry.TheVariants as entry
 use Rattle.journal_meaning.specs.States.{State, fresh, holder}
-use Rattle.journal_meaning.specs.Batch.{Batch, IsAt, IsRight, cell_at}
+use Rattle.batch_meaning.specs.Batches.{Batch}
+use Rattle.journal_meaning.specs.Allowed.{IsAt, IsRight}
+use Rattle.circuit_meaning.specs.Cells.{cell_at}
 use Rattle.journal_meaning.proofs.Lists.{each-stands, each-append}
 use Rattle.journal_meaning.proofs.Claims.{holder-claimed}
 use Rattle.journal_meaning.proofs.Named.{Ours, claim_ours}
 use Rattle.journal_meaning.proofs.More.{right-answers}
-use Rattle.strand_meaning.specs.Batches.{IsLawful}
+use Rattle.batch_meaning.specs.Lawful.{IsLawful}
 use Rattle.strand_meaning.specs.Strands.{next, heard, claimed}
 use Rattle.strand_meaning.specs.declared.Next.TheVariants.{Ask}
-use Rattle.plan_machine.specs.Shards.{Shard, IsShard, stored_at, recorded}
+use Rattle.plan_machine.specs.Shards.{Shard, IsShard, recorded}
 use Rattle.plan_machine.proofs.Shards.{found, told-keeps, claimed-shard}
-use Rattle.claim_waiters.specs.Claims.{Claim, Claims, IsInOrder, claim_at, holder_of, with_claim, with_waiter, waiters_at}
+use Rattle.claim_waiters.specs.Claims.{WaitedClaim, Claims, IsInOrder, claim_at, holder_in, with_claim, with_waiter, waiters_at}
 use Rattle.claim_waiters.proofs.Tables as tables
 use Rattle.demand_points.specs.Demands as demands
-use Rattle.demand_points.specs.Demands.{Demand, Steps}
-use Rattle.memo_shards.specs.Kept.{KeptShard, shard_at, waits_in, waits_for, IsWaiting, IsKnown}
-use Rattle.memo_shards.specs.View.{AsksThere, Agrees}
-use Rattle.memo_shards.specs.Asks.{Tells, ClaimsIt, OfPark}
+use Rattle.demand_points.specs.Demands.{Demand, TakesStep}
+use Rattle.memo_shards.specs.KeptShards.{KeptShard, shard_at, IsWaiting, IsKnownShard}
+use Rattle.memo_shards.specs.inner.KeptShards.{waits_in, waits_for}
+use Rattle.memo_shards.specs.inner.View.{AsksThere, Agrees}
+use Rattle.memo_shards.specs.Asks.{Tells, ClaimsIt}
+use Rattle.memo_shards.specs.inner.Asks.{OfPark}
 use Rattle.memo_shards.proofs.Asking.{asked}
 use Rattle.memo_shards.proofs.Waits.{waits-at, waits-claimed, each-claimed, each-waits}
 
@@ -39,7 +43,7 @@ by_case (Err e) A B P a b f g = g b
 pub stands-claimed : (claims : Claims Demand) (p : Point) (q : ℕ) → claim_at claims p ≡ None → IsSome (claim_at (with_claim claims q p) p)
 stands-claimed claims p q n = subst IsSome (sym (tables.at-inserted claims p (record { q = q; waiters = [] }) p n ∙ ap (λ t. cond t (Some (record { q = q; waiters = [] })) (claim_at claims p)) (tables.same-itself p))) refl
 
-pub query-none : (o : Option (Claim Demand)) → option_map (λ (c : Claim Demand). c.q) o ≡ None → o ≡ None
+pub query-none : (o : Option (WaitedClaim Demand)) → option_map (λ (c : WaitedClaim Demand). c.q) o ≡ None → o ≡ None
 query-none None h = refl
 query-none (Some c) h = absurd (cc h)
 
@@ -49,14 +53,14 @@ module _ (b : Batch) (opening : List SignalCell) (n : ℕ) where
   shard-is k is = ap (λ (s : State). record { state = s; journal = k.journal }) (sym is.state)
 
   pub agrees-at : IsLawful b → n < b.shards → (k : Shard) → IsShard b n opening k → (store : Contents) (claims : Claims Demand)
-      → store ≡ contents b.capacity k.state.cells → ((p : Point) → holder_of claims p ≡ holder k.state.claims p) → AllByRecursion AsksThere claims
+      → store ≡ contents b.capacity k.state.cells → ((p : Point) → holder_in claims p ≡ holder k.state.claims p) → AllByRecursion AsksThere claims
       → Agrees b opening n store claims k.journal
   agrees-at l a k is store claims st hs asks = record {
     lawful = l;
     among = a;
     shard = subst (IsShard b n opening) (sym (shard-is k is)) is;
     stored = subst (λ (x : Shard). store ≡ contents b.capacity x.state.cells) (sym (shard-is k is)) st;
-    holders = subst (λ (x : Shard). (p : Point) → holder_of claims p ≡ holder x.state.claims p) (sym (shard-is k is)) hs;
+    holders = subst (λ (x : Shard). (p : Point) → holder_in claims p ≡ holder x.state.claims p) (sym (shard-is k is)) hs;
     asks = asks;
   }
 
@@ -75,14 +79,14 @@ module _ (b : Batch) (opening : List SignalCell) (n : ℕ) where
     some-holder : (p : Point) → IsSome (claim_at claims p) → IsSome (holder now.state.claims p)
     some-holder p s = subst IsSome (is.holders p) (mapped (claim_at claims p) s)
       where
-        mapped : (o : Option (Claim Demand)) → IsSome o → IsSome (option_map (λ (c : Claim Demand). c.q) o)
+        mapped : (o : Option (WaitedClaim Demand)) → IsSome o → IsSome (option_map (λ (c : WaitedClaim Demand). c.q) o)
         mapped None s = s
         mapped (Some c) s = refl
 
     pub some-claim : (p : Point) → IsSome (holder now.state.claims p) → IsSome (claim_at claims p)
     some-claim p s = mapped (claim_at claims p) (subst IsSome (sym (is.holders p)) s)
       where
-        mapped : (o : Option (Claim Demand)) → IsSome (option_map (λ (c : Claim Demand). c.q) o) → IsSome o
+        mapped : (o : Option (WaitedClaim Demand)) → IsSome (option_map (λ (c : WaitedClaim Demand). c.q) o) → IsSome o
         mapped None s = s
         mapped (Some c) s = refl
 
@@ -107,7 +111,7 @@ module _ (b : Batch) (opening : List SignalCell) (n : ℕ) where
         each [] h = tt
         each (w ∷ ws) h = (record { asks = h.0; here = here-if e.0 (holder now.state.claims e.0) refl s.0; claimed = s.0 }, each ws h.1)
 
-    pub known-shard : (openings : ℕ → List SignalCell) → openings n ≡ opening → IsKnown b openings shown
+    pub known-shard : (openings : ℕ → List SignalCell) → openings n ≡ opening → IsKnownShard b openings shown
     known-shard openings e = record {
       lawful = is.lawful;
       number = is.among;
@@ -123,14 +127,14 @@ module _ (b : Batch) (opening : List SignalCell) (n : ℕ) where
       pub answer : cell ≡ cell_at b.circuit p
       pub shard : IsShard b n opening (recorded (entry.Told q p cell) now)
 
-    pub told : (w : Demand) → demands.IsKnown b w → (p : Point) → next w.strand ≡ Ask p → p.signal % b.shards ≡ n → (cell : Cell) → option_map (λ (x : SignalCell). x.cell) (covering p store.cells) ≡ Some cell → IsTold p w.strand.query.number cell
-    told w known p asks here cell h = of (covering p store.cells) refl h
+    pub told : (w : Demand) → demands.IsKnownStrand b w → (p : Point) → next w.strand ≡ Ask p → p.signal % b.shards ≡ n → (cell : Cell) → option_map (λ (x : SignalCell). x.cell) (stored_at store.cells p) ≡ Some cell → IsTold p w.strand.query.number cell
+    told w known p asks here cell h = of (stored_at store.cells p) refl h
       where
-        of : (o : Option SignalCell) → covering p store.cells ≡ o → option_map (λ (x : SignalCell). x.cell) o ≡ Some cell → IsTold p w.strand.query.number cell
+        of : (o : Option SignalCell) → stored_at store.cells p ≡ o → option_map (λ (x : SignalCell). x.cell) o ≡ Some cell → IsTold p w.strand.query.number cell
         of None e k = absurd (cc k)
         of (Some x) e k =
             let same : x.cell ≡ cell = cc k in
-            let at : stored_at now.state.cells p ≡ Some x = subst (λ (z : Contents). covering p z.cells ≡ Some x) is.stored e in
+            let at : stored_at now.state.cells p ≡ Some x = subst (λ (z : Contents). stored_at z.cells p ≡ Some x) is.stored e in
             let a = asked b w known p asks in
             let f = found (covers p) now.state.cells x at in
             let right = right-answers b.circuit a.lawful.circuit p x (each-stands (IsRight b.circuit) x now.state.cells is.shard.right f.1) f.0 in
@@ -148,7 +152,7 @@ module _ (b : Batch) (opening : List SignalCell) (n : ℕ) where
         agrees-at is.lawful is.among (recorded (entry.Told q p cell) now) t.shard left claims
         (e ∙ ap (λ (z : Contents). with_cells z (to_front (cell_for p cell) z.cells)) is.stored) is.holders is.asks
 
-    pub told-shown : (w s : Demand) (p : Point) (cell : Cell) → IsTold p w.strand.query.number cell → Steps heard w s → (fs : List Entry) → fs ≡ es ++ entry.Told w.strand.query.number p cell ∷ [] → Tells shown (shown_with fs claims) p w s
+    pub told-shown : (w s : Demand) (p : Point) (cell : Cell) → IsTold p w.strand.query.number cell → TakesStep heard w s → (fs : List Entry) → fs ≡ es ++ entry.Told w.strand.query.number p cell ∷ [] → Tells shown (shown_with fs claims) p w s
     told-shown w s p cell t steps fs e = record {
       cell = t.found;
       stored = t.at;
@@ -158,7 +162,7 @@ module _ (b : Batch) (opening : List SignalCell) (n : ℕ) where
     }
 
     -- a claim
-    module _ (w : Demand) (known : demands.IsKnown b w) (p : Point) (asks : next w.strand ≡ Ask p) (here : p.signal % b.shards ≡ n) (missed : stored_at now.state.cells p ≡ None) (free : holder now.state.claims p ≡ None) where
+    module _ (w : Demand) (known : demands.IsKnownStrand b w) (p : Point) (asks : next w.strand ≡ Ask p) (here : p.signal % b.shards ≡ n) (missed : stored_at now.state.cells p ≡ None) (free : holder now.state.claims p ≡ None) where
       pub claimed-is : IsShard b n opening (recorded (entry.Claimed w.strand.query.number p) now)
       claimed-is = let a = asked b w known p asks in claimed-shard b n opening now is.shard w.strand.query.number p (here, a.within) a.needed missed free
 
@@ -170,7 +174,7 @@ module _ (b : Batch) (opening : List SignalCell) (n : ℕ) where
           (λ x. tables.holder-claimed claims q p x none ∙ ap (cond (same_point p x) (Some q)) (is.holders x) ∙ sym (holder-claimed now.state.claims q p x))
           (tables.each-inserted AsksThere claims p (record { q = q; waiters = [] }) tt none is.asks)
 
-      pub claimed-shown : w.strand.charged < w.strand.budget → (s : Demand) → Steps (λ x. claimed b.circuit x p) w s → (fs : List Entry) → fs ≡ es ++ entry.Claimed w.strand.query.number p ∷ []
+      pub claimed-shown : w.strand.charged < w.strand.budget → (s : Demand) → TakesStep (λ x. claimed b.circuit x p) w s → (fs : List Entry) → fs ≡ es ++ entry.Claimed w.strand.query.number p ∷ []
           → ClaimsIt b shown (shown_with fs (with_claim claims w.strand.query.number p)) p w s
       claimed-shown within s steps fs e = record {
         unfound = record { missed = missed; unclaimed = free };

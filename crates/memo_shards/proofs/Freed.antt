@@ -6,21 +6,23 @@ use Rattle.std.specs.Map.{keys_of}
 use Rattle.std.proofs.lemmas.Map.Keys.{sorted_tail}
 use Rattle.valid_intervals.specs.declared.Point.{Point}
 use Rattle.valid_intervals.specs.declared.SignalCell.{SignalCell}
-use Rattle.valid_intervals.specs.Cells.{same_point}
+use Rattle.valid_intervals.specs.Cells.{same_point, point_cmp}
 use Rattle.cell_store.specs.Recency.{Contents}
 use Rattle.journal_meaning.specs.declared.Entry.{Entry}
 use Rattle.journal_meaning.specs.declared.Entry.TheVariants as entry
 use Rattle.journal_meaning.specs.States as states
 use Rattle.journal_meaning.specs.States.{fresh, holder}
-use Rattle.journal_meaning.specs.Batch.{Batch}
+use Rattle.batch_meaning.specs.Batches.{Batch}
 use Rattle.journal_meaning.proofs.Claims.{no-claims}
 use Rattle.journal_meaning.proofs.More.{replay-more}
-use Rattle.claim_waiters.specs.Claims.{Claim, Claims, IsInOrder, point_cmp, claim_at, holder_of, first_of, without}
+use Rattle.claim_waiters.specs.Claims.{WaitedClaim, Claims, IsInOrder, claim_at, holder_in, first_of, without_claim}
 use Rattle.claim_waiters.proofs.Tables.{at-same, same-itself}
 use Rattle.demand_points.specs.Demands.{Demand}
-use Rattle.memo_shards.specs.Kept.{shard_at, waits_in}
-use Rattle.memo_shards.specs.View.{Agrees}
-use Rattle.memo_shards.specs.Ends.{FreesAll, drop_of, recorded_all}
+use Rattle.memo_shards.specs.KeptShards.{shard_at}
+use Rattle.memo_shards.specs.inner.KeptShards.{waits_in}
+use Rattle.memo_shards.specs.inner.View.{Agrees}
+use Rattle.memo_shards.specs.Ends.{FreesAll, recorded_all}
+use Rattle.memo_shards.specs.inner.Ends.{drop_of}
 use Rattle.memo_shards.proofs.Entries.{shown, shown_with}
 use Rattle.memo_shards.proofs.Endings.{dropped-agrees}
 
@@ -41,7 +43,7 @@ pub record IsFreed (all now : Claims Demand) (before after : List Entry) (len ca
 pub freed-none : (all : Claims Demand) (es : List Entry) (len capacity : ℕ) → len + 2 * length all ≤ capacity → IsFreed all all es es len capacity
 freed-none all es len capacity h = record { gone = []; split = refl; items = sym (append-none es); room = h }
 
-map-snoc : (gone : Claims Demand) (e : Point × Claim Demand) → map drop_of (gone ++ e ∷ []) ≡ map drop_of gone ++ drop_of e ∷ []
+map-snoc : (gone : Claims Demand) (e : Point × WaitedClaim Demand) → map drop_of (gone ++ e ∷ []) ≡ map drop_of gone ++ drop_of e ∷ []
 map-snoc [] e = refl
 map-snoc (x ∷ gone) e = ap (λ l. drop_of x ∷ l) (map-snoc gone e)
 
@@ -49,13 +51,13 @@ less-room : (less more len capacity long wide : ℕ) → len + 2 * suc more ≤ 
 less-room less more len capacity long wide room l m w = omega arith
 
 pub freed-more : (all now : Claims Demand) (before after : List Entry) (len capacity : ℕ) → IsFreed all now before after len capacity → (q : ℕ) (p : Point) → first_of now ≡ Some (q, p)
-    → (left : Claims Demand) → left ≡ without now p → (then : List Entry) → then ≡ after ++ entry.Dropped q p ∷ [] → (long wide : ℕ) → long ≡ len + 1 → wide ≡ capacity → IsFreed all left before then long wide
+    → (left : Claims Demand) → left ≡ without_claim now p → (then : List Entry) → then ≡ after ++ entry.Dropped q p ∷ [] → (long wide : ℕ) → long ≡ len + 1 → wide ≡ capacity → IsFreed all left before then long wide
 freed-more all [] before after len capacity is q p f left l then e long wide m w = absurd (cc f)
 freed-more all (x ∷ now) before after len capacity is q p f left l then e long wide m w =
     let pair : (x.1.q, x.0) ≡ (q, p) = cc f in
     let point : x.0 ≡ p = ap (λ (z : ℕ × Point). z.1) pair in
     let number : x.1.q ≡ q = ap (λ (z : ℕ × Point). z.0) pair in
-    let rest : without (x ∷ now) p ≡ now = subst (λ z. without (x ∷ now) z ≡ now) point (rw (itself-at x.0) refl) in
+    let rest : without_claim (x ∷ now) p ≡ now = subst (λ z. without_claim (x ∷ now) z ≡ now) point (rw (itself-at x.0) refl) in
     let less : length left ≡ length now = ap length (l ∙ rest) in
     record {
       gone = is.gone ++ x ∷ [];
@@ -80,10 +82,10 @@ listed-drops : (claims : Claims Demand) → map (λ (c : states.Claim). entry.Dr
 listed-drops [] = refl
 listed-drops (e ∷ claims) = ap (λ l. drop_of e ∷ l) (listed-drops claims)
 
-listed-holder : (claims : Claims Demand) (p : Point) → holder (listed claims) p ≡ holder_of claims p
+listed-holder : (claims : Claims Demand) (p : Point) → holder (listed claims) p ≡ holder_in claims p
 listed-holder [] p = refl
 listed-holder (e ∷ claims) p = rw (at-same p e.0)
-    (elim (same_point p e.0) as (λ t. option_map (λ (c : states.Claim). c.query) (cond t (Some (record { query = e.1.q; point = e.0 })) (find (λ c. same_point p c.point) (listed claims))) ≡ option_map (λ (c : Claim Demand). c.q) (cond t (Some e.1) (claim_at claims p))) [
+    (elim (same_point p e.0) as (λ t. option_map (λ (c : states.Claim). c.query) (cond t (Some (record { query = e.1.q; point = e.0 })) (find (λ c. same_point p c.point) (listed claims))) ≡ option_map (λ (c : WaitedClaim Demand). c.q) (cond t (Some e.1) (claim_at claims p))) [
       | true ↦ refl
       | false ↦ listed-holder claims p
     ])
@@ -92,10 +94,10 @@ module _ (b : Batch) (opening : List SignalCell) (n : ℕ) (store : Contents) wh
   pub freed-agrees : (claims : Claims Demand) → IsInOrder claims → (es : List Entry) → Agrees b opening n store claims es → Agrees b opening n store [] (es ++ map drop_of claims)
   freed-agrees [] o es is = subst (Agrees b opening n store []) (sym (append-none es)) is
   freed-agrees (e ∷ cs) o es is =
-      let at : holder_of (e ∷ cs) e.0 ≡ Some e.1.q = rw (itself-at e.0) refl in
+      let at : holder_in (e ∷ cs) e.0 ≡ Some e.1.q = rw (itself-at e.0) refl in
       let held : holder (shard_at opening es).state.claims e.0 ≡ Some e.1.q = sym (is.holders e.0) ∙ at in
       let step = dropped-agrees b opening n store (e ∷ cs) es is e.1.q e.0 held o in
-      let rest : without (e ∷ cs) e.0 ≡ cs = rw (itself-at e.0) refl in
+      let rest : without_claim (e ∷ cs) e.0 ≡ cs = rw (itself-at e.0) refl in
       subst (λ l. Agrees b opening n store [] l) (append_assoc es (drop_of e ∷ []) (map drop_of cs))
       (freed-agrees cs (sorted_tail point_cmp e.0 (keys_of cs) o) (es ++ drop_of e ∷ []) (subst (λ l. Agrees b opening n store l (es ++ drop_of e ∷ [])) rest step))
 

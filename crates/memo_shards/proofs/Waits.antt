@@ -9,11 +9,12 @@ use Rattle.std.proofs.lemmas.Bool.{cases_Bool}
 use Rattle.std.proofs.lemmas.Bool.Decides.{nat_tests}
 use Rattle.std.proofs.lemmas.Map.Keys.{sorted_head, sorted_tail}
 use Rattle.valid_intervals.specs.declared.Point.{Point}
-use Rattle.valid_intervals.specs.Cells.{same_point}
-use Rattle.claim_waiters.specs.Claims.{Claims, IsInOrder, point_cmp, claim_at, waiters_at, with_claim}
+use Rattle.valid_intervals.specs.Cells.{same_point, point_cmp}
+use Rattle.claim_waiters.specs.Claims.{Claims, IsInOrder, claim_at, waiters_at, with_claim}
 use Rattle.claim_waiters.proofs.Tables.{at-same, at-back, same-is, same-itself}
 use Rattle.demand_points.specs.Demands.{Demand}
-use Rattle.memo_shards.specs.Kept.{Waiting, waiting_at, waits_for, waits_in}
+use Rattle.memo_shards.specs.KeptShards.{Waiting, waiting_at}
+use Rattle.memo_shards.specs.inner.KeptShards.{waits_for, waits_in}
 
 waiting-append : (xs ys : List Waiting) (x : Point) → waiting_at (xs ++ ys) x ≡ waiting_at xs x ++ waiting_at ys x
 waiting-append [] ys x = refl

@@ -1,25 +1,25 @@
 -- What the calls of a shard come to.
-use Rattle.std.specs.Prelude.{◌≡◌, ◌<◌, ◌%◌, Bool, true, false, if◌then◌else◌, [], ◌∷◌, ◌++◌, IsSome, Some, None, Result, Ok, Err}
+use Rattle.std.specs.Prelude.{◌≡◌, ◌<◌, ◌%◌, if◌then◌else◌, [], ◌∷◌, ◌++◌, IsSome, Some, None, Result, Ok, Err}
 use Rattle.backsim_io.specs.declared.OutOfMemory.{OutOfMemory}
 use Rattle.valid_intervals.specs.declared.Point.{Point}
 use Rattle.valid_intervals.specs.declared.SignalCell.{SignalCell}
-use Rattle.valid_intervals.specs.Cells.{same_point}
+use Rattle.valid_intervals.specs.Cells.{same_point, stored_at}
 use Rattle.journal_meaning.specs.declared.Entry.TheVariants as entry
 use Rattle.journal_meaning.specs.States.{holder}
-use Rattle.journal_meaning.specs.Batch.{Batch}
+use Rattle.batch_meaning.specs.Batches.{Batch}
 use Rattle.strand_meaning.specs.Strands.{heard, claimed, given_up}
-use Rattle.plan_machine.specs.Shards.{stored_at, recorded}
-use Rattle.demand_points.specs.Demands.{Demand, Steps}
+use Rattle.plan_machine.specs.Shards.{recorded}
+use Rattle.demand_points.specs.Demands.{Demand, TakesStep}
 use Rattle.memo_shards.specs.declared.asked.Asked.{Asked}
 use Rattle.memo_shards.specs.declared.asked.Asked.TheVariants.{Told, Claimed, Waits, Spent}
-use Rattle.memo_shards.specs.Kept.{KeptShard, waiting_at}
+use Rattle.memo_shards.specs.KeptShards.{KeptShard, waiting_at}
 
 -- the point is one of the shard
 abbrev pub IsHere : Batch → KeptShard → Point → Type 0
 IsHere b m p = p.signal % b.shards ≡ m.number
 
 -- no stored cell covers the point, and it is not claimed
-pub record IsOpen (m : KeptShard) (p : Point) : Type 0 where
+pub record IsUnfound (m : KeptShard) (p : Point) : Type 0 where
   pub missed : stored_at m.shard.state.cells p ≡ None
   pub unclaimed : holder m.shard.state.claims p ≡ None
 
@@ -27,17 +27,17 @@ pub record IsOpen (m : KeptShard) (p : Point) : Type 0 where
 pub record Tells (old new : KeptShard) (p : Point) (w s : Demand) : Type 0 where
   pub cell : SignalCell
   pub stored : stored_at old.shard.state.cells p ≡ Some cell
-  pub strand : Steps heard w s
+  pub strand : TakesStep heard w s
   pub shard : new ≡ record old { shard = recorded (entry.Told w.strand.query.number p cell.cell) old.shard }
 
 -- the strand claims the point
 pub record ClaimsIt (b : Batch) (old new : KeptShard) (p : Point) (w s : Demand) : Type 0 where
-  pub unfound : IsOpen old p
+  pub unfound : IsUnfound old p
   pub within : w.strand.charged < w.strand.budget
-  pub strand : Steps (λ x. claimed b.circuit x p) w s
+  pub strand : TakesStep (λ x. claimed b.circuit x p) w s
   pub shard : new ≡ record old { shard = recorded (entry.Claimed w.strand.query.number p) old.shard }
 
--- the strand waits, behind those that wait already
+-- the strand waits, after those that wait already
 pub record WaitsThere (old new : KeptShard) (p : Point) (w : Demand) : Type 0 where
   pub missed : stored_at old.shard.state.cells p ≡ None
   pub claimed : IsSome (holder old.shard.state.claims p)
@@ -47,9 +47,9 @@ pub record WaitsThere (old new : KeptShard) (p : Point) (w : Demand) : Type 0 wh
 
 -- the strand is refused the point
 pub record Refuses (old new : KeptShard) (p : Point) (w s : Demand) : Type 0 where
-  pub unfound : IsOpen old p
+  pub unfound : IsUnfound old p
   pub spent : w.strand.charged ≡ w.strand.budget
-  pub strand : Steps given_up w s
+  pub strand : TakesStep given_up w s
   pub shard : new ≡ old
 
 -- what came of an ask for the point
@@ -59,18 +59,3 @@ OfAsk b old new p w (Ok (Claimed s)) = ClaimsIt b old new p w s
 OfAsk b old new p w (Ok Waits) = WaitsThere old new p w
 OfAsk b old new p w (Ok (Spent s)) = Refuses old new p w s
 OfAsk b old new p w (Err e) = (e.0 ≡ w) × (new ≡ old)
-
--- of its first step, which looks for a stored cell
-abbrev pub OfTell : KeptShard → KeptShard → Point → Demand → Demand → Result Bool OutOfMemory → Type 0
-OfTell old new p w s (Ok true) = Tells old new p w s
-OfTell old new p w s (Ok false) = (stored_at old.shard.state.cells p ≡ None) × (s ≡ w) × (new ≡ old)
-OfTell old new p w s (Err e) = (s ≡ w) × (new ≡ old)
-
--- and of its last ones
-abbrev pub OfClaim : Batch → KeptShard → KeptShard → Point → Demand → Demand → Result Unit OutOfMemory → Type 0
-OfClaim b old new p w s (Ok u) = ClaimsIt b old new p w s
-OfClaim b old new p w s (Err e) = (s ≡ w) × (new ≡ old)
-
-abbrev pub OfPark : KeptShard → KeptShard → Point → Demand → Result Unit (Demand × OutOfMemory) → Type 0
-OfPark old new p w (Ok u) = WaitsThere old new p w
-OfPark old new p w (Err e) = (e.0 ≡ w) × (new ≡ old)

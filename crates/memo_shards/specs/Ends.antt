@@ -1,22 +1,21 @@
 -- How claims end.
-use Rattle.std.specs.Prelude.{◌≡◌, if◌then◌else◌, List, [], ◌∷◌, ◌++◌, map, Option, Some, None, Result, Ok, Err}
+use Rattle.std.specs.Prelude.{◌≡◌, if◌then◌else◌, List, [], ◌∷◌, ◌++◌, map, Result, Ok, Err}
 use Rattle.std.specs.List.{AllZip}
 use Rattle.std.specs.List.Sorted.{IsStrictlySortedBy}
 use Rattle.smallvec.specs.SmallVec.{SmallVec}
 use Rattle.backsim_io.specs.declared.OutOfMemory.{OutOfMemory}
 use Rattle.valid_intervals.specs.declared.Point.{Point}
-use Rattle.valid_intervals.specs.Cells.{same_point}
-use Rattle.cell_store.specs.declared.Key.{Key}
+use Rattle.valid_intervals.specs.Cells.{same_point, point_cmp}
 use Rattle.journal_meaning.specs.declared.Entry.{Entry}
 use Rattle.journal_meaning.specs.declared.Entry.TheVariants as entry
 use Rattle.journal_meaning.specs.States as states
 use Rattle.journal_meaning.specs.States.{holder}
-use Rattle.journal_meaning.specs.Batch.{Batch, cell_at}
+use Rattle.batch_meaning.specs.Batches.{Batch}
+use Rattle.circuit_meaning.specs.Cells.{cell_at}
 use Rattle.strand_meaning.specs.Strands.{heard, finished, dropped}
 use Rattle.plan_machine.specs.Shards.{Shard, recorded, filled_shard}
-use Rattle.claim_waiters.specs.Claims.{Claim, point_cmp}
-use Rattle.demand_points.specs.Demands.{Demand, Steps}
-use Rattle.memo_shards.specs.Kept.{KeptShard, waiting_at}
+use Rattle.demand_points.specs.Demands.{Demand, TakesStep}
+use Rattle.memo_shards.specs.KeptShards.{KeptShard, waiting_at}
 
 -- the same shard with another state and journal
 abbrev pub with_shard : KeptShard → Shard → KeptShard
@@ -28,8 +27,8 @@ LeavesNone old new p = (x : Point) → waiting_at new.waiting x ≡ (if same_poi
 
 -- the point is filled: the strand has finished it, and those that waited come out and have heard its cell
 pub record FillsIt (b : Batch) (old new : KeptShard) (p : Point) (w s : Demand) (woken : List Demand) : Type 0 where
-  pub strand : Steps finished w s
-  pub hears : AllZip (Steps heard) (waiting_at old.waiting p) woken
+  pub strand : TakesStep finished w s
+  pub hears : AllZip (TakesStep heard) (waiting_at old.waiting p) woken
   pub number : new.number ≡ old.number
   pub shard : new.shard ≡ filled_shard b.capacity w.strand.query.number p (cell_at b.circuit p) old.shard
   pub waiting : LeavesNone old new p
@@ -40,7 +39,7 @@ OfFill b old new p w (Err e) = (e.0 ≡ w) × (new ≡ old)
 
 -- the claim is given up, and those that waited come out as they were
 pub record DropsIt (old new : KeptShard) (p : Point) (w s : Demand) (woken : List Demand) : Type 0 where
-  pub strand : Steps dropped w s
+  pub strand : TakesStep dropped w s
   pub same : woken ≡ waiting_at old.waiting p
   pub number : new.number ≡ old.number
   pub shard : new.shard ≡ recorded (entry.Dropped w.strand.query.number p) old.shard
@@ -60,11 +59,3 @@ pub record FreesAll (old new : KeptShard) : Type 0 where
   pub shard : new.shard ≡ recorded_all (map (λ c. entry.Dropped c.query c.point) claims) old.shard
   pub free : new.shard.state.claims ≡ []
   pub waiting : new.waiting ≡ []
-
--- the entries that code makes
-abbrev pub after_eviction : Option Key → List Entry → List Entry
-after_eviction None es = es
-after_eviction (Some k) es = es ++ (entry.Evicted k.signal k.start) ∷ []
-
-abbrev pub drop_of : Point × Claim Demand → Entry
-drop_of e = entry.Dropped e.1.q e.0

@@ -1,5 +1,4 @@
-pub mod Kept
-pub mod View
+pub mod KeptShards
 pub mod Asks
 pub mod Ends
-pub mod Seen
+pub mod inner

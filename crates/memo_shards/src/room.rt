@@ -3,8 +3,8 @@
 ghost use Rattle.journal_meaning.specs.declared.Entry.TheVariants as entry;
 ghost use Rattle.std.specs.Prelude.{◌≡◌, ◌≤◌, ◌<◌, ◌+◌, ◌*◌, ◌^◌, OnOk, OnErr, vec_len, vec_capacity, ◌∷◌, ◌++◌, [], None, if◌then◌else◌};
 ghost use Rattle.valid_intervals.specs.Cells.{cell_for};
-ghost use Rattle.cell_store.specs.Recency.{Fits, after_put, pushes_out, last_key};
-ghost use Rattle.memo_shards.specs.Ends.{after_eviction};
+ghost use Rattle.cell_store.specs.Recency.{FitsStore, after_put, pushes_out, last_key};
+ghost use Rattle.memo_shards.specs.inner.Ends.{after_eviction};
 
 use backsim_io::OutOfMemory;
 use cell_store::{CellStore, Key};
@@ -19,6 +19,7 @@ pub fn make_room(journal: &mut Vec<Entry>, claims: usize, entries: usize) -> Res
     ensures room { OnOk result (vec_len journal.new + 2 * claims + entries ≤ vec_capacity journal.new) }
     ensures kept { vec_len journal.new + 2 * claims ≤ vec_capacity journal.new }
 {
+    // it says how large a capacity can be
     let _capacity = journal.capacity();
     let Some(room) = (2 * claims).checked_add(entries) else {
         return Err(OutOfMemory);
@@ -57,7 +58,7 @@ pub fn record_fill(
     p: Point,
     cell: &Cell,
 ) -> Result<(), OutOfMemory>
-    requires fits { Fits (cell_for p cell.now) store.old.cells }
+    requires fits { FitsStore (cell_for p cell.now) store.old.cells }
     requires room { vec_len journal.old + 2 ≤ vec_capacity journal.old }
     ensures store { OnOk result (store.new ≡ after_put store.old (cell_for p cell.now)) }
     ensures items { OnOk result (journal.new.items ≡ after_eviction (if pushes_out (cell_for p cell.now) store.old then last_key store.old.cells else None) journal.old.items ++ (entry.Filled q p cell.now) ∷ []) }

@@ -3,17 +3,20 @@
 ghost use Rattle.std.specs.Prelude.{◌≡◌, ◌<◌, ◌≤◌, ◌+◌, ◌*◌, true, false, [], ◌++◌, length, map, IsTrue, ◌↔◌, IsSome, Some, None, OnOk, OnErr, vec_len, vec_capacity};
 ghost use Rattle.std.specs.List.{AllByRecursion, list_any};
 ghost use Rattle.cell_store.specs.Recency.{contents};
-ghost use Rattle.claim_waiters.specs.Claims.{claim_at, without};
-ghost use Rattle.journal_meaning.specs.Batch.{IsRight};
+ghost use Rattle.claim_waiters.specs.Claims.{claim_at, without_claim};
+ghost use Rattle.journal_meaning.specs.Allowed.{IsRight};
 ghost use Rattle.journal_meaning.specs.States.{holder, is_covered};
-ghost use Rattle.strand_meaning.specs.Batches.{IsLawful};
+ghost use Rattle.batch_meaning.specs.Lawful.{IsLawful};
 ghost use Rattle.journal_meaning.specs.declared.Entry.TheVariants as entry;
 ghost use Rattle.strand_meaning.specs.Strands.{next, next_in};
 ghost use Rattle.strand_meaning.specs.declared.Next.TheVariants.{Ask, Fill, Drop};
-ghost use Rattle.plan_machine.specs.Shards.{stored_at, recorded};
-ghost use Rattle.memo_shards.specs.Kept.{shard_at, IsKnown};
-ghost use Rattle.memo_shards.specs.Asks.{IsHere, IsOpen, OfAsk, OfTell, OfClaim, OfPark};
-ghost use Rattle.memo_shards.specs.Ends.{OfFill, DropsIt, FreesAll, drop_of, with_shard};
+ghost use Rattle.valid_intervals.specs.Cells.{stored_at};
+ghost use Rattle.plan_machine.specs.Shards.{recorded};
+ghost use Rattle.memo_shards.specs.KeptShards.{shard_at, IsKnownShard};
+ghost use Rattle.memo_shards.specs.Asks.{IsHere, IsUnfound, OfAsk};
+ghost use Rattle.memo_shards.specs.inner.Asks.{OfTell, OfClaim, OfPark};
+ghost use Rattle.memo_shards.specs.Ends.{OfFill, DropsIt, FreesAll, with_shard};
+ghost use Rattle.memo_shards.specs.inner.Ends.{drop_of};
 
 use crate::asked::Asked;
 use crate::room::{make_room, record_fill, told};
@@ -39,11 +42,11 @@ pub struct Shard<B: BatchName> {
 }
 
 impl<B: BatchName> Model for Shard<B> {
-    ghost use Rattle.memo_shards.specs.Kept.{KeptShard};
+    ghost use Rattle.memo_shards.specs.KeptShards.{KeptShard};
 
     ghost Value = { KeptShard };
 
-    ghost use Rattle.memo_shards.specs.View.{kept, IsMemo};
+    ghost use Rattle.memo_shards.specs.inner.View.{kept, IsMemo};
 
     ghost view = { λ s. kept (B.opening s.number) s };
 
@@ -59,6 +62,7 @@ impl<B: BatchName> Shard<B> {
         requires right { AllByRecursion (IsRight B.batch.circuit) (B.opening number) }
         ensures { result ≡ record { number = number; shard = shard_at (B.opening number) []; waiting = [] } }
     {
+        // it says that the cells are apart and within the capacity
         let _len = store.len();
         Shard {
             number,
@@ -70,7 +74,7 @@ impl<B: BatchName> Shard<B> {
 
     /// What is known of every shard.
     pub fn facts(&self)
-        ensures { IsKnown B.batch B.opening self.now }
+        ensures { IsKnownShard B.batch B.opening self.now }
     {
         self.claims.facts();
     }
@@ -140,7 +144,7 @@ impl<B: BatchName> Shard<B> {
         requires design { design.now.circuit ≡ B.batch.circuit }
         requires asks { next strand.old.strand ≡ Ask p }
         requires here { IsHere B.batch self.old p }
-        requires unfound { IsOpen self.old p }
+        requires unfound { IsUnfound self.old p }
         requires within { strand.old.strand.charged < strand.old.strand.budget }
         ensures { OfClaim B.batch self.old self.new p strand.old strand.new result }
     {
@@ -262,12 +266,13 @@ impl<B: BatchName> Shard<B> {
         requires spent { strand.now.strand.spent ≡ true }
         requires refused { next_in false strand.now.strand.roots strand.now.strand.stack ≡ Ask p }
         requires here { IsHere B.batch self.old p }
-        requires unfound { IsOpen self.old p }
+        requires unfound { IsUnfound self.old p }
         ensures ok { OnOk result (self.new ≡ with_shard self.old (recorded (entry.Spent strand.now.strand.query.number p (length strand.now.strand.stack)) self.old.shard)) }
         ensures err { OnErr result (self.new ≡ self.old) }
     {
         strand.facts();
         let q = strand.query().number;
+        // at most the budget, so that the number of what it holds fits
         let _charged = strand.charged();
         let held = strand.held() as u32;
         make_room(&mut self.journal, self.claims.len(), 1)?;
@@ -302,7 +307,7 @@ impl<B: BatchName> Shard<B> {
 // Ends a claim, and gives up those that wait.
 fn end_claim<B: BatchName>(claims: &mut ClaimTable<Strand<B>>, p: Point)
     requires { IsSome (claim_at claims.old p) }
-    ensures { claims.new ≡ without claims.old p }
+    ensures { claims.new ≡ without_claim claims.old p }
 {
     let _waiters = claims.take(p);
 }

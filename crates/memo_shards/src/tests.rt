@@ -1,13 +1,14 @@
 //! Strands that meet at a shard, one after another.
 ghost use Rattle.std.specs.Prelude.{◌≡◌, ◌<◌, ◌≤◌, [], length};
-ghost use Rattle.strand_meaning.specs.Batches.{IsLawful, IsQueryOf};
+ghost use Rattle.batch_meaning.specs.Lawful.{IsLawful, IsQueryOf};
 
 use super::*;
+use batch_meaning::Query;
 use bench_reader::read_bench;
 use cell_store::CellStore;
 use demand_points::{BatchName, Strand};
 use design::{Design, JoinFault};
-use journal_meaning::{Entry, Query};
+use journal_meaning::Entry;
 use std::alloc::Global;
 use std::marker::Brand;
 use std::test::Fail;

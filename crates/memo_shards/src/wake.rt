@@ -2,7 +2,7 @@
 
 ghost use Rattle.std.specs.Prelude.{◌≡◌};
 ghost use Rattle.std.specs.List.{AllByRecursion, AllZip};
-ghost use Rattle.demand_points.specs.Demands.{IsAnswer, Steps};
+ghost use Rattle.demand_points.specs.Demands.{IsAskedCell, TakesStep};
 ghost use Rattle.strand_meaning.specs.Strands.{heard};
 
 use demand_points::{BatchName, Strand};
@@ -13,8 +13,8 @@ use valid_intervals::Cell;
 /// Each of these strands hears the cell that it asked for.
 pub fn hear_all<B: BatchName>(list: &mut SmallVec<Strand<B>, 2>, design: &Design, cell: &Cell)
     requires design { design.now.circuit ≡ B.batch.circuit }
-    requires answer { AllByRecursion (λ s. IsAnswer B.batch.circuit s.strand cell.now) list.old.items }
-    ensures { AllZip (Steps heard) list.old.items list.new.items }
+    requires answer { AllByRecursion (λ s. IsAskedCell B.batch.circuit s.strand cell.now) list.old.items }
+    ensures { AllZip (TakesStep heard) list.old.items list.new.items }
 {
     for s in list.as_mut_slice().iter_mut() {
         s.heard(design, *cell);

@@ -6,27 +6,28 @@ use Rattle.valid_intervals.specs.declared.Point.{Point}
 use Rattle.valid_intervals.specs.declared.SignalCell.{SignalCell}
 use Rattle.journal_meaning.specs.declared.Entry.TheVariants as entry
 use Rattle.journal_meaning.specs.States.{holder}
-use Rattle.journal_meaning.specs.Batch.{Batch}
+use Rattle.batch_meaning.specs.Batches.{Batch}
 use Rattle.strand_meaning.specs.declared.Next.TheVariants.{Ask}
 use Rattle.strand_meaning.specs.Strands.{Strand, next, heard, claimed, waiting, given_up}
 use Rattle.plan_machine.specs.declared.Turned.{Turned}
 use Rattle.plan_machine.specs.declared.Turned.TheVariants as comes
-use Rattle.plan_machine.specs.Shards.{Shard, stored_at, recorded}
+use Rattle.plan_machine.specs.Shards.{Shard, recorded}
+use Rattle.valid_intervals.specs.Cells.{stored_at}
 use Rattle.plan_machine.specs.Plans.{Plan, shard_of, claim_of, with_strand}
 use Rattle.plan_machine.specs.Steps.{turned_by}
-use Rattle.plan_machine.specs.Parts.{Waiter}
-use Rattle.plan_machine.specs.Kept as kept
-use Rattle.plan_machine.specs.Kept.{Memo, IsKept}
+use Rattle.plan_machine.specs.inner.Parts.{NumberedStrand}
+use Rattle.plan_machine.specs.inner.KeptPlans as kept
+use Rattle.plan_machine.specs.inner.KeptPlans.{WaitedShard, IsKeptPlan}
 use Rattle.plan_machine.proofs.Kept.{kept-wait}
 use Rattle.plan_machine.proofs.Facts.{told-turn, claimed-turn, waits-turn, spent-turn}
-use Rattle.demand_points.specs.Demands.{Demand, Steps, itself}
-use Rattle.memo_shards.specs.Kept.{KeptShard, IsKnown}
+use Rattle.demand_points.specs.Demands.{Demand, TakesStep, itself}
+use Rattle.memo_shards.specs.KeptShards.{KeptShard, IsKnownShard}
 use Rattle.memo_shards.specs.Asks.{Tells, ClaimsIt, WaitsThere, Refuses}
-use Rattle.memo_shards.specs.Seen.{waiter_of, memo_of}
+use Rattle.memo_shards.specs.inner.Seen.{numbered_strand, waited_shard}
 use Rattle.memo_shards.proofs.Seen.{waits-here, waits-other}
-use Rattle.plan_core.specs.Places.{seat, seats}
-use Rattle.plan_core.specs.Parts.{memos, plan_at, IsPlan}
-use Rattle.plan_core.specs.Turns.{OfAskTurn, OfTurn}
+use Rattle.plan_core.specs.inner.Places.{seat, seats}
+use Rattle.plan_core.specs.inner.Parts.{waited_shards, plan_at, IsPlan}
+use Rattle.plan_core.specs.inner.Turns.{OfAskTurn, OfTurn}
 use Rattle.plan_core.proofs.Lists.{numbers-none}
 use Rattle.plan_core.proofs.Seen.{here, in-plan, awake, home, homes, shard-here, seen, put-seen, rest-set, same-shard}
 
@@ -86,23 +87,23 @@ module _ (b : Batch) (opening : ℕ → List SignalCell) (places : List (Option 
         sym (ap turned_by is.step),
       )
 
-  waits : (h : KeptShard) → IsKnown b opening h → WaitsThere h0 h p s0 → Ends None h (Ok comes.Waits)
+  waits : (h : KeptShard) → IsKnownShard b opening h → WaitsThere h0 h p s0 → Ends None h (Ok comes.Waits)
   waits h known f =
       let by : (o : Option ℕ) → holder h0.shard.state.claims p ≡ o → (q : ℕ) × (o ≡ Some q) = λ o e. held-by o (subst IsSome e f.claimed) in
       let q = by (holder h0.shard.state.claims p) refl in
       let is = waits-turn b old n s0.strand at-plan quiet p q.0 asks (none f.missed) (claim (Some q.0) q.1) in
       let z = with_strand old n (waiting s0.strand) in
       let here_0 = home b opening places shards parts n s0 at p len count h0 index in
-      let waiter : waiter_of s0 ≡ record { number = n; strand = s0.strand } = let made : ℕ → Waiter = λ k. record { number = k; strand = s0.strand } in ap made (parts.numbers n s0 at) in
+      let waiter : numbered_strand s0 ≡ record { number = n; strand = s0.strand } = let made : ℕ → NumberedStrand = λ k. record { number = k; strand = s0.strand } in ap made (parts.numbers n s0 at) in
       let e : seats (slice_set places n None) ≡ slice_set (seats places) n None = map-set seat places n None in
-      let hs = slice_set (memos shards) (p.signal % length (memos shards)) (memo_of h) in
-      let now = kept-wait (seats places) (memos shards) old.strands parts.kept n s0.strand (here b opening places shards parts n s0 at) p (memo_of h) asks
-      (waits-here h0 h p s0 f ∙ ap (λ (m : Memo). kept.waiting_at m.parked p ++ waiter_of s0 ∷ []) (sym here_0) ∙ ap (λ w. kept.waiters (memos shards) p ++ w ∷ []) waiter)
-      (λ x ne. waits-other h0 h p s0 f x ne ∙ ap (λ (m : Memo). kept.waiting_at m.parked x) (sym here_0))
+      let hs = slice_set (waited_shards shards) (p.signal % length (waited_shards shards)) (waited_shard h) in
+      let now = kept-wait (seats places) (waited_shards shards) old.strands parts.kept n s0.strand (here b opening places shards parts n s0 at) p (waited_shard h) asks
+      (waits-here h0 h p s0 f ∙ ap (λ (m : WaitedShard). kept.waiting_at m.parked p ++ numbered_strand s0 ∷ []) (sym here_0) ∙ ap (λ w. kept.waiters (waited_shards shards) p ++ w ∷ []) waiter)
+      (λ x ne. waits-other h0 h p s0 f x ne ∙ ap (λ (m : WaitedShard). kept.waiting_at m.parked x) (sym here_0))
       (homes b opening places shards parts n s0 at p len count h0 index h known f.number) in (
         seen b opening places shards parts n s0 at p len count h0 index (slice_set places n None) h (λ ys. slice_set ys n (waiting s0.strand)) (λ x. x)
             (numbers-none places parts.numbers n (Some s0) at) f.number
-            (subst (λ z. IsKept z hs (slice_set old.strands n (waiting s0.strand))) (sym e) now) f.shard
+            (subst (λ z. IsKeptPlan z hs (slice_set old.strands n (waiting s0.strand))) (sym e) now) f.shard
             (is.turn ∙ sym (same-shard b opening places shards parts n s0 at p len count h0 index z refl)),
         sym (ap turned_by is.step),
       )
@@ -111,10 +112,10 @@ module _ (b : Batch) (opening : ℕ → List SignalCell) (places : List (Option 
       held-by None h = absurd (cc h)
       held-by (Some q) h = (q, refl)
 
-  rests : (s : Demand) (h : KeptShard) (error : OutOfMemory) → Steps itself s0 s → h ≡ h0 → Ends (Some s) h (Err error)
+  rests : (s : Demand) (h : KeptShard) (error : OutOfMemory) → TakesStep itself s0 s → h ≡ h0 → Ends (Some s) h (Err error)
   rests s h error step same = rest-set b opening places shards parts n s0 at p len count h0 index s h step same
 
-  pub asked : (came : Result Turned OutOfMemory) (back : Option Demand) (h : KeptShard) → IsKnown b opening h → OfAskTurn b h0 h p s0 came back → Ends back h came
+  pub asked : (came : Result Turned OutOfMemory) (back : Option Demand) (h : KeptShard) → IsKnownShard b opening h → OfAskTurn b h0 h p s0 came back → Ends back h came
   asked (Ok comes.Told) (Some s) h known f = told s h f
   asked (Ok comes.Claimed) (Some s) h known f = claims s h f
   asked (Ok comes.Waits) None h known f = waits h known f

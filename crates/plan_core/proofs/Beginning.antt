@@ -7,25 +7,27 @@ use Rattle.std.proofs.lemmas.Option.{slice_get_within}
 use Rattle.valid_intervals.specs.declared.Point.{Point}
 use Rattle.valid_intervals.specs.declared.SignalCell.{SignalCell}
 use Rattle.journal_meaning.specs.States.{holder}
-use Rattle.journal_meaning.specs.Batch.{Batch}
-use Rattle.strand_meaning.specs.Batches.{IsLawful}
-use Rattle.strand_meaning.specs.Strands.{Strand, Start, started, IsHeld, IsStrand}
+use Rattle.batch_meaning.specs.Batches.{Batch}
+use Rattle.batch_meaning.specs.Lawful.{IsLawful}
+use Rattle.strand_meaning.specs.Strands.{Strand, started, IsHeld, IsStrand}
+use Rattle.batch_meaning.specs.Pieces.{Start}
 use Rattle.plan_machine.specs.Shards.{Shard, IsShard}
 use Rattle.plan_machine.specs.Plans.{Plan, no_shard, claim_of}
-use Rattle.plan_machine.specs.Parts.{Waiter, IsAmong, strands_from}
-use Rattle.plan_machine.specs.Kept as kept
-use Rattle.plan_machine.specs.Kept.{Memo, Parked, no_memo, all_waiters, shards_of, plan_of, IsKept}
+use Rattle.plan_machine.specs.inner.Parts.{NumberedStrand, IsAmong, strands_from}
+use Rattle.plan_machine.specs.inner.KeptPlans as kept
+use Rattle.plan_machine.specs.inner.KeptPlans.{WaitedShard, Parked, no_waited_shard, all_waiters, shards_of, plan_of, IsKeptPlan}
 use Rattle.plan_machine.specs.Sound.{IsSound}
 use Rattle.plan_machine.specs.Laws.{BeginsAlone}
 use Rattle.plan_machine.proofs.Links.{map-get}
-use Rattle.demand_points.specs.Demands.{Demand, Steps, itself}
-use Rattle.memo_shards.specs.Kept.{Waiting, KeptShard, IsWaiting, IsKnown}
-use Rattle.memo_shards.specs.Seen.{waiter_of, memo_of, parked_of}
-use Rattle.plan_core.specs.Places.{seats, tag, tags, tag_of}
-use Rattle.plan_core.specs.Parts.{blank, memos, plan_at, IsPlan, IsNew, AreNew, AreFree, shards_in, strands_in, plan_of_new}
+use Rattle.demand_points.specs.Demands.{Demand, TakesStep, itself}
+use Rattle.memo_shards.specs.KeptShards.{Waiting, KeptShard, IsWaiting, IsKnownShard}
+use Rattle.memo_shards.specs.inner.Seen.{numbered_strand, waited_shard, parked_of}
+use Rattle.plan_core.specs.inner.Places.{seats, tag, tags, tag_of}
+use Rattle.plan_core.specs.inner.Parts.{blank, waited_shards, plan_at, IsPlan}
+use Rattle.plan_core.specs.Parts.{IsFreshStrand, AreFreshStrands, AreFree, shards_in, strands_in, plan_of_new}
 use Rattle.plan_core.proofs.Lists.{get-or-at}
 
-pub shards-same : (shards : List KeptShard) → shards_of (memos shards) ≡ shards_in shards
+pub shards-same : (shards : List KeptShard) → shards_of (waited_shards shards) ≡ shards_in shards
 shards-same [] = refl
 shards-same (m ∷ ms) = ap (λ l. m.shard ∷ l) (shards-same ms)
 
@@ -49,11 +51,11 @@ tags-push (x ∷ now) o = ap (λ l. tag x ∷ l) (tags-push now o)
 pub pause-first : (strands left : List Demand) (now : List (Option Demand)) (many : ℕ) → now ≡ [] → left ≡ strands → many ≡ length strands → IsPausing strands now left many
 pause-first strands left now many e is count = record { same = ap (λ ps. tags ps ++ map tag_of left) e ∙ ap (map tag_of) is; count = count ∙ ap (λ (l : List Demand). length l) (sym is) }
 
-pub pause-one : (strands : List Demand) (now after : List (Option Demand)) (old new : List Demand) (many fewer : ℕ) (s r : Demand) → IsPausing strands now old many → old ≡ s ∷ new → fewer + 1 ≡ many → Steps itself s r → after ≡ now ++ Some r ∷ []
+pub pause-one : (strands : List Demand) (now after : List (Option Demand)) (old new : List Demand) (many fewer : ℕ) (s r : Demand) → IsPausing strands now old many → old ≡ s ∷ new → fewer + 1 ≡ many → TakesStep itself s r → after ≡ now ++ Some r ∷ []
     → IsPausing strands after new fewer
 pause-one strands now after old new many fewer s r pausing e less step push =
-    let made : ℕ → Strand → Waiter = λ n t. record { number = n; strand = t } in
-    let same : waiter_of r ≡ waiter_of s = ap (λ n. made n r.strand) step.number ∙ ap (made s.number) step.strand in
+    let made : ℕ → Strand → NumberedStrand = λ n t. record { number = n; strand = t } in
+    let same : numbered_strand r ≡ numbered_strand s = ap (λ n. made n r.strand) step.number ∙ ap (made s.number) step.strand in
     record {
       same = ap (λ l. tags l ++ map tag_of new) push ∙ ap (λ l. l ++ map tag_of new) (tags-push now (Some r)) ∙ append-append (tags now) (tag (Some r) ∷ []) (map tag_of new)
           ∙ ap (λ w. tags now ++ Some w ∷ map tag_of new) same ∙ ap (λ l. tags now ++ map tag_of l) (sym e) ∙ pausing.same;
@@ -76,9 +78,9 @@ tags-seats [] (o ∷ os) e = absurd (cc e)
 tags-seats (s ∷ ss) [] e = absurd (cc e)
 tags-seats (s ∷ ss) (None ∷ os) e = absurd (cc e)
 tags-seats (s ∷ ss) (Some r ∷ os) e =
-    let first : waiter_of r ≡ waiter_of s = cc e in
+    let first : numbered_strand r ≡ numbered_strand s = cc e in
     let more : tags os ≡ map tag_of ss = cc e in
-    ap (λ (w : Waiter). Some w.strand ∷ seats os) first ∙ ap (λ l. Some s.strand ∷ l) (tags-seats ss os more)
+    ap (λ (w : NumberedStrand). Some w.strand ∷ seats os) first ∙ ap (λ l. Some s.strand ∷ l) (tags-seats ss os more)
 
 -- what is in a place is a strand of the list
 record IsOf (s r : Demand) : Type 0 where
@@ -91,13 +93,13 @@ tags-at [] (o ∷ os) e i r h = absurd (cc e)
 tags-at (s ∷ ss) [] e i r h = absurd (cc e)
 tags-at (s ∷ ss) (None ∷ os) e i r h = absurd (cc e)
 tags-at (s ∷ ss) (Some x ∷ os) e zero r h =
-    let first : waiter_of x ≡ waiter_of s = cc e in
+    let first : numbered_strand x ≡ numbered_strand s = cc e in
     let same : x ≡ r = cc h in
-    let is : waiter_of r ≡ waiter_of s = ap waiter_of (sym same) ∙ first in
-    (s, (refl, record { number = ap (λ (w : Waiter). w.number) is; strand = ap (λ (w : Waiter). w.strand) is }))
+    let is : numbered_strand r ≡ numbered_strand s = ap numbered_strand (sym same) ∙ first in
+    (s, (refl, record { number = ap (λ (w : NumberedStrand). w.number) is; strand = ap (λ (w : NumberedStrand). w.strand) is }))
 tags-at (s ∷ ss) (Some x ∷ os) e (suc i) r h = let more : tags os ≡ map tag_of ss = cc e in tags-at ss os more i r h
 
-strands-all : (ws : List Waiter) (n : ℕ) (strands : List Demand) → strands_from ws blank n (map (λ (s : Demand). Some s.strand) strands) ≡ strands_in strands
+strands-all : (ws : List NumberedStrand) (n : ℕ) (strands : List Demand) → strands_from ws blank n (map (λ (s : Demand). Some s.strand) strands) ≡ strands_in strands
 strands-all ws n [] = refl
 strands-all ws n (s ∷ ss) = ap (λ l. s.strand ∷ l) (strands-all ws (suc n) ss)
 
@@ -120,8 +122,8 @@ no-held : (q : Option ℕ) → q ≡ None → IsSome q → ⊥
 no-held None e h = cc h
 no-held (Some q) e h = cc e
 
-module _ (b : Batch) (lawful : IsLawful b) (opening : ℕ → List SignalCell) (strands : List Demand) (new : AreNew b strands) (shards : List KeptShard) (free : AreFree b shards)
-    (known : (i : ℕ) (m : KeptShard) → slice_get shards i ≡ Some m → IsKnown b opening m) where
+module _ (b : Batch) (lawful : IsLawful b) (opening : ℕ → List SignalCell) (strands : List Demand) (new : AreFreshStrands b strands) (shards : List KeptShard) (free : AreFree b shards)
+    (known : (i : ℕ) (m : KeptShard) → slice_get shards i ≡ Some m → IsKnownShard b opening m) where
   -- nobody waits
   idle : (i : ℕ) (m : KeptShard) → slice_get shards i ≡ Some m → m.waiting ≡ []
   idle i m at = by m.waiting (known i m at).waiting
@@ -133,41 +135,41 @@ module _ (b : Batch) (lawful : IsLawful b) (opening : ℕ → List SignalCell) (
       by [] h = refl
       by (w ∷ ws) h = absurd (no-held (holder m.shard.state.claims w.point) (ap (λ ks. holder ks w.point) none) h.0.claimed)
 
-  memos-len : length (memos shards) ≡ b.shards
-  memos-len = length-map shards memo_of ∙ free.count
+  memos-len : length (waited_shards shards) ≡ b.shards
+  memos-len = length-map shards waited_shard ∙ free.count
 
   -- shard n
   at-number : (n : ℕ) → n < b.shards → (m : KeptShard) × (slice_get shards n ≡ Some m)
   at-number n low = some-at shards n (let k = free.count in omega arith)
 
-  memo-is : (n : ℕ) (low : n < b.shards) → get_or (memos shards) n no_memo ≡ memo_of (at-number n low).0
-  memo-is n low = get-or-at (memos shards) n (memo_of (at-number n low).0) no_memo (map-get memo_of shards n (at-number n low).0 (at-number n low).1)
+  memo-is : (n : ℕ) (low : n < b.shards) → get_or (waited_shards shards) n no_waited_shard ≡ waited_shard (at-number n low).0
+  memo-is n low = get-or-at (waited_shards shards) n (waited_shard (at-number n low).0) no_waited_shard (map-get waited_shard shards n (at-number n low).0 (at-number n low).1)
 
-  parked-none : (n : ℕ) → n < b.shards → (get_or (memos shards) n no_memo).parked ≡ []
-  parked-none n low = ap (λ (z : Memo). z.parked) (memo-is n low) ∙ ap (map parked_of) (idle n (at-number n low).0 (at-number n low).1)
+  parked-none : (n : ℕ) → n < b.shards → (get_or (waited_shards shards) n no_waited_shard).parked ≡ []
+  parked-none n low = ap (λ (z : WaitedShard). z.parked) (memo-is n low) ∙ ap (map parked_of) (idle n (at-number n low).0 (at-number n low).1)
 
-  shard-is : (n : ℕ) (low : n < b.shards) → get_or (shards_of (memos shards)) n no_shard ≡ (at-number n low).0.shard
+  shard-is : (n : ℕ) (low : n < b.shards) → get_or (shards_of (waited_shards shards)) n no_shard ≡ (at-number n low).0.shard
   shard-is n low =
       let m = at-number n low in
-      get-or-at (shards_of (memos shards)) n m.0.shard no_shard (map-get (λ (z : Memo). z.shard) (memos shards) n (memo_of m.0) (map-get memo_of shards n m.0 m.1))
+      get-or-at (shards_of (waited_shards shards)) n m.0.shard no_shard (map-get (λ (z : WaitedShard). z.shard) (waited_shards shards) n (waited_shard m.0) (map-get waited_shard shards n m.0 m.1))
 
-  waiters-none : (p : Point) → kept.waiters (memos shards) p ≡ []
+  waiters-none : (p : Point) → kept.waiters (waited_shards shards) p ≡ []
   waiters-none p =
       let some = lawful.some_shard in
-      let low : p.signal % length (memos shards) < b.shards = let k = memos-len in omega arith in
-      ap (λ ks. kept.waiting_at ks p) (parked-none (p.signal % length (memos shards)) low)
+      let low : p.signal % length (waited_shards shards) < b.shards = let k = memos-len in omega arith in
+      ap (λ ks. kept.waiting_at ks p) (parked-none (p.signal % length (waited_shards shards)) low)
 
   module _ (places : List (Option Demand)) (tagged : tags places ≡ map tag_of strands) where
     seats-are : seats places ≡ map (λ (s : Demand). Some s.strand) strands
     seats-are = tags-seats strands places tagged
 
     strands-are : (plan_at places shards).strands ≡ strands_in strands
-    strands-are = ap (strands_from (all_waiters (memos shards)) blank 0) seats-are ∙ strands-all (all_waiters (memos shards)) 0 strands
+    strands-are = ap (strands_from (all_waiters (waited_shards shards)) blank 0) seats-are ∙ strands-all (all_waiters (waited_shards shards)) 0 strands
 
     pub plan-begins : plan_at places shards ≡ plan_of_new strands shards
     plan-begins =
         let made : List Strand → List Shard → Plan = λ xs hs. record { strands = xs; shards = hs } in
-        ap (λ xs. made xs (shards_of (memos shards))) strands-are ∙ ap (made (strands_in strands)) (shards-same shards)
+        ap (λ xs. made xs (shards_of (waited_shards shards))) strands-are ∙ ap (made (strands_in strands)) (shards-same shards)
 
     at-strand : (i : ℕ) (s : Strand) → slice_get (plan_at places shards).strands i ≡ Some s → (d : Demand) × ((slice_get strands i ≡ Some d) × (s ≡ d.strand))
     at-strand i s at = map-back (λ (d : Demand). d.strand) strands i s (ap (λ xs. slice_get xs i) (sym strands-are) ∙ at)
@@ -180,7 +182,7 @@ module _ (b : Batch) (lawful : IsLawful b) (opening : ℕ → List SignalCell) (
 
     sound : IsSound b opening (plan_at places shards)
     sound = record {
-      count = length-map (memos shards) (λ (z : Memo). z.shard) ∙ memos-len;
+      count = length-map (waited_shards shards) (λ (z : WaitedShard). z.shard) ∙ memos-len;
       shards = λ n low.
           let m = at-number n low in
           let k = (known n m.0 m.1).shard in
@@ -190,8 +192,8 @@ module _ (b : Batch) (lawful : IsLawful b) (opening : ℕ → List SignalCell) (
       linked = record {
         held = λ i s p at h. absurd (none i s p at h);
         holder = λ p q claim.
-            let hs = shards_of (memos shards) in
-            let count : length hs ≡ b.shards = length-map (memos shards) (λ (z : Memo). z.shard) ∙ memos-len in
+            let hs = shards_of (waited_shards shards) in
+            let count : length hs ≡ b.shards = length-map (waited_shards shards) (λ (z : WaitedShard). z.shard) ∙ memos-len in
             let some = lawful.some_shard in
             let low : p.signal % length hs < b.shards = omega arith in
             let m = at-number (p.signal % length hs) low in
@@ -209,7 +211,7 @@ module _ (b : Batch) (lawful : IsLawful b) (opening : ℕ → List SignalCell) (
     seats-get : (i : ℕ) (o : Option Strand) → slice_get (seats places) i ≡ Some o → (d : Demand) × ((slice_get strands i ≡ Some d) × (o ≡ Some d.strand))
     seats-get i o at = map-back (λ (d : Demand). Some d.strand) strands i o (ap (λ xs. slice_get xs i) (sym seats-are) ∙ at)
 
-    now-kept : IsKept (seats places) (memos shards) (plan_at places shards).strands
+    now-kept : IsKeptPlan (seats places) (waited_shards shards) (plan_at places shards).strands
     now-kept = record {
       some = let k = memos-len in let l = lawful.some_shard in omega arith;
       parts = record {
@@ -222,7 +224,7 @@ module _ (b : Batch) (lawful : IsLawful b) (opening : ℕ → List SignalCell) (
         gap = λ i at. let d = seats-get i None at in absurd (cc d.1.1);
         waiter = λ p w h. absurd (subst (IsAmong w) (waiters-none p) h);
       };
-      homes = λ n low. subst (AllByRecursion (λ (k : Parked). k.point.signal % length (memos shards) ≡ n)) (sym (parked-none n (let k = memos-len in omega arith))) tt;
+      homes = λ n low. subst (AllByRecursion (λ (k : Parked). k.point.signal % length (waited_shards shards) ≡ n)) (sym (parked-none n (let k = memos-len in omega arith))) tt;
     }
 
     pub begins : IsPlan b opening places shards
@@ -250,21 +252,21 @@ module _ (b : Batch) (lawful : IsLawful b) (opening : ℕ → List SignalCell) (
     }
 
 -- what is known of the first shards, and of one more
-pub known-one : (b : Batch) (opening : ℕ → List SignalCell) (shards : List KeptShard) (n : ℕ) (x : KeptShard) → ((i : ℕ) (m : KeptShard) → i < n → slice_get shards i ≡ Some m → IsKnown b opening m)
-    → x ≡ get_or shards n x → IsKnown b opening x → (i : ℕ) (m : KeptShard) → i < n + 1 → slice_get shards i ≡ Some m → IsKnown b opening m
+pub known-one : (b : Batch) (opening : ℕ → List SignalCell) (shards : List KeptShard) (n : ℕ) (x : KeptShard) → ((i : ℕ) (m : KeptShard) → i < n → slice_get shards i ≡ Some m → IsKnownShard b opening m)
+    → x ≡ get_or shards n x → IsKnownShard b opening x → (i : ℕ) (m : KeptShard) → i < n + 1 → slice_get shards i ≡ Some m → IsKnownShard b opening m
 known-one b opening shards n x before is here i m low at = elim (cases_eq i n) [
   | inl e ↦
       let same : get_or shards n x ≡ m = ap (λ j. get_or shards j x) (sym e) ∙ get-or-at shards i m x at in
-      subst (IsKnown b opening) (is ∙ same) here
+      subst (IsKnownShard b opening) (is ∙ same) here
   | inr ne ↦ before i m (omega arith) at
 ]
 
-pub known-all : (b : Batch) (opening : ℕ → List SignalCell) (shards : List KeptShard) (n : ℕ) → ((i : ℕ) (m : KeptShard) → i < n → slice_get shards i ≡ Some m → IsKnown b opening m) → length shards ≤ n
-    → (i : ℕ) (m : KeptShard) → slice_get shards i ≡ Some m → IsKnown b opening m
+pub known-all : (b : Batch) (opening : ℕ → List SignalCell) (shards : List KeptShard) (n : ℕ) → ((i : ℕ) (m : KeptShard) → i < n → slice_get shards i ≡ Some m → IsKnownShard b opening m) → length shards ≤ n
+    → (i : ℕ) (m : KeptShard) → slice_get shards i ≡ Some m → IsKnownShard b opening m
 known-all b opening shards n before long i m at = let low = slice_get_within shards i m at in before i m (omega arith) at
 
 -- two new strands
-pub two-new : (b : Batch) (s r : Demand) → IsNew b 0 s → IsNew b 1 r → AreNew b (s ∷ r ∷ [])
-two-new b s r hs hr zero x at = let e : s ≡ x = cc at in subst (IsNew b 0) e hs
-two-new b s r hs hr (suc zero) x at = let e : r ≡ x = cc at in subst (IsNew b 1) e hr
+pub two-new : (b : Batch) (s r : Demand) → IsFreshStrand b 0 s → IsFreshStrand b 1 r → AreFreshStrands b (s ∷ r ∷ [])
+two-new b s r hs hr zero x at = let e : s ≡ x = cc at in subst (IsFreshStrand b 0) e hs
+two-new b s r hs hr (suc zero) x at = let e : r ≡ x = cc at in subst (IsFreshStrand b 1) e hr
 two-new b s r hs hr (suc (suc i)) x at = absurd (cc at)

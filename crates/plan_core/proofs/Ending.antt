@@ -8,7 +8,8 @@ use Rattle.valid_intervals.specs.declared.Point.{Point}
 use Rattle.valid_intervals.specs.declared.SignalCell.{SignalCell}
 use Rattle.journal_meaning.specs.declared.Entry.TheVariants as entry
 use Rattle.journal_meaning.specs.States.{holder}
-use Rattle.journal_meaning.specs.Batch.{Batch, cell_at}
+use Rattle.batch_meaning.specs.Batches.{Batch}
+use Rattle.circuit_meaning.specs.Cells.{cell_at}
 use Rattle.strand_meaning.specs.declared.Next.TheVariants.{Fill, Drop}
 use Rattle.strand_meaning.specs.Strands as strands
 use Rattle.strand_meaning.specs.Strands.{Strand, next, heard, waiting, finished, dropped, IsHeld}
@@ -17,25 +18,25 @@ use Rattle.plan_machine.specs.declared.Turned.TheVariants as comes
 use Rattle.plan_machine.specs.Shards.{Shard, recorded, filled_shard}
 use Rattle.plan_machine.specs.Plans.{Plan, shard_of, with_strand, with_shard, with_woken, woken, itself}
 use Rattle.plan_machine.specs.Steps.{turned_by}
-use Rattle.plan_machine.specs.Parts.{Waiter, IsAmong, put_back}
-use Rattle.plan_machine.specs.Kept as kept
-use Rattle.plan_machine.specs.Kept.{Memo, IsKept}
+use Rattle.plan_machine.specs.inner.Parts.{NumberedStrand, IsAmong, put_back}
+use Rattle.plan_machine.specs.inner.KeptPlans as kept
+use Rattle.plan_machine.specs.inner.KeptPlans.{WaitedShard, IsKeptPlan}
 use Rattle.plan_machine.specs.Turns.{turn}
 use Rattle.plan_machine.proofs.Kept.{kept-wake}
 use Rattle.plan_machine.proofs.Parts.{heard-fits}
 use Rattle.plan_machine.proofs.Facts.{filled-turn, dropped-turn}
-use Rattle.demand_points.specs.Demands.{Demand, Steps}
-use Rattle.memo_shards.specs.Kept.{KeptShard, IsKnown, waiting_at}
+use Rattle.demand_points.specs.Demands.{Demand, TakesStep}
+use Rattle.memo_shards.specs.KeptShards.{KeptShard, IsKnownShard, waiting_at}
 use Rattle.memo_shards.specs.Ends.{FillsIt, DropsIt, LeavesNone}
-use Rattle.memo_shards.specs.Seen.{waiter_of, memo_of}
+use Rattle.memo_shards.specs.inner.Seen.{numbered_strand, waited_shard}
 use Rattle.memo_shards.proofs.Seen.{waiting-seen, none-here, none-other, zip-seen, changed}
-use Rattle.plan_core.specs.Places.{seat, seats, AreNumbered, HaveNumbers}
-use Rattle.plan_core.specs.Parts.{memos, plan_at, IsPlan}
-use Rattle.plan_core.specs.Turns.{OfTurn, IsSeen}
+use Rattle.plan_core.specs.inner.Places.{seat, seats, AreNumbered, HaveNumbers}
+use Rattle.plan_core.specs.inner.Parts.{waited_shards, plan_at, IsPlan}
+use Rattle.plan_core.specs.inner.Turns.{OfTurn, IsSeen}
 use Rattle.plan_core.proofs.Lists.{set-twice, put-over, put-changed, have-numbers, set-numbers}
 use Rattle.plan_core.proofs.Seen.{here, in-plan, awake, home, homes, shard-here, seen, rest-set}
 
-map-itself : (ws : List Waiter) → map (changed itself) ws ≡ ws
+map-itself : (ws : List NumberedStrand) → map (changed itself) ws ≡ ws
 map-itself [] = refl
 map-itself (w ∷ ws) = ap (λ l. w ∷ l) (map-itself ws)
 
@@ -58,10 +59,10 @@ module _ (b : Batch) (opening : ℕ → List SignalCell) (places : List (Option 
   holds-dropped e = holds (top-held s0.strand.stack p (drop-top s0.strand p e))
 
   -- those that wait there
-  waits : kept.waiters (memos shards) p ≡ map waiter_of (waiting_at h0.waiting p)
-  waits = ap (λ (m : Memo). kept.waiting_at m.parked p) (home b opening places shards parts n s0 at p len count h0 index) ∙ waiting-seen h0.waiting p
+  waits : kept.waiters (waited_shards shards) p ≡ map numbered_strand (waiting_at h0.waiting p)
+  waits = ap (λ (m : WaitedShard). kept.waiting_at m.parked p) (home b opening places shards parts n s0 at p len count h0 index) ∙ waiting-seen h0.waiting p
 
-  low : (w : Waiter) → IsAmong w (kept.waiters (memos shards) p) → w.number < length places
+  low : (w : NumberedStrand) → IsAmong w (kept.waiters (waited_shards shards) p) → w.number < length places
   low w h =
       let k = (parts.kept.parts.waiter p w h).0 in
       let l = slice_get_within (seats places) w.number None k in
@@ -69,65 +70,65 @@ module _ (b : Batch) (opening : ℕ → List SignalCell) (places : List (Option 
       omega arith
 
   module _ (f : Strand → Strand) (quiet : (o : Strand) → o.waits ≡ false → (f o).waits ≡ false) (fits : (o : Strand) → o.waits ≡ false → strands.awake (f (waiting o)) ≡ f o)
-      (list : List Demand) (out : map waiter_of list ≡ map (changed f) (map waiter_of (waiting_at h0.waiting p))) where
-    abbrev among : List Waiter
-    among = kept.waiters (memos shards) p
+      (list : List Demand) (out : map numbered_strand list ≡ map (changed f) (map numbered_strand (waiting_at h0.waiting p))) where
+    abbrev among : List NumberedStrand
+    among = kept.waiters (waited_shards shards) p
 
-    told : map waiter_of list ≡ map (changed f) (kept.waiters (memos shards) p)
+    told : map numbered_strand list ≡ map (changed f) (kept.waiters (waited_shards shards) p)
     told = out ∙ ap (map (changed f)) (sym waits)
 
     numbers : HaveNumbers (length (slice_set places n None)) list
-    numbers = subst (λ m. HaveNumbers m list) (sym (length-set places n None)) (have-numbers f (length places) list (kept.waiters (memos shards) p) told low)
+    numbers = subst (λ m. HaveNumbers m list) (sym (length-set places n None)) (have-numbers f (length places) list (kept.waiters (waited_shards shards) p) told low)
 
     -- the strand makes its step, and all that waited at the point go back
-    ended : (mid : List (Option Demand)) → seats mid ≡ put_back itself (seats (slice_set places n None)) (map waiter_of list) → length mid ≡ length (slice_set places n None) → AreNumbered mid
-        → (s : Demand) (h : KeptShard) (e : Strand → Strand) (g : Shard → Shard) → Steps e s0 s → (e s0.strand).waits ≡ false → IsKnown b opening h → h.number ≡ h0.number → LeavesNone h0 h p → h.shard ≡ g h0.shard
+    ended : (mid : List (Option Demand)) → seats mid ≡ put_back itself (seats (slice_set places n None)) (map numbered_strand list) → length mid ≡ length (slice_set places n None) → AreNumbered mid
+        → (s : Demand) (h : KeptShard) (e : Strand → Strand) (g : Shard → Shard) → TakesStep e s0 s → (e s0.strand).waits ≡ false → IsKnownShard b opening h → h.number ≡ h0.number → LeavesNone h0 h p → h.shard ≡ g h0.shard
         → turn b old n ≡ with_shard (with_strand (with_woken old f p) n (e s0.strand)) p (g (shard_of old p))
         → IsSeen b opening (slice_set mid n (Some s)) (slice_set shards (p.signal % len) h) (turn b old n)
     ended mid seats_are long numbered s h e g step calm known number leaves shard turns =
         let t = e s0.strand in
         let ps = seats places in
-        let ws = kept.waiters (memos shards) p in
-        let hs = slice_set (memos shards) (p.signal % length (memos shards)) (memo_of h) in
+        let ws = kept.waiters (waited_shards shards) p in
+        let hs = slice_set (waited_shards shards) (p.signal % length (waited_shards shards)) (waited_shard h) in
         let home_0 = home b opening places shards parts n s0 at p len count h0 index in
         let cleared : seats (slice_set places n None) ≡ slice_set ps n None = map-set seat places n None in
         let mid_is : seats mid ≡ put_back f (slice_set ps n None) ws =
-        seats_are ∙ ap (λ xs. put_back itself xs (map waiter_of list)) cleared ∙ ap (put_back itself (slice_set ps n None)) told ∙ put-changed f (slice_set ps n None) ws in
+        seats_are ∙ ap (λ xs. put_back itself xs (map numbered_strand list)) cleared ∙ ap (put_back itself (slice_set ps n None)) told ∙ put-changed f (slice_set ps n None) ws in
         let shape : seats (slice_set mid n (Some s)) ≡ slice_set (put_back f ps ws) n (Some t) =
         map-set seat mid n (Some s) ∙ ap (λ z. slice_set (seats mid) n (Some z)) step.strand ∙ ap (λ xs. slice_set xs n (Some t)) mid_is
         ∙ put-over f n (Some t) (slice_set ps n None) ps ws (set-twice ps n None (Some t)) in
         let wide : n < length mid = let x = length-set places n None in let z = slice_get_within places n (Some s0) at in omega arith in
-        let now = kept-wake ps (memos shards) old.strands parts.kept n s0.strand (here b opening places shards parts n s0 at) p f quiet fits t (memo_of h) calm
+        let now = kept-wake ps (waited_shards shards) old.strands parts.kept n s0.strand (here b opening places shards parts n s0 at) p f quiet fits t (waited_shard h) calm
         (none-here h0 h p leaves)
-        (λ x ne. none-other h0 h p leaves x ne ∙ ap (λ (m : Memo). kept.waiting_at m.parked x) (sym home_0))
+        (λ x ne. none-other h0 h p leaves x ne ∙ ap (λ (m : WaitedShard). kept.waiting_at m.parked x) (sym home_0))
         (homes b opening places shards parts n s0 at p len count h0 index h known number) in
         seen b opening places shards parts n s0 at p len count h0 index (slice_set mid n (Some s)) h (λ ys. slice_set (map (woken f p) ys) n t) g
         (set-numbers mid numbered n s (step.number ∙ parts.numbers n s0 at) wide) number
-        (subst (λ z. IsKept z hs (slice_set (map (woken f p) old.strands) n t)) (sym shape) now) shard turns
+        (subst (λ z. IsKeptPlan z hs (slice_set (map (woken f p) old.strands) n t)) (sym shape) now) shard turns
 
   -- a fill
-  filled-out : (s : Demand) (h : KeptShard) (list : List Demand) → FillsIt b h0 h p s0 s list → map waiter_of list ≡ map (changed heard) (map waiter_of (waiting_at h0.waiting p))
+  filled-out : (s : Demand) (h : KeptShard) (list : List Demand) → FillsIt b h0 h p s0 s list → map numbered_strand list ≡ map (changed heard) (map numbered_strand (waiting_at h0.waiting p))
   filled-out s h list f = zip-seen heard (waiting_at h0.waiting p) list f.hears
 
   pub filled-numbers : (s : Demand) (h : KeptShard) (list : List Demand) → FillsIt b h0 h p s0 s list → HaveNumbers (length (slice_set places n None)) list
   filled-numbers s h list f = numbers heard (λ o w. w) heard-fits list (filled-out s h list f)
 
-  pub filled : next s0.strand ≡ Fill p → (s r : Demand) (h : KeptShard) (list : List Demand) → IsKnown b opening h → FillsIt b h0 h p s0 s list → Steps itself s r
-      → (mid : List (Option Demand)) → seats mid ≡ put_back itself (seats (slice_set places n None)) (map waiter_of list) → length mid ≡ length (slice_set places n None) → AreNumbered mid
+  pub filled : next s0.strand ≡ Fill p → (s r : Demand) (h : KeptShard) (list : List Demand) → IsKnownShard b opening h → FillsIt b h0 h p s0 s list → TakesStep itself s r
+      → (mid : List (Option Demand)) → seats mid ≡ put_back itself (seats (slice_set places n None)) (map numbered_strand list) → length mid ≡ length (slice_set places n None) → AreNumbered mid
       → OfTurn b opening old n (slice_set mid n (Some r)) (slice_set shards (p.signal % len) h) (Ok comes.Filled)
   filled fills s r h list known f more mid seats_are long numbered =
       let q = s0.strand.query.number in
       let at_plan = in-plan b opening places shards parts n s0 at in
       let calm = awake b opening places shards parts n s0 at in
       let is = filled-turn b old n s0.strand at_plan calm p fills in
-      let step : Steps finished s0 r = record { number = more.number ∙ f.strand.number; from = more.from ∙ f.strand.from; to = more.to ∙ f.strand.to; strand = more.strand ∙ f.strand.strand } in (
+      let step : TakesStep finished s0 r = record { number = more.number ∙ f.strand.number; from = more.from ∙ f.strand.from; to = more.to ∙ f.strand.to; strand = more.strand ∙ f.strand.strand } in (
         ended heard (λ o w. w) heard-fits list (filled-out s h list f) mid seats_are long numbered r h finished (filled_shard b.capacity q p (cell_at b.circuit p)) step calm known f.number f.waiting f.shard is.turn,
         sym (ap turned_by is.step),
       )
 
   -- a drop
-  dropped-out : (s : Demand) (h : KeptShard) (list : List Demand) → DropsIt h0 h p s0 s list → map waiter_of list ≡ map (changed itself) (map waiter_of (waiting_at h0.waiting p))
-  dropped-out s h list f = ap (map waiter_of) f.same ∙ sym (map-itself (map waiter_of (waiting_at h0.waiting p)))
+  dropped-out : (s : Demand) (h : KeptShard) (list : List Demand) → DropsIt h0 h p s0 s list → map numbered_strand list ≡ map (changed itself) (map numbered_strand (waiting_at h0.waiting p))
+  dropped-out s h list f = ap (map numbered_strand) f.same ∙ sym (map-itself (map numbered_strand (waiting_at h0.waiting p)))
 
   itself-fits : (o : Strand) → o.waits ≡ false → strands.awake (itself (waiting o)) ≡ itself o
   itself-fits o w = ap (λ z. record o { waits = z }) (sym w)
@@ -135,21 +136,21 @@ module _ (b : Batch) (opening : ℕ → List SignalCell) (places : List (Option 
   pub dropped-numbers : (s : Demand) (h : KeptShard) (list : List Demand) → DropsIt h0 h p s0 s list → HaveNumbers (length (slice_set places n None)) list
   dropped-numbers s h list f = numbers itself (λ o w. w) itself-fits list (dropped-out s h list f)
 
-  pub dropped-seen : next s0.strand ≡ Drop p → (s r : Demand) (h : KeptShard) (list : List Demand) → IsKnown b opening h → DropsIt h0 h p s0 s list → Steps itself s r
-      → (mid : List (Option Demand)) → seats mid ≡ put_back itself (seats (slice_set places n None)) (map waiter_of list) → length mid ≡ length (slice_set places n None) → AreNumbered mid
+  pub dropped-seen : next s0.strand ≡ Drop p → (s r : Demand) (h : KeptShard) (list : List Demand) → IsKnownShard b opening h → DropsIt h0 h p s0 s list → TakesStep itself s r
+      → (mid : List (Option Demand)) → seats mid ≡ put_back itself (seats (slice_set places n None)) (map numbered_strand list) → length mid ≡ length (slice_set places n None) → AreNumbered mid
       → OfTurn b opening old n (slice_set mid n (Some r)) (slice_set shards (p.signal % len) h) (Ok comes.Dropped)
   dropped-seen drops s r h list known f more mid seats_are long numbered =
       let q = s0.strand.query.number in
       let at_plan = in-plan b opening places shards parts n s0 at in
       let calm = awake b opening places shards parts n s0 at in
       let is = dropped-turn b old n s0.strand at_plan calm p drops in
-      let step : Steps dropped s0 r = record { number = more.number ∙ f.strand.number; from = more.from ∙ f.strand.from; to = more.to ∙ f.strand.to; strand = more.strand ∙ f.strand.strand } in (
+      let step : TakesStep dropped s0 r = record { number = more.number ∙ f.strand.number; from = more.from ∙ f.strand.from; to = more.to ∙ f.strand.to; strand = more.strand ∙ f.strand.strand } in (
         ended itself (λ o w. w) itself-fits list (dropped-out s h list f) mid seats_are long numbered r h dropped (recorded (entry.Dropped q p)) step calm known f.number f.waiting f.shard is.turn,
         sym (ap turned_by is.step),
       )
 
   -- a fill that was refused memory
-  pub filled-not : (s r : Demand) (h : KeptShard) (error : OutOfMemory) → s ≡ s0 → h ≡ h0 → Steps itself s r → OfTurn b opening old n (slice_set (slice_set places n None) n (Some r)) (slice_set shards (p.signal % len) h) (Err error)
+  pub filled-not : (s r : Demand) (h : KeptShard) (error : OutOfMemory) → s ≡ s0 → h ≡ h0 → TakesStep itself s r → OfTurn b opening old n (slice_set (slice_set places n None) n (Some r)) (slice_set shards (p.signal % len) h) (Err error)
   filled-not s r h error same kept_is step =
       subst (λ xs. IsSeen b opening xs (slice_set shards (p.signal % len) h) old) (sym (set-twice places n None (Some r)))
-      (rest-set b opening places shards parts n s0 at p len count h0 index r h (subst (λ z. Steps itself z r) same step) kept_is)
+      (rest-set b opening places shards parts n s0 at p len count h0 index r h (subst (λ z. TakesStep itself z r) same step) kept_is)

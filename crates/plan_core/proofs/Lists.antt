@@ -6,12 +6,12 @@ use Rattle.std.proofs.lemmas.List.{map-set}
 use Rattle.std.proofs.lemmas.Bool.{cases_eq}
 use Rattle.strand_meaning.specs.Strands.{Strand}
 use Rattle.plan_machine.specs.Plans.{itself}
-use Rattle.plan_machine.specs.Parts.{Waiter, IsAmong, put_back}
+use Rattle.plan_machine.specs.inner.Parts.{NumberedStrand, IsAmong, put_back}
 use Rattle.plan_machine.proofs.Links.{set-here, set-other}
-use Rattle.demand_points.specs.Demands.{Demand, Steps}
-use Rattle.memo_shards.specs.Seen.{waiter_of}
+use Rattle.demand_points.specs.Demands.{Demand, TakesStep}
+use Rattle.memo_shards.specs.inner.Seen.{numbered_strand}
 use Rattle.memo_shards.proofs.Seen.{changed}
-use Rattle.plan_core.specs.Places.{seat, seats, AreNumbered, HaveNumbers}
+use Rattle.plan_core.specs.inner.Places.{seat, seats, AreNumbered, HaveNumbers}
 
 pub set-twice : {A : Type 0} (xs : List A) (n : ℕ) (a b : A) → slice_set (slice_set xs n a) n b ≡ slice_set xs n b
 set-twice [] n a b = refl
@@ -41,7 +41,7 @@ set-over (x ∷ xs) (suc m) zero a b ne = refl
 set-over (x ∷ xs) (suc m) (suc n) a b ne = ap (λ ys. x ∷ ys) (set-over xs m n a b (λ e. ne (ap suc e)))
 
 -- lists that differ only at n do so after the others went back
-pub put-over : (f : Strand → Strand) (n : ℕ) (t : Option Strand) (xs ys : List (Option Strand)) (ws : List Waiter) → slice_set xs n t ≡ slice_set ys n t → slice_set (put_back f xs ws) n t ≡ slice_set (put_back f ys ws) n t
+pub put-over : (f : Strand → Strand) (n : ℕ) (t : Option Strand) (xs ys : List (Option Strand)) (ws : List NumberedStrand) → slice_set xs n t ≡ slice_set ys n t → slice_set (put_back f xs ws) n t ≡ slice_set (put_back f ys ws) n t
 put-over f n t xs ys [] e = e
 put-over f n t xs ys (w ∷ ws) e = put-over f n t (slice_set xs w.number (Some (f w.strand))) (slice_set ys w.number (Some (f w.strand))) ws (elim (cases_eq w.number n) [
   | inl k ↦
@@ -51,17 +51,17 @@ put-over f n t xs ys (w ∷ ws) e = put-over f n t (slice_set xs w.number (Some 
 ])
 
 -- those that are changed already go back as they are
-pub put-changed : (f : Strand → Strand) (xs : List (Option Strand)) (ws : List Waiter) → put_back itself xs (map (changed f) ws) ≡ put_back f xs ws
+pub put-changed : (f : Strand → Strand) (xs : List (Option Strand)) (ws : List NumberedStrand) → put_back itself xs (map (changed f) ws) ≡ put_back f xs ws
 put-changed f xs [] = refl
 put-changed f xs (w ∷ ws) = put-changed f (slice_set xs w.number (Some (f w.strand))) ws
 
-pub have-numbers : (f : Strand → Strand) (m : ℕ) (woken : List Demand) (ws : List Waiter) → map waiter_of woken ≡ map (changed f) ws → ((w : Waiter) → IsAmong w ws → w.number < m) → HaveNumbers m woken
+pub have-numbers : (f : Strand → Strand) (m : ℕ) (woken : List Demand) (ws : List NumberedStrand) → map numbered_strand woken ≡ map (changed f) ws → ((w : NumberedStrand) → IsAmong w ws → w.number < m) → HaveNumbers m woken
 have-numbers f m [] ws e low = tt
 have-numbers f m (s ∷ ss) [] e low = absurd (cc e)
 have-numbers f m (s ∷ ss) (w ∷ ws) e low =
-    let first : waiter_of s ≡ changed f w = cc e in
-    let more : map waiter_of ss ≡ map (changed f) ws = cc e in
-    let number : s.number ≡ w.number = ap (λ (z : Waiter). z.number) first in
+    let first : numbered_strand s ≡ changed f w = cc e in
+    let more : map numbered_strand ss ≡ map (changed f) ws = cc e in
+    let number : s.number ≡ w.number = ap (λ (z : NumberedStrand). z.number) first in
     (subst (λ k. k < m) (sym number) (low w (inl refl)), have-numbers f m ss ws more (λ v h. low v (inr h)))
 
 -- a strand with its number in its place, or a gap
@@ -98,7 +98,7 @@ set-numbers places numbers n s e low i r h = elim (cases_eq i n) [
 
 -- strands go back one after another: these are left of the list, and the places are now so
 pub record IsPutting (places : List (Option Demand)) (list : List Demand) (now : List (Option Demand)) (left : List Demand) : Type 0 where
-  pub same : put_back itself (seats now) (map waiter_of left) ≡ put_back itself (seats places) (map waiter_of list)
+  pub same : put_back itself (seats now) (map numbered_strand left) ≡ put_back itself (seats places) (map numbered_strand list)
   pub low : HaveNumbers (length now) left
   pub long : length now ≡ length places
   pub numbered : AreNumbered now
@@ -106,7 +106,7 @@ pub record IsPutting (places : List (Option Demand)) (list : List Demand) (now :
 pub put-first : (places : List (Option Demand)) (list : List Demand) (now : List (Option Demand)) (old new : List Demand) (s : Demand) → IsPutting places list now old → old ≡ s ∷ new → s.number < length now
 put-first places list now old new s putting e = let k : HaveNumbers (length now) (s ∷ new) = subst (HaveNumbers (length now)) e putting.low in k.0
 
-pub put-one : (places : List (Option Demand)) (list : List Demand) (now : List (Option Demand)) (old new : List Demand) (s r : Demand) → IsPutting places list now old → old ≡ s ∷ new → Steps itself s r
+pub put-one : (places : List (Option Demand)) (list : List Demand) (now : List (Option Demand)) (old new : List Demand) (s r : Demand) → IsPutting places list now old → old ≡ s ∷ new → TakesStep itself s r
     → (n : ℕ) → n ≡ s.number → (after : List (Option Demand)) → after ≡ slice_set now n (Some r) → IsPutting places list after new
 put-one places list now old new s r putting e step n is after set =
     let low : HaveNumbers (length now) (s ∷ new) = subst (HaveNumbers (length now)) e putting.low in
@@ -114,14 +114,14 @@ put-one places list now old new s r putting e step n is after set =
     let long : length after ≡ length now = ap length after_is ∙ length-set now s.number (Some r) in
     let seats_are : seats after ≡ slice_set (seats now) s.number (Some s.strand) = ap seats after_is ∙ map-set seat now s.number (Some r) ∙ ap (λ z. slice_set (seats now) s.number (Some z)) step.strand in
     record {
-      same = ap (λ xs. put_back itself xs (map waiter_of new)) seats_are ∙ ap (λ l. put_back itself (seats now) (map waiter_of l)) (sym e) ∙ putting.same;
+      same = ap (λ xs. put_back itself xs (map numbered_strand new)) seats_are ∙ ap (λ l. put_back itself (seats now) (map numbered_strand l)) (sym e) ∙ putting.same;
       low = subst (λ m. HaveNumbers m new) (sym long) low.1;
       long = long ∙ putting.long;
       numbered = subst AreNumbered (sym after_is) (set-numbers now putting.numbered s.number r step.number low.0);
     }
 
-pub put-last : (places : List (Option Demand)) (list : List Demand) (now : List (Option Demand)) (left : List Demand) → IsPutting places list now left → left ≡ [] → seats now ≡ put_back itself (seats places) (map waiter_of list)
-put-last places list now left putting e = ap (λ l. put_back itself (seats now) (map waiter_of l)) (sym e) ∙ putting.same
+pub put-last : (places : List (Option Demand)) (list : List Demand) (now : List (Option Demand)) (left : List Demand) → IsPutting places list now left → left ≡ [] → seats now ≡ put_back itself (seats places) (map numbered_strand list)
+put-last places list now left putting e = ap (λ l. put_back itself (seats now) (map numbered_strand l)) (sym e) ∙ putting.same
 
 take-all : {X : Type 0} (xs : List X) (n : ℕ) → n ≡ length xs → take n xs ≡ xs
 take-all {X} [] n e = subst (λ k. take {A = X} k [] ≡ []) (sym e) refl

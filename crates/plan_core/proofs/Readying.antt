@@ -2,17 +2,17 @@
 use Rattle.std.proofs.Common.{◌≡◌, ℕ, zero, suc, ◌+◌, ◌<◌, ◌≤◌, not, ◌&&◌, true, false, cond, List, [], ◌∷◌, ◌++◌, length, drop, get_or, slice_get, refl, ap, sym, ◌∙◌, subst, arith, Option, Some, None}
 use Rattle.std.proofs.lemmas.List.{at_drop_more}
 use Rattle.valid_intervals.specs.declared.SignalCell.{SignalCell}
-use Rattle.journal_meaning.specs.Batch.{Batch}
+use Rattle.batch_meaning.specs.Batches.{Batch}
 use Rattle.strand_meaning.specs.Strands.{Strand, next}
 use Rattle.plan_machine.specs.Plans.{Plan, is_done, is_ready, ready_from, ready}
-use Rattle.plan_machine.specs.Parts.{Waiter, strands_from}
-use Rattle.plan_machine.specs.Kept.{all_waiters}
+use Rattle.plan_machine.specs.inner.Parts.{NumberedStrand, strands_from}
+use Rattle.plan_machine.specs.inner.KeptPlans.{all_waiters}
 use Rattle.plan_machine.specs.Sound.{HasEnded}
 use Rattle.plan_machine.proofs.Ready.{ready-ends}
 use Rattle.demand_points.specs.Demands.{Demand}
-use Rattle.memo_shards.specs.Kept.{KeptShard}
-use Rattle.plan_core.specs.Places.{seats, ready_one, ready_of}
-use Rattle.plan_core.specs.Parts.{blank, memos, plan_at, IsPlan}
+use Rattle.memo_shards.specs.KeptShards.{KeptShard}
+use Rattle.plan_core.specs.inner.Places.{seats, ready_one, ready_of}
+use Rattle.plan_core.specs.inner.Parts.{blank, waited_shards, plan_at, IsPlan}
 use Rattle.plan_core.proofs.Seen.{awake}
 
 -- a strand in place n is awake and has this number
@@ -28,7 +28,7 @@ append-append : {A : Type 0} (xs ys zs : List A) → (xs ++ ys) ++ zs ≡ xs ++ 
 append-append [] ys zs = refl
 append-append (x ∷ xs) ys zs = ap (λ l. x ∷ l) (append-append xs ys zs)
 
-ready-is : (ws : List Waiter) (n : ℕ) (places : List (Option Demand)) → ((i : ℕ) (s : Demand) → slice_get places i ≡ Some (Some s) → IsRightAt (n + i) s) → ready_from n (strands_from ws blank n (seats places)) ≡ ready_of places
+ready-is : (ws : List NumberedStrand) (n : ℕ) (places : List (Option Demand)) → ((i : ℕ) (s : Demand) → slice_get places i ≡ Some (Some s) → IsRightAt (n + i) s) → ready_from n (strands_from ws blank n (seats places)) ≡ ready_of places
 ready-is ws n [] right = refl
 ready-is ws n (None ∷ more) right = later ∙ ready-is ws (suc n) more (λ i s h. subst (λ k. IsRightAt k s) (shift i) (right (suc i) s h))
   where
@@ -50,7 +50,7 @@ ready-is ws n (Some s ∷ more) right =
     ]
 
 pub plan-ready : (b : Batch) (opening : ℕ → List SignalCell) (places : List (Option Demand)) (shards : List KeptShard) → IsPlan b opening places shards → ready_of places ≡ ready (plan_at places shards)
-plan-ready b opening places shards parts = sym (ready-is (all_waiters (memos shards)) 0 places (λ i s h. record { number = let k = parts.numbers i s h in omega arith; awake = awake b opening places shards parts i s h }))
+plan-ready b opening places shards parts = sym (ready-is (all_waiters (waited_shards shards)) 0 places (λ i s h. record { number = let k = parts.numbers i s h in omega arith; awake = awake b opening places shards parts i s h }))
 
 -- the places that are still to be looked at
 pub record IsReading (places : List (Option Demand)) (i : ℕ) (numbers : List ℕ) : Type 0 where

@@ -5,16 +5,17 @@ use Rattle.valid_intervals.specs.declared.Point.{Point}
 use Rattle.valid_intervals.specs.declared.SignalCell.{SignalCell}
 use Rattle.journal_meaning.specs.declared.Entry.TheVariants as entry
 use Rattle.journal_meaning.specs.States.{holder}
-use Rattle.journal_meaning.specs.Batch.{Batch}
+use Rattle.batch_meaning.specs.Batches.{Batch}
 use Rattle.strand_meaning.specs.declared.Next.{Next}
 use Rattle.strand_meaning.specs.declared.Next.TheVariants.{Ask, Fill, Drop, Done}
 use Rattle.strand_meaning.specs.Strands.{Strand, next, next_in, given_up}
 use Rattle.strand_meaning.proofs.Stacks.{asks-unspent}
 use Rattle.plan_machine.specs.declared.Turned.TheVariants as comes
-use Rattle.plan_machine.specs.Shards.{Shard, IsShard, stored_at, recorded}
+use Rattle.plan_machine.specs.Shards.{Shard, IsShard, recorded}
+use Rattle.valid_intervals.specs.Cells.{stored_at}
 use Rattle.plan_machine.specs.Plans.{Plan, home, shard_of, claim_of, with_strand}
-use Rattle.plan_machine.specs.Kept as kept
-use Rattle.plan_machine.specs.Kept.{Memo, IsKept}
+use Rattle.plan_machine.specs.inner.KeptPlans as kept
+use Rattle.plan_machine.specs.inner.KeptPlans.{WaitedShard, IsKeptPlan}
 use Rattle.plan_machine.specs.Steps as steps
 use Rattle.plan_machine.specs.Steps.{Step, claim_step, ask_step, next_step, step_at, turned_by, turned}
 use Rattle.plan_machine.specs.Turns.{stepped, turn_at, turn}
@@ -23,14 +24,15 @@ use Rattle.plan_machine.proofs.Alone.{shard-sound}
 use Rattle.plan_machine.proofs.Kept.{kept-put}
 use Rattle.plan_machine.proofs.Links.{set-here}
 use Rattle.demand_points.specs.Demands.{Demand}
-use Rattle.memo_shards.specs.Kept.{KeptShard, IsKnown}
-use Rattle.memo_shards.specs.Asks.{IsHere, IsOpen}
+use Rattle.memo_shards.specs.KeptShards.{KeptShard, IsKnownShard}
+use Rattle.memo_shards.specs.Asks.{IsHere, IsUnfound}
 use Rattle.memo_shards.specs.Ends as ends
-use Rattle.memo_shards.specs.Seen.{memo_of, parked_of}
-use Rattle.plan_core.specs.Places.{seats}
-use Rattle.plan_core.specs.Parts.{memos, plan_at, AreInOrder, IsPlan}
-use Rattle.plan_core.specs.Turns.{IsSeen}
-use Rattle.plan_core.specs.Refusals.{IsRefusedAt, OfRefusal, AsksFor}
+use Rattle.memo_shards.specs.inner.Seen.{waited_shard, parked_of}
+use Rattle.plan_core.specs.inner.Places.{seats}
+use Rattle.plan_core.specs.inner.Parts.{waited_shards, plan_at, IsPlan}
+use Rattle.plan_core.specs.Parts.{AreInOrder}
+use Rattle.plan_core.specs.inner.Turns.{IsSeen}
+use Rattle.plan_core.specs.inner.Refusals.{IsRefusedAt, OfRefusal, AsksFor}
 use Rattle.plan_core.proofs.Lists.{set-same}
 use Rattle.plan_core.proofs.Seen.{here, in-plan, awake, at-home, number-is, shards-count, shard-here, seen-as, rest-seen, home as home-is}
 
@@ -120,13 +122,13 @@ module _ (b : Batch) (opening : ℕ → List SignalCell) (places : List (Option 
   pub refused-here : IsHere b h0 p
   refused-here = ap (λ m. p.signal % m) (sym (count ∙ shards-count b opening places shards parts)) ∙ sym (number-is b opening places shards parts n s0 at p len count h0 index)
 
-  pub refused-open : IsOpen h0 p
+  pub refused-open : IsUnfound h0 p
   refused-open = record {
     missed = ap (λ (z : Shard). stored_at z.state.cells p) (sym there) ∙ r.missed;
     unclaimed = ap (λ (z : Shard). holder z.state.claims p) (sym there) ∙ r.unclaimed;
   }
 
-  pub refused-seen : (h : KeptShard) → IsKnown b opening h → h ≡ ends.with_shard h0 (recorded (entry.Spent s0.strand.query.number p (length s0.strand.stack)) h0.shard)
+  pub refused-seen : (h : KeptShard) → IsKnownShard b opening h → h ≡ ends.with_shard h0 (recorded (entry.Spent s0.strand.query.number p (length s0.strand.stack)) h0.shard)
       → (s : Strand) × ((slice_get old.strands n ≡ Some s) × IsSeen b opening places (slice_set shards (p.signal % len) h) (refused old s (Ask p)))
   refused-seen h known is =
       let e = entry.Spent s0.strand.query.number p (length s0.strand.stack) in
@@ -134,11 +136,11 @@ module _ (b : Batch) (opening : ℕ → List SignalCell) (places : List (Option 
       let here_0 = here b opening places shards parts n s0 at in
       let number : h.number ≡ h0.number = ap (λ (z : KeptShard). z.number) is in
       let shard : h.shard ≡ recorded e h0.shard = ap (λ (z : KeptShard). z.shard) is in
-      let parked : (memo_of h).parked ≡ (kept.memo_of (memos shards) p).parked = ap (λ (z : KeptShard). map parked_of z.waiting) is ∙ ap (λ (z : Memo). z.parked) (sym (home-is b opening places shards parts n s0 at p len count h0 index)) in
-      let hs = slice_set (memos shards) (p.signal % length (memos shards)) (memo_of h) in
-      let now_0 = kept-put (seats places) (memos shards) old.strands parts.kept n s0.strand here_0 p s0.strand (memo_of h) calm parked in
-      let now : IsKept (seats places) hs old.strands =
-      subst (λ xs. IsKept (seats places) hs xs) (set-same old.strands n s0.strand at-plan) (subst (λ z. IsKept z hs (slice_set old.strands n s0.strand)) (set-same (seats places) n (Some s0.strand) here_0) now_0) in
+      let parked : (waited_shard h).parked ≡ (kept.waited_shard_at (waited_shards shards) p).parked = ap (λ (z : KeptShard). map parked_of z.waiting) is ∙ ap (λ (z : WaitedShard). z.parked) (sym (home-is b opening places shards parts n s0 at p len count h0 index)) in
+      let hs = slice_set (waited_shards shards) (p.signal % length (waited_shards shards)) (waited_shard h) in
+      let now_0 = kept-put (seats places) (waited_shards shards) old.strands parts.kept n s0.strand here_0 p s0.strand (waited_shard h) calm parked in
+      let now : IsKeptPlan (seats places) hs old.strands =
+      subst (λ xs. IsKeptPlan (seats places) hs xs) (set-same old.strands n s0.strand at-plan) (subst (λ z. IsKeptPlan z hs (slice_set old.strands n s0.strand)) (set-same (seats places) n (Some s0.strand) here_0) now_0) in
       let many : length old.shards ≡ b.shards = parts.sound.count in
       let home_is : h.number ≡ home old p = number ∙ number-is b opening places shards parts n s0 at p len count h0 index ∙ ap (λ m. p.signal % m) (count ∙ shards-count b opening places shards parts ∙ sym many) in
       let right : IsShard b (home old p) (opening (home old p)) (recorded e (shard_of old p)) =
@@ -155,10 +157,10 @@ module _ (b : Batch) (opening : ℕ → List SignalCell) (places : List (Option 
   pub refused-not : (h : KeptShard) → h ≡ h0 → IsSeen b opening places (slice_set shards (p.signal % len) h) old
   refused-not h is =
       let shards_is : slice_set shards (p.signal % len) h ≡ shards = ap (slice_set shards (p.signal % len)) is ∙ set-same shards (p.signal % len) h0 (at-home b opening places shards parts n s0 at p len count h0 index) in
-      rest-seen b opening places shards parts places (slice_set shards (p.signal % len) h) parts.numbers (subst AreInOrder (sym shards_is) parts.order) refl (ap memos shards_is)
+      rest-seen b opening places shards parts places (slice_set shards (p.signal % len) h) parts.numbers (subst AreInOrder (sym shards_is) parts.order) refl (ap waited_shards shards_is)
 
   -- whatever came of it
-  pub refused-end : (h : KeptShard) → IsKnown b opening h → (came : Result Unit OutOfMemory) → OnOk came (h ≡ ends.with_shard h0 (recorded (entry.Spent s0.strand.query.number p (length s0.strand.stack)) h0.shard)) → OnErr came (h ≡ h0)
+  pub refused-end : (h : KeptShard) → IsKnownShard b opening h → (came : Result Unit OutOfMemory) → OnOk came (h ≡ ends.with_shard h0 (recorded (entry.Spent s0.strand.query.number p (length s0.strand.stack)) h0.shard)) → OnErr came (h ≡ h0)
       → OfRefusal b opening old n p places (slice_set shards (p.signal % len) h) came
   refused-end h known (Ok u) ok err = refused-seen h known ok
   refused-end h known (Err e) ok err = refused-not h err

@@ -1,7 +1,7 @@
 -- The turn of a strand that waits or has ended.
 use Rattle.std.proofs.Common.{◌≡◌, ℕ, zero, suc, ◌<◌, true, false, arith, List, [], ◌∷◌, length, ◌∙◌, slice_get, refl, ap, sym, subst, Option, Some, None, Ok}
 use Rattle.valid_intervals.specs.declared.SignalCell.{SignalCell}
-use Rattle.journal_meaning.specs.Batch.{Batch}
+use Rattle.batch_meaning.specs.Batches.{Batch}
 use Rattle.strand_meaning.specs.declared.Next.TheVariants.{Done}
 use Rattle.strand_meaning.specs.Strands.{Strand, waiting}
 use Rattle.plan_machine.specs.declared.Turned.TheVariants as comes
@@ -12,10 +12,11 @@ use Rattle.plan_machine.proofs.Links.{map-get}
 use Rattle.std.proofs.Math.ListN.{length-map}
 use Rattle.std.proofs.lemmas.Option.{slice_get_within}
 use Rattle.demand_points.specs.Demands.{Demand}
-use Rattle.memo_shards.specs.Kept.{KeptShard}
-use Rattle.plan_core.specs.Places.{seat, IsNextAt}
-use Rattle.plan_core.specs.Parts.{plan_at, IsPlan, IsAwake}
-use Rattle.plan_core.specs.Turns.{OfTurn, IsSeen}
+use Rattle.memo_shards.specs.KeptShards.{KeptShard}
+use Rattle.plan_core.specs.inner.Places.{seat, IsNextAt}
+use Rattle.plan_core.specs.inner.Parts.{plan_at, IsPlan}
+use Rattle.plan_core.specs.Parts.{IsAwake}
+use Rattle.plan_core.specs.inner.Turns.{OfTurn, IsSeen}
 use Rattle.plan_core.proofs.Seen.{in-plan, awake}
 
 module _ (b : Batch) (opening : ℕ → List SignalCell) (places : List (Option Demand)) (shards : List KeptShard) (parts : IsPlan b opening places shards) (n : ℕ) where

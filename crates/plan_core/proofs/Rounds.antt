@@ -2,10 +2,11 @@
 use Rattle.std.proofs.Common.{◌≡◌, ◌≢◌, ℕ, ◌<◌, false, length, slice_get, refl, sym, ap, subst, ◌∙◌, arith, List, Option, Some}
 use Rattle.valid_intervals.specs.declared.Point.{Point}
 use Rattle.valid_intervals.specs.declared.SignalCell.{SignalCell}
-use Rattle.journal_meaning.specs.Batch.{Batch}
-use Rattle.strand_meaning.specs.Batches.{IsLawful}
+use Rattle.batch_meaning.specs.Batches.{Batch}
+use Rattle.batch_meaning.specs.Lawful.{IsLawful}
 use Rattle.strand_meaning.specs.declared.Next.TheVariants.{Ask}
-use Rattle.strand_meaning.specs.Strands.{Strand, Start, next_in, given_up}
+use Rattle.strand_meaning.specs.Strands.{Strand, next_in, given_up}
+use Rattle.batch_meaning.specs.Pieces.{Start}
 use Rattle.plan_machine.specs.Plans.{Plan}
 use Rattle.plan_machine.specs.declared.Turned.{Turned}
 use Rattle.plan_machine.specs.declared.Turned.TheVariants as comes
@@ -18,7 +19,7 @@ use Rattle.plan_machine.proofs.Ready.{ready-moves}
 use Rattle.plan_machine.proofs.Journals.{turn-tasks}
 use Rattle.plan_machine.proofs.Alone.{turns-alone}
 use Rattle.std.specs.List.{sum_by}
-use Rattle.plan_core.specs.Refusals.{IsRefusedAt}
+use Rattle.plan_core.specs.inner.Refusals.{IsRefusedAt}
 
 moved : (t : Turned) → t ≢ comes.NotReady → is_turn t ≡ 1
 moved comes.Told h = refl

@@ -1,17 +1,18 @@
 //! A strand that runs alone.
 
 ghost use Rattle.std.specs.Prelude.{◌≡◌, ◌<◌, ℕ, true, false, length, slice_get, IfOk, OnOk, OnErr, Some, None};
-ghost use Rattle.strand_meaning.specs.Batches.{IsLawful};
+ghost use Rattle.batch_meaning.specs.Lawful.{IsLawful};
 ghost use Rattle.strand_meaning.specs.declared.Next.TheVariants.{Ask};
-ghost use Rattle.strand_meaning.specs.Strands.{Start, Strand as MachineStrand, next, next_in};
+ghost use Rattle.batch_meaning.specs.Pieces.{Start};
+ghost use Rattle.strand_meaning.specs.Strands.{Strand as MachineStrand, next, next_in};
 ghost use Rattle.journal_meaning.specs.declared.Entry.TheVariants as entry;
 ghost use Rattle.plan_machine.specs.Shards.{recorded};
-ghost use Rattle.memo_shards.specs.Kept.{IsKnown};
-ghost use Rattle.memo_shards.specs.Asks.{IsHere, IsOpen};
+ghost use Rattle.memo_shards.specs.KeptShards.{IsKnownShard};
+ghost use Rattle.memo_shards.specs.Asks.{IsHere, IsUnfound};
 ghost use Rattle.memo_shards.specs.Ends.{with_shard};
 ghost use Rattle.demand_points.specs.Demands.{Demand};
-ghost use Rattle.plan_core.specs.Parts.{plan_at, IsPlan};
-ghost use Rattle.plan_core.specs.Refusals.{IsRefusedAt, OfRefusal};
+ghost use Rattle.plan_core.specs.inner.Parts.{plan_at, IsPlan};
+ghost use Rattle.plan_core.specs.inner.Refusals.{IsRefusedAt, OfRefusal};
 ghost use Rattle.valid_intervals.specs.declared.Point.{Point as PointRecord};
 
 use crate::paused::Paused;
@@ -51,10 +52,10 @@ fn spend<B: BatchName>(
     requires spent { strand.now.strand.spent ≡ true }
     requires refused { next_in false strand.now.strand.roots strand.now.strand.stack ≡ Ask p }
     requires here { IsHere B.batch shard.old p }
-    requires unfound { IsOpen shard.old p }
+    requires unfound { IsUnfound shard.old p }
     ensures ok { OnOk result (shard.new ≡ with_shard shard.old (recorded (entry.Spent strand.now.strand.query.number p (length strand.now.strand.stack)) shard.old.shard)) }
     ensures err { OnErr result (shard.new ≡ shard.old) }
-    ensures known { IsKnown B.batch B.opening shard.new }
+    ensures known { IsKnownShard B.batch B.opening shard.new }
 {
     let spent = shard.spend(strand, p);
     shard.facts();

@@ -4,10 +4,10 @@ ghost use Rattle.std.specs.Prelude.{◌≡◌, ℕ, slice_get, Some};
 ghost use Rattle.strand_meaning.specs.Strands.{next};
 ghost use Rattle.strand_meaning.specs.declared.Next.TheVariants.{Ask};
 ghost use Rattle.demand_points.specs.Demands.{Demand};
-ghost use Rattle.memo_shards.specs.Kept.{KeptShard, IsKnown};
+ghost use Rattle.memo_shards.specs.KeptShards.{KeptShard, IsKnownShard};
 ghost use Rattle.memo_shards.specs.Asks.{IsHere};
-ghost use Rattle.plan_core.specs.Parts.{plan_at, IsPlan};
-ghost use Rattle.plan_core.specs.Turns.{OfAskTurn, OfTurn};
+ghost use Rattle.plan_core.specs.inner.Parts.{plan_at, IsPlan};
+ghost use Rattle.plan_core.specs.inner.Turns.{OfAskTurn, OfTurn};
 
 use crate::paused::Paused;
 use crate::places::{put_at, take_at};
@@ -20,7 +20,7 @@ use valid_intervals::Point;
 
 /// What is known of every shard of a list.
 pub fn know_all<B: BatchName>(shards: &[Shard<B>])
-    ensures { (i : ℕ) (m : KeptShard) → slice_get shards.now i ≡ Some m → IsKnown B.batch B.opening m }
+    ensures { (i : ℕ) (m : KeptShard) → slice_get shards.now i ≡ Some m → IsKnownShard B.batch B.opening m }
 {
     for shard in shards {
         shard.facts();
@@ -38,7 +38,7 @@ fn ask<B: BatchName>(
     requires asks { next paused.strand ≡ Ask p }
     requires here { IsHere B.batch shard.old p }
     ensures came { OfAskTurn B.batch shard.old shard.new p paused result.0 result.1 }
-    ensures known { IsKnown B.batch B.opening shard.new }
+    ensures known { IsKnownShard B.batch B.opening shard.new }
 {
     let asked = shard.ask(paused.into_strand(), design, p);
     shard.facts();

@@ -5,10 +5,10 @@ ghost use Rattle.journal_meaning.specs.States.{holder};
 ghost use Rattle.strand_meaning.specs.Strands.{next};
 ghost use Rattle.strand_meaning.specs.declared.Next.TheVariants.{Fill, Drop};
 ghost use Rattle.demand_points.specs.Demands.{Demand};
-ghost use Rattle.memo_shards.specs.Kept.{IsKnown};
+ghost use Rattle.memo_shards.specs.KeptShards.{IsKnownShard};
 ghost use Rattle.memo_shards.specs.Ends.{OfFill, DropsIt};
-ghost use Rattle.plan_core.specs.Parts.{plan_at, IsPlan};
-ghost use Rattle.plan_core.specs.Turns.{OfTurn};
+ghost use Rattle.plan_core.specs.inner.Parts.{plan_at, IsPlan};
+ghost use Rattle.plan_core.specs.inner.Turns.{OfTurn};
 
 use crate::paused::Paused;
 use crate::places::{put_at, put_back, take_at};
@@ -34,7 +34,7 @@ fn fill<B: BatchName>(
     requires fills { next strand.strand ≡ Fill p }
     requires held { holder shard.old.shard.state.claims p ≡ Some strand.strand.query.number }
     ensures came { OfFill B.batch shard.old shard.new p strand result }
-    ensures known { IsKnown B.batch B.opening shard.new }
+    ensures known { IsKnownShard B.batch B.opening shard.new }
 {
     let came = shard.fill(strand, design, p);
     shard.facts();
@@ -74,7 +74,7 @@ fn drop_top<B: BatchName>(shard: &mut Shard<B>, strand: Strand<B>, p: Point) -> 
     requires drops { next strand.strand ≡ Drop p }
     requires held { holder shard.old.shard.state.claims p ≡ Some strand.strand.query.number }
     ensures came { DropsIt shard.old shard.new p strand result.0 result.1.items }
-    ensures known { IsKnown B.batch B.opening shard.new }
+    ensures known { IsKnownShard B.batch B.opening shard.new }
 {
     let ended = shard.drop_top(strand, p);
     shard.facts();

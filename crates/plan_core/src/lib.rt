@@ -1,8 +1,9 @@
 //! The plan of a batch: its strands, and the shards that they ask.
 //!
-//! A [`Plan`] runs the strands of one batch in turns. A turn ([`Plan::turn`]) makes one step of one strand: it asks for a point, fills
-//! one or drops one. Which strand has the next turn is up to the caller, who may take any that is ready ([`Plan::ready`]), or name
-//! them in any order ([`Plan::run`]). [`Plan::run_alone`] makes the turns of one strand until it has ended.
+//! A [`Plan`] runs the strands of one batch in turns, on one thread, by the calls of a shard (`memo_shards`) that a worker makes too.
+//! A turn ([`Plan::turn`]) makes one step of one strand: it asks for a point, fills one or drops one. Which strand has the next turn
+//! is up to the caller, who may take any that is ready ([`Plan::ready`]), or name them in any order ([`Plan::run`]).
+//! [`Plan::run_alone`] makes the turns of one strand until it has ended; that is what settlement (`window_answers`) calls.
 //!
 //! Contracts see a plan as the pure machine of `plan_machine`: the list of its strands, those that wait included, and the list of its
 //! shards. A turn is the machine's turn, and so every theorem on lists of turns holds of the code: by its type a plan is sound
@@ -10,7 +11,7 @@
 //! `RanAlone` of `plan_machine` says: each root of the strand is covered, or its refusal is recorded with its cause.
 //!
 //! In the code a strand that waits is no longer in the plan's places but in the shard where it waits; a fill or a drop hands it back,
-//! and it goes to its place again. `specs/Parts.antt` says how the machine's plan is read from places and shards. Each strand in a
+//! and it goes to its place again. `specs/inner/Parts.antt` says how the machine's plan is read from places and shards. Each strand in a
 //! place has heard all base answers, and its next step is kept beside it (`paused.rt`).
 //!
 //! A call that is refused memory leaves the plan as it was; `run` and `run_alone` leave the turns before it.

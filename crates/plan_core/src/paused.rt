@@ -3,7 +3,7 @@
 ghost use Rattle.std.specs.Prelude.{◌≡◌, not};
 ghost use Rattle.strand_meaning.specs.Strands.{next};
 ghost use Rattle.plan_machine.specs.Plans.{is_done};
-ghost use Rattle.demand_points.specs.Demands.{Steps, itself};
+ghost use Rattle.demand_points.specs.Demands.{TakesStep, itself};
 
 use demand_points::{BatchName, Strand};
 use design::Design;
@@ -33,7 +33,7 @@ impl<B: BatchName> Paused<B> {
     /// Brings a strand to its next step.
     pub fn new(mut strand: Strand<B>, design: &Design) -> Paused<B>
         requires { design.now.circuit ≡ B.batch.circuit }
-        ensures { Steps itself strand result }
+        ensures { TakesStep itself strand result }
     {
         let step = strand.next_step(design);
         Paused { strand, step }

@@ -1,11 +1,11 @@
 //! The places of strands.
 
 ghost use Rattle.std.specs.Prelude.{◌≡◌, ◌<◌, ◌++◌, length, map, slice_get, slice_set, Some, None, IfOk, OnOk, OnErr, IfSome};
-ghost use Rattle.plan_machine.specs.Parts.{put_back as put_all};
+ghost use Rattle.plan_machine.specs.inner.Parts.{put_back as put_all};
 ghost use Rattle.plan_machine.specs.Plans.{itself};
 ghost use Rattle.demand_points.specs.Demands.{Demand};
-ghost use Rattle.memo_shards.specs.Seen.{waiter_of};
-ghost use Rattle.plan_core.specs.Places.{seats, tags, tag_of, ready_one, ready_of, AreNumbered, HaveNumbers, IsNextAt};
+ghost use Rattle.memo_shards.specs.inner.Seen.{numbered_strand};
+ghost use Rattle.plan_core.specs.inner.Places.{seats, tags, tag_of, ready_one, ready_of, AreNumbered, HaveNumbers, IsNextAt};
 
 use crate::paused::Paused;
 use backsim_io::OutOfMemory;
@@ -73,7 +73,7 @@ pub fn put_back<B: BatchName>(
     requires design { design.now.circuit ≡ B.batch.circuit }
     requires numbers { HaveNumbers (length places.old.items) woken.items }
     requires numbered { AreNumbered places.old.items }
-    ensures seats { seats places.new.items ≡ put_all itself (seats places.old.items) (map waiter_of woken.items) }
+    ensures seats { seats places.new.items ≡ put_all itself (seats places.old.items) (map numbered_strand woken.items) }
     ensures length { length places.new.items ≡ length places.old.items }
     ensures numbered { AreNumbered places.new.items }
 {

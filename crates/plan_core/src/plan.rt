@@ -2,13 +2,15 @@
 
 ghost use Rattle.std.specs.Prelude.{◌≡◌, ◌<◌, ◌≤◌, ℕ, List, [], true, false, length, take, slice_get, IfOk, OnOk, OnErr, IfSome, Some, None};
 ghost use Rattle.std.specs.List.{AllByRecursion};
-ghost use Rattle.strand_meaning.specs.Batches.{IsLawful};
-ghost use Rattle.strand_meaning.specs.Strands.{Start, started, Strand as MachineStrand};
+ghost use Rattle.batch_meaning.specs.Lawful.{IsLawful};
+ghost use Rattle.batch_meaning.specs.Pieces.{Start};
+ghost use Rattle.strand_meaning.specs.Strands.{started, Strand as MachineStrand};
 ghost use Rattle.plan_machine.specs.Shards.{Shard as MachineShard};
 ghost use Rattle.plan_machine.specs.Plans.{Plan as PlanRecord, new_plan, ready};
 ghost use Rattle.plan_machine.specs.Laws.{BeginsAlone};
 ghost use Rattle.plan_machine.specs.Alone.{refused, RunsAlone, RanAlone};
-ghost use Rattle.plan_core.specs.Refusals.{IsRefusedAt, AsksFor, point_of};
+ghost use Rattle.plan_core.specs.inner.Refusals.{IsRefusedAt, AsksFor};
+ghost use Rattle.plan_core.specs.Refusals.{point_of};
 ghost use Rattle.strand_meaning.specs.declared.Next.TheVariants.{Ask};
 ghost use Rattle.valid_intervals.specs.declared.Point.{Point as PointRecord};
 ghost use Rattle.plan_machine.specs.Steps.{turned, is_turn};
@@ -16,7 +18,7 @@ ghost use Rattle.plan_machine.specs.Turns.{turn, run, turns};
 ghost use Rattle.plan_machine.specs.Bounds.{all_left, bound};
 ghost use Rattle.plan_machine.specs.Sound.{IsSound, HasEnded};
 ghost use Rattle.demand_points.specs.Demands.{Demand};
-ghost use Rattle.plan_core.specs.Parts.{AreNew, AreFree, AreInOrder, IsAwake, plan_of_new, shards_in};
+ghost use Rattle.plan_core.specs.Parts.{AreFreshStrands, AreFree, AreInOrder, IsAwake, plan_of_new, shards_in};
 
 use crate::alone::{Alone, asked_at, refuse};
 use crate::asks::know_all;
@@ -44,7 +46,7 @@ impl<B: BatchName> Model for Plan<B> {
 
     ghost Value = { Plan };
 
-    ghost use Rattle.plan_core.specs.Parts.{plan_at, IsPlan};
+    ghost use Rattle.plan_core.specs.inner.Parts.{plan_at, IsPlan};
 
     ghost view = { λ k. plan_at k.places.items k.shards.items };
 
@@ -52,7 +54,8 @@ impl<B: BatchName> Model for Plan<B> {
 }
 
 impl<B: BatchName> Plan<B> {
-    /// The plan of these strands, of which none has made a turn, and of these shards.
+    /// The plan of these strands, of which none has made a turn, and of these shards. Each strand is brought to its next step, so one
+    /// that base answers complete has ended.
     pub fn new(
         alloc: Global,
         design: &Design,
@@ -61,7 +64,7 @@ impl<B: BatchName> Plan<B> {
     ) -> Result<Plan<B>, OutOfMemory>
         requires lawful { IsLawful B.batch }
         requires design { design.now.circuit ≡ B.batch.circuit }
-        requires strands { AreNew B.batch strands.items }
+        requires strands { AreFreshStrands B.batch strands.items }
         requires shards { AreFree B.batch shards.items }
         ensures ok { IfOk result (λ plan. plan ≡ plan_of_new strands.items shards.items) }
         ensures alone { (n : ℕ) (a : Start) (s : Demand) → slice_get strands.items n ≡ Some s → s.strand ≡ started B.batch.circuit a → IfOk result (BeginsAlone B.batch B.opening n a) }

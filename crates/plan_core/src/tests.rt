@@ -1,14 +1,15 @@
 //! Turns of two strands, and the journals that they leave.
 ghost use Rattle.std.specs.Prelude.{◌≡◌, ◌<◌, ◌≤◌, ◌+◌, [], length, IfOk, OnOk};
-ghost use Rattle.strand_meaning.specs.Batches.{IsLawful, IsQueryOf};
+ghost use Rattle.batch_meaning.specs.Lawful.{IsLawful, IsQueryOf};
 
 use super::*;
+use batch_meaning::Query;
 use bench_reader::read_bench;
 use cell_store::CellStore;
 use demand_points::{BatchName, Strand};
 use design::{Design, JoinFault};
 use gate_values::Value;
-use journal_meaning::{Entry, Query};
+use journal_meaning::Entry;
 use memo_shards::Shard;
 use plan_machine::Turned;
 use std::alloc::Global;

@@ -1,8 +1,8 @@
 //! One turn, over the parts of a plan.
 
 ghost use Rattle.std.specs.Prelude.{◌≡◌, ◌<◌, length};
-ghost use Rattle.plan_core.specs.Parts.{plan_at, IsPlan};
-ghost use Rattle.plan_core.specs.Turns.{OfTurn};
+ghost use Rattle.plan_core.specs.inner.Parts.{plan_at, IsPlan};
+ghost use Rattle.plan_core.specs.inner.Turns.{OfTurn};
 
 use crate::asks::ask_turn;
 use crate::ends::{drop_turn, fill_turn};

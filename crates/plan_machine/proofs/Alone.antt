@@ -5,25 +5,27 @@ use Rattle.std.proofs.lemmas.Bool.{cases_Bool, cases_eq, and_parts, and_from, lt
 use Rattle.std.proofs.lemmas.List.Elements.{All-weaker, All-contains_itself, Contains-append_right}
 use Rattle.valid_intervals.specs.declared.Point.{Point}
 use Rattle.valid_intervals.specs.declared.SignalCell.{SignalCell}
-use Rattle.valid_intervals.specs.Cells.{covers, cell_for}
+use Rattle.valid_intervals.specs.Cells.{covers, cell_for, stored_at}
 use Rattle.circuit_meaning.specs.Need.{children}
 use Rattle.journal_meaning.specs.declared.Entry.{Entry}
 use Rattle.journal_meaning.specs.declared.Entry.TheVariants.{Told, Filled, Dropped, Spent}
-use Rattle.journal_meaning.specs.declared.Query.{Query}
+use Rattle.batch_meaning.specs.declared.Query.{Query}
 use Rattle.journal_meaning.specs.States.{holder}
-use Rattle.journal_meaning.specs.Batch.{Batch, cell_at}
+use Rattle.batch_meaning.specs.Batches.{Batch}
+use Rattle.circuit_meaning.specs.Cells.{cell_at}
 use Rattle.journal_meaning.specs.Answers.{IsCovered, last_of, filled}
 use Rattle.journal_meaning.specs.Grown.{IsSaid, IsFor, refusals, AreAdded}
 use Rattle.journal_meaning.proofs.Claims.{own-covers}
 use Rattle.journal_meaning.proofs.Lists.{Each, Differ, each-left, pairs_from, pairs_to}
 use Rattle.journal_meaning.proofs.Grown.{added-more, covered-now, last-now}
-use Rattle.strand_meaning.specs.Batches.{IsLawful}
+use Rattle.batch_meaning.specs.Lawful.{IsLawful}
 use Rattle.strand_meaning.specs.declared.Next.{Next}
 use Rattle.strand_meaning.specs.declared.Next.TheVariants.{Ask, Fill, Drop, Done}
-use Rattle.strand_meaning.specs.Strands.{Frame, Strand, Start, ask_or, next_in, next, rest, heard, claimed, given_up, dropped, finished, IsHeld, IsStrand, left_in, IsFirst, IsChain}
+use Rattle.strand_meaning.specs.Strands.{Frame, Strand, ask_or, next_in, next, rest, heard, claimed, given_up, dropped, finished, IsHeld, IsStrand, left_in, IsFirst, IsChain}
+use Rattle.batch_meaning.specs.Pieces.{Start}
 use Rattle.strand_meaning.proofs.Stacks.{IsTop, asks-first, asks-unspent, fill-top, fill-heard, drop-top, top-held, earlier}
 use Rattle.strand_meaning.proofs.Wanted.{held-within}
-use Rattle.plan_machine.specs.Shards.{Shard, stored_at, recorded, IsShard}
+use Rattle.plan_machine.specs.Shards.{Shard, recorded, IsShard}
 use Rattle.plan_machine.specs.Plans.{Plan, home, shard_of, claim_of, with_shard, woken, itself}
 use Rattle.plan_machine.specs.Steps as steps
 use Rattle.plan_machine.specs.declared.Turned.TheVariants as comes
@@ -31,7 +33,7 @@ use Rattle.plan_machine.specs.Steps.{Step, claim_step, ask_step, next_step, step
 use Rattle.plan_machine.specs.Turns.{stepped, turn_at, turn}
 use Rattle.plan_machine.specs.Sound.{IsSound, HasEnded}
 use Rattle.plan_machine.specs.Journals.{journals, entries, evictions_for, entries_of}
-use Rattle.plan_machine.specs.Alone.{refused, roots_of, AreFed, IsUnspent, points_on, drops, IsUnderWay, IsGivingUp, IsAt, IsAlone, RunsAlone, IsServed, IsRefused, IsOutcome, RanAlone, TurnsAlone}
+use Rattle.plan_machine.specs.Alone.{refused, roots_of, AreFed, IsUnspent, points_on, drops, IsUnderWay, IsGivingUp, IsAtPoint, IsAlone, RunsAlone, IsServedAlone, IsRefusedAlone, IsOutcome, RanAlone, TurnsAlone}
 use Rattle.plan_machine.proofs.Links.{set-here, set-other}
 use Rattle.plan_machine.proofs.Shards.{found, spent-shard}
 use Rattle.plan_machine.proofs.Steps.{claims-same, shards-after, home-shard, here-of, asked-wanted, some-shard, told-sound, claimed-sound, spent-sound, filled-sound, dropped-sound}
@@ -279,7 +281,7 @@ module _ (b : Batch) (lawful : IsLawful b) (opening : ℕ → List SignalCell) (
       outcome = outcome;
     }
 
-    served : IsUnderWay b.circuit a added s → IsServed b.circuit a added (entries plan)
+    served : IsUnderWay b.circuit a added s → IsServedAlone b.circuit a added (entries plan)
     served u = record {
       roots = elim ended.cause [
         | inl spent ↦ absurd (true≢false (sym spent ∙ u.unspent))
@@ -293,8 +295,8 @@ module _ (b : Batch) (lawful : IsLawful b) (opening : ℕ → List SignalCell) (
       refusals = none-refused a.query.number added u.going;
     }
 
-    -- what was refused, behind what was added before
-    refusal : (p : Point) (g : IsGivingUp b.circuit a p added s) → added ≡ g.before ++ Spent a.query.number p (length g.gone) ∷ drops a.query.number g.gone → IsRefused a p added (entries plan)
+    -- what was refused, after what was added before
+    refusal : (p : Point) (g : IsGivingUp b.circuit a p added s) → added ≡ g.before ++ Spent a.query.number p (length g.gone) ∷ drops a.query.number g.gone → IsRefusedAlone a p added (entries plan)
     refusal p g same =
         let q = a.query.number in
         let held = length g.gone in
@@ -318,7 +320,7 @@ module _ (b : Batch) (lawful : IsLawful b) (opening : ℕ → List SignalCell) (
           refusals = ap (λ l. refusals l q) same ∙ refused-once q g.before p held g.gone g.going;
         }
 
-    pub ran-alone : (spent : Option Point) → IsAt b.circuit a added s spent → RanAlone b opening n a old plan spent
+    pub ran-alone : (spent : Option Point) → IsAtPoint b.circuit a added s spent → RanAlone b opening n a old plan spent
     ran-alone None u = ran None u.query u.unspent u.own u.fed (served u)
     ran-alone (Some p) g =
         let q = a.query.number in
@@ -352,7 +354,7 @@ module _ (b : Batch) (lawful : IsLawful b) (opening : ℕ → List SignalCell) (
   goes plan s spent t waits refused rests on = record { never = waits; on = λ _. on; refusal = λ e. absurd (refused e); ended = λ e. absurd (rests e) }
 
   module _ (plan : Plan) (added : List Entry) (s : Strand) (alone : IsAlone b opening n old added s plan) where
-    rests : (spent : Option Point) → IsAt b.circuit a added s spent → next s ≡ Done → Comes plan s spent steps.Rest
+    rests : (spent : Option Point) → IsAtPoint b.circuit a added s spent → next s ≡ Done → Comes plan s spent steps.Rest
     rests spent at e = record {
       never = λ k. cc k;
       on = λ _. record { added = added; strand = s; alone = alone; is_at = at };
@@ -388,11 +390,11 @@ module _ (b : Batch) (lawful : IsLawful b) (opening : ℕ → List SignalCell) (
     by_drop r g (Drop p) e = goes plan s (Some r) (steps.GiveBack p) (λ k. cc k) (λ k. cc k) (λ k. cc k) (dropped-on plan added s alone r g p e)
     by_drop r g Done e = rests (Some r) g e
 
-    by_phase : (spent : Option Point) → IsAt b.circuit a added s spent → Comes plan s spent (next_step plan s (next s))
+    by_phase : (spent : Option Point) → IsAtPoint b.circuit a added s spent → Comes plan s spent (next_step plan s (next s))
     by_phase None u = by_next u (next s) refl
     by_phase (Some r) g = by_drop r g (next s) refl
 
-    comes-to : (spent : Option Point) → IsAt b.circuit a added s spent → Comes plan s spent (step_at plan (Some s))
+    comes-to : (spent : Option Point) → IsAtPoint b.circuit a added s spent → Comes plan s spent (step_at plan (Some s))
     comes-to spent at =
         let P : Bool → Type 0 = λ w. Comes plan s spent (cond w steps.Rest (next_step plan s (next s))) in
         subst P (sym alone.awake) (by_phase spent at)

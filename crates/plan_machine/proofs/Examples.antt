@@ -16,12 +16,13 @@ use Rattle.circuit_meaning.specs.declared.Pin.{Pin}
 use Rattle.circuit_meaning.specs.Forward.{rows_below, row_at, last_setting, value}
 use Rattle.circuit_meaning.specs.Cells.{span, least_delay, next_setting}
 use Rattle.circuit_meaning.specs.Need.{children, First}
-use Rattle.journal_meaning.specs.declared.Query.{Query}
+use Rattle.batch_meaning.specs.declared.Query.{Query}
 use Rattle.journal_meaning.specs.declared.Entry.TheVariants as entries
-use Rattle.journal_meaning.specs.Batch.{Batch}
-use Rattle.strand_meaning.specs.Batches.{IsLawful}
+use Rattle.batch_meaning.specs.Batches.{Batch}
+use Rattle.batch_meaning.specs.Lawful.{IsLawful}
 use Rattle.strand_meaning.specs.declared.Next.TheVariants.{Done}
-use Rattle.strand_meaning.specs.Strands.{Start, IsStart, next, sources_of, roots_from}
+use Rattle.batch_meaning.specs.Pieces.{Start, IsStart}
+use Rattle.strand_meaning.specs.Strands.{next, asked_children, roots_from}
 use Rattle.plan_machine.specs.declared.Turned.{Turned}
 use Rattle.plan_machine.specs.declared.Turned.TheVariants.{Claimed, Waits, Spent, Filled, Dropped, NotReady}
 use Rattle.plan_machine.specs.Shards.{Shard, IsShard}
@@ -86,23 +87,23 @@ abbrev alike_end : Plan
 alike_end = run alike (plan buffer at5 at6) (0 ∷ 1 ∷ 0 ∷ 1 ∷ [])
 
 alike-turns : turns alike (plan buffer at5 at6) (0 ∷ 1 ∷ 0 ∷ 1 ∷ []) ≡ 4
-unfolding sources_of roots_from children value span row_at rows_below last_setting next_setting least_delay
+unfolding asked_children roots_from children value span row_at rows_below last_setting next_setting least_delay
 alike-turns = refl
 
 alike-journal : (shard alike_end).journal ≡ entries.Claimed 1 (point 1 5) ∷ entries.Claimed 2 (point 1 6) ∷ entries.Filled 1 (point 1 5) (cell 1 11 One) ∷ entries.Filled 2 (point 1 6) (cell 1 11 One) ∷ []
-unfolding sources_of roots_from children value span row_at rows_below last_setting next_setting least_delay
+unfolding asked_children roots_from children value span row_at rows_below last_setting next_setting least_delay
 alike-journal = refl
 
 alike-cells : (shard alike_end).state.cells ≡ record { signal = 1; cell = cell 1 11 One } ∷ []
-unfolding sources_of roots_from children value span row_at rows_below last_setting next_setting least_delay
+unfolding asked_children roots_from children value span row_at rows_below last_setting next_setting least_delay
 alike-cells = refl
 
 alike-ready : ready alike_end ≡ []
-unfolding sources_of roots_from children value span row_at rows_below last_setting next_setting least_delay
+unfolding asked_children roots_from children value span row_at rows_below last_setting next_setting least_delay
 alike-ready = refl
 
 alike-ended : turned alike_end 0 ≡ NotReady
-unfolding sources_of roots_from children value span row_at rows_below last_setting next_setting least_delay
+unfolding asked_children roots_from children value span row_at rows_below last_setting next_setting least_delay
 alike-ended = refl
 
 -- Two queries for one point, the first with a budget of 1: a is 0, n3 is 1, n1 is 2, n2 is 3.
@@ -122,21 +123,21 @@ abbrev schedule : List ℕ
 schedule = 0 ∷ 1 ∷ 0 ∷ 0 ∷ 1 ∷ 1 ∷ 1 ∷ 1 ∷ 1 ∷ 1 ∷ []
 
 shared-turned : all_turned shared (plan chain poor rich) schedule ≡ Claimed ∷ Waits ∷ Spent ∷ Dropped ∷ Claimed ∷ Claimed ∷ Claimed ∷ Filled ∷ Filled ∷ Filled ∷ []
-unfolding sources_of roots_from children value span row_at rows_below last_setting next_setting least_delay
+unfolding asked_children roots_from children value span row_at rows_below last_setting next_setting least_delay
 shared-turned = refl
 
 shared-turns : turns shared (plan chain poor rich) schedule ≡ 10
-unfolding sources_of roots_from children value span row_at rows_below last_setting next_setting least_delay
+unfolding asked_children roots_from children value span row_at rows_below last_setting next_setting least_delay
 shared-turns = refl
 
 shared-journal : (shard (run shared (plan chain poor rich) schedule)).journal
     ≡ entries.Claimed 1 (point 1 5) ∷ entries.Dropped 1 (point 1 5) ∷ entries.Claimed 2 (point 1 5) ∷ entries.Claimed 2 (point 3 4) ∷ entries.Claimed 2 (point 2 3)
     ∷ entries.Filled 2 (point 2 3) (cell 1 11 One) ∷ entries.Filled 2 (point 3 4) (cell 2 11 One) ∷ entries.Filled 2 (point 1 5) (cell 3 11 One) ∷ []
-unfolding sources_of roots_from children value span row_at rows_below last_setting next_setting least_delay
+unfolding asked_children roots_from children value span row_at rows_below last_setting next_setting least_delay
 shared-journal = refl
 
 shared-ready : ready (run shared (plan chain poor rich) schedule) ≡ []
-unfolding sources_of roots_from children value span row_at rows_below last_setting next_setting least_delay
+unfolding asked_children roots_from children value span row_at rows_below last_setting next_setting least_delay
 shared-ready = refl
 
 -- the same with a budget of 3 for the second
@@ -150,7 +151,7 @@ bounded-bound : bound bounded (whole poor ∷ whole enough ∷ []) ≡ 26
 bounded-bound = refl
 
 bounded-turns : turns bounded (plan chain poor enough) schedule ≡ 10
-unfolding sources_of roots_from children value span row_at rows_below last_setting next_setting least_delay
+unfolding asked_children roots_from children value span row_at rows_below last_setting next_setting least_delay
 bounded-turns = refl
 
 -- a schedule that ends with a strand that waits
@@ -158,11 +159,11 @@ abbrev waiting_schedule : List ℕ
 waiting_schedule = 1 ∷ 1 ∷ 1 ∷ 0 ∷ 0 ∷ []
 
 waiting-turned : all_turned bounded (plan chain poor enough) waiting_schedule ≡ Claimed ∷ Claimed ∷ Claimed ∷ Waits ∷ NotReady ∷ []
-unfolding sources_of roots_from children value span row_at rows_below last_setting next_setting least_delay
+unfolding asked_children roots_from children value span row_at rows_below last_setting next_setting least_delay
 waiting-turned = refl
 
 waiting-ready : ready (run bounded (plan chain poor enough) waiting_schedule) ≡ 1 ∷ []
-unfolding sources_of roots_from children value span row_at rows_below last_setting next_setting least_delay
+unfolding asked_children roots_from children value span row_at rows_below last_setting next_setting least_delay
 waiting-ready = refl
 
 -- the fill wakes it with the answer, and so both have ended
@@ -170,15 +171,15 @@ abbrev woken_end : Plan
 woken_end = run bounded (plan chain poor enough) (1 ∷ 1 ∷ 1 ∷ 0 ∷ 1 ∷ 1 ∷ 1 ∷ [])
 
 woken-ready : ready woken_end ≡ []
-unfolding sources_of roots_from children value span row_at rows_below last_setting next_setting least_delay
+unfolding asked_children roots_from children value span row_at rows_below last_setting next_setting least_delay
 woken-ready = refl
 
 woken-awake : map (λ s. s.waits) woken_end.strands ≡ false ∷ false ∷ []
-unfolding sources_of roots_from children value span row_at rows_below last_setting next_setting least_delay
+unfolding asked_children roots_from children value span row_at rows_below last_setting next_setting least_delay
 woken-awake = refl
 
 woken-done : map (λ s. next s) woken_end.strands ≡ Done ∷ Done ∷ []
-unfolding sources_of roots_from children value span row_at rows_below last_setting next_setting least_delay
+unfolding asked_children roots_from children value span row_at rows_below last_setting next_setting least_delay
 woken-done = refl
 
 -- a shard of two cells: the last fill evicts
@@ -186,13 +187,13 @@ abbrev small : Batch
 small = batch chain 2 poor rich
 
 small-turned : all_turned small (plan chain poor rich) (1 ∷ 1 ∷ 1 ∷ 1 ∷ 1 ∷ 1 ∷ []) ≡ Claimed ∷ Claimed ∷ Claimed ∷ Filled ∷ Filled ∷ Filled ∷ []
-unfolding sources_of roots_from children value span row_at rows_below last_setting next_setting least_delay
+unfolding asked_children roots_from children value span row_at rows_below last_setting next_setting least_delay
 small-turned = refl
 
 small-journal : (shard (run small (plan chain poor rich) (1 ∷ 1 ∷ 1 ∷ 1 ∷ 1 ∷ 1 ∷ []))).journal
     ≡ entries.Claimed 2 (point 1 5) ∷ entries.Claimed 2 (point 3 4) ∷ entries.Claimed 2 (point 2 3)
     ∷ entries.Filled 2 (point 2 3) (cell 1 11 One) ∷ entries.Filled 2 (point 3 4) (cell 2 11 One) ∷ entries.Evicted 2 1 ∷ entries.Filled 2 (point 1 5) (cell 3 11 One) ∷ []
-unfolding sources_of roots_from children value span row_at rows_below last_setting next_setting least_delay
+unfolding asked_children roots_from children value span row_at rows_below last_setting next_setting least_delay
 small-journal = refl
 
 -- What the theorems ask is so of this batch, and so each of its plans is sound.
@@ -249,37 +250,37 @@ shared-sound numbers =
 
 -- the first alone: its budget is spent at once, and it drops what it holds
 alone-poor : (shard (run_alone shared 0 10 (plan chain poor rich))).journal ≡ entries.Claimed 1 (point 1 5) ∷ entries.Spent 1 (point 3 4) 1 ∷ entries.Dropped 1 (point 1 5) ∷ []
-unfolding sources_of roots_from children value span row_at rows_below last_setting next_setting least_delay
+unfolding asked_children roots_from children value span row_at rows_below last_setting next_setting least_delay
 alone-poor = refl
 
 -- the second alone
 alone-rich : (shard (run_alone shared 1 10 (plan chain poor rich))).journal
     ≡ entries.Claimed 2 (point 1 5) ∷ entries.Claimed 2 (point 3 4) ∷ entries.Claimed 2 (point 2 3)
     ∷ entries.Filled 2 (point 2 3) (cell 1 11 One) ∷ entries.Filled 2 (point 3 4) (cell 2 11 One) ∷ entries.Filled 2 (point 1 5) (cell 3 11 One) ∷ []
-unfolding sources_of roots_from children value span row_at rows_below last_setting next_setting least_delay
+unfolding asked_children roots_from children value span row_at rows_below last_setting next_setting least_delay
 alone-rich = refl
 
 -- settlement without workers: the first is refused, the second evaluates all three points
 settled-none : (settle shared (no_shard ∷ [])).refused ≡ true ∷ false ∷ []
-unfolding sources_of roots_from children value span row_at rows_below last_setting next_setting least_delay run_of
+unfolding asked_children roots_from children value span row_at rows_below last_setting next_setting least_delay run_of
 settled-none = refl
 
 settled-journal : (get_or (settle shared (no_shard ∷ [])).shards 0 no_shard).journal
     ≡ entries.Claimed 1 (point 1 5) ∷ entries.Spent 1 (point 3 4) 1 ∷ entries.Dropped 1 (point 1 5)
     ∷ entries.Claimed 2 (point 1 5) ∷ entries.Claimed 2 (point 3 4) ∷ entries.Claimed 2 (point 2 3)
     ∷ entries.Filled 2 (point 2 3) (cell 1 11 One) ∷ entries.Filled 2 (point 3 4) (cell 2 11 One) ∷ entries.Filled 2 (point 1 5) (cell 3 11 One) ∷ []
-unfolding sources_of roots_from children value span row_at rows_below last_setting next_setting least_delay run_of
+unfolding asked_children roots_from children value span row_at rows_below last_setting next_setting least_delay run_of
 settled-journal = refl
 
 -- after the workers' turns above, in which the first was spent: nothing is missing, and neither is refused
 settled-after : (settle shared (run shared (plan chain poor rich) schedule).shards).refused ≡ false ∷ false ∷ []
-unfolding sources_of roots_from children value span row_at rows_below last_setting next_setting least_delay run_of
+unfolding asked_children roots_from children value span row_at rows_below last_setting next_setting least_delay run_of
 settled-after = refl
 
 settled-nothing : (get_or (settle shared (run shared (plan chain poor rich) schedule).shards).shards 0 no_shard).journal
     ≡ entries.Claimed 1 (point 1 5) ∷ entries.Dropped 1 (point 1 5) ∷ entries.Claimed 2 (point 1 5) ∷ entries.Claimed 2 (point 3 4) ∷ entries.Claimed 2 (point 2 3)
     ∷ entries.Filled 2 (point 2 3) (cell 1 11 One) ∷ entries.Filled 2 (point 3 4) (cell 2 11 One) ∷ entries.Filled 2 (point 1 5) (cell 3 11 One) ∷ []
-unfolding sources_of roots_from children value span row_at rows_below last_setting next_setting least_delay run_of
+unfolding asked_children roots_from children value span row_at rows_below last_setting next_setting least_delay run_of
 settled-nothing = refl
 
 -- a query alone, whose budget of 2 is spent as the workers run and again in settlement
@@ -293,11 +294,11 @@ abbrev lone_end : Plan
 lone_end = run lone (new_plan lone (whole short ∷ []) (no_shard ∷ [])) (0 ∷ 0 ∷ 0 ∷ 0 ∷ 0 ∷ [])
 
 lone-refused : (settle lone lone_end.shards).refused ≡ true ∷ []
-unfolding sources_of roots_from children value span row_at rows_below last_setting next_setting least_delay run_of
+unfolding asked_children roots_from children value span row_at rows_below last_setting next_setting least_delay run_of
 lone-refused = refl
 
 lone-journal : (get_or (settle lone lone_end.shards).shards 0 no_shard).journal
     ≡ entries.Claimed 1 (point 1 5) ∷ entries.Claimed 1 (point 3 4) ∷ entries.Dropped 1 (point 3 4) ∷ entries.Dropped 1 (point 1 5)
     ∷ entries.Claimed 1 (point 1 5) ∷ entries.Claimed 1 (point 3 4) ∷ entries.Spent 1 (point 2 3) 2 ∷ entries.Dropped 1 (point 3 4) ∷ entries.Dropped 1 (point 1 5) ∷ []
-unfolding sources_of roots_from children value span row_at rows_below last_setting next_setting least_delay run_of
+unfolding asked_children roots_from children value span row_at rows_below last_setting next_setting least_delay run_of
 lone-journal = refl

@@ -6,8 +6,8 @@ use Rattle.strand_meaning.specs.declared.Next.{Next}
 use Rattle.strand_meaning.specs.declared.Next.TheVariants.{Ask, Fill, Drop, Done}
 use Rattle.strand_meaning.specs.Strands.{Strand, next}
 use Rattle.valid_intervals.specs.declared.SignalCell.{SignalCell}
-use Rattle.journal_meaning.specs.Batch.{Batch}
-use Rattle.plan_machine.specs.Shards.{stored_at}
+use Rattle.batch_meaning.specs.Batches.{Batch}
+use Rattle.valid_intervals.specs.Cells.{stored_at}
 use Rattle.plan_machine.specs.Plans.{Plan, shard_of, claim_of}
 use Rattle.plan_machine.specs.Steps.{Step, Tell, Claim, Wait, Spend, Finish, GiveBack, Rest, claim_step, ask_step, next_step, step_at, step}
 use Rattle.plan_machine.specs.Turns.{stepped, turn_at, turn}

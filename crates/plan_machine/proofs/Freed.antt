@@ -7,22 +7,24 @@ use Rattle.valid_intervals.specs.declared.Point.{Point}
 use Rattle.valid_intervals.specs.declared.SignalCell.{SignalCell}
 use Rattle.journal_meaning.specs.declared.Entry.{Entry}
 use Rattle.journal_meaning.specs.declared.Entry.TheVariants.{Told, Claimed, Filled, Evicted, Dropped, Spent}
-use Rattle.journal_meaning.specs.declared.Query.{Query}
-use Rattle.journal_meaning.specs.States.{Claim, State, holder, without}
+use Rattle.batch_meaning.specs.declared.Query.{Query}
+use Rattle.journal_meaning.specs.States.{Claim, holder, without_point}
 use Rattle.journal_meaning.specs.States as states
 use Rattle.journal_meaning.specs.Replay.{replay, IsAtEnd, IsLegalBatch}
-use Rattle.journal_meaning.specs.Batch.{Batch}
-use Rattle.journal_meaning.specs.Grown.{IsHome, AreHome, is_spent_of, refusals, Grows, AreAdded}
+use Rattle.batch_meaning.specs.Batches.{Batch}
+use Rattle.journal_meaning.specs.inner.Grown.{IsHome, AreHome}
+use Rattle.journal_meaning.specs.Grown.{is_spent_of, refusals, GrowsBy, AreAdded}
 use Rattle.journal_meaning.proofs.Claims.{holder-each, holder-without, without-other, cases_point}
 use Rattle.journal_meaning.proofs.Named.{Ours, claims_ours, none_ours}
 use Rattle.journal_meaning.proofs.Lists.{Each, each-imply}
 use Rattle.journal_meaning.proofs.Grown.{added-each, added-more, count-none, refusals-more, legal-home}
-use Rattle.strand_meaning.specs.Batches.{IsLawful}
+use Rattle.batch_meaning.specs.Lawful.{IsLawful}
 use Rattle.circuit_meaning.specs.Circuit.{Circuit}
 use Rattle.plan_machine.specs.Shards.{Shard, IsShard, recorded}
 use Rattle.plan_machine.specs.Plans.{no_shard}
 use Rattle.plan_machine.specs.Sound.{IsFresh}
-use Rattle.plan_machine.specs.Settle.{journals_of, entries_in, IsSettled, AreAllSettled, AreSettled, IsOrder, drop_of, freed, AreFreed, AreShards, IsDrop, AreAnswered, IsAnswered}
+use Rattle.plan_machine.specs.Settle.{journals_of, entries_in, IsSettled, AreAllSettled, AreSettled, IsOrder, drop_of, freed, AreFreed, AreShards, AreAnswered, IsAnswered}
+use Rattle.plan_machine.specs.inner.Settle.{IsDrop}
 use Rattle.plan_machine.specs.Settling.{settle}
 use Rattle.plan_machine.proofs.Shards.{dropped-shard}
 use Rattle.plan_machine.proofs.Journals.{journal-at}
@@ -43,7 +45,7 @@ module _ (b : Batch) (n : ℕ) (opening : List SignalCell) where
         held = still order apart o.held.1;
         different = λ i j d l m. o.different (suc i) (suc j) d (omega arith) (omega arith);
         all = λ p q h. elim (cases_point p c.point) [
-          | inl e ↦ let none : holder (without claims c.point) p ≡ None = ap (holder (without claims c.point)) e.1 ∙ holder-without claims c.point in absurd (cc (none, h))
+          | inl e ↦ let none : holder (without_point claims c.point) p ≡ None = ap (holder (without_point claims c.point)) e.1 ∙ holder-without claims c.point in absurd (cc (none, h))
           | inr e ↦
               let k = o.all p q (sym (without-other claims c.point p e.1) ∙ h) in
               elim (contains-cases c order k.0 k.1) [
@@ -56,7 +58,7 @@ module _ (b : Batch) (n : ℕ) (opening : List SignalCell) where
       claims : List Claim
       claims = h.state.claims
 
-      still : (ds : List Claim) → Each (λ d. c.point ≢ d.point) ds → Each (λ d. holder h.state.claims d.point ≡ Some d.query) ds → Each (λ d. holder (without h.state.claims c.point) d.point ≡ Some d.query) ds
+      still : (ds : List Claim) → Each (λ d. c.point ≢ d.point) ds → Each (λ d. holder h.state.claims d.point ≡ Some d.query) ds → Each (λ d. holder (without_point h.state.claims c.point) d.point ≡ Some d.query) ds
       still [] a k = tt
       still (d ∷ ds) a k = (without-other h.state.claims c.point d.point (λ e. a.0 (sym e)) ∙ k.0, still ds a.1 k.1)
 
@@ -150,7 +152,7 @@ module _ (b : Batch) (lawful : IsLawful b) (opening : ℕ → List SignalCell) w
       }
 
   -- drops refuse nothing
-  settled-before : (c : Circuit) (handed added start now : List Entry) → Grows handed added start → Each IsDrop added → (q : Query) (r : Bool) → IsSettled c q start now r → IsSettled c q handed now r
+  settled-before : (c : Circuit) (handed added start now : List Entry) → GrowsBy handed added start → Each IsDrop added → (q : Query) (r : Bool) → IsSettled c q start now r → IsSettled c q handed now r
   settled-before c handed added start now g drops q r s = by r s
     where
       same : refusals start q.number ≡ refusals handed q.number
@@ -163,7 +165,7 @@ module _ (b : Batch) (lawful : IsLawful b) (opening : ℕ → List SignalCell) w
       by false s = (s.0, s.1 ∙ same)
       by true s = (s.0, s.1 ∙ ap (λ n. n + 1) same)
 
-  pub all-before : (c : Circuit) (handed added start now : List Entry) → Grows handed added start → Each IsDrop added → (qs : List Query) (rs : List Bool) → AreAllSettled c start now qs rs → AreAllSettled c handed now qs rs
+  pub all-before : (c : Circuit) (handed added start now : List Entry) → GrowsBy handed added start → Each IsDrop added → (qs : List Query) (rs : List Bool) → AreAllSettled c start now qs rs → AreAllSettled c handed now qs rs
   all-before c handed added start now g drops [] [] h = tt
   all-before c handed added start now g drops [] (r ∷ rs) h = absurd h
   all-before c handed added start now g drops (q ∷ qs) [] h = absurd h

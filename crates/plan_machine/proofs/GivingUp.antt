@@ -15,7 +15,8 @@ use Rattle.journal_meaning.proofs.Same.{same_point-itself}
 use Rattle.journal_meaning.proofs.Claims.{cases_point}
 use Rattle.journal_meaning.proofs.Lists.{Each, Differ, each-append, each-left, pairs_to}
 use Rattle.journal_meaning.proofs.Grown.{last-append, last-none, count-append, count-none}
-use Rattle.strand_meaning.specs.Strands.{Frame, Strand, Start, sources_of, rest, given_up, dropped, IsHeld, left_in, IsFirst, IsChain}
+use Rattle.strand_meaning.specs.Strands.{Frame, Strand, asked_children, rest, given_up, dropped, IsHeld, left_in, IsFirst, IsChain}
+use Rattle.batch_meaning.specs.Pieces.{Start}
 use Rattle.strand_meaning.proofs.Stacks.{IsTop, length-rest, earlier}
 use Rattle.plan_machine.specs.Alone.{AreFed, IsUnspent, points_on, drops, IsUnderWay, IsGivingUp}
 use Rattle.plan_machine.proofs.Underway.{IsNoFill, none-filled, none-refused, said-all, each-contains, contains-cases, contains-none}
@@ -110,7 +111,7 @@ module _ (q : ℕ) where
 
     pub refused-fed : (c : Circuit) → AreFed c before → AreFed c all
     refused-fed c fed = λ r y z known. elim (Contains-append_cases before (Spent q p held ∷ drops q gone) (Filled r y z) known) [
-      | inl l ↦ said-all c before (Spent q p held ∷ drops q gone) (sources_of c y) (fed r y z l)
+      | inl l ↦ said-all c before (Spent q p held ∷ drops q gone) (asked_children c y) (fed r y z l)
       | inr l ↦ absurd (each-contains IsNoFill (Spent q p held ∷ drops q gone) (Filled r y z) (tt, drops-each IsNoFill (λ x. tt) gone) l)
     ]
 

@@ -5,20 +5,22 @@ use Rattle.std.proofs.lemmas.Bool.{cases_eq}
 use Rattle.std.proofs.lemmas.List.{map-set, append-nil}
 use Rattle.valid_intervals.specs.declared.Point.{Point}
 use Rattle.valid_intervals.specs.declared.SignalCell.{SignalCell}
-use Rattle.valid_intervals.specs.Cells.{cell_for}
+use Rattle.valid_intervals.specs.Cells.{cell_for, is_stored, last_cell}
 use Rattle.journal_meaning.specs.declared.Entry.{Entry}
 use Rattle.journal_meaning.specs.declared.Entry.TheVariants.{Told, Claimed, Filled, Evicted, Dropped}
-use Rattle.journal_meaning.specs.States.{fresh, is_stored}
-use Rattle.journal_meaning.specs.Batch.{Batch, cell_at}
-use Rattle.journal_meaning.specs.Grown.{IsFor, IsHome, AreHome, AreAdded}
+use Rattle.journal_meaning.specs.States.{fresh}
+use Rattle.batch_meaning.specs.Batches.{Batch}
+use Rattle.circuit_meaning.specs.Cells.{cell_at}
+use Rattle.journal_meaning.specs.Grown.{IsFor, AreAdded}
+use Rattle.journal_meaning.specs.inner.Grown.{IsHome, AreHome}
 use Rattle.journal_meaning.proofs.Lists.{Each, each-append}
 use Rattle.journal_meaning.proofs.Grown.{added-one, added-none, added-more, legal-home}
-use Rattle.strand_meaning.specs.Batches.{IsLawful}
+use Rattle.batch_meaning.specs.Lawful.{IsLawful}
 use Rattle.strand_meaning.specs.Strands.{Strand, heard, awake}
-use Rattle.plan_machine.specs.Shards.{Shard, last_cell, recorded, evicted, with_room, filled_shard}
+use Rattle.plan_machine.specs.Shards.{Shard, recorded, evicted, with_room, filled_shard}
 use Rattle.plan_machine.specs.Plans.{Plan, no_shard, home, shard_of, woken, itself}
 use Rattle.plan_machine.specs.Steps as steps
-use Rattle.plan_machine.specs.Steps.{Step, claim_step, ask_step, next_step, step_at}
+use Rattle.plan_machine.specs.Steps.{Step, step_at}
 use Rattle.plan_machine.specs.Turns.{stepped, turn_at, turn, run}
 use Rattle.plan_machine.specs.Sound.{IsSound}
 use Rattle.plan_machine.specs.Journals.{journals, eviction, evictions_for, entries_of, added_at, added_by, TurnAdds, SameTask, SameTasks}
@@ -30,9 +32,9 @@ use Rattle.plan_machine.proofs.Turns.{turn-sound}
 pub journal-at : (shards : List Shard) (k : ℕ) → get_or (map (λ (h : Shard). h.journal) shards) k [] ≡ (get_or shards k no_shard).journal
 journal-at shards k = get_or-map (λ (h : Shard). h.journal) shards k no_shard
 
--- what is recorded stands behind what was
+-- what is recorded stands after what was
 pub room-journal : (capacity : ℕ) (x : SignalCell) (h : Shard) → (with_room capacity x h).journal ≡ h.journal ++ evictions_for capacity x h
-room-journal capacity x h = by (not (is_stored h.state x) && nat_eq (length h.state.cells) capacity)
+room-journal capacity x h = by (not (is_stored x h.state.cells) && nat_eq (length h.state.cells) capacity)
   where
     evicts : (o : Option SignalCell) → (evicted o h).journal ≡ h.journal ++ eviction o
     evicts None = sym (append-nil h.journal)
@@ -43,7 +45,7 @@ room-journal capacity x h = by (not (is_stored h.state x) && nat_eq (length h.st
     by false = sym (append-nil h.journal)
 
 pub evictions-each : (P : Entry → Type 0) → ((signal start : ℕ) → P (Evicted signal start)) → (capacity : ℕ) (x : SignalCell) (h : Shard) → Each P (evictions_for capacity x h)
-evictions-each P all capacity x h = by (not (is_stored h.state x) && nat_eq (length h.state.cells) capacity)
+evictions-each P all capacity x h = by (not (is_stored x h.state.cells) && nat_eq (length h.state.cells) capacity)
   where
     evicts : (o : Option SignalCell) → Each P (eviction o)
     evicts None = tt

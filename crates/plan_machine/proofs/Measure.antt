@@ -12,13 +12,13 @@ use Rattle.circuit_meaning.specs.Circuit.{Circuit, Driver, Input, Gate, Flop, dr
 use Rattle.circuit_meaning.specs.Forward.{seen, value}
 use Rattle.flip_flops.specs.Edges.{shown_edge}
 use Rattle.circuit_meaning.specs.Cells.{looked}
-use Rattle.circuit_meaning.specs.Need.{children, sources, flop_source}
+use Rattle.circuit_meaning.specs.Need.{children, children_from, flop_child}
 use Rattle.strand_meaning.specs.declared.Next.{Next}
 use Rattle.strand_meaning.specs.declared.Next.TheVariants.{Ask, Fill, Drop, Done}
-use Rattle.strand_meaning.specs.Strands.{Frame, Strand, is_evaluable, sources_of, next, rest, roots_heard, stack_heard, heard, claimed, waiting, awake, given_up, dropped, finished, left_in, IsFirst}
+use Rattle.strand_meaning.specs.Strands.{Frame, Strand, is_evaluable, asked_children, next, rest, roots_heard, stack_heard, heard, claimed, waiting, awake, given_up, dropped, finished, left_in, IsFirst}
 use Rattle.valid_intervals.specs.declared.SignalCell.{SignalCell}
-use Rattle.journal_meaning.specs.Batch.{Batch}
-use Rattle.plan_machine.specs.Shards.{stored_at}
+use Rattle.batch_meaning.specs.Batches.{Batch}
+use Rattle.valid_intervals.specs.Cells.{stored_at}
 use Rattle.plan_machine.specs.Plans.{Plan, shard_of, claim_of, asks, woken, itself}
 use Rattle.plan_machine.specs.Steps.{Rest, claim_step, ask_step, next_step, step_at, turned_by, turned, is_turn}
 use Rattle.plan_machine.specs.Turns.{stepped, turn_at, turn, turns}
@@ -40,11 +40,11 @@ cut-length test (x ∷ xs) = elim (test x) as (λ t. length (x ∷ cond t [] (up
   | false ↦ let k = cut-length test xs in omega arith
 ]
 
-flop-length : (pin : ℕ) (o : Option ℕ) → length (flop_source pin o) ≤ 1
+flop-length : (pin : ℕ) (o : Option ℕ) → length (flop_child pin o) ≤ 1
 flop-length pin None = omega arith
 flop-length pin (Some e) = omega arith
 
-sources-few : (c : Circuit) (t : ℕ) (d : Driver) → length (sources c t d) ≤ pins_of d
+sources-few : (c : Circuit) (t : ℕ) (d : Driver) → length (children_from c t d) ≤ pins_of d
 sources-few c t (Input settings) = omega arith
 sources-few c t (Gate kind pins) =
     let point : Pin → Point = λ p. record { signal = p.signal; time = t - p.delay } in
@@ -61,8 +61,8 @@ most-all [] s = omega arith
 most-all (d ∷ ds) zero = omega arith
 most-all (d ∷ ds) (suc s) = let k = most-all ds s in omega arith
 
-sources-most : (c : Circuit) (p : Point) → length (sources_of c p) ≤ most_pins c.drivers
-unfolding sources_of children
+sources-most : (c : Circuit) (p : Point) → length (asked_children c p) ≤ most_pins c.drivers
+unfolding asked_children children
 sources-most c p =
     let a = filter-length (is_evaluable c) (children c p.signal p.time) in
     let e = sources-few c p.time (driver c p.signal) in

@@ -7,11 +7,12 @@ use Rattle.valid_intervals.specs.declared.Point.{Point}
 use Rattle.circuit_meaning.specs.declared.Window.{Window}
 use Rattle.circuit_meaning.specs.Circuit.{Circuit}
 use Rattle.circuit_meaning.specs.Cells.{span}
-use Rattle.strand_meaning.specs.Strands.{Strand, Start, IsHeld, piece, started, is_evaluable, roots_from, IsStart, IsStrand}
+use Rattle.strand_meaning.specs.Strands.{Strand, IsHeld, started, is_evaluable, roots_from, IsStrand}
+use Rattle.batch_meaning.specs.Pieces.{Start, piece, IsStart}
 use Rattle.valid_intervals.specs.declared.SignalCell.{SignalCell}
 use Rattle.journal_meaning.specs.States.{holder}
-use Rattle.journal_meaning.specs.Batch.{Batch}
-use Rattle.strand_meaning.specs.Batches.{IsLawful}
+use Rattle.batch_meaning.specs.Batches.{Batch}
+use Rattle.batch_meaning.specs.Lawful.{IsLawful}
 use Rattle.plan_machine.specs.Shards.{Shard}
 use Rattle.plan_machine.specs.Plans.{claim_of, new_plan}
 use Rattle.plan_machine.specs.Turns.{turns}

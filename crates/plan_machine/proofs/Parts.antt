@@ -8,7 +8,7 @@ use Rattle.valid_intervals.specs.declared.Point.{Point}
 use Rattle.strand_meaning.specs.declared.Next.TheVariants.{Ask}
 use Rattle.strand_meaning.specs.Strands.{Strand, next, waiting, awake, heard}
 use Rattle.plan_machine.specs.Plans.{asks, woken}
-use Rattle.plan_machine.specs.Parts.{Waiter, IsAmong, AreParts, put_back, with_waiters, waiter_at, placed_at, strands_from}
+use Rattle.plan_machine.specs.inner.Parts.{NumberedStrand, IsAmong, AreParts, put_back, with_waiters, waiter_at, placed_at, strands_from}
 use Rattle.journal_meaning.proofs.Claims.{cases_point}
 use Rattle.plan_machine.proofs.Links.{set-here, set-other, map-get}
 use Rattle.plan_machine.proofs.Measure.{woken-itself}
@@ -32,7 +32,7 @@ past-both (x ∷ xs) (y ∷ ys) zero e h = absurd (cc h)
 past-both (x ∷ xs) (y ∷ ys) (suc i) e h = past-both xs ys i (omega arith) h
 
 -- the parts tell the strands
-place-of : (places : List (Option Strand)) (waiters : Point → List Waiter) (xs ys : List Strand) → AreParts places waiters xs → AreParts places waiters ys → (i : ℕ) (o : Option (Option Strand)) → slice_get places i ≡ o → slice_get xs i ≡ slice_get ys i
+place-of : (places : List (Option Strand)) (waiters : Point → List NumberedStrand) (xs ys : List Strand) → AreParts places waiters xs → AreParts places waiters ys → (i : ℕ) (o : Option (Option Strand)) → slice_get places i ≡ o → slice_get xs i ≡ slice_get ys i
 place-of places waiters xs ys a b i None e = past-both places xs i a.length e ∙ sym (past-both places ys i b.length e)
 place-of places waiters xs ys a b i (Some None) e =
     let g = a.gap i e in
@@ -41,12 +41,12 @@ place-of places waiters xs ys a b i (Some None) e =
     subst (λ j. slice_get xs j ≡ slice_get ys j) g.1.1.1 (k ∙ sym l)
 place-of places waiters xs ys a b i (Some (Some s)) e = (a.ready i s e).0 ∙ sym (b.ready i s e).0
 
-pub parts-tell : (places : List (Option Strand)) (waiters : Point → List Waiter) (xs ys : List Strand) → AreParts places waiters xs → AreParts places waiters ys → xs ≡ ys
+pub parts-tell : (places : List (Option Strand)) (waiters : Point → List NumberedStrand) (xs ys : List Strand) → AreParts places waiters xs → AreParts places waiters ys → xs ≡ ys
 parts-tell places waiters xs ys a b = same-lists xs ys (λ i. place-of places waiters xs ys a b i (slice_get places i) refl)
 
-module _ (places : List (Option Strand)) (waiters : Point → List Waiter) (xs : List Strand) (parts : AreParts places waiters xs) (i : ℕ) (s : Strand) (at : slice_get places i ≡ Some (Some s)) where
+module _ (places : List (Option Strand)) (waiters : Point → List NumberedStrand) (xs : List Strand) (parts : AreParts places waiters xs) (i : ℕ) (s : Strand) (at : slice_get places i ≡ Some (Some s)) where
   -- no waiter has the number of a strand that stands in its place
-  not-waiter : (p : Point) (w : Waiter) → IsAmong w (waiters p) → w.number ≡ i → ⊥
+  not-waiter : (p : Point) (w : NumberedStrand) → IsAmong w (waiters p) → w.number ≡ i → ⊥
   not-waiter p w h e = let k = (parts.waiter p w h).0 in let l : slice_get places w.number ≡ Some (Some s) = ap (slice_get places) e ∙ at in cc (k, l)
 
   -- it is put back changed
@@ -74,17 +74,17 @@ module _ (places : List (Option Strand)) (waiters : Point → List Waiter) (xs :
         (set-other places i w.number (Some t) ne ∙ k.0, set-other xs i w.number t ne ∙ k.1, k.2, k.3);
   }
 
-  among-end : (ws : List Waiter) (w x : Waiter) → IsAmong x (ws ++ w ∷ []) → IsAmong x ws ⊎ (w ≡ x)
+  among-end : (ws : List NumberedStrand) (w x : NumberedStrand) → IsAmong x (ws ++ w ∷ []) → IsAmong x ws ⊎ (w ≡ x)
   among-end [] w x (inl e) = inr e
   among-end [] w x (inr h) = absurd h
   among-end (y ∷ ys) w x (inl e) = inl (inl e)
   among-end (y ∷ ys) w x (inr h) = elim (among-end ys w x h) [ inl k ↦ inl (inr k) | inr k ↦ inr k ]
 
-  end-among : (ws : List Waiter) (w : Waiter) → IsAmong w (ws ++ w ∷ [])
+  end-among : (ws : List NumberedStrand) (w : NumberedStrand) → IsAmong w (ws ++ w ∷ [])
   end-among [] w = inl refl
   end-among (y ∷ ys) w = inr (end-among ys w)
 
-  among-more : (ws : List Waiter) (w x : Waiter) → IsAmong x ws → IsAmong x (ws ++ w ∷ [])
+  among-more : (ws : List NumberedStrand) (w x : NumberedStrand) → IsAmong x ws → IsAmong x (ws ++ w ∷ [])
   among-more [] w x h = absurd h
   among-more (y ∷ ys) w x (inl e) = inl e
   among-more (y ∷ ys) w x (inr h) = inr (among-more ys w x h)
@@ -93,12 +93,12 @@ module _ (places : List (Option Strand)) (waiters : Point → List Waiter) (xs :
   pub wait-parts : (p : Point) → next s ≡ Ask p
       → AreParts (slice_set places i None) (with_waiters waiters p (waiters p ++ record { number = i; strand = s } ∷ [])) (slice_set xs i (waiting s))
   wait-parts p asks =
-      let w : Waiter = record { number = i; strand = s } in
-      let all : Point → List Waiter = with_waiters waiters p (waiters p ++ w ∷ []) in
+      let w : NumberedStrand = record { number = i; strand = s } in
+      let all : Point → List NumberedStrand = with_waiters waiters p (waiters p ++ w ∷ []) in
       let r = parts.ready i s at in
       let here : slice_get (slice_set places i None) i ≡ Some None = set-here places i (Some s) None at in
       let now : slice_get (slice_set xs i (waiting s)) i ≡ Some (waiting s) = set-here xs i s (waiting s) r.0 in
-      let old = λ (x : Point) (v : Waiter) (h : IsAmong v (waiters x)). let k = parts.waiter x v h in let ne = not-waiter x v h in
+      let old = λ (x : Point) (v : NumberedStrand) (h : IsAmong v (waiters x)). let k = parts.waiter x v h in let ne = not-waiter x v h in
       let fact : (slice_get (slice_set places i None) v.number ≡ Some None) × (slice_get (slice_set xs i (waiting s)) v.number ≡ Some (waiting v.strand)) × (next v.strand ≡ Ask x) × (v.strand.waits ≡ false)
       = (set-other places i v.number None ne ∙ k.0, set-other xs i v.number (waiting s) ne ∙ k.1, k.2, k.3) in fact in
       record {
@@ -127,7 +127,7 @@ module _ (places : List (Option Strand)) (waiters : Point → List Waiter) (xs :
         waiter = λ x v. elim (cases_point p x) [
           | inl l ↦ rw l.0 (λ h. elim (among-end (waiters p) w v h) [
             | inl k ↦ old x v (subst (λ z. IsAmong v (waiters z)) l.1 k)
-            | inr k ↦ subst (λ (z : Waiter). (slice_get (slice_set places i None) z.number ≡ Some None) × (slice_get (slice_set xs i (waiting s)) z.number ≡ Some (waiting z.strand)) × (next z.strand ≡ Ask x) × (z.strand.waits ≡ false)) k
+            | inr k ↦ subst (λ (z : NumberedStrand). (slice_get (slice_set places i None) z.number ≡ Some None) × (slice_get (slice_set xs i (waiting s)) z.number ≡ Some (waiting z.strand)) × (next z.strand ≡ Ask x) × (z.strand.waits ≡ false)) k
                 (here, now, asks ∙ ap (λ z. Ask z) l.1, r.1)
           ])
           | inr l ↦ rw l.0 (λ h. old x v h)
@@ -141,17 +141,17 @@ set-low (x ∷ xs) (suc i) a h = set-low xs i a (omega arith)
 
 module _ (f : Strand → Strand) where
   -- a place after all went back: one of them stands there, or it is as before
-  pub record Went (places after : List (Option Strand)) (ws : List Waiter) (j : ℕ) : Type 0 where
-    pub waiter : Waiter
+  pub record Went (places after : List (Option Strand)) (ws : List NumberedStrand) (j : ℕ) : Type 0 where
+    pub waiter : NumberedStrand
     pub among : IsAmong waiter ws
     pub number : waiter.number ≡ j
     pub now : slice_get after j ≡ Some (Some (f waiter.strand))
 
-  pub record Stayed (places after : List (Option Strand)) (ws : List Waiter) (j : ℕ) : Type 0 where
-    pub none : (w : Waiter) → IsAmong w ws → w.number ≡ j → ⊥
+  pub record Stayed (places after : List (Option Strand)) (ws : List NumberedStrand) (j : ℕ) : Type 0 where
+    pub none : (w : NumberedStrand) → IsAmong w ws → w.number ≡ j → ⊥
     pub now : slice_get after j ≡ slice_get places j
 
-  pub put-get : (places : List (Option Strand)) (ws : List Waiter) → ((w : Waiter) → IsAmong w ws → w.number < length places) → (j : ℕ) → Went places (put_back f places ws) ws j ⊎ Stayed places (put_back f places ws) ws j
+  pub put-get : (places : List (Option Strand)) (ws : List NumberedStrand) → ((w : NumberedStrand) → IsAmong w ws → w.number < length places) → (j : ℕ) → Went places (put_back f places ws) ws j ⊎ Stayed places (put_back f places ws) ws j
   put-get places [] low j = inr (record { none = λ w h. absurd h; now = refl })
   put-get places (w ∷ ws) low j =
       let next = slice_set places w.number (Some (f w.strand)) in
@@ -163,13 +163,13 @@ module _ (f : Strand → Strand) where
               let here : slice_get next j ≡ Some (Some (f w.strand)) = subst (λ z. slice_get next z ≡ Some (Some (f w.strand))) (sym e) (set-low places w.number (Some (f w.strand)) (low w (inl refl))) in
               inl (record { waiter = w; among = inl refl; number = sym e; now = k.now ∙ here })
           | inr e ↦ inr (record {
-            none = λ v h. elim h [ inl l ↦ λ m. e (sym m ∙ ap (λ (z : Waiter). z.number) (sym l)) | inr l ↦ k.none v l ];
+            none = λ v h. elim h [ inl l ↦ λ m. e (sym m ∙ ap (λ (z : NumberedStrand). z.number) (sym l)) | inr l ↦ k.none v l ];
             now = k.now ∙ set-other places w.number j (Some (f w.strand)) e;
           })
         ]
       ]
 
-  pub put-length : (places : List (Option Strand)) (ws : List Waiter) → length (put_back f places ws) ≡ length places
+  pub put-length : (places : List (Option Strand)) (ws : List NumberedStrand) → length (put_back f places ws) ≡ length places
   put-length places [] = refl
   put-length places (w ∷ ws) = put-length (slice_set places w.number (Some (f w.strand))) ws ∙ length-set places w.number (Some (f w.strand))
 
@@ -186,9 +186,9 @@ woken-elsewhere f p x o e ne = elim (cases_point x p) [
   | inr k ↦ let t : asks p (next o) ≡ false = ap (asks p) e ∙ k.0 in ap (λ b. cond b (awake (f (waiting o))) (waiting o)) t
 ]
 
-module _ (places : List (Option Strand)) (waiters : Point → List Waiter) (xs : List Strand) (parts : AreParts places waiters xs) (f : Strand → Strand)
+module _ (places : List (Option Strand)) (waiters : Point → List NumberedStrand) (xs : List Strand) (parts : AreParts places waiters xs) (f : Strand → Strand)
     (quiet : (o : Strand) → o.waits ≡ false → (f o).waits ≡ false) (fits : (o : Strand) → o.waits ≡ false → awake (f (waiting o)) ≡ f o) (p : Point) where
-  low : (w : Waiter) → IsAmong w (waiters p) → w.number < length places
+  low : (w : NumberedStrand) → IsAmong w (waiters p) → w.number < length places
   low w h = slice_get_within places w.number None (parts.waiter p w h).0
 
   ready-after : (j : ℕ) (r : Strand) → slice_get (put_back f places (waiters p)) j ≡ Some (Some r) → (slice_get (map (woken f p) xs) j ≡ Some r) × (r.waits ≡ false)
@@ -206,7 +206,7 @@ module _ (places : List (Option Strand)) (waiters : Point → List Waiter) (xs :
         (map-get (woken f p) xs j r o.0 ∙ ap Some (woken-itself f p r o.1), o.1)
   ]
 
-  gap-after : (j : ℕ) → slice_get (put_back f places (waiters p)) j ≡ Some None → (x : Point) × ((w : Waiter) × (IsAmong w (with_waiters waiters p [] x) × (w.number ≡ j)))
+  gap-after : (j : ℕ) → slice_get (put_back f places (waiters p)) j ≡ Some None → (x : Point) × ((w : NumberedStrand) × (IsAmong w (with_waiters waiters p [] x) × (w.number ≡ j)))
   gap-after j e = elim (put-get f places (waiters p) low j) [
     | inl k ↦ let now = k.now in absurd (cc (now, e))
     | inr k ↦
@@ -225,10 +225,10 @@ module _ (places : List (Option Strand)) (waiters : Point → List Waiter) (xs :
         )
   ]
 
-  Parked : Point → Waiter → Type 0
+  Parked : Point → NumberedStrand → Type 0
   Parked x v = (slice_get (put_back f places (waiters p)) v.number ≡ Some None) × (slice_get (map (woken f p) xs) v.number ≡ Some (waiting v.strand)) × (next v.strand ≡ Ask x) × (v.strand.waits ≡ false)
 
-  waiter-after : (x : Point) (v : Waiter) → (p ≡ x → ⊥) → IsAmong v (waiters x) → Parked x v
+  waiter-after : (x : Point) (v : NumberedStrand) → (p ≡ x → ⊥) → IsAmong v (waiters x) → Parked x v
   unfolding Parked
   waiter-after x v ne h =
       let k = parts.waiter x v h in
@@ -262,34 +262,34 @@ pub heard-fits : (o : Strand) → o.waits ≡ false → awake (heard (waiting o)
 heard-fits o w = ap (λ t. record (heard o) { waits = t }) (sym w)
 
 -- the strands that parts stand for
-strands-get : (ws : List Waiter) (blank : Strand) (n : ℕ) (os : List (Option Strand)) (i : ℕ) (o : Option Strand) → slice_get os i ≡ Some o → slice_get (strands_from ws blank n os) i ≡ Some (placed_at ws blank (n + i) o)
+strands-get : (ws : List NumberedStrand) (blank : Strand) (n : ℕ) (os : List (Option Strand)) (i : ℕ) (o : Option Strand) → slice_get os i ≡ Some o → slice_get (strands_from ws blank n os) i ≡ Some (placed_at ws blank (n + i) o)
 strands-get ws blank n [] i o h = absurd (cc h)
 strands-get ws blank n (x ∷ os) zero o h = let e : x ≡ o = cc h in let k : n + 0 ≡ n = omega arith in rw k (ap (λ z. Some (placed_at ws blank n z)) e)
 strands-get ws blank n (x ∷ os) (suc i) o h = let k : suc n + i ≡ n + suc i = omega arith in rw (← k) (strands-get ws blank (suc n) os i o h)
 
 -- the first waiter with a number
-record IsFound (ws : List Waiter) (n : ℕ) (blank : Strand) : Type 0 where
-  waiter : Waiter
+record IsFound (ws : List NumberedStrand) (n : ℕ) (blank : Strand) : Type 0 where
+  waiter : NumberedStrand
   among : IsAmong waiter ws
   number : waiter.number ≡ n
   is : waiter_at ws n blank ≡ waiter.strand
 
-found-waiter : (ws : List Waiter) (n : ℕ) (blank : Strand) (w : Waiter) → IsAmong w ws → w.number ≡ n → IsFound ws n blank
+found-waiter : (ws : List NumberedStrand) (n : ℕ) (blank : Strand) (w : NumberedStrand) → IsAmong w ws → w.number ≡ n → IsFound ws n blank
 found-waiter [] n blank w h = absurd h
 found-waiter (x ∷ ws) n blank w h = elim (eqb_tells x.number n) [
   | inl k ↦ λ e. record { waiter = x; among = inl refl; number = k.1; is = rw k.0 refl }
   | inr k ↦ λ e. elim h [
-    | inl l ↦ absurd (k.1 (ap (λ (z : Waiter). z.number) l ∙ e))
+    | inl l ↦ absurd (k.1 (ap (λ (z : NumberedStrand). z.number) l ∙ e))
     | inr l ↦ let r = found-waiter ws n blank w l e in record { waiter = r.waiter; among = inr r.among; number = r.number; is = rw k.0 r.is }
   ]
 ]
 
-strands-past : (ws : List Waiter) (blank : Strand) (n : ℕ) (os : List (Option Strand)) → length (strands_from ws blank n os) ≡ length os
+strands-past : (ws : List NumberedStrand) (blank : Strand) (n : ℕ) (os : List (Option Strand)) → length (strands_from ws blank n os) ≡ length os
 strands-past ws blank n [] = refl
 strands-past ws blank n (x ∷ os) = let k = strands-past ws blank (suc n) os in omega arith
 
-module _ (places : List (Option Strand)) (waiters : Point → List Waiter) (xs : List Strand) (parts : AreParts places waiters xs)
-    (ws : List Waiter) (blank : Strand) (all : (p : Point) (w : Waiter) → IsAmong w (waiters p) → IsAmong w ws) (only : (w : Waiter) → IsAmong w ws → (p : Point) × IsAmong w (waiters p)) where
+module _ (places : List (Option Strand)) (waiters : Point → List NumberedStrand) (xs : List Strand) (parts : AreParts places waiters xs)
+    (ws : List NumberedStrand) (blank : Strand) (all : (p : Point) (w : NumberedStrand) → IsAmong w (waiters p) → IsAmong w ws) (only : (w : NumberedStrand) → IsAmong w ws → (p : Point) × IsAmong w (waiters p)) where
   strand-is : (i : ℕ) (o : Option (Option Strand)) → slice_get places i ≡ o → slice_get (strands_from ws blank 0 places) i ≡ slice_get xs i
   strand-is i None e = past-both places (strands_from ws blank 0 places) i (sym (strands-past ws blank 0 places)) e ∙ sym (past-both places xs i parts.length e)
   strand-is i (Some (Some s)) e = strands-get ws blank 0 places i (Some s) e ∙ sym (parts.ready i s e).0

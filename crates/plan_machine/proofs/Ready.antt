@@ -7,11 +7,11 @@ use Rattle.strand_meaning.specs.declared.Next.{Next}
 use Rattle.strand_meaning.specs.declared.Next.TheVariants.{Ask, Fill, Drop, Done}
 use Rattle.strand_meaning.specs.Strands.{Frame, Strand, ask_or, next_in, next, IsHeld}
 use Rattle.valid_intervals.specs.declared.SignalCell.{SignalCell}
-use Rattle.journal_meaning.specs.Batch.{Batch}
-use Rattle.strand_meaning.specs.Batches.{IsLawful}
+use Rattle.batch_meaning.specs.Batches.{Batch}
+use Rattle.batch_meaning.specs.Lawful.{IsLawful}
 use Rattle.plan_machine.specs.Plans.{Plan, shard_of, claim_of, is_done, is_ready, ready_from}
 use Rattle.plan_machine.specs.declared.Turned.TheVariants.{Told, NotReady}
-use Rattle.plan_machine.specs.Shards.{stored_at}
+use Rattle.valid_intervals.specs.Cells.{stored_at}
 use Rattle.plan_machine.specs.Steps.{Step, Tell, Claim, Wait, Spend, Finish, GiveBack, Rest, claim_step, ask_step, next_step, step_at, turned_by}
 use Rattle.plan_machine.specs.Turns.{stepped, turn_at}
 use Rattle.plan_machine.specs.Sound.{IsSound, HasEnded, AreEnded, MovesIfReady}

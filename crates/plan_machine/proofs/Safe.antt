@@ -6,10 +6,11 @@ use Rattle.std.proofs.lemmas.List.Kept.{AllPairs-cons}
 use Rattle.valid_intervals.specs.declared.Point.{Point}
 use Rattle.valid_intervals.specs.declared.SignalCell.{SignalCell}
 use Rattle.circuit_meaning.specs.Circuit.{Circuit, IsCircuit}
-use Rattle.journal_meaning.specs.Batch.{Batch, IsNeededBy, OfQuery, IsRight}
+use Rattle.batch_meaning.specs.Batches.{Batch, IsNeededBy, OfQuery}
+use Rattle.journal_meaning.specs.Allowed.{IsRight}
 use Rattle.journal_meaning.proofs.Fills.{one-fill-per_eviction}
 use Rattle.journal_meaning.proofs.More.{right-within}
-use Rattle.strand_meaning.specs.Batches.{IsLawful}
+use Rattle.batch_meaning.specs.Lawful.{IsLawful}
 use Rattle.strand_meaning.specs.Strands.{Frame, IsHeld, IsChain}
 use Rattle.strand_meaning.proofs.Stacks.{top-once}
 use Rattle.strand_meaning.proofs.Wanted.{asks-needed}

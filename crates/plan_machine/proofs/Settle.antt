@@ -6,30 +6,33 @@ use Rattle.valid_intervals.specs.declared.Cell.{Cell}
 use Rattle.valid_intervals.specs.declared.Point.{Point}
 use Rattle.valid_intervals.specs.declared.SignalCell.{SignalCell}
 use Rattle.circuit_meaning.specs.Circuit.{Circuit, Driver, Input}
-use Rattle.circuit_meaning.specs.Need.{HasSources, IsEvaluable, IsRoot, First, Next, children}
+use Rattle.circuit_meaning.specs.Need.{HasChildren, IsEvaluable, IsRoot, First, Next, children}
 use Rattle.circuit_meaning.specs.Cells.{span}
 use Rattle.circuit_meaning.proofs.Cover.{cell-covers}
 use Rattle.circuit_meaning.proofs.Closed.{need-closed, held-need-closed}
 use Rattle.journal_meaning.specs.declared.Entry.{Entry}
 use Rattle.journal_meaning.specs.declared.Entry.TheVariants.{Filled, Dropped, Spent}
-use Rattle.journal_meaning.specs.declared.Query.{Query}
+use Rattle.batch_meaning.specs.declared.Query.{Query}
 use Rattle.journal_meaning.specs.States.{fresh, holder}
 use Rattle.journal_meaning.specs.Replay.{replay}
-use Rattle.journal_meaning.specs.Batch.{Batch, Site, IsNeededBy, NeedOf, window_of}
+use Rattle.batch_meaning.specs.Batches.{Batch, Site, IsNeededBy, NeedOf, window_of}
 use Rattle.journal_meaning.specs.Answers.{IsCovered, last_of, filled, IsClosed, IsSpent}
-use Rattle.journal_meaning.specs.Grown.{IsFor, IsForOther, refusals, Grows, IsRightEntry, AreTimesCovered}
+use Rattle.journal_meaning.specs.Grown.{IsFor, refusals, GrowsBy}
+use Rattle.journal_meaning.specs.inner.Grown.{IsForOther, IsRightEntry, AreTimesCovered}
 use Rattle.journal_meaning.proofs.Named.{claims_ours, none_ours}
 use Rattle.journal_meaning.proofs.Lists.{Each, each-append, each-imply}
 use Rattle.journal_meaning.proofs.Grown.{added-none, added-more, for-other, grows-more, covered-kept, filled-more, refusals-more, others-refusals, children-kept, spent-kept}
 use Rattle.journal_meaning.proofs.Windows.{right-entries, times-more, closed-by}
-use Rattle.strand_meaning.specs.Batches.{IsLawful}
-use Rattle.strand_meaning.specs.Strands.{Start, roots_from, IsStart}
+use Rattle.batch_meaning.specs.Lawful.{IsLawful}
+use Rattle.batch_meaning.specs.Pieces.{Start, IsStart}
+use Rattle.strand_meaning.specs.Strands.{roots_from}
 use Rattle.plan_machine.specs.Shards.{Shard, IsShard}
 use Rattle.plan_machine.specs.Plans.{Plan, no_shard, new_plan}
 use Rattle.plan_machine.specs.Sound.{IsFresh}
 use Rattle.plan_machine.specs.Laws.{BeginsAlone}
-use Rattle.plan_machine.specs.Alone.{roots_of, IsServed, IsRefused, RanAlone}
-use Rattle.plan_machine.specs.Settle.{Standing, StandsAs, IsStanding, Advances, Reaches, IsCoveredTo, IsAskedFor, SettlesQuery, IsSettling, AreAllSettled, journals_of, charge_of, entries_in, child_start, root_start, AskedAlone, IsVisited, IsOpen, AreVisited, IsSettled}
+use Rattle.plan_machine.specs.Alone.{roots_of, IsServedAlone, IsRefusedAlone, RanAlone}
+use Rattle.plan_machine.specs.Settle.{Standing, AreAllSettled, journals_of, charge_of, entries_in, child_start, root_start, IsSettled}
+use Rattle.plan_machine.specs.inner.Settle.{StandsAs, IsStanding, Advances, Reaches, IsCoveredTo, IsAskedFor, SettlesQuery, IsSettling, AskedAlone, IsVisited, IsOpen, AreVisited}
 use Rattle.plan_machine.proofs.Steps.{wanted-time}
 use Rattle.plan_machine.proofs.New.{new-sound}
 use Rattle.plan_machine.proofs.Underway.{contains-cases, contains-none, each-contains}
@@ -55,7 +58,7 @@ pub own-query : (b : Batch) → IsLawful b → (q r : Query) → Contains b.quer
 own-query b l = single b.queries l.numbers
 
 -- an evaluable point is of a signal of the circuit
-evaluable-signal : (t : ℕ) (ds : List Driver) (s : ℕ) → HasSources t (get_or ds s (Input [])) → s < length ds
+evaluable-signal : (t : ℕ) (ds : List Driver) (s : ℕ) → HasChildren t (get_or ds s (Input [])) → s < length ds
 evaluable-signal t [] s h = absurd h
 evaluable-signal t (d ∷ ds) zero h = omega arith
 evaluable-signal t (d ∷ ds) (suc s) h = let k = evaluable-signal t ds s h in omega arith
@@ -146,7 +149,7 @@ module _ (b : Batch) (lawful : IsLawful b) where
     }
 
 -- what is settled stays so while other queries are
-module _ (c : Circuit) (q : Query) (start now more new : List Entry) (g : Grows now more new) (others : Each (IsForOther q.number) more) where
+module _ (c : Circuit) (q : Query) (start now more new : List Entry) (g : GrowsBy now more new) (others : Each (IsForOther q.number) more) where
   none-more : refusals new q.number ≡ refusals now q.number
   none-more = let k = refusals-more now more new g q.number in let l = others-refusals q.number more others in omega arith
 
@@ -182,7 +185,7 @@ module _ (b : Batch) (opening : ℕ → List SignalCell) (q : Query) (start : Li
   abbrev c : Circuit
   c = b.circuit
 
-  abbrev grown : Grows (entries_in old) k.added (entries_in new)
+  abbrev grown : GrowsBy (entries_in old) k.added (entries_in new)
   grown = k.journals.together
 
   pub asked-covered : (p : Point) → IsCovered c (entries_in old) p → IsCovered c (entries_in new) p
@@ -198,7 +201,7 @@ module _ (b : Batch) (opening : ℕ → List SignalCell) (q : Query) (start : Li
   ]
 
   -- it was not refused: the query goes on, and the one root is covered
-  pub asked-open : IsServed c a k.added (entries_in new) → IsOpen c q start (entries_in new)
+  pub asked-open : IsServedAlone c a k.added (entries_in new) → IsOpen c q start (entries_in new)
   asked-open s = record {
     added = o.added ++ k.added;
     grows = grows-more start o.added (entries_in old) k.added (entries_in new) o.grows grown;
@@ -210,11 +213,11 @@ module _ (b : Batch) (opening : ℕ → List SignalCell) (q : Query) (start : Li
         omega arith;
   }
 
-  pub asked-root : IsServed c a k.added (entries_in new) → a.stop ≡ a.start + 1 → IsCovered c (entries_in new) (record { signal = a.query.signal; time = a.start })
+  pub asked-root : IsServedAlone c a k.added (entries_in new) → a.stop ≡ a.start + 1 → IsCovered c (entries_in new) (record { signal = a.query.signal; time = a.start })
   asked-root s e = (recursion_from_All (IsCovered c (entries_in new)) (record { signal = a.query.signal; time = a.start } ∷ []) (subst (All (IsCovered c (entries_in new))) (one-root c a e) s.roots)).0
 
   -- it was refused: its budget was spent, and that has its cause
-  module _ (p : Point) (r : IsRefused a p k.added (entries_in new)) where
+  module _ (p : Point) (r : IsRefusedAlone a p k.added (entries_in new)) where
     pub refused-once : refusals (entries_in new) q.number ≡ refusals start q.number + 1
     refused-once =
         let m = refusals-more (entries_in old) k.added (entries_in new) grown q.number in
@@ -365,11 +368,11 @@ module _ (b : Batch) (opening : ℕ → List SignalCell) (start : List Entry) (q
   others : (r : ℕ) → q.number ≢ r → Each (IsForOther r) added
   others r ne = each-imply (IsFor q.number) (IsForOther r) (for-other r q.number ne) added own
 
-  pub opens-kept : (now new : List Entry) → Grows now added new → (left : List Query) → Each (λ r. q.number ≢ r.number) left → Each (λ r. IsOpen b.circuit r start now) left → Each (λ r. IsOpen b.circuit r start new) left
+  pub opens-kept : (now new : List Entry) → GrowsBy now added new → (left : List Query) → Each (λ r. q.number ≢ r.number) left → Each (λ r. IsOpen b.circuit r start now) left → Each (λ r. IsOpen b.circuit r start new) left
   opens-kept now new g [] ne h = tt
   opens-kept now new g (r ∷ left) ne h = (open-kept b.circuit r start now added new g (others r.number ne.0) h.0, opens-kept now new g left ne.1 h.1)
 
-  pub all-kept : (now new : List Entry) → Grows now added new → (done : List Query) (refused : List Bool) → Each (λ r. q.number ≢ r.number) done → AreAllSettled b.circuit start now done refused → AreAllSettled b.circuit start new done refused
+  pub all-kept : (now new : List Entry) → GrowsBy now added new → (done : List Query) (refused : List Bool) → Each (λ r. q.number ≢ r.number) done → AreAllSettled b.circuit start now done refused → AreAllSettled b.circuit start new done refused
   all-kept now new g [] [] ne h = tt
   all-kept now new g [] (f ∷ fs) ne h = absurd h
   all-kept now new g (r ∷ done) [] ne h = absurd h

@@ -11,23 +11,26 @@ use Rattle.circuit_meaning.specs.Cells.{span}
 use Rattle.circuit_meaning.specs.Need.{IsEvaluable, IsRoot, First, children}
 use Rattle.journal_meaning.specs.declared.Entry.{Entry}
 use Rattle.journal_meaning.specs.declared.Entry.TheVariants.{Told, Claimed, Filled, Evicted, Dropped, Spent}
-use Rattle.journal_meaning.specs.declared.Query.{Query}
+use Rattle.batch_meaning.specs.declared.Query.{Query}
 use Rattle.journal_meaning.specs.States as states
-use Rattle.journal_meaning.specs.Batch.{Batch, IsNeededBy, window_of}
+use Rattle.batch_meaning.specs.Batches.{Batch, IsNeededBy, window_of}
 use Rattle.journal_meaning.specs.Answers.{Says, IsCovered}
-use Rattle.journal_meaning.specs.Grown.{IsFor, IsForOther, Grows, AreAdded}
+use Rattle.journal_meaning.specs.Grown.{IsFor, GrowsBy, AreAdded}
+use Rattle.journal_meaning.specs.inner.Grown.{IsForOther}
 use Rattle.journal_meaning.proofs.Named.{Needed, filled_needed}
 use Rattle.journal_meaning.proofs.Lists.{Each, each-append, each-imply}
 use Rattle.journal_meaning.proofs.Grown.{added-none, added-more, grows-none, for-other}
-use Rattle.strand_meaning.specs.Batches.{IsLawful}
-use Rattle.strand_meaning.specs.Strands.{Start, is_evaluable, IsStart}
+use Rattle.batch_meaning.specs.Lawful.{IsLawful}
+use Rattle.batch_meaning.specs.Pieces.{Start, IsStart}
+use Rattle.strand_meaning.specs.Strands.{is_evaluable}
 use Rattle.strand_meaning.proofs.Stacks.{evaluable-true}
 use Rattle.plan_machine.specs.Shards.{Shard, IsShard}
 use Rattle.plan_machine.specs.Plans.{no_shard, new_plan}
 use Rattle.plan_machine.specs.Bounds.{all_left}
 use Rattle.plan_machine.specs.Sound.{IsFresh}
 use Rattle.plan_machine.specs.Alone.{run_alone}
-use Rattle.plan_machine.specs.Settle.{IsAskedFor, Standing, IsStanding, Advances, Reaches, IsCoveredTo, SettlesQuery, journals_of, entries_in, charge_of, child_start, root_start, AskedAlone, IsVisited, IsOpen, AreAllSettled, AreSettled}
+use Rattle.plan_machine.specs.inner.Settle.{IsAskedFor, IsStanding, Advances, Reaches, IsCoveredTo, SettlesQuery, AskedAlone, IsVisited, IsOpen}
+use Rattle.plan_machine.specs.Settle.{Standing, journals_of, entries_in, charge_of, child_start, root_start, AreAllSettled, AreSettled}
 use Rattle.plan_machine.specs.Settling.{says, is_covered_in, is_spent, run_of, ask, settle_point, settle_child, settle_root, settle_children, settle_fills, settle_window, fills_of, settle_query, Settled, settle_all, settle}
 use Rattle.plan_machine.proofs.Underway.{evaluable-is, contains-cases, contains-none, each-contains}
 use Rattle.plan_machine.proofs.AloneRuns.{alone-start, run-ends}
@@ -243,7 +246,7 @@ module _ (b : Batch) (lawful : IsLawful b) (site : b.site ≡ None) (opening : �
         );
       }
     where
-      open-rest : (rs : List Query) → Each (λ r. q.number ≢ r.number) rs → Each (λ r. IsOpen b.circuit r start (entries_in shards)) rs → (added : List Entry) → {new : List Entry} → Grows (entries_in shards) added new
+      open-rest : (rs : List Query) → Each (λ r. q.number ≢ r.number) rs → Each (λ r. IsOpen b.circuit r start (entries_in shards)) rs → (added : List Entry) → {new : List Entry} → GrowsBy (entries_in shards) added new
           → ((r : ℕ) → q.number ≢ r → Each (IsForOther r) added) → Each (λ r. IsOpen b.circuit r start new) rs
       open-rest [] ne opens added {new} g others = tt
       open-rest (r ∷ rs) ne opens added {new} g others =

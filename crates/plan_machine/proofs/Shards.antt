@@ -6,19 +6,21 @@ use Rattle.std.proofs.lemmas.Bool.Decides.{eqb_tells}
 use Rattle.valid_intervals.specs.declared.Cell.{Cell}
 use Rattle.valid_intervals.specs.declared.Point.{Point}
 use Rattle.valid_intervals.specs.declared.SignalCell.{SignalCell}
-use Rattle.valid_intervals.specs.Cells.{covers, cell_for, same_stored, all_but_last}
+use Rattle.valid_intervals.specs.Cells.{covers, cell_for, same_stored, all_but_last, is_stored, stored_at, last_cell}
 use Rattle.circuit_meaning.specs.Circuit.{IsCircuit}
 use Rattle.journal_meaning.specs.declared.Entry.{Entry}
 use Rattle.journal_meaning.specs.declared.Entry.TheVariants.{Told, Claimed, Filled, Evicted, Dropped, Spent}
-use Rattle.journal_meaning.specs.States.{fresh, is_stored, holder, without, IsLast}
+use Rattle.journal_meaning.specs.States.{fresh, holder, without_point, IsLeastRecent}
 use Rattle.journal_meaning.specs.Counts.{booked}
 use Rattle.journal_meaning.specs.Table.{Needs, after}
-use Rattle.journal_meaning.specs.Batch.{Batch, IsAt, IsNeededBy, OfQuery, IsAllowed, IsRight, cell_at}
+use Rattle.batch_meaning.specs.Batches.{Batch, IsNeededBy, OfQuery}
+use Rattle.journal_meaning.specs.Allowed.{IsAt, IsAllowed, IsRight}
+use Rattle.circuit_meaning.specs.Cells.{cell_at}
 use Rattle.journal_meaning.specs.Replay.{replay, IsLegal}
 use Rattle.journal_meaning.proofs.Lists.{Stands, Here, There, each-stands, stands-any, front-snoc, snoc_cases}
 use Rattle.journal_meaning.proofs.Same.{same_stored-itself}
 use Rattle.journal_meaning.proofs.More.{replay-more, legal-more, booked-append, still-right, still-fits, right-answers}
-use Rattle.plan_machine.specs.Shards.{Shard, stored_at, last_cell, recorded, evicted, with_room, filled_shard, IsShard}
+use Rattle.plan_machine.specs.Shards.{Shard, recorded, evicted, with_room, filled_shard, IsShard}
 
 -- what a search finds
 pub found : {X : Type 0} (test : X → Bool) (xs : List X) (x : X) → find test xs ≡ Some x → (test x ≡ true) × Stands x xs
@@ -51,7 +53,7 @@ last-snoc xs x =
     let e : length (xs ++ x ∷ []) - 1 ≡ length xs = let l = length-append xs (x ∷ []) in omega (arith, l) in
     ap (slice_get (xs ++ x ∷ [])) e ∙ snoc-last xs x
 
-last-is : (cells : List SignalCell) (x : SignalCell) → last_cell cells ≡ Some x → IsLast cells x.signal x.cell.span.start
+last-is : (cells : List SignalCell) (x : SignalCell) → last_cell cells ≡ Some x → IsLeastRecent cells x.signal x.cell.span.start
 last-is cells x h = elim (snoc_cases cells) [
   | inl e ↦ let k : last_cell [] ≡ Some x = subst (λ l. last_cell l ≡ Some x) e h in absurd (cc k)
   | inr k ↦
@@ -78,7 +80,7 @@ booked-evicted None h = refl
 booked-evicted (Some x) h = let k = booked-append h.journal (Evicted x.signal x.cell.span.start ∷ []) in omega (arith, k)
 
 booked-room : (capacity : ℕ) (x : SignalCell) (h : Shard) → booked (with_room capacity x h).journal ≡ booked h.journal
-booked-room capacity x h = elim (not (is_stored h.state x) && nat_eq (length h.state.cells) capacity) as (λ t. booked (cond t (evicted (last_cell h.state.cells) h) h).journal ≡ booked h.journal) [
+booked-room capacity x h = elim (not (is_stored x h.state.cells) && nat_eq (length h.state.cells) capacity) as (λ t. booked (cond t (evicted (last_cell h.state.cells) h) h).journal ≡ booked h.journal) [
   | true ↦ booked-evicted (last_cell h.state.cells) h
   | false ↦ refl
 ]
@@ -119,7 +121,7 @@ module _ (b : Batch) (n : ℕ) (opening : List SignalCell) where
         let own : cell_for p x.cell ≡ x = ap (λ (z : SignalCell). cell_for p z.cell) a ∙ sym a in
         whole (recorded (Told q p x.cell) h)
         (recorded-keeps h (Told q p x.cell) (keeps h is)
-        (is.made, subst (λ z. is_stored h.state z ≡ true) (sym own) (stands-any (same_stored x) x h.state.cells (same_stored-itself x) f.1), subst (λ z. covers p z ≡ true) (sym own) f.0)
+        (is.made, subst (λ z. is_stored z h.state.cells ≡ true) (sym own) (stands-any (same_stored x) x h.state.cells (same_stored-itself x) f.1), subst (λ z. covers p z ≡ true) (sym own) f.0)
         (here, wanted, ap (λ (z : SignalCell). z.cell) a))
         is.made
 
@@ -138,11 +140,11 @@ module _ (b : Batch) (n : ℕ) (opening : List SignalCell) where
   record HasPlace (x : SignalCell) (h k : Shard) : Type 0 where
     keeps : Keeps k
     claims : k.state.claims ≡ h.state.claims
-    fresh : k.state.made ≡ true → is_stored k.state x ≡ false
-    room : is_stored k.state x ≡ false → length k.state.cells < b.capacity
+    fresh : k.state.made ≡ true → is_stored x k.state.cells ≡ false
+    room : is_stored x k.state.cells ≡ false → length k.state.cells < b.capacity
 
   module _ (some : 1 ≤ b.capacity) (x : SignalCell) (h : Shard) (is : IsShard b n opening h) where
-    evicted-place : (o : Option SignalCell) → last_cell h.state.cells ≡ o → length h.state.cells ≡ b.capacity → is_stored h.state x ≡ false → HasPlace x h (evicted o h)
+    evicted-place : (o : Option SignalCell) → last_cell h.state.cells ≡ o → length h.state.cells ≡ b.capacity → is_stored x h.state.cells ≡ false → HasPlace x h (evicted o h)
     evicted-place None e full new = absurd (last-some h.state.cells (omega (arith, some, full)) e)
     evicted-place (Some y) e full new = record {
       keeps = recorded-keeps h (Evicted y.signal y.cell.span.start) (keeps h is) (is.made, full, last-is h.state.cells y e) tt;
@@ -152,7 +154,7 @@ module _ (b : Batch) (n : ℕ) (opening : List SignalCell) where
     }
 
     place-made : HasPlace x h (with_room b.capacity x h)
-    place-made = elim (cases_Bool (is_stored h.state x)) [
+    place-made = elim (cases_Bool (is_stored x h.state.cells)) [
       | inl t ↦ rw t (record { keeps = keeps h is; claims = refl; fresh = λ e. absurd (true≢false (sym e ∙ is.made)); room = λ e. absurd (true≢false (sym t ∙ e)) })
       | inr f ↦ elim (eqb_tells (length h.state.cells) b.capacity) [
         | inl e ↦ rw (f, e.0) (evicted-place (last_cell h.state.cells) refl e.1 f)
@@ -174,5 +176,5 @@ module _ (b : Batch) (n : ℕ) (opening : List SignalCell) where
         let e = Filled q p (cell_at b.circuit p) in
         whole (recorded e k) (recorded-keeps k e r.keeps (ap (λ z. holder z p) r.claims ∙ claim, r.fresh, r.room) (here, known, refl)) refl
 
-    pub filled-claims : (filled_shard b.capacity q p (cell_at b.circuit p) h).state.claims ≡ without h.state.claims p
-    filled-claims = let r = place-made some x h is in ap (λ z. without z p) r.claims
+    pub filled-claims : (filled_shard b.capacity q p (cell_at b.circuit p) h).state.claims ≡ without_point h.state.claims p
+    filled-claims = let r = place-made some x h is in ap (λ z. without_point z p) r.claims

@@ -6,21 +6,23 @@ use Rattle.std.proofs.lemmas.List.Elements.{All-contains}
 use Rattle.std.proofs.lemmas.Bool.{cases_eq, cases_Bool, and_cases}
 use Rattle.valid_intervals.specs.declared.Point.{Point}
 use Rattle.valid_intervals.specs.declared.SignalCell.{SignalCell}
-use Rattle.valid_intervals.specs.Cells.{same_point}
-use Rattle.circuit_meaning.specs.Held.{held}
+use Rattle.valid_intervals.specs.Cells.{same_point, stored_at}
+use Rattle.circuit_meaning.specs.Forced.{forced}
 use Rattle.circuit_meaning.proofs.Alike.{held-fits}
 use Rattle.circuit_meaning.proofs.Roots.{needed-before}
-use Rattle.journal_meaning.specs.declared.Query.{Query}
+use Rattle.batch_meaning.specs.declared.Query.{Query}
 use Rattle.journal_meaning.specs.declared.Entry.TheVariants.{Told, Claimed, Dropped}
-use Rattle.journal_meaning.specs.States.{holder, without}
-use Rattle.journal_meaning.specs.Batch.{Batch, Site, IsAt, IsNeededBy, NeedOf, OfQuery, window_of, cell_at}
+use Rattle.journal_meaning.specs.States.{holder, without_point}
+use Rattle.batch_meaning.specs.Batches.{Batch, Site, IsNeededBy, NeedOf, OfQuery, window_of}
+use Rattle.journal_meaning.specs.Allowed.{IsAt}
+use Rattle.circuit_meaning.specs.Cells.{cell_at}
 use Rattle.journal_meaning.proofs.Claims.{cases_point, claim-here, claim-other, holder-without, without-other}
-use Rattle.strand_meaning.specs.Batches.{IsLawful}
+use Rattle.batch_meaning.specs.Lawful.{IsLawful}
 use Rattle.strand_meaning.specs.declared.Next.TheVariants.{Ask, Fill, Drop}
 use Rattle.strand_meaning.specs.Strands.{Strand, next, rest, heard, claimed, waiting, awake, given_up, dropped, finished, IsHeld, IsStrand}
 use Rattle.strand_meaning.proofs.Stacks.{IsTop, held-heard, heard-held, held-rest, rest-held, top-held, top-once, heard-keeps, claimed-keeps, flags-keep, dropped-keeps, finished-keeps, fill-top, drop-top}
 use Rattle.strand_meaning.proofs.Wanted.{asks-needed}
-use Rattle.plan_machine.specs.Shards.{Shard, stored_at, recorded, filled_shard, IsShard}
+use Rattle.plan_machine.specs.Shards.{Shard, recorded, filled_shard, IsShard}
 use Rattle.plan_machine.specs.Plans.{Plan, no_shard, home, shard_of, claim_of, asks, woken, itself, with_strand}
 use Rattle.plan_machine.specs.Steps as steps
 use Rattle.plan_machine.specs.Turns.{stepped}
@@ -32,7 +34,7 @@ use Rattle.plan_machine.proofs.Shards.{told-keeps, claimed-shard, dropped-shard,
 need-time : (b : Batch) → IsLawful b → (q : Query) → q.to ≤ b.circuit.horizon + 1 → (p : Point) (site : Option Site) → NeedOf b.circuit site q p → p.time ≤ b.circuit.horizon
 need-time b l q within p None n = let k = needed-before b.circuit l.circuit (window_of q) p.signal p.time n in omega (arith, k, within)
 need-time b l q within p (Some site) n =
-    let k = needed-before (held b.circuit site.signal site.value) (held-fits b.circuit site.signal site.value l.circuit) (window_of q) p.signal p.time n.0 in
+    let k = needed-before (forced b.circuit site.signal site.value) (held-fits b.circuit site.signal site.value l.circuit) (window_of q) p.signal p.time n.0 in
     omega (arith, k, within)
 
 pub wanted-time : (b : Batch) → IsLawful b → (number : ℕ) (p : Point) → OfQuery b number (λ y. IsNeededBy b y p) → p.time ≤ b.circuit.horizon
@@ -293,7 +295,7 @@ module _ (b : Batch) (lawful : IsLawful b) (opening : ℕ → List SignalCell) (
       let w = held-wanted p (top-held s.stack p top) in
       let here = here-of p w in
       let claim = sound.linked.held i s p at (top-held s.stack p top) in
-      let claims : h.state.claims ≡ without old p = filled-claims b (home plan p) (opening (home plan p)) lawful.some_cell (shard_of plan p) (home-shard p) s.query.number p here claim in
+      let claims : h.state.claims ≡ without_point old p = filled-claims b (home plan p) (opening (home plan p)) lawful.some_cell (shard_of plan p) (home-shard p) s.query.number p here claim in
       step-sound ys t (woken heard p) (all-change (woken heard p) plan.strands i s t at) (finished-keeps b s is p top)
       (λ o k. woken-cases heard p o (IsStrand b) (flags-keep b (heard o) (heard-keeps b o k) o.spent false) k) p h
       (filled-keeps b (home plan p) (opening (home plan p)) lawful.some_cell (shard_of plan p) (home-shard p) s.query.number p here claim (known p w))

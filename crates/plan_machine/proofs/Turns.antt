@@ -6,9 +6,9 @@ use Rattle.strand_meaning.specs.declared.Next.{Next}
 use Rattle.strand_meaning.specs.declared.Next.TheVariants.{Ask, Fill, Drop, Done}
 use Rattle.strand_meaning.specs.Strands.{Strand, next}
 use Rattle.valid_intervals.specs.declared.SignalCell.{SignalCell}
-use Rattle.journal_meaning.specs.Batch.{Batch}
-use Rattle.strand_meaning.specs.Batches.{IsLawful}
-use Rattle.plan_machine.specs.Shards.{stored_at}
+use Rattle.batch_meaning.specs.Batches.{Batch}
+use Rattle.batch_meaning.specs.Lawful.{IsLawful}
+use Rattle.valid_intervals.specs.Cells.{stored_at}
 use Rattle.plan_machine.specs.Plans.{Plan, shard_of, claim_of}
 use Rattle.plan_machine.specs.Steps.{Rest, claim_step, ask_step, next_step}
 use Rattle.plan_machine.specs.Turns.{stepped, turn_at, turn, run}

@@ -4,14 +4,15 @@ use Rattle.std.proofs.lemmas.List.Elements.{All-weaker, All-contains, All-contai
 use Rattle.valid_intervals.specs.declared.Cell.{Cell}
 use Rattle.valid_intervals.specs.declared.Point.{Point}
 use Rattle.circuit_meaning.specs.Circuit.{Circuit, Driver, Input, Gate, Flop, driver}
-use Rattle.circuit_meaning.specs.Need.{HasSources, children}
+use Rattle.circuit_meaning.specs.Need.{HasChildren, children}
 use Rattle.journal_meaning.specs.declared.Entry.{Entry}
 use Rattle.journal_meaning.specs.declared.Entry.TheVariants.{Told, Claimed, Filled, Evicted, Dropped, Spent}
 use Rattle.journal_meaning.specs.Answers.{IsCovered, is_fill_of, filled}
 use Rattle.journal_meaning.specs.Grown.{IsSaid, IsFor, is_spent_of, refusals}
 use Rattle.journal_meaning.proofs.Lists.{Each, each-append, each-imply}
 use Rattle.journal_meaning.proofs.Grown.{grows-append, said-kept, count-append, count-none}
-use Rattle.strand_meaning.specs.Strands.{Frame, Strand, Start, started, has_sources, is_evaluable, sources_of, rest, roots_heard, stack_heard, heard, claimed, left_in, IsFirst}
+use Rattle.strand_meaning.specs.Strands.{Frame, Strand, started, has_children, is_evaluable, asked_children, rest, roots_heard, stack_heard, heard, claimed, left_in, IsFirst}
+use Rattle.batch_meaning.specs.Pieces.{Start}
 use Rattle.strand_meaning.proofs.Stacks.{IsTop, HasHeard, rest_all, length-rest, length-heard}
 use Rattle.plan_machine.specs.Alone.{IsDue, IsFrameDue, AreFed, IsUnspent, IsUnderWay, roots_of}
 
@@ -50,19 +51,19 @@ module _ (c : Circuit) (added : List Entry) where
   frames-heard : (roots : List Point) (st : List Frame) (p : Point) → IsFirst (left_in roots st) p → IsSaid added p → Each (IsFrameDue c added) st → Each (IsFrameDue c added) (stack_heard st)
   frames-heard roots [] p first said h = tt
   frames-heard roots (f ∷ fs) p first said h =
-      (All-weaker (IsDue added f.left) (IsDue added (rest f.left)) (λ x d. due-heard added f.left p x first said d) (sources_of c f.point) h.0, h.1)
+      (All-weaker (IsDue added f.left) (IsDue added (rest f.left)) (λ x d. due-heard added f.left p x first said d) (asked_children c f.point) h.0, h.1)
 
   root-heard : (roots : List Point) (st : List Frame) (p x : Point) → IsFirst (left_in roots st) p → IsSaid added p → IsDue added roots x → IsDue added (roots_heard roots st) x
   root-heard roots [] p x first said d = due-heard added roots p x first said d
   root-heard roots (f ∷ fs) p x first said d = d
 
-  top-fed : (st : List Frame) (p : Point) → IsTop st p → HasHeard st → Each (IsFrameDue c added) st → All (IsSaid added) (sources_of c p)
+  top-fed : (st : List Frame) (p : Point) → IsTop st p → HasHeard st → Each (IsFrameDue c added) st → All (IsSaid added) (asked_children c p)
   top-fed [] p top none h = absurd top
   top-fed (f ∷ fs) p top none h =
-      subst (λ x. All (IsSaid added) (sources_of c x)) top (All-weaker (IsDue added f.left) (IsSaid added) (λ x d. due-none added f.left x none d) (sources_of c f.point) h.0)
+      subst (λ x. All (IsSaid added) (asked_children c x)) top (All-weaker (IsDue added f.left) (IsSaid added) (λ x d. due-none added f.left x none d) (asked_children c f.point) h.0)
 
   frame-more : (more : List Entry) (f : Frame) → IsFrameDue c added f → IsFrameDue c (added ++ more) f
-  frame-more more f h = All-weaker (IsDue added f.left) (IsDue (added ++ more) f.left) (λ x d. due-more added more f.left x d) (sources_of c f.point) h
+  frame-more more f h = All-weaker (IsDue added f.left) (IsDue (added ++ more) f.left) (λ x d. due-more added more f.left x d) (asked_children c f.point) h
 
   pub said-all : (more : List Entry) (xs : List Point) → All (IsSaid added) xs → All (IsSaid (added ++ more)) xs
   said-all more xs h = All-weaker (IsSaid added) (IsSaid (added ++ more)) (λ x d. said-kept added more (added ++ more) (grows-append added more) x d) xs h
@@ -98,9 +99,9 @@ unspent-refusals q (Spent r p held) h = absurd h
 pub none-refused : (q : ℕ) (es : List Entry) → Each IsUnspent es → refusals es q ≡ 0
 none-refused q es h = count-none (is_spent_of q) es (each-imply IsUnspent (λ e. is_spent_of q e ≡ false) (unspent-refusals q) es h)
 
-fed-more : (c : Circuit) (added more : List Entry) → AreFed c added → ((q : ℕ) (p : Point) (x : Cell) → Contains more (Filled q p x) → All (IsSaid (added ++ more)) (sources_of c p)) → AreFed c (added ++ more)
+fed-more : (c : Circuit) (added more : List Entry) → AreFed c added → ((q : ℕ) (p : Point) (x : Cell) → Contains more (Filled q p x) → All (IsSaid (added ++ more)) (asked_children c p)) → AreFed c (added ++ more)
 fed-more c added more h k = λ q p x known. elim (Contains-append_cases added more (Filled q p x) known) [
-  | inl l ↦ said-all c added more (sources_of c p) (h q p x l)
+  | inl l ↦ said-all c added more (asked_children c p) (h q p x l)
   | inr l ↦ k q p x l
 ]
 
@@ -145,7 +146,7 @@ module _ (c : Circuit) (a : Start) (added : List Entry) (s : Strand) (u : IsUnde
     budget = u.budget;
     unspent = u.unspent;
     charge = let k = u.charge in omega arith;
-    frames = (All-weaker (Contains (sources_of c p)) (IsDue added (sources_of c p)) (λ x h. inl h) (sources_of c p) (All-contains_itself (sources_of c p)), u.frames);
+    frames = (All-weaker (Contains (asked_children c p)) (IsDue added (asked_children c p)) (λ x h. inl h) (asked_children c p) (All-contains_itself (asked_children c p)), u.frames);
     roots = u.roots;
     fed = u.fed;
     own = u.own;
@@ -178,7 +179,7 @@ module _ (c : Circuit) (a : Start) (added : List Entry) (s : Strand) (u : IsUnde
           | inr k ↦
               let same : e ≡ Filled r y z = contains-one e (Filled r y z) k in
               let point : p ≡ y = cc same in
-              subst (λ t. All (IsSaid (added ++ more)) (sources_of c t)) point (said-all c added more (sources_of c p) (top-fed c added s.stack p top none u.frames))
+              subst (λ t. All (IsSaid (added ++ more)) (asked_children c t)) point (said-all c added more (asked_children c p) (top-fed c added s.stack p top none u.frames))
         ]);
         own = each-append (IsFor q) added more u.own (each-append (IsFor q) evictions (e ∷ []) own (refl, tt));
         going = each-append IsUnspent added more u.going (each-append IsUnspent evictions (e ∷ []) going (tt, tt));
@@ -199,7 +200,7 @@ goes-start c a = record {
 }
 
 -- whatever isn't evaluable has a base answer
-pub evaluable-is : (t : ℕ) (d : Driver) → HasSources t d → has_sources t d ≡ true
+pub evaluable-is : (t : ℕ) (d : Driver) → HasChildren t d → has_children t d ≡ true
 evaluable-is t (Input settings) h = absurd h
 evaluable-is t (Gate kind pins) h = grind arith
 evaluable-is t (Flop f) h = h
@@ -219,8 +220,8 @@ module _ (c : Circuit) (es : List Entry) where
   pub covered-all : (xs : List Point) → All (IsSaid es) (filter (is_evaluable c) xs) → All (IsCovered c es) xs
   covered-all xs h = All-from_recursion (IsCovered c es) xs (covered-filter xs (recursion_from_All (IsSaid es) (filter (is_evaluable c) xs) h))
 
-  pub children-covered : (p : Point) → All (IsSaid es) (sources_of c p) → All (IsCovered c es) (children c p.signal p.time)
-  unfolding sources_of
+  pub children-covered : (p : Point) → All (IsSaid es) (asked_children c p) → All (IsCovered c es) (children c p.signal p.time)
+  unfolding asked_children
   children-covered p h = covered-all (children c p.signal p.time) h
 
 -- where it has heard all its roots, these are covered

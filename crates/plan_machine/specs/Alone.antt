@@ -8,12 +8,13 @@ use Rattle.circuit_meaning.specs.Circuit.{Circuit}
 use Rattle.circuit_meaning.specs.Need.{children}
 use Rattle.journal_meaning.specs.declared.Entry.{Entry}
 use Rattle.journal_meaning.specs.declared.Entry.TheVariants.{Told, Claimed, Filled, Evicted, Dropped, Spent}
-use Rattle.journal_meaning.specs.Batch.{Batch}
+use Rattle.batch_meaning.specs.Batches.{Batch}
 use Rattle.journal_meaning.specs.Answers.{IsCovered, last_of, filled}
 use Rattle.journal_meaning.specs.Grown.{IsSaid, IsFor, refusals, AreAdded}
 use Rattle.strand_meaning.specs.declared.Next.{Next}
 use Rattle.strand_meaning.specs.declared.Next.TheVariants.{Ask}
-use Rattle.strand_meaning.specs.Strands.{Frame, Strand, Start, started, piece, roots_from, sources_of, next_in, next, given_up}
+use Rattle.strand_meaning.specs.Strands.{Frame, Strand, started, roots_from, asked_children, next_in, next, given_up}
+use Rattle.batch_meaning.specs.Pieces.{Start, piece}
 use Rattle.plan_machine.specs.Shards.{recorded}
 use Rattle.plan_machine.specs.Plans.{Plan, shard_of, claim_of, with_shard}
 use Rattle.plan_machine.specs.Steps as steps
@@ -55,11 +56,11 @@ IsDue added left p = Contains left p ⊎ IsSaid added p
 
 -- what a claimed point comes from is due
 abbrev pub IsFrameDue : Circuit → List Entry → Frame → Type 0
-IsFrameDue c added f = All (IsDue added f.left) (sources_of c f.point)
+IsFrameDue c added f = All (IsDue added f.left) (asked_children c f.point)
 
 -- what the points come from that were evaluated is said
 abbrev pub AreFed : Circuit → List Entry → Type 0
-AreFed c added = (q : ℕ) (p : Point) (x : Cell) → Contains added (Filled q p x) → All (IsSaid added) (sources_of c p)
+AreFed c added = (q : ℕ) (p : Point) (x : Cell) → Contains added (Filled q p x) → All (IsSaid added) (asked_children c p)
 
 -- an entry of a strand whose budget isn't spent
 abbrev pub IsUnspent : Entry → Type 0
@@ -89,7 +90,7 @@ pub record IsUnderWay (c : Circuit) (a : Start) (added : List Entry) (s : Strand
 abbrev pub drops : ℕ → List Point → List Entry
 drops q points = map (Dropped q) points
 
--- Once it was refused p: the refusal stands behind what it added before, and behind it the points that it has dropped since. Those
+-- Once it was refused p: the refusal stands after what it added before, and after it the points that it has dropped since. Those
 -- and the points that it still holds are different from each other and from p, and make up its budget.
 pub record IsGivingUp (c : Circuit) (a : Start) (p : Point) (added : List Entry) (s : Strand) : Type 0 where
   pub query : s.query ≡ a.query
@@ -105,9 +106,9 @@ pub record IsGivingUp (c : Circuit) (a : Start) (p : Point) (added : List Entry)
   pub going : AllByRecursion IsUnspent before
 
 -- under way, or giving up since it was refused a point
-abbrev pub IsAt : Circuit → Start → List Entry → Strand → Option Point → Type 0
-IsAt c a added s None = IsUnderWay c a added s
-IsAt c a added s (Some p) = IsGivingUp c a p added s
+abbrev pub IsAtPoint : Circuit → Start → List Entry → Strand → Option Point → Type 0
+IsAtPoint c a added s None = IsUnderWay c a added s
+IsAtPoint c a added s (Some p) = IsGivingUp c a p added s
 
 -- The plan came of the old one by turns of strand n alone, which is now s, and these entries were added. No other strand changed,
 -- none of them holds a point or waits, nor does s wait.
@@ -124,17 +125,17 @@ pub record RunsAlone (b : Batch) (opening : ℕ → List SignalCell) (n : ℕ) (
   pub added : List Entry
   pub strand : Strand
   pub alone : IsAlone b opening n old added strand plan
-  pub is_at : IsAt b.circuit a added strand spent
+  pub is_at : IsAtPoint b.circuit a added strand spent
 
 -- The strand was not refused: each of its roots is covered, and its charge has room for what it filled.
-pub record IsServed (c : Circuit) (a : Start) (added new : List Entry) : Type 0 where
+pub record IsServedAlone (c : Circuit) (a : Start) (added new : List Entry) : Type 0 where
   pub roots : All (IsCovered c new) (roots_of c a)
   pub charge : a.charged + filled added a.query.number ≤ a.budget
   pub refusals : refusals added a.query.number ≡ 0
 
 -- The strand was refused the point: the last entry of its query there says so. It gave up so many different points, and the last
 -- entry at each of them says so. The charge at its start, its fills and these points come to its budget.
-pub record IsRefused (a : Start) (p : Point) (added new : List Entry) : Type 0 where
+pub record IsRefusedAlone (a : Start) (p : Point) (added new : List Entry) : Type 0 where
   pub given_up : List Point
   pub last : last_of new a.query.number p ≡ Some (Spent a.query.number p (length given_up))
   pub different : AllPairs (λ x y. x ≢ y) given_up
@@ -143,8 +144,8 @@ pub record IsRefused (a : Start) (p : Point) (added new : List Entry) : Type 0 w
   pub refusals : refusals added a.query.number ≡ 1
 
 abbrev pub IsOutcome : Circuit → Start → List Entry → List Entry → Option Point → Type 0
-IsOutcome c a added new None = IsServed c a added new
-IsOutcome c a added new (Some p) = IsRefused a p added new
+IsOutcome c a added new None = IsServedAlone c a added new
+IsOutcome c a added new (Some p) = IsRefusedAlone a p added new
 
 -- the strand has ended with its query, and is spent exactly where it was refused
 pub record HasRun (n : ℕ) (a : Start) (new : Plan) (refused_at : Option Point) : Type 0 where

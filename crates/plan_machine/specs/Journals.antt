@@ -2,15 +2,15 @@
 use Rattle.std.specs.Prelude.{◌≡◌, ℕ, ◌&&◌, not, nat_eq, if◌then◌else◌, List, [], ◌∷◌, ◌++◌, length, map, slice_get, Option, Some, None}
 use Rattle.std.specs.List.{AllByRecursion}
 use Rattle.valid_intervals.specs.declared.SignalCell.{SignalCell}
-use Rattle.valid_intervals.specs.Cells.{cell_for}
+use Rattle.valid_intervals.specs.Cells.{cell_for, is_stored, last_cell}
 use Rattle.journal_meaning.specs.declared.Entry.{Entry}
 use Rattle.journal_meaning.specs.declared.Entry.TheVariants.{Told, Claimed, Filled, Evicted, Dropped}
-use Rattle.journal_meaning.specs.States.{is_stored}
-use Rattle.journal_meaning.specs.Batch.{Batch, cell_at}
-use Rattle.journal_meaning.specs.Laws.{of_batch}
+use Rattle.batch_meaning.specs.Batches.{Batch}
+use Rattle.circuit_meaning.specs.Cells.{cell_at}
+use Rattle.journal_meaning.specs.Sections.{of_batch}
 use Rattle.journal_meaning.specs.Grown.{IsFor, AreAdded}
 use Rattle.strand_meaning.specs.Strands.{Strand}
-use Rattle.plan_machine.specs.Shards.{Shard, last_cell}
+use Rattle.plan_machine.specs.Shards.{Shard}
 use Rattle.plan_machine.specs.Plans.{Plan, shard_of}
 use Rattle.plan_machine.specs.Steps.{Step, Tell, Claim, Wait, Spend, Finish, GiveBack, Rest, step_at}
 use Rattle.plan_machine.specs.Turns.{turn}
@@ -28,7 +28,7 @@ eviction None = []
 eviction (Some x) = Evicted x.signal x.cell.span.start ∷ []
 
 abbrev pub evictions_for : ℕ → SignalCell → Shard → List Entry
-evictions_for capacity x h = if not (is_stored h.state x) && nat_eq (length h.state.cells) capacity then eviction (last_cell h.state.cells) else []
+evictions_for capacity x h = if not (is_stored x h.state.cells) && nat_eq (length h.state.cells) capacity then eviction (last_cell h.state.cells) else []
 
 -- what a step of the strand s records
 abbrev pub entries_of : Batch → Plan → Strand → Step → List Entry

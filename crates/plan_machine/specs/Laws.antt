@@ -4,11 +4,12 @@ use Rattle.std.specs.List.{AllByRecursion}
 use Rattle.valid_intervals.specs.declared.Point.{Point}
 use Rattle.valid_intervals.specs.declared.SignalCell.{SignalCell}
 use Rattle.journal_meaning.specs.declared.Entry.{Entry}
-use Rattle.journal_meaning.specs.Batch.{Batch}
+use Rattle.batch_meaning.specs.Batches.{Batch}
 use Rattle.journal_meaning.specs.Grown.{AreAdded}
-use Rattle.strand_meaning.specs.Batches.{IsLawful}
+use Rattle.batch_meaning.specs.Lawful.{IsLawful}
 use Rattle.strand_meaning.specs.declared.Next.TheVariants.{Done}
-use Rattle.strand_meaning.specs.Strands.{Strand, Start, IsStart, started, next}
+use Rattle.strand_meaning.specs.Strands.{Strand, started, next}
+use Rattle.batch_meaning.specs.Pieces.{Start, IsStart}
 use Rattle.plan_machine.specs.Shards.{Shard}
 use Rattle.plan_machine.specs.Plans.{Plan, claim_of, new_plan, is_ready}
 use Rattle.plan_machine.specs.Turns.{turn, run, turns}
@@ -55,7 +56,7 @@ TurnsAreFew = (b : Batch) (plan : Plan) (schedule : List ℕ) → turns b plan s
 abbrev pub TurnsAreBounded : Type 0
 TurnsAreBounded = (b : Batch) (starts : List Start) (shards : List Shard) (schedule : List ℕ) → turns b (new_plan b starts shards) schedule ≤ bound b starts
 
--- each turn adds entries for its strand's query behind the journals
+-- each turn adds entries for its strand's query after the journals
 abbrev pub TurnsAdd : Type 0
 TurnsAdd = (b : Batch) → IsLawful b → (opening : ℕ → List SignalCell) (plan : Plan) → IsSound b opening plan → (i : ℕ) → TurnAdds b plan i
 

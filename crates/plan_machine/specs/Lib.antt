@@ -5,9 +5,8 @@ pub mod Turns
 pub mod Bounds
 pub mod Sound
 pub mod Laws
-pub mod Parts
-pub mod Kept
 pub mod Journals
 pub mod Alone
 pub mod Settle
 pub mod Settling
+pub mod inner

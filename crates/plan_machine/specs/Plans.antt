@@ -3,10 +3,11 @@ use Rattle.std.specs.Prelude.{ℕ, ◌+◌, ◌%◌, not, ◌&&◌, Bool, true, 
 use Rattle.valid_intervals.specs.declared.Point.{Point}
 use Rattle.valid_intervals.specs.Cells.{same_point}
 use Rattle.journal_meaning.specs.States.{fresh, holder}
-use Rattle.journal_meaning.specs.Batch.{Batch}
+use Rattle.batch_meaning.specs.Batches.{Batch}
 use Rattle.strand_meaning.specs.declared.Next.{Next}
 use Rattle.strand_meaning.specs.declared.Next.TheVariants.{Ask, Done}
-use Rattle.strand_meaning.specs.Strands.{Strand, Start, started, next, awake}
+use Rattle.strand_meaning.specs.Strands.{Strand, started, next, awake}
+use Rattle.batch_meaning.specs.Pieces.{Start}
 use Rattle.plan_machine.specs.Shards.{Shard}
 
 -- Strand i has number i. A strand that waits is among them.

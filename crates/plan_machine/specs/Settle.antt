@@ -1,26 +1,24 @@
 -- Settling a batch: what is missing is asked for by one strand after another, each alone over the shards.
-use Rattle.std.specs.Prelude.{◌≡◌, ◌≢◌, ℕ, ◌+◌, ◌≤◌, ◌<◌, min, Bool, true, false, length, get_or, AllPairs, List, [], ◌∷◌, map, All, Contains, Option, Some, None}
+use Rattle.std.specs.Prelude.{◌≡◌, ◌≢◌, ℕ, ◌+◌, ◌≤◌, ◌<◌, min, Bool, true, false, length, get_or, AllPairs, List, [], ◌∷◌, map, Contains, Option, Some, None}
 use Rattle.std.specs.List.{AllByRecursion}
-use Rattle.valid_intervals.specs.declared.Cell.{Cell}
 use Rattle.valid_intervals.specs.declared.Point.{Point}
 use Rattle.valid_intervals.specs.declared.SignalCell.{SignalCell}
 use Rattle.circuit_meaning.specs.Circuit.{Circuit}
 use Rattle.circuit_meaning.specs.declared.Run.{Run}
 use Rattle.circuit_meaning.specs.Forward.{wave}
-use Rattle.circuit_meaning.specs.Need.{children}
 use Rattle.journal_meaning.specs.declared.Entry.{Entry}
-use Rattle.journal_meaning.specs.declared.Entry.TheVariants.{Filled, Dropped}
-use Rattle.journal_meaning.specs.declared.Query.{Query}
-use Rattle.journal_meaning.specs.Batch.{Batch}
-use Rattle.journal_meaning.specs.Answers.{IsCovered, filled, IsClosed, IsSpent, IsAnswer}
-use Rattle.journal_meaning.specs.Laws.{of_batch, IsLegalFrom}
-use Rattle.journal_meaning.specs.Grown.{IsFor, refusals, Grows, AreAdded, AreTimesCovered}
-use Rattle.strand_meaning.specs.Strands.{Start}
+use Rattle.journal_meaning.specs.declared.Entry.TheVariants.{Dropped}
+use Rattle.batch_meaning.specs.declared.Query.{Query}
+use Rattle.batch_meaning.specs.Batches.{Batch}
+use Rattle.journal_meaning.specs.Answers.{filled, IsClosed, IsSpent, IsAnswer}
+use Rattle.journal_meaning.specs.Sections.{of_batch}
+use Rattle.journal_meaning.specs.Laws.{IsLegalFrom}
+use Rattle.journal_meaning.specs.Grown.{refusals, AreAdded}
+use Rattle.batch_meaning.specs.Pieces.{Start}
 use Rattle.journal_meaning.specs.States.{Claim, holder}
 use Rattle.plan_machine.specs.Shards.{Shard, IsShard, recorded}
 use Rattle.plan_machine.specs.Plans.{no_shard}
 use Rattle.plan_machine.specs.Sound.{IsFresh}
-use Rattle.plan_machine.specs.Alone.{IsOutcome}
 
 abbrev pub journals_of : List Shard → List (List Entry)
 journals_of shards = map (λ (h : Shard). h.journal) shards
@@ -44,30 +42,6 @@ child_start q x charged = record { query = sub_query q x; start = x.time; stop =
 abbrev pub root_start : Query → ℕ → ℕ → Start
 root_start q t charged = record { query = q; start = t; stop = t + 1; budget = q.budget; charged = charged }
 
--- A strand that was started so ran alone over the shards, from the old ones to the new ones. No claim is left.
-pub record AskedAlone (b : Batch) (opening : ℕ → List SignalCell) (a : Start) (old new : List Shard) (spent : Option Point) : Type 0 where
-  pub fresh : IsFresh b opening new
-  pub added : List Entry
-  pub journals : AreAdded (journals_of old) added (journals_of new)
-  pub own : AllByRecursion (IsFor a.query.number) added
-  pub children : (q : ℕ) (p : Point) (x : Cell) → Contains added (Filled q p x) → All (IsCovered b.circuit (entries_in new)) (children b.circuit p.signal p.time)
-  pub outcome : IsOutcome b.circuit a added (entries_in new) spent
-
--- the children of an evaluated point are covered
-abbrev pub IsVisited : Circuit → List Entry → Point → Type 0
-IsVisited c es p = All (IsCovered c es) (children c p.signal p.time)
-
--- A query that settlement did not refuse: of what it evaluated since settlement began, the children are covered.
-pub record IsOpen (c : Circuit) (q : Query) (start now : List Entry) : Type 0 where
-  pub added : List Entry
-  pub grows : Grows start added now
-  pub fed : (p : Point) (x : Cell) → Contains added (Filled q.number p x) → IsVisited c now p
-  pub refusals : refusals now q.number ≡ refusals start q.number
-
--- each point that it had evaluated before is visited
-abbrev pub AreVisited : Circuit → Query → List Entry → List Entry → Type 0
-AreVisited c q start now = (p : Point) (x : Cell) → Contains start (Filled q.number p x) → IsVisited c now p
-
 -- A query is settled: it is closed, and settlement recorded no refusal of it; or settlement recorded one, which has its cause.
 abbrev pub IsSettled : Circuit → Query → List Entry → List Entry → Bool → Type 0
 IsSettled c q start now false = IsClosed c now q × (refusals now q.number ≡ refusals start q.number)
@@ -79,60 +53,10 @@ AreAllSettled c start now [] [] = Unit {0}
 AreAllSettled c start now (q ∷ qs) (r ∷ rs) = IsSettled c q start now r × AreAllSettled c start now qs rs
 AreAllSettled c start now qs rs = ⊥
 
--- the start asks for this one point, for the query, with its budget and at most its fills as charge
-pub record IsAskedFor (q : Query) (es : List Entry) (x : Point) (a : Start) : Type 0 where
-  pub point : record { signal = a.query.signal; time = a.start } ≡ x
-  pub number : a.query.number ≡ q.number
-  pub budget : a.budget ≡ q.budget
-  pub charged : a.charged ≤ filled es q.number
-  pub stop : a.stop ≡ a.start + 1
-
 -- While a query is settled: the shards, and whether it was refused.
 pub record Standing : Type 0 where
   pub shards : List Shard
   pub refused : Bool
-
-abbrev pub StandsAs : Circuit → Query → List Entry → List Entry → Bool → Type 0
-StandsAs c q start now false = IsOpen c q start now
-StandsAs c q start now true = IsSpent now q × (refusals now q.number ≡ refusals start q.number + 1)
-
--- since the query's turn came, with these first shards, only entries for it were added; it is open, or was refused
-pub record IsStanding (b : Batch) (opening : ℕ → List SignalCell) (q : Query) (start : List Entry) (first : List Shard) (s : Standing) : Type 0 where
-  pub fresh : IsFresh b opening s.shards
-  pub added : List Entry
-  pub journals : AreAdded (journals_of first) added (journals_of s.shards)
-  pub own : AllByRecursion (IsFor q.number) added
-  pub state : StandsAs b.circuit q start (entries_in s.shards) s.refused
-
--- from one to the next: what is covered stays so, and a refused query stays refused
-pub record Advances (b : Batch) (opening : ℕ → List SignalCell) (q : Query) (start : List Entry) (first : List Shard) (s t : Standing) : Type 0 where
-  pub stands : IsStanding b opening q start first t
-  pub kept : (p : Point) → IsCovered b.circuit (entries_in s.shards) p → IsCovered b.circuit (entries_in t.shards) p
-  pub live : t.refused ≡ false → s.refused ≡ false
-
--- and it covers the point, if the query is not refused
-abbrev pub Reaches : Batch → (ℕ → List SignalCell) → Query → List Entry → List Shard → Standing → Point → Standing → Type 0
-Reaches b opening q start first s p t = Advances b opening q start first s t × (t.refused ≡ false → IsCovered b.circuit (entries_in t.shards) p)
-
--- the window is covered up to a time, if the query is not refused
-abbrev pub IsCoveredTo : Circuit → Query → Standing → ℕ → Type 0
-IsCoveredTo c q s u = s.refused ≡ false → AreTimesCovered c (entries_in s.shards) q.signal q.from u
-
--- the query is settled by shards that came of the first ones
-pub record SettlesQuery (b : Batch) (opening : ℕ → List SignalCell) (q : Query) (start : List Entry) (first : List Shard) (t : Standing) : Type 0 where
-  pub fresh : IsFresh b opening t.shards
-  pub added : List Entry
-  pub journals : AreAdded (journals_of first) added (journals_of t.shards)
-  pub own : AllByRecursion (IsFor q.number) added
-  pub settled : IsSettled b.circuit q start (entries_in t.shards) t.refused
-
--- Between two queries: some are settled, each with its flag, and the others are open.
-pub record IsSettling (b : Batch) (opening : ℕ → List SignalCell) (start : List Entry) (first now : List Shard) (done : List Query) (refused : List Bool) (left : List Query) : Type 0 where
-  pub fresh : IsFresh b opening now
-  pub added : List Entry
-  pub journals : AreAdded (journals_of first) added (journals_of now)
-  pub settled : AreAllSettled b.circuit start (entries_in now) done refused
-  pub opens : AllByRecursion (λ q. IsOpen b.circuit q start (entries_in now)) left
 
 -- All queries of the batch are settled: the journals are kept, no claim is left.
 pub record AreSettled (b : Batch) (opening : ℕ → List SignalCell) (old new : List Shard) (refused : List Bool) : Type 0 where
@@ -163,10 +87,6 @@ pub record AreFreed (old new : List Shard) : Type 0 where
 pub record AreShards (b : Batch) (opening : ℕ → List SignalCell) (shards : List Shard) : Type 0 where
   pub count : length shards ≡ b.shards
   pub right : (n : ℕ) → n < b.shards → IsShard b n (opening n) (get_or shards n no_shard)
-
-abbrev pub IsDrop : Entry → Type 0
-IsDrop (Dropped q p) = Unit {0}
-IsDrop e = ⊥
 
 -- what a query is answered: its wave, or nothing where it was refused
 abbrev pub answer_of : Circuit → Query → Bool → Option (List Run)

@@ -1,27 +1,21 @@
 -- A shard of a plan: its state and its journal, and what each entry makes of it.
-use Rattle.std.specs.Prelude.{◌≡◌, ℕ, ◌-◌, ◌≤◌, nat_eq, not, ◌&&◌, if◌then◌else◌, false, List, [], ◌∷◌, ◌++◌, length, find, slice_get, Option, Some, None}
+use Rattle.std.specs.Prelude.{◌≡◌, ℕ, ◌-◌, ◌≤◌, nat_eq, not, ◌&&◌, if◌then◌else◌, false, List, [], ◌∷◌, ◌++◌, length, Option, Some, None}
 use Rattle.std.specs.List.{AllByRecursion}
 use Rattle.valid_intervals.specs.declared.Point.{Point}
 use Rattle.valid_intervals.specs.declared.Cell.{Cell}
 use Rattle.valid_intervals.specs.declared.SignalCell.{SignalCell}
-use Rattle.valid_intervals.specs.Cells.{covers, cell_for}
+use Rattle.valid_intervals.specs.Cells.{last_cell, cell_for, is_stored}
 use Rattle.journal_meaning.specs.declared.Entry.{Entry}
 use Rattle.journal_meaning.specs.declared.Entry.TheVariants.{Filled, Evicted}
-use Rattle.journal_meaning.specs.States.{State, fresh, is_stored}
+use Rattle.journal_meaning.specs.States.{State, fresh}
 use Rattle.journal_meaning.specs.Table.{after}
-use Rattle.journal_meaning.specs.Batch.{Batch, IsRight}
+use Rattle.batch_meaning.specs.Batches.{Batch}
+use Rattle.journal_meaning.specs.Allowed.{IsRight}
 use Rattle.journal_meaning.specs.Replay.{replay, IsLegal}
 
 pub record Shard : Type 0 where
   pub state : State
   pub journal : List Entry
-
--- the stored cell that covers the point
-abbrev pub stored_at : List SignalCell → Point → Option SignalCell
-stored_at cells p = find (covers p) cells
-
-abbrev pub last_cell : List SignalCell → Option SignalCell
-last_cell cells = slice_get cells (length cells - 1)
 
 -- one entry more
 abbrev pub recorded : Entry → Shard → Shard
@@ -34,7 +28,7 @@ evicted (Some x) h = recorded (Evicted x.signal x.cell.span.start) h
 
 -- where the cell is new and the shard is at its capacity, the least recent cell makes place
 abbrev pub with_room : ℕ → SignalCell → Shard → Shard
-with_room capacity x h = if not (is_stored h.state x) && nat_eq (length h.state.cells) capacity then evicted (last_cell h.state.cells) h else h
+with_room capacity x h = if not (is_stored x h.state.cells) && nat_eq (length h.state.cells) capacity then evicted (last_cell h.state.cells) h else h
 
 -- the point is filled with its cell for the query q
 abbrev pub filled_shard : ℕ → ℕ → Point → Cell → Shard → Shard

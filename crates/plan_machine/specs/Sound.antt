@@ -3,7 +3,8 @@ use Rattle.std.specs.Prelude.{◌≡◌, ℕ, ◌≤◌, ◌<◌, ◌+◌, true,
 use Rattle.valid_intervals.specs.declared.Point.{Point}
 use Rattle.valid_intervals.specs.declared.SignalCell.{SignalCell}
 use Rattle.valid_intervals.specs.Spans.{IsIn}
-use Rattle.journal_meaning.specs.Batch.{Batch, IsNeededBy, OfQuery, cell_at}
+use Rattle.batch_meaning.specs.Batches.{Batch, IsNeededBy, OfQuery}
+use Rattle.circuit_meaning.specs.Cells.{cell_at}
 use Rattle.journal_meaning.specs.Counts.{fills_at, evictions_of}
 use Rattle.strand_meaning.specs.declared.Next.TheVariants.{Ask, Done}
 use Rattle.strand_meaning.specs.Strands.{Strand, next, heard, awake, IsHeld, IsStrand}

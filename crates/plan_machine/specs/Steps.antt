@@ -5,7 +5,7 @@ use Rattle.valid_intervals.specs.declared.SignalCell.{SignalCell}
 use Rattle.strand_meaning.specs.declared.Next.{Next}
 use Rattle.strand_meaning.specs.declared.Next.TheVariants.{Ask, Fill, Drop, Done}
 use Rattle.strand_meaning.specs.Strands.{Strand, next}
-use Rattle.plan_machine.specs.Shards.{stored_at}
+use Rattle.valid_intervals.specs.Cells.{stored_at}
 use Rattle.plan_machine.specs.Plans.{Plan, shard_of, claim_of}
 use Rattle.plan_machine.specs.declared.Turned.{Turned}
 use Rattle.plan_machine.specs.declared.Turned.TheVariants.{Told, Claimed, Waits, Spent, Filled, Dropped, NotReady}

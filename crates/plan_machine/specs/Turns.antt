@@ -1,7 +1,8 @@
 -- One turn of a strand, and any list of turns.
 use Rattle.std.specs.Prelude.{ℕ, ◌+◌, List, [], ◌∷◌, slice_get, Option, Some, None}
 use Rattle.journal_meaning.specs.declared.Entry.TheVariants.{Told, Claimed, Dropped}
-use Rattle.journal_meaning.specs.Batch.{Batch, cell_at}
+use Rattle.batch_meaning.specs.Batches.{Batch}
+use Rattle.circuit_meaning.specs.Cells.{cell_at}
 use Rattle.strand_meaning.specs.Strands.{Strand, heard, claimed, waiting, given_up, dropped, finished}
 use Rattle.plan_machine.specs.Shards.{recorded, filled_shard}
 use Rattle.plan_machine.specs.Plans.{Plan, shard_of, with_strand, with_shard, with_woken, itself}

@@ -15,10 +15,10 @@
 //! function of the plan alone, and code may keep its waiting strands wherever it likes.
 //!
 //! How code is bound to it: the crate that keeps a plan gives it a model whose value is a plan, and promises of its own `turn` that
-//! the new value is `turn batch old number`. `specs/Parts` and `specs/Kept` read a plan back from what code keeps, which is a place
-//! for each strand, with a gap where it waits, and shards that hold those that wait; their lemmas say what each kind of step makes of
-//! these. The crates below promise their parts in the machine's words: a strand's steps are those of `strand_meaning`, and a shard's
-//! are `recorded` and `filled_shard`. Every theorem here then holds of the code, whatever the order in which its turns are made.
+//! the new value is `turn batch old number`. `specs/inner/Parts` and `specs/inner/KeptPlans` read a plan back from what code keeps:
+//! a place for each strand, with a gap where it waits, and shards that hold those that wait; their lemmas say what each kind of step
+//! makes of these. The crates below promise their parts in the machine's words: a strand's steps are those of `strand_meaning`, and a
+//! shard's are `recorded` and `filled_shard`. Every theorem here then holds of the code, whatever the order in which its turns are made.
 //!
 //! No function here does anything. What a plan costs is said by the bound: with budgets of B in sum, gates of at most F pins, n strands
 //! and windows of L times in sum, every schedule makes at most `B * (F + n + 2) + L + 2 * n` turns that are not `NotReady`.
@@ -87,7 +87,7 @@ pub fn turns_are_few()
     ensures bounded { TurnsAreBounded }
 {}
 
-/// Turns add entries for the queries of their strands behind the journals, and each strand keeps its query and its budget.
+/// Turns add entries for the queries of their strands at the ends of the journals, and each strand keeps its query and its budget.
 pub fn turns_add_entries()
     ensures turn { TurnsAdd }
     ensures run { RunsAdd }

@@ -11,15 +11,16 @@ use Rattle.query_lines.specs.declared.cutter.Cut.{Cut}
 use Rattle.query_lines.specs.declared.cutter.Cut.TheVariants.{More, Whole, Long}
 use Rattle.query_lines.specs.declared.unit.Item.{Item}
 use Rattle.query_lines.specs.declared.unit.Unit.{Unit as ScriptUnit}
-use Rattle.query_lines.specs.Cutting.{Cutter, Holds, Ends, cut_of}
+use Rattle.query_lines.specs.Cutting.{Cutter, IsUnderWay, LineEnds, cut_of}
 use Rattle.query_lines.specs.Lines.{line_of}
-use Rattle.query_lines.specs.Units.{Pending, closed, step, units_from}
+use Rattle.query_lines.specs.Units.{Pending, closed, line_step, units_from}
 use Rattle.query_lines.specs.Laws.{IsWithinLimits}
 use Rattle.query_lines.proofs.Limits.{units-within}
-use Rattle.query_lines.specs.Reading.{Reader, HasRead, ReadsLine, numbered_lines, script_units}
+use Rattle.query_lines.specs.Reading.{Reader, HasRead, numbered_lines, script_units}
+use Rattle.query_lines.specs.inner.Reading.{ReadsLine}
 
 -- nothing was taken
-pub opened : (horizon : ℕ) (reader : Reader) → Holds [] reader.cutter → reader.pending ≡ record { horizon = horizon; items = [] } → reader.lines ≡ 0 → HasRead horizon [] [] reader
+pub opened : (horizon : ℕ) (reader : Reader) → IsUnderWay [] reader.cutter → reader.pending ≡ record { horizon = horizon; items = [] } → reader.lines ≡ 0 → HasRead horizon [] [] reader
 unfolding script_units
 opened horizon reader holds pending lines = record {
   line = [];
@@ -38,16 +39,16 @@ not_more line h = cases (leb (length line) 4096) h
     cases false h = cc
 
 -- what a byte did
-pub fed : (byte : ℕ) (line : List ℕ) (cut : Cut) (new : Cutter) → (byte ≢ 10 → (cut ≡ More) × Holds (line ++ byte ∷ []) new) → (byte ≡ 10 → Ends line cut new)
-    → ((byte ≢ 10) × (cut ≡ More) × Holds (line ++ byte ∷ []) new) ⊎ ((cut ≢ More) × (byte ≡ 10) × Ends line cut new)
+pub fed : (byte : ℕ) (line : List ℕ) (cut : Cut) (new : Cutter) → (byte ≢ 10 → (cut ≡ More) × IsUnderWay (line ++ byte ∷ []) new) → (byte ≡ 10 → LineEnds line cut new)
+    → ((byte ≢ 10) × (cut ≡ More) × IsUnderWay (line ++ byte ∷ []) new) ⊎ ((cut ≢ More) × (byte ≡ 10) × LineEnds line cut new)
 fed byte line cut new more ends = cases (eqb byte 10) refl
   where
-    cases : (b : Bool) → eqb byte 10 ≡ b → ((byte ≢ 10) × (cut ≡ More) × Holds (line ++ byte ∷ []) new) ⊎ ((cut ≢ More) × (byte ≡ 10) × Ends line cut new)
+    cases : (b : Bool) → eqb byte 10 ≡ b → ((byte ≢ 10) × (cut ≡ More) × IsUnderWay (line ++ byte ∷ []) new) ⊎ ((cut ≢ More) × (byte ≡ 10) × LineEnds line cut new)
     cases true h = let feed = eqb-true byte 10 h in inr (λ e. not_more line (sym (ends feed).cut ∙ e), feed, ends feed)
     cases false h = let other = eqb-false byte 10 h in inl (other, (more other).0, (more other).1)
 
 -- a byte that ends no line
-pub more_read : (horizon : ℕ) (script : List ℕ) (given : List ScriptUnit) (old new : Reader) (byte : ℕ) → (p : HasRead horizon script given old) → byte ≢ 10 → Holds (p.line ++ byte ∷ []) new.cutter → new.pending ≡ old.pending → new.lines ≡ old.lines
+pub more_read : (horizon : ℕ) (script : List ℕ) (given : List ScriptUnit) (old new : Reader) (byte : ℕ) → (p : HasRead horizon script given old) → byte ≢ 10 → IsUnderWay (p.line ++ byte ∷ []) new.cutter → new.pending ≡ old.pending → new.lines ≡ old.lines
     → HasRead horizon (script ++ byte ∷ []) (given ++ []) new
 more_read horizon script given old new byte p other holds pending lines = record {
   line = p.line ++ byte ∷ [];
@@ -61,11 +62,11 @@ more_read horizon script given old new byte p other holds pending lines = record
 -- what a line that ends makes of the units
 line_gives : (horizon first : ℕ) (pending : List Item) (line rest : List ℕ) → is_plain line ≡ true
     → units_from horizon pending (numbered_lines first (line ++ 10 ∷ rest))
-    ≡ (step horizon pending first (line_of line)).units ++ units_from horizon (step horizon pending first (line_of line)).pending (numbered_lines (first + 1) rest)
+    ≡ (line_step horizon pending first (line_of line)).units ++ units_from horizon (line_step horizon pending first (line_of line)).pending (numbered_lines (first + 1) rest)
 line_gives horizon first pending line rest plain = ap (λ (l : List (List ℕ)). units_from horizon pending (enumerate_from first (map line_of l))) (line_front line rest plain)
 
 -- a byte that ends a line
-pub line_read : (horizon : ℕ) (script : List ℕ) (given units : List ScriptUnit) (old ended new : Reader) (byte : ℕ) → (p : HasRead horizon script given old) → byte ≡ 10 → Holds [] ended.cutter → ended.pending ≡ old.pending → ended.lines ≡ old.lines
+pub line_read : (horizon : ℕ) (script : List ℕ) (given units : List ScriptUnit) (old ended new : Reader) (byte : ℕ) → (p : HasRead horizon script given old) → byte ≡ 10 → IsUnderWay [] ended.cutter → ended.pending ≡ old.pending → ended.lines ≡ old.lines
     → ReadsLine p.line ended new units → HasRead horizon (script ++ byte ∷ []) (given ++ units) new
 line_read horizon script given units old ended new byte p feed holds pending lines reads =
     let horizon_is : ended.pending.horizon ≡ horizon = ap (λ (q : Pending). q.horizon) pending ∙ p.horizon_is in
@@ -73,7 +74,7 @@ line_read horizon script given units old ended new byte p feed holds pending lin
     record {
       line = [];
       under_way = refl;
-      holds = subst (λ (c : Cutter). Holds [] c) (sym reads.cutter_stays) holds;
+      holds = subst (λ (c : Cutter). IsUnderWay [] c) (sym reads.cutter_stays) holds;
       horizon_is = ap (λ (q : Pending). q.horizon) reads.pending_are ∙ horizon_is;
       lines_end = omega (arith, lines, reads.lines_end, p.lines_end, length-append script (byte ∷ []));
       goes_on = λ rest.
@@ -89,57 +90,57 @@ none_left horizon script given old p none =
 
 -- the end of a script in a line
 pub line_left : (horizon : ℕ) (script : List ℕ) (given : List ScriptUnit) (old : Reader) (p : HasRead horizon script given old) → 0 < length p.line
-    → script_units horizon script ≡ given ++ ((step horizon old.pending.items (old.lines + 1) (line_of p.line)).units ++ closed (step horizon old.pending.items (old.lines + 1) (line_of p.line)).pending)
+    → script_units horizon script ≡ given ++ ((line_step horizon old.pending.items (old.lines + 1) (line_of p.line)).units ++ closed (line_step horizon old.pending.items (old.lines + 1) (line_of p.line)).pending)
 line_left horizon script given old p some =
     ap (script_units horizon) (sym (append-nil script)) ∙ p.goes_on []
     ∙ ap (λ (l : List (List ℕ)). given ++ units_from horizon old.pending.items (enumerate_from (old.lines + 1) (map line_of l))) (ap lines (append-nil p.line) ∙ line_last p.line p.under_way some)
 
 -- a byte behind which the cutter gave no line
 pub taken : (horizon : ℕ) (script : List ℕ) (given : List ScriptUnit) (old new : Reader) (byte : ℕ) (cut : Cut) (units : List ScriptUnit) → HasRead horizon script given old → new.pending ≡ old.pending → new.lines ≡ old.lines
-    → ((line : List ℕ) → Holds line old.cutter → byte ≢ 10 → (cut ≡ More) × Holds (line ++ byte ∷ []) new.cutter)
-    → ((line : List ℕ) → Holds line old.cutter → byte ≡ 10 → Ends line cut new.cutter)
+    → ((line : List ℕ) → IsUnderWay line old.cutter → byte ≢ 10 → (cut ≡ More) × IsUnderWay (line ++ byte ∷ []) new.cutter)
+    → ((line : List ℕ) → IsUnderWay line old.cutter → byte ≡ 10 → LineEnds line cut new.cutter)
     → cut ≡ More → units ≡ [] → HasRead horizon (script ++ byte ∷ []) (given ++ units) new
 taken horizon script given old new byte cut units p pending lines more ends is none = cases (fed byte p.line cut new.cutter (more p.line p.holds) (ends p.line p.holds))
   where
-    cases : ((byte ≢ 10) × (cut ≡ More) × Holds (p.line ++ byte ∷ []) new.cutter) ⊎ ((cut ≢ More) × (byte ≡ 10) × Ends p.line cut new.cutter) → HasRead horizon (script ++ byte ∷ []) (given ++ units) new
+    cases : ((byte ≢ 10) × (cut ≡ More) × IsUnderWay (p.line ++ byte ∷ []) new.cutter) ⊎ ((cut ≢ More) × (byte ≡ 10) × LineEnds p.line cut new.cutter) → HasRead horizon (script ++ byte ∷ []) (given ++ units) new
     cases (inl plain) = subst (λ (l : List ScriptUnit). HasRead horizon (script ++ byte ∷ []) (given ++ l) new) (sym none) (more_read horizon script given old new byte p plain.0 plain.2 pending lines)
     cases (inr feed) = absurd (feed.0 is)
 
 -- a byte behind which the cutter gave a line that was read
 pub taken_line : {E : Type 0} (horizon : ℕ) (script : List ℕ) (given : List ScriptUnit) (old ended new : Reader) (byte : ℕ) (cut : Cut) (result : Result (List ScriptUnit) E) → HasRead horizon script given old → ended.pending ≡ old.pending → ended.lines ≡ old.lines
-    → ((line : List ℕ) → Holds line old.cutter → byte ≢ 10 → (cut ≡ More) × Holds (line ++ byte ∷ []) ended.cutter)
-    → ((line : List ℕ) → Holds line old.cutter → byte ≡ 10 → Ends line cut ended.cutter)
-    → cut ≢ More → ((line : List ℕ) → Ends line cut ended.cutter → IfOk result (ReadsLine line ended new))
+    → ((line : List ℕ) → IsUnderWay line old.cutter → byte ≢ 10 → (cut ≡ More) × IsUnderWay (line ++ byte ∷ []) ended.cutter)
+    → ((line : List ℕ) → IsUnderWay line old.cutter → byte ≡ 10 → LineEnds line cut ended.cutter)
+    → cut ≢ More → ((line : List ℕ) → LineEnds line cut ended.cutter → IfOk result (ReadsLine line ended new))
     → IfOk result (λ units. HasRead horizon (script ++ byte ∷ []) (given ++ units) new)
 taken_line {E} horizon script given old ended new byte cut result p pending lines more ends other reads = cases (fed byte p.line cut ended.cutter (more p.line p.holds) (ends p.line p.holds))
   where
-    of_line : (r : Result (List ScriptUnit) E) → byte ≡ 10 → Ends p.line cut ended.cutter → IfOk r (ReadsLine p.line ended new) → IfOk r (λ units. HasRead horizon (script ++ byte ∷ []) (given ++ units) new)
+    of_line : (r : Result (List ScriptUnit) E) → byte ≡ 10 → LineEnds p.line cut ended.cutter → IfOk r (ReadsLine p.line ended new) → IfOk r (λ units. HasRead horizon (script ++ byte ∷ []) (given ++ units) new)
     of_line (Ok units) feed end read = line_read horizon script given units old ended new byte p feed end.next pending lines read
     of_line (Err e) feed end read = read
 
-    cases : ((byte ≢ 10) × (cut ≡ More) × Holds (p.line ++ byte ∷ []) ended.cutter) ⊎ ((cut ≢ More) × (byte ≡ 10) × Ends p.line cut ended.cutter) → IfOk result (λ units. HasRead horizon (script ++ byte ∷ []) (given ++ units) new)
+    cases : ((byte ≢ 10) × (cut ≡ More) × IsUnderWay (p.line ++ byte ∷ []) ended.cutter) ⊎ ((cut ≢ More) × (byte ≡ 10) × LineEnds p.line cut ended.cutter) → IfOk result (λ units. HasRead horizon (script ++ byte ∷ []) (given ++ units) new)
     cases (inl plain) = absurd (other plain.1)
     cases (inr feed) = of_line result feed.1 feed.2 (reads p.line feed.2)
 
 -- at the end of a script, where no line is under way
 pub last_none : (horizon : ℕ) (script : List ℕ) (given : List ScriptUnit) (old new : Reader) (cut : Cut) (units : List ScriptUnit) → HasRead horizon script given old → new.pending ≡ old.pending
-    → ((line : List ℕ) → Holds line old.cutter → 0 < length line → Ends line cut new.cutter) → cut ≡ More → units ≡ []
+    → ((line : List ℕ) → IsUnderWay line old.cutter → 0 < length line → LineEnds line cut new.cutter) → cut ≡ More → units ≡ []
     → script_units horizon script ≡ given ++ (units ++ closed new.pending.items)
 last_none horizon script given old new cut units p pending ends is none =
     none_left horizon script given old p (no_byte p.line p.holds) ∙ ap (λ (l : List ScriptUnit). given ++ (l ++ closed old.pending.items)) (sym none) ∙ ap (λ (q : Pending). given ++ (units ++ closed q.items)) (sym pending)
   where
-    no_byte : (line : List ℕ) → Holds line old.cutter → line ≡ []
+    no_byte : (line : List ℕ) → IsUnderWay line old.cutter → line ≡ []
     no_byte [] holds = refl
     no_byte (b ∷ line) holds = absurd (not_more (b ∷ line) (sym (ends (b ∷ line) holds (omega arith)).cut ∙ is))
 
 -- at the end of a script, where a line is under way that is then read
 pub last_line : {E : Type 0} (horizon : ℕ) (script : List ℕ) (given : List ScriptUnit) (old ended new : Reader) (cut : Cut) (result : Result (List ScriptUnit) E) → HasRead horizon script given old → ended.pending ≡ old.pending → ended.lines ≡ old.lines
-    → (Holds [] old.cutter → cut ≡ More) → ((line : List ℕ) → Holds line old.cutter → 0 < length line → Ends line cut ended.cutter)
-    → cut ≢ More → ((line : List ℕ) → Ends line cut ended.cutter → IfOk result (ReadsLine line ended new))
+    → (IsUnderWay [] old.cutter → cut ≡ More) → ((line : List ℕ) → IsUnderWay line old.cutter → 0 < length line → LineEnds line cut ended.cutter)
+    → cut ≢ More → ((line : List ℕ) → LineEnds line cut ended.cutter → IfOk result (ReadsLine line ended new))
     → IfOk result (λ units. script_units horizon script ≡ given ++ (units ++ closed new.pending.items))
 last_line {E} horizon script given old ended new cut result p pending lines none ends other reads = of_line result (reads p.line (ends p.line p.holds some))
   where
-    has_byte : (line : List ℕ) → Holds line old.cutter → 0 < length line
+    has_byte : (line : List ℕ) → IsUnderWay line old.cutter → 0 < length line
     has_byte [] holds = absurd (other (none holds))
     has_byte (b ∷ line) holds = omega arith
 

@@ -1,5 +1,5 @@
-pub mod Maximal
-pub mod WalkLemmas
 pub mod Feeding
 pub mod Requests
 pub mod Limits
+pub mod OwnLines
+pub mod Determined

@@ -7,7 +7,7 @@ use Rattle.std.proofs.lemmas.List.{length-append}
 use Rattle.std.proofs.lemmas.List.Elements.{All-nil, All-cons, All-append}
 use Rattle.std.proofs.lemmas.Bool.{leb-true, ltb-true, ltb-false}
 use Rattle.text_rules.specs.declared.Amount.TheVariants.{NoNumber, Above, Within}
-use Rattle.text_rules.specs.Text.{is_number, is_name, decimal, content, words, lines as lines_in}
+use Rattle.text_rules.specs.Text.{is_number, is_name, decimal_value, content, words, lines as lines_in}
 use Rattle.query_lines.specs.declared.line.Line.{Line}
 use Rattle.query_lines.specs.declared.line.Line.TheVariants.{Blank, Ask, Go, Bad, Stats}
 use Rattle.query_lines.specs.declared.line.Line.TheVariants as lines
@@ -17,7 +17,7 @@ use Rattle.query_lines.specs.declared.unit.Item.{Item}
 use Rattle.query_lines.specs.declared.unit.Unit.{Unit as ScriptUnit}
 use Rattle.query_lines.specs.declared.unit.Unit.TheVariants as units
 use Rattle.query_lines.specs.Lines.{within, number_up_to, instant, budget_of, wave_of_parts, wave_of, at_of_parts, at_of, trim_of_part, trim_of, alone, by_words, line_of}
-use Rattle.query_lines.specs.Units.{Step, budget_weight, window_length, length_weight, budgets, lengths, closed, is_over, pending_up_to_64, with_item, step, units_from}
+use Rattle.query_lines.specs.Units.{LineStep, budget_weight, window_length, length_weight, budgets, lengths, closed, is_over, pending_up_to_64, with_item, line_step, units_from}
 use Rattle.query_lines.specs.Reading.{script_units}
 use Rattle.query_lines.specs.Laws.{IsWithinLimits}
 
@@ -35,12 +35,12 @@ choose true x y p q = p
 choose false x y p q = q
 
 number_up_to-fits : (limit : ℕ) (word : List ℕ) → IfSome (number_up_to limit word) (λ n. n ≤ limit)
-number_up_to-fits limit word = cases (is_number word) (leb (decimal word) limit) refl
+number_up_to-fits limit word = cases (is_number word) (leb (decimal_value word) limit) refl
   where
-    cases : (n b : Bool) → leb (decimal word) limit ≡ b → IfSome (within (cond n (cond b (Within (decimal word)) Above) NoNumber)) (λ n. n ≤ limit)
+    cases : (n b : Bool) → leb (decimal_value word) limit ≡ b → IfSome (within (cond n (cond b (Within (decimal_value word)) Above) NoNumber)) (λ n. n ≤ limit)
     cases false b h = tt
     cases true false h = tt
-    cases true true h = leb-true (decimal word) limit h
+    cases true true h = leb-true (decimal_value word) limit h
 
 budget_of-fits : (words : List (List ℕ)) → IfSome (budget_of words) (λ n. n ≤ 500000)
 budget_of-fits [] = omega arith
@@ -101,7 +101,7 @@ record IsPending (horizon : ℕ) (items : List Item) : Type 0 where
   budgets_fit : budgets items ≤ 1000000
   lengths_fit : lengths horizon items ≤ 4000000
 
-record IsSound (horizon : ℕ) (done : Step) : Type 0 where
+record IsSound (horizon : ℕ) (done : LineStep) : Type 0 where
   given : All (IsWithinLimits horizon) done.units
   pending : IsPending horizon done.pending
 
@@ -166,7 +166,7 @@ with_unit-sound horizon pending unit p fits = record {
   pending = no_items horizon;
 }
 
-step-sound : (horizon : ℕ) (pending : List Item) (number : ℕ) (line : Line) → horizon ≤ 1000000 → IsModest line → IsPending horizon pending → IsSound horizon (step horizon pending number line)
+step-sound : (horizon : ℕ) (pending : List Item) (number : ℕ) (line : Line) → horizon ≤ 1000000 → IsModest line → IsPending horizon pending → IsSound horizon (line_step horizon pending number line)
 step-sound horizon pending number Blank bound modest p = record { given = All-nil (IsWithinLimits horizon); pending = p }
 step-sound horizon pending number (Ask what) bound modest p = with_item-sound horizon pending (record { line = number; what = what }) bound modest p
 step-sound horizon pending number Bad bound modest p = with_item-sound horizon pending (record { line = number; what = whats.Bad }) bound (omega arith) p
@@ -178,7 +178,7 @@ units_from-within : (horizon : ℕ) (pending : List Item) (first : ℕ) (texts :
 units_from-within horizon pending first [] bound p = closed-sound horizon pending p
 units_from-within horizon pending first (text ∷ texts) bound p =
     let sound = step-sound horizon pending first (line_of text) bound (line_of-modest text) p in
-    All-append (IsWithinLimits horizon) (step horizon pending first (line_of text)).units _ sound.given (units_from-within horizon (step horizon pending first (line_of text)).pending (first + 1) texts bound sound.pending)
+    All-append (IsWithinLimits horizon) (line_step horizon pending first (line_of text)).units _ sound.given (units_from-within horizon (line_step horizon pending first (line_of text)).pending (first + 1) texts bound sound.pending)
 
 pub units-within : (horizon : ℕ) (script : List ℕ) → horizon ≤ 1000000 → All (IsWithinLimits horizon) (script_units horizon script)
 unfolding script_units

@@ -10,14 +10,14 @@ use Rattle.query_lines.specs.declared.line.What.TheVariants as whats
 use Rattle.query_lines.specs.declared.unit.Item.{Item}
 use Rattle.query_lines.specs.declared.unit.Unit.{Unit as ScriptUnit}
 use Rattle.query_lines.specs.declared.unit.Unit.TheVariants.{Trim, Stats}
-use Rattle.query_lines.specs.Units.{Step, closed, is_over, pending_up_to_64, with_item, step, units_from}
+use Rattle.query_lines.specs.Units.{LineStep, closed, is_over, pending_up_to_64, with_item, line_step, units_from}
 use Rattle.query_lines.specs.Laws.{Request, Answer, requests_in, requests_on}
 
 abbrev told : List ScriptUnit → List Request
 told units = flat_map requests_in units
 
 -- what a step gives and keeps
-abbrev kept : Step → List Request
+abbrev kept : LineStep → List Request
 kept done = told done.units ++ map Answer done.pending
 
 map_answer-append : (xs ys : List Item) → map Answer (xs ++ ys) ≡ map Answer xs ++ map Answer ys
@@ -50,7 +50,7 @@ kept-after pending unit =
     append-nil (told (closed pending ++ unit ∷ [])) ∙ flat_map-append requests_in (closed pending) (unit ∷ [])
     ∙ ap (λ (l : List Request). l ++ told (unit ∷ [])) (told-closed pending) ∙ ap (λ (l : List Request). map Answer pending ++ l) (append-nil (requests_in unit))
 
-kept-step : (horizon : ℕ) (pending : List Item) (number : ℕ) (line : Line) → kept (step horizon pending number line) ≡ map Answer pending ++ requests_on number line
+kept-step : (horizon : ℕ) (pending : List Item) (number : ℕ) (line : Line) → kept (line_step horizon pending number line) ≡ map Answer pending ++ requests_on number line
 kept-step horizon pending number Blank = sym (append-nil (map Answer pending))
 kept-step horizon pending number (Ask what) = kept-item horizon pending (record { line = number; what = what })
 kept-step horizon pending number Bad = kept-item horizon pending (record { line = number; what = whats.Bad })
@@ -61,7 +61,7 @@ kept-step horizon pending number lines.Stats = kept-after pending Stats
 pub told-units : (horizon : ℕ) (pending : List Item) (numbered : List (ℕ × Line)) → told (units_from horizon pending numbered) ≡ map Answer pending ++ flat_map (λ line. requests_on line.0 line.1) numbered
 told-units horizon pending [] = told-closed pending ∙ sym (append-nil (map Answer pending))
 told-units horizon pending (line ∷ numbered) =
-    let done : Step = step horizon pending line.0 line.1 in
+    let done : LineStep = line_step horizon pending line.0 line.1 in
     let later : List Request = flat_map (λ (l : ℕ × Line). requests_on l.0 l.1) numbered in
     flat_map-append requests_in done.units (units_from horizon done.pending numbered)
     ∙ ap (λ (l : List Request). told done.units ++ l) (told-units horizon done.pending numbered)

@@ -17,13 +17,13 @@ abbrev pub cut_of : List ℕ → Cut
 cut_of line = if nat_le (length line) 4096 then Whole else Long
 
 -- the bytes since the last line's end are these
-pub record Holds (line : List ℕ) (c : Cutter) : Type 0 where
+pub record IsUnderWay (line : List ℕ) (c : Cutter) : Type 0 where
   pub bound : length c.kept ≤ 4096
   pub whole : c.is_long ≡ false → c.kept ≡ line
   pub long : c.is_long ≡ true → (4096 < length line) × (length c.kept ≡ 4096)
 
 -- this line has ended
-pub record Ends (line : List ℕ) (answer : Cut) (c : Cutter) : Type 0 where
+pub record LineEnds (line : List ℕ) (answer : Cut) (c : Cutter) : Type 0 where
   pub cut : answer ≡ cut_of line
   pub text : c.ended ≡ kept_of line
-  pub next : Holds [] c
+  pub next : IsUnderWay [] c

@@ -3,6 +3,5 @@ pub mod Cutting
 pub mod Units
 pub mod Reading
 pub mod Laws
-pub mod Runs
-pub mod Walks
-pub mod Replies
+pub mod Fit
+pub mod inner

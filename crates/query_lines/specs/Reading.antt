@@ -4,9 +4,9 @@ use Rattle.std.specs.List.{enumerate_from, list_all}
 use Rattle.text_rules.specs.Text.{is_feed, lines}
 use Rattle.query_lines.specs.declared.line.Line.{Line}
 use Rattle.query_lines.specs.declared.unit.Unit.{Unit as ScriptUnit}
-use Rattle.query_lines.specs.Cutting.{Cutter, Holds}
+use Rattle.query_lines.specs.Cutting.{Cutter, IsUnderWay}
 use Rattle.query_lines.specs.Lines.{line_of}
-use Rattle.query_lines.specs.Units.{Pending, given_by, left_by, units_from, units_of}
+use Rattle.query_lines.specs.Units.{Pending, units_from, units_of}
 
 -- the lines of a text with their numbers, of which the first is this one
 abbrev pub numbered_lines : ℕ → List ℕ → List (ℕ × Line)
@@ -27,15 +27,8 @@ pub record Reader : Type 0 where
 pub record HasRead (horizon : ℕ) (script : List ℕ) (given : List ScriptUnit) (reader : Reader) : Type 0 where
   pub line : List ℕ
   pub under_way : list_all (λ byte. not (is_feed byte)) line ≡ true
-  pub holds : Holds line reader.cutter
+  pub holds : IsUnderWay line reader.cutter
   pub horizon_is : reader.pending.horizon ≡ horizon
   pub lines_end : reader.lines ≤ length script
   pub goes_on : (rest : List ℕ) → script_units horizon (script ++ rest)
       ≡ given ++ units_from horizon reader.pending.items (numbered_lines (reader.lines + 1) (line ++ rest))
-
--- The reader reads one more line, and gives these units.
-pub record ReadsLine (line : List ℕ) (old new : Reader) (units : List ScriptUnit) : Type 0 where
-  pub cutter_stays : new.cutter ≡ old.cutter
-  pub lines_end : new.lines ≡ old.lines + 1
-  pub units_are : units ≡ given_by old.pending (old.lines + 1) (line_of line)
-  pub pending_are : new.pending ≡ left_by old.pending (old.lines + 1) (line_of line)

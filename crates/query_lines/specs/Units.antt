@@ -44,33 +44,33 @@ closed [] = []
 closed (item ∷ items) = Batch (item ∷ items) ∷ []
 
 -- what a line does: the units that it completes, and the items that are pending after it
-pub record Step : Type 0 where
+pub record LineStep : Type 0 where
   pub units : List ScriptUnit
   pub pending : List Item
 
 -- these items are pending, unless they are the 64 of a whole batch
-abbrev pub pending_up_to_64 : List Item → Step
+abbrev pub pending_up_to_64 : List Item → LineStep
 pending_up_to_64 items =
     if nat_lt (length items) 64
     then record { units = []; pending = items }
     else record { units = closed items; pending = [] }
 
 -- one more item: where it would take the pending batch over a limit, that batch becomes a unit first
-abbrev pub with_item : ℕ → List Item → Item → Step
+abbrev pub with_item : ℕ → List Item → Item → LineStep
 with_item horizon pending item =
     if is_over horizon pending item
     then record { units = closed pending; pending = item ∷ [] }
     else pending_up_to_64 (pending ++ item ∷ [])
 
 -- the line of this number, after these pending items
-abbrev pub step : ℕ → List Item → ℕ → Line → Step
-step horizon pending number Blank = record { units = []; pending = pending }
-step horizon pending number (Ask what) = with_item horizon pending (record { line = number; what = what })
-step horizon pending number lines.Bad = with_item horizon pending (record { line = number; what = Bad })
-step horizon pending number Go = record { units = closed pending; pending = [] }
-step horizon pending number (lines.Trim cells) =
+abbrev pub line_step : ℕ → List Item → ℕ → Line → LineStep
+line_step horizon pending number Blank = record { units = []; pending = pending }
+line_step horizon pending number (Ask what) = with_item horizon pending (record { line = number; what = what })
+line_step horizon pending number lines.Bad = with_item horizon pending (record { line = number; what = Bad })
+line_step horizon pending number Go = record { units = closed pending; pending = [] }
+line_step horizon pending number (lines.Trim cells) =
     record { units = closed pending ++ Trim cells ∷ []; pending = [] }
-step horizon pending number lines.Stats = record { units = closed pending ++ Stats ∷ []; pending = [] }
+line_step horizon pending number lines.Stats = record { units = closed pending ++ Stats ∷ []; pending = [] }
 
 -- what a batcher shows: the horizon, and the pending items
 pub record Pending : Type 0 where
@@ -79,17 +79,17 @@ pub record Pending : Type 0 where
 
 -- the units that a line completes
 abbrev pub given_by : Pending → ℕ → Line → List ScriptUnit
-given_by pending number line = (step pending.horizon pending.items number line).units
+given_by pending number line = (line_step pending.horizon pending.items number line).units
 
 -- what is pending behind a line
 abbrev pub left_by : Pending → ℕ → Line → Pending
-left_by pending number line = record pending { items = (step pending.horizon pending.items number line).pending }
+left_by pending number line = record pending { items = (line_step pending.horizon pending.items number line).pending }
 
 -- the units of lines with their numbers, after these pending items; the script's end closes the last batch
 abbrev pub units_from : ℕ → List Item → List (ℕ × Line) → List ScriptUnit
 units_from horizon pending [] = closed pending
 units_from horizon pending (line ∷ lines) =
-    let done = step horizon pending line.0 line.1 in
+    let done = line_step horizon pending line.0 line.1 in
     done.units ++ units_from horizon done.pending lines
 
 abbrev pub units_of : ℕ → List (ℕ × Line) → List ScriptUnit

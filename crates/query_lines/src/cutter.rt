@@ -1,7 +1,7 @@
 //! A stream of bytes, cut into its lines.
 
 ghost use Rattle.std.specs.Prelude.{◌≡◌, ◌≢◌, ◌<◌, ◌≤◌, length, ℕ, List, [], ◌∷◌, ◌++◌, take, true};
-ghost use Rattle.query_lines.specs.Cutting.{Cutter, Holds, Ends};
+ghost use Rattle.query_lines.specs.Cutting.{Cutter, IsUnderWay, LineEnds};
 
 use crate::line::LONGEST_LINE;
 use std::marker::Model;
@@ -42,7 +42,7 @@ impl Model for LineCutter {
 impl LineCutter {
     /// A cutter at the start of a stream.
     pub fn new() -> LineCutter
-        ensures { Holds [] result }
+        ensures { IsUnderWay [] result }
     {
         LineCutter {
             buffer: [0; LONGEST_LINE],
@@ -54,10 +54,10 @@ impl LineCutter {
 
     /// Takes the next byte. A line feed ends the line.
     pub fn take(&mut self, byte: u8) -> Cut
-        ensures more { (line : List ℕ) → Holds line self.old → byte ≢ 10
-            → (result ≡ Cut.More) × Holds (line ++ byte ∷ []) self.new }
-        ensures end { (line : List ℕ) → Holds line self.old → byte ≡ 10
-            → Ends line result self.new }
+        ensures more { (line : List ℕ) → IsUnderWay line self.old → byte ≢ 10
+            → (result ≡ Cut.More) × IsUnderWay (line ++ byte ∷ []) self.new }
+        ensures end { (line : List ℕ) → IsUnderWay line self.old → byte ≡ 10
+            → LineEnds line result self.new }
         ensures no_text { byte ≢ 10 → self.new.ended ≡ [] }
     {
         if byte == b'\n' {
@@ -69,7 +69,7 @@ impl LineCutter {
 
     fn put(&mut self, byte: u8)
         ensures no_text { self.new.ended ≡ [] }
-        ensures holds { (line : List ℕ) → Holds line self.old → Holds (line ++ byte ∷ []) self.new }
+        ensures holds { (line : List ℕ) → IsUnderWay line self.old → IsUnderWay (line ++ byte ∷ []) self.new }
     {
         self.ended = 0;
         if self.len < LONGEST_LINE {
@@ -81,7 +81,7 @@ impl LineCutter {
     }
 
     fn finish(&mut self) -> Cut
-        ensures { (line : List ℕ) → Holds line self.old → Ends line result self.new }
+        ensures { (line : List ℕ) → IsUnderWay line self.old → LineEnds line result self.new }
     {
         let len = self.len;
         self.len = 0;
@@ -98,10 +98,10 @@ impl LineCutter {
     /// Ends the stream, and with it the last line, if a byte came after the
     /// last line feed.
     pub fn end(&mut self) -> Cut
-        ensures none { Holds [] self.old
-            → (result ≡ Cut.More) × Holds [] self.new × (self.new.ended ≡ []) }
-        ensures some { (line : List ℕ) → Holds line self.old → 0 < length line
-            → Ends line result self.new }
+        ensures none { IsUnderWay [] self.old
+            → (result ≡ Cut.More) × IsUnderWay [] self.new × (self.new.ended ≡ []) }
+        ensures some { (line : List ℕ) → IsUnderWay line self.old → 0 < length line
+            → LineEnds line result self.new }
     {
         if self.len == 0 {
             self.ended = 0;

@@ -1,8 +1,8 @@
-//! What holds of the units of every script, and of the runs of cells. The
-//! functions carry these laws, and do nothing.
+//! What holds of the units of every script. The functions carry these laws, and do
+//! nothing.
 
 ghost use Rattle.query_lines.specs.Laws.{UnitsKeepRequests, UnitsAreWithinLimits};
-ghost use Rattle.query_lines.specs.Runs.{RunsOfCells};
+ghost use Rattle.query_lines.specs.Fit.{UnitsHaveOwnLines, ReadUnitsAreFit, ScriptUnitsAreFit, ReadUnitsAreDetermined};
 
 /// The units are the lines' requests in their order: none is lost, and none is
 /// told twice.
@@ -17,8 +17,23 @@ pub fn units_are_within_limits()
     ensures { UnitsAreWithinLimits }
 {}
 
-/// `Runs` that a walk pushes the first point of each cell to are the maximal
-/// runs of the cells, and so the waveform of the window that the cells fill.
-pub fn runs_of_cells()
-    ensures { RunsOfCells }
+/// The items of a batch stand on different lines.
+pub fn units_have_own_lines()
+    ensures { UnitsHaveOwnLines }
+{}
+
+/// The units that a reader has given so far are within their limits, and their
+/// items stand on different lines.
+pub fn read_units_are_fit()
+    ensures { ReadUnitsAreFit }
+{}
+
+/// The same holds of all the units of a script.
+pub fn script_units_are_fit()
+    ensures { ScriptUnitsAreFit }
+{}
+
+/// Two readers that have taken the same bytes have given the same units.
+pub fn read_units_are_determined()
+    ensures { ReadUnitsAreDetermined }
 {}

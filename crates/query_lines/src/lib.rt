@@ -1,5 +1,4 @@
-//! The query script and the replies to it: what a line says, which lines make a
-//! batch, and how a reply is written.
+//! The query script: what a line says, and which lines make a batch.
 //!
 //! A script is a text of lines. `wave` and `at` lines ask for the values of a
 //! signal, and are the **items** of batches, as is a line of no known form,
@@ -7,7 +6,9 @@
 //! served by themselves. So a script is a list of **units**, each of which is
 //! served as a whole: `specs/Lines` says what a line means, `specs/Units` where
 //! a batch ends, and `specs/Laws` what holds of all units: they are the lines'
-//! requests in their order, and each batch is within its limits.
+//! requests in their order, and each batch is within its limits. `specs/Fit` is
+//! what whoever serves them may count on besides: the items of a batch stand on
+//! different lines, and the bytes read so far determine the units given so far.
 //!
 //! The script comes byte by byte, and may stop at any byte. `ScriptReader` takes
 //! one byte after another and gives each unit as soon as the line that completes
@@ -28,15 +29,9 @@
 //! }
 //! ```
 //!
-//! An item's `Reply` is a waveform, as its maximal `Runs`, or says why there is
-//! none; `reply_text` writes it, and `specs/Replies` is the format. A
-//! `WindowWalk` goes over a window from cell to cell and gathers its runs: once
-//! the window is walked, they are its waveform (`specs/Walks`).
-//!
 //! A byte costs constant time, and memory is taken only for an item's name, for
 //! pending items and for units. A line is read in time in proportion to its
-//! length, an item is moved into its batch once, and a reply's text is written
-//! from front to back. `LineCutter` keeps its line in an array of 4,096 bytes,
+//! length, and an item is moved into its batch once. `LineCutter` keeps its line in an array of 4,096 bytes,
 //! and takes no memory.
 #![tactic(auto)]
 
@@ -44,22 +39,18 @@ mod batcher;
 mod cutter;
 mod laws;
 mod line;
-mod reply;
 mod script;
-mod text;
 mod unit;
-mod walk;
 
 pub use batcher::Batcher;
-pub use circuit_meaning::Run;
 pub use cutter::{Cut, LineCutter};
-pub use laws::{runs_of_cells, units_are_within_limits, units_keep_requests};
+pub use laws::{
+    read_units_are_determined, read_units_are_fit, script_units_are_fit, units_are_within_limits,
+    units_have_own_lines, units_keep_requests,
+};
 pub use line::{Line, What, read_line};
-pub use reply::{Reply, Runs};
 pub use script::{ScriptReader, read_script};
-pub use text::{reply_text, stats_text, trimmed_text};
 pub use unit::{Item, ItemList, Unit, UnitList};
-pub use walk::WindowWalk;
 
 #[cfg(test)]
 mod tests;

@@ -2,9 +2,10 @@
 
 ghost use Rattle.std.specs.Prelude.{◌≡◌, ◌<◌, ◌≤◌, ◌+◌, ◌++◌, ◌∷◌, [], ℕ, List, length, All, IfOk, OnErr};
 ghost use Rattle.query_lines.specs.Laws.{IsWithinLimits};
-ghost use Rattle.query_lines.specs.Cutting.{Ends, cut_of, kept_of};
+ghost use Rattle.query_lines.specs.Cutting.{LineEnds, cut_of, kept_of};
 ghost use Rattle.query_lines.specs.Lines.{line_of};
-ghost use Rattle.query_lines.specs.Reading.{HasRead, ReadsLine, script_units};
+ghost use Rattle.query_lines.specs.Reading.{HasRead, script_units};
+ghost use Rattle.query_lines.specs.inner.Reading.{ReadsLine};
 ghost use Rattle.query_lines.specs.Units.{closed};
 ghost use Rattle.query_lines.specs.declared.unit.Unit.{Unit as ScriptUnit};
 
@@ -109,7 +110,7 @@ impl ScriptReader {
     // Reads the line that the cutter has just ended.
     fn read_ended(&mut self, cut: Cut) -> Result<UnitList, OutOfMemory>
         requires { self.old.lines < 4294967295 }
-        ensures read { (line : List ℕ) → Ends line cut self.old.cutter
+        ensures read { (line : List ℕ) → LineEnds line cut self.old.cutter
             → IfOk result (ReadsLine line self.old self.new) }
         ensures err { OnErr result
             ((self.new.pending ≡ self.old.pending) × (self.new.lines ≡ self.old.lines)) }

@@ -2,7 +2,7 @@
 //!
 //! A [`Simulator`] holds a circuit as `circuit_meaning` defines it. [`Simulator::value_at`] answers the value of a signal at
 //! a time, which is that of full forward simulation: it asks the pins for their values at the earlier times that they
-//! read, and so on back. It keeps nothing between calls and inside one. Its time can grow as the number of pins to the power of
+//! read, and so on back. It keeps nothing, neither between calls nor within one. Its time can grow as the number of pins to the power of
 //! the time asked for, so it serves for small circuits alone, to compare other programs with.
 //!
 //! A simulator takes no memory but that of its elements, and its answers cannot fail.

@@ -6,7 +6,7 @@ use Rattle.backsim_io.specs.Counts.{Grows, GrowsByPrefix}
 use Rattle.backsim_io.specs.Held.{Made, grown, FileGrows, FileGrowsByPrefix}
 use Rattle.session_meaning.specs.Broken.{IsPrefix}
 use Rattle.session_meaning.proofs.Journals.{prefix-same, prefix-again}
-use Rattle.session_loop.specs.Growing.{GoesOn, FileGoesOn, GrowsPart, FileGrowsPart}
+use Rattle.session_loop.specs.inner.Growing.{GoesOn, FileGoesOn, GrowsPart, FileGrowsPart}
 
 -- what holds anyhow
 pub on-err : {T E X : Type 0} (result : Result T E) → X → OnErr result X
@@ -45,8 +45,8 @@ part-none w whole = ([], (whole, refl), grows-none w)
 pub part-whole : (u v : List ℕ → Type 0) (whole : List ℕ) → Grows u v whole → GrowsPart u v whole
 part-whole u v whole g = (whole, prefix-same whole, g)
 
-pub part-behind : (u v w : List ℕ → Type 0) (done whole : List ℕ) → Grows u v done → GrowsPart v w whole → GrowsPart u w (done ++ whole)
-part-behind u v w done whole f p = (done ++ p.0, (p.1.0, ap (λ l. done ++ l) p.1.1 ∙ sym (append_assoc done p.0 p.1.0)), grows-more u v w done p.0 f p.2)
+pub part-after : (u v w : List ℕ → Type 0) (done whole : List ℕ) → Grows u v done → GrowsPart v w whole → GrowsPart u w (done ++ whole)
+part-after u v w done whole f p = (done ++ p.0, (p.1.0, ap (λ l. done ++ l) p.1.1 ∙ sym (append_assoc done p.0 p.1.0)), grows-more u v w done p.0 f p.2)
 
 pub part-longer : (u v : List ℕ → Type 0) (part whole : List ℕ) → IsPrefix part whole → GrowsPart u v part → GrowsPart u v whole
 part-longer u v part whole q p = (p.0, prefix-again p.0 part whole p.1 q, p.2)
@@ -60,8 +60,8 @@ file-part-none m slot whole = ([], (whole, refl), file-none m slot)
 pub file-part-whole : (u v : List Made → Type 0) (slot : ℕ) (whole : List ℕ) → FileGrows u v slot whole → FileGrowsPart u v slot whole
 file-part-whole u v slot whole g = (whole, prefix-same whole, g)
 
-pub file-part-behind : (u v w : List Made → Type 0) (slot : ℕ) (done whole : List ℕ) → FileGrows u v slot done → FileGrowsPart v w slot whole → FileGrowsPart u w slot (done ++ whole)
-file-part-behind u v w slot done whole f p = (done ++ p.0, (p.1.0, ap (λ l. done ++ l) p.1.1 ∙ sym (append_assoc done p.0 p.1.0)), file-more u v w slot done p.0 f p.2)
+pub file-part-after : (u v w : List Made → Type 0) (slot : ℕ) (done whole : List ℕ) → FileGrows u v slot done → FileGrowsPart v w slot whole → FileGrowsPart u w slot (done ++ whole)
+file-part-after u v w slot done whole f p = (done ++ p.0, (p.1.0, ap (λ l. done ++ l) p.1.1 ∙ sym (append_assoc done p.0 p.1.0)), file-more u v w slot done p.0 f p.2)
 
 pub file-part-longer : (u v : List Made → Type 0) (slot : ℕ) (part whole : List ℕ) → IsPrefix part whole → FileGrowsPart u v slot part → FileGrowsPart u v slot whole
 file-part-longer u v slot part whole q p = (p.0, prefix-again p.0 part whole p.1 q, p.2)

@@ -4,3 +4,5 @@ pub mod Taken
 pub mod Scripts
 pub mod Files
 pub mod Pieces
+pub mod WorkDone
+pub mod EmptyStores

@@ -1,8 +1,8 @@
 -- Texts that are written piece by piece.
-use Rattle.std.proofs.Common.{◌≡◌, ℕ, zero, suc, ◌+◌, ◌<◌, ◌≤◌, List, [], ◌∷◌, ◌++◌, length, length-take, get_or, take, drop, refl, sym, ap, subst, ◌∙◌, append_assoc, append-nil, arith}
+use Rattle.std.proofs.Common.{◌≡◌, ℕ, zero, suc, ◌+◌, ◌<◌, List, [], ◌∷◌, ◌++◌, length, length-take, get_or, take, drop, refl, sym, ap, subst, ◌∙◌, append_assoc, append-nil, arith}
 use Rattle.std.specs.Prelude.{flat_map, codes, OnOk, OnErr, Result, Ok, Err}
 use Rattle.journal_text.specs.declared.sections.SectionKind.{SectionKind}
-use Rattle.std.specs.List.{AllZip, slice_index_or}
+use Rattle.std.specs.List.{AllZip}
 use Rattle.std.proofs.lemmas.List.{take_more, take-append-drop}
 use Rattle.std.proofs.lemmas.List.Concat.{flat_map-append}
 use Rattle.std.proofs.Math.Seq.{take-add}
@@ -11,12 +11,12 @@ use Rattle.backsim_io.specs.Held.{Made, FileGrows}
 use Rattle.journal_meaning.specs.declared.Entry.{Entry}
 use Rattle.journal_text.specs.Spelling.{field, line_feed, entry_line, shard_lines, kind_word, section_lines}
 use Rattle.query_lines.specs.declared.unit.Item.{Item}
-use Rattle.query_lines.specs.declared.reply.Reply.{Reply}
-use Rattle.query_lines.specs.Replies.{text_of}
+use Rattle.reply_lines.specs.declared.reply.Reply.{Reply}
+use Rattle.reply_lines.specs.Replies.{text_of}
 use Rattle.session_meaning.specs.Replies.{replies_text}
 use Rattle.session_meaning.specs.Broken.{IsPrefix}
-use Rattle.session_loop.specs.Growing.{GrowsPart, FileGrowsPart, shard_line}
-use Rattle.session_loop.proofs.Growing.{grows-more, part-behind, part-longer, file-more, file-part-behind, file-part-longer}
+use Rattle.session_loop.specs.inner.Growing.{GrowsPart, FileGrowsPart, shard_line}
+use Rattle.session_loop.proofs.Growing.{grows-more, part-after, part-longer, file-more, file-part-after, file-part-longer}
 
 pub zip-length : {A B : Type 0} (P : A → B → Type 0) (xs : List A) (ys : List B) → AllZip P xs ys → length xs ≡ length ys
 zip-length P [] [] h = refl
@@ -61,7 +61,7 @@ module _ (items : List Item) (replies : List Reply) (i : ℕ) (a : Item) (b : Re
   pub replies-part : GrowsPart v w (text_of (get_or items i a) (get_or replies i b)) → GrowsPart u w (replies_text items replies)
   replies-part part =
       part-longer u w (replies_text (take (i + 1) items) (take (i + 1) replies)) (replies_text items replies) (replies_text (drop (i + 1) items) (drop (i + 1) replies), replies-split (i + 1) items replies)
-      (subst (GrowsPart u w) (sym (replies-more items replies i a b within inside)) (part-behind u v w (replies_text (take i items) (take i replies)) (text_of (get_or items i a) (get_or replies i b)) done part))
+      (subst (GrowsPart u w) (sym (replies-more items replies i a b within inside)) (part-after u v w (replies_text (take i items) (take i replies)) (text_of (get_or items i a) (get_or replies i b)) done part))
 
 -- entries
 abbrev lines_of : List Entry → List ℕ
@@ -78,7 +78,7 @@ module _ (slot : ℕ) (u v w : List Made → Type 0) where
   entries-part es d n done part =
       file-part-longer u w slot (lines_of (take (d + n) es)) (lines_of es)
       (lines_of (drop (d + n) es), ap lines_of (sym (take-append-drop (d + n) es)) ∙ flat_map-append entry_line (take (d + n) es) (drop (d + n) es))
-      (subst (FileGrowsPart u w slot) (sym (lines-more es d n)) (file-part-behind u v w slot (lines_of (take d es)) (lines_of (take n (drop d es))) done part))
+      (subst (FileGrowsPart u w slot) (sym (lines-more es d n)) (file-part-after u v w slot (lines_of (take d es)) (lines_of (take n (drop d es))) done part))
 
   -- shards
   shards-more : (k : ℕ) (lists : List (List Entry)) (es : List Entry) → shard_lines k (lists ++ es ∷ []) ≡ shard_lines k lists ++ (shard_line (k + length lists) ++ flat_map entry_line es)
@@ -118,7 +118,7 @@ module _ (slot : ℕ) (u v w : List Made → Type 0) where
       → FileGrowsPart u w slot (shard_lines 0 lists)
   shards-part lists i es within is done part =
       file-part-longer u w slot (shard_lines 0 (take (i + 1) lists)) (shard_lines 0 lists) (shard_lines (0 + (i + 1)) (drop (i + 1) lists), shards-split (i + 1) 0 lists)
-      (subst (FileGrowsPart u w slot) (sym (shards-one lists i es within is)) (file-part-behind u v w slot (shard_lines 0 (take i lists)) (shard_line i ++ lines_of es) done part))
+      (subst (FileGrowsPart u w slot) (sym (shards-one lists i es within is)) (file-part-after u v w slot (shard_lines 0 (take i lists)) (shard_line i ++ lines_of es) done part))
 
 -- a last piece
 pub file-ok : {T E : Type 0} (slot : ℕ) (u v w : List Made → Type 0) (a b : List ℕ) (r : Result T E) → FileGrows u v slot a → OnOk r (FileGrows v w slot b) → OnOk r (FileGrows u w slot (a ++ b))
@@ -127,7 +127,7 @@ file-ok slot u v w a b (Err e) done more = more
 
 pub file-err : {T E : Type 0} (slot : ℕ) (u v w : List Made → Type 0) (a b : List ℕ) (r : Result T E) → FileGrows u v slot a → OnErr r (FileGrowsPart v w slot b) → OnErr r (FileGrowsPart u w slot (a ++ b))
 file-err slot u v w a b (Ok x) done more = more
-file-err slot u v w a b (Err e) done more = file-part-behind u v w slot a b done more
+file-err slot u v w a b (Err e) done more = file-part-after u v w slot a b done more
 
 -- the parts of a section
 abbrev pub section_head : SectionKind → ℕ → List ℕ

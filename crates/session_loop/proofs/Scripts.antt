@@ -1,21 +1,23 @@
 -- A script that was served, or in which the session stopped.
-use Rattle.std.proofs.Common.{◌≡◌, ℕ, ◌+◌, ◌<◌, ◌≤◌, List, [], ◌∷◌, ◌++◌, length, get_or, take, drop, Option, Some, None, Result, Ok, Err, refl, sym, ap, subst, ◌∙◌, append_assoc, append-nil, length-append, length-take, arith, ◌⊎◌, inl, inr}
-use Rattle.std.specs.Prelude.{IfOk, OnOk, OnErr, IfErr}
+use Rattle.std.proofs.Common.{◌≡◌, ℕ, ◌+◌, ◌<◌, ◌≤◌, List, [], ◌++◌, length, take, drop, Option, Some, None, refl, sym, ap, subst, ◌∙◌, append_assoc, append-nil, length-append, length-take, arith, inl, inr}
 use Rattle.std.proofs.lemmas.List.{take-append-drop, take-append-le, take-take, take_all}
 use Rattle.std.specs.Io.KnownBytes.{Consumes, IsAtEnd, Keeps}
 use Rattle.std.proofs.KnownBytes.{Consumes-trans}
-use Rattle.backsim_io.specs.Counts.{Rose}
 use Rattle.backsim_io.specs.Held.{Made, ConsumesUpTo}
 use Rattle.query_lines.specs.declared.unit.Unit.{Unit as ScriptUnit}
 use Rattle.query_lines.specs.Reading.{Reader, HasRead, script_units}
-use Rattle.session_meaning.specs.Session.{Setup, Course, Session, Opened, opened, IsSession, IsSessionOf}
-use Rattle.session_meaning.specs.Broken.{IsPrefix, journal_of, IsBroken, AreCompleted, IsBrokenIn, IsServedUpTo, IsCutOff}
+use Rattle.session_meaning.specs.Session.{Setup, Opened, opened, IsSession, IsSessionOf}
+use Rattle.session_meaning.specs.Broken.{journal_of, IsBroken, IsBrokenIn, IsCutOff}
 use Rattle.session_loop.specs.declared.desk.Desk.{Desk}
 use Rattle.session_loop.specs.declared.stop.Stop.{Stop}
 use Rattle.session_loop.specs.declared.stop.Stop.TheVariants.{ScriptUnread, ScriptTooLong, RepliesUnwritten, JournalUnwritten, OutOfMemory}
-use Rattle.session_loop.specs.Desks.{Keeps as KeepsDesk, AreStores, no_counts}
-use Rattle.session_loop.specs.Serving.{Serves, Stops, UnitExplains, Explains, HasTaken, Reads, Ends, TakesServed, TakesStopped, EndsServed, EndsStopped, HasServed, Wrote, IsServedUntil, IsStopped}
-use Rattle.session_loop.proofs.Served.{serves-none, serves-more, stops-none, stops-more}
+use Rattle.unit_answers.specs.Stores.{cells_of}
+use Rattle.session_loop.specs.inner.Desks.{Keeps as KeepsDesk, no_counts}
+use Rattle.session_loop.specs.Faults.{Faults, Explains}
+use Rattle.session_loop.specs.inner.Faults.{UnitExplains}
+use Rattle.session_loop.specs.inner.Serving.{Serves, Stops, TakesServed, TakesStopped, EndsServed, EndsStopped, HasServed, Wrote}
+use Rattle.session_loop.specs.Serving.{IsServedUntil, IsStopped}
+use Rattle.session_loop.proofs.Served.{serves-none, serves-more, stops-more}
 
 -- all of a script was taken
 all-taken : (script : List ℕ) (first left next : Option (List ℕ)) (bytes into : List ℕ) (n : ℕ) → first ≡ Some script → Consumes first left bytes → Consumes left next (take n into) → n ≡ 0 → IsAtEnd next → script ≡ bytes
@@ -49,16 +51,16 @@ kept (Some xs) (Some ys) None bytes took same = absurd same
 kept (Some xs) (Some ys) (Some zs) bytes took same = took ∙ ap (λ l. bytes ++ l) (sym same)
 
 -- what a stop of a unit tells, it tells of a session
-pub explains-of : (queries new_queries replies new_replies writes new_writes : ℕ) (stop : Stop) → UnitExplains replies new_replies writes new_writes stop → Explains queries new_queries replies new_replies writes new_writes stop
-explains-of queries new_queries replies new_replies writes new_writes ScriptUnread h = absurd h
-explains-of queries new_queries replies new_replies writes new_writes ScriptTooLong h = absurd h
-explains-of queries new_queries replies new_replies writes new_writes RepliesUnwritten h = h
-explains-of queries new_queries replies new_replies writes new_writes JournalUnwritten h = h
-explains-of queries new_queries replies new_replies writes new_writes OutOfMemory h = h
+pub explains-of : (old new : Faults) (stop : Stop) → UnitExplains old.replies new.replies old.writes new.writes stop → Explains old new stop
+explains-of old new ScriptUnread h = absurd h
+explains-of old new ScriptTooLong h = absurd h
+explains-of old new RepliesUnwritten h = h
+explains-of old new JournalUnwritten h = h
+explains-of old new OutOfMemory h = h
 
-pub explains-after : (queries new_queries replies mid_replies new_replies writes mid_writes new_writes : ℕ) (stop : Stop) → mid_replies ≡ replies → mid_writes ≡ writes → UnitExplains mid_replies new_replies mid_writes new_writes stop → Explains queries new_queries replies new_replies writes new_writes stop
-explains-after queries new_queries replies mid_replies new_replies writes mid_writes new_writes stop same_replies same_writes h =
-    explains-of queries new_queries replies new_replies writes new_writes stop (subst (λ r. UnitExplains r new_replies writes new_writes stop) same_replies (subst (λ w. UnitExplains mid_replies new_replies w new_writes stop) same_writes h))
+pub explains-after : (old new : Faults) (mid_replies mid_writes : ℕ) (stop : Stop) → mid_replies ≡ old.replies → mid_writes ≡ old.writes → UnitExplains mid_replies new.replies mid_writes new.writes stop → Explains old new stop
+explains-after old new mid_replies mid_writes stop same_replies same_writes h =
+    explains-of old new stop (subst (λ r. UnitExplains r new.replies old.writes new.writes stop) same_replies (subst (λ w. UnitExplains mid_replies new.replies w new.writes stop) same_writes h))
 
 stopped-is : (setup : Setup) (script : List ℕ) (left : Option (List ℕ)) (r r' w w' : ℕ) (stop : Stop) (replies journal : List ℕ) → UnitExplains r r' w w' stop → IsBrokenIn setup script replies journal → IsStopped setup script left stop replies journal
 stopped-is setup script left r r' w w' ScriptUnread replies journal h b = absurd h
@@ -161,15 +163,15 @@ module _ (setup : Setup) (slot : ℕ) (desk : Desk) (fresh : KeepsDesk setup des
         → TakesStopped setup reader (take m (into ++ rest)) x slot mid new_out mid_made new_made → Wrote setup (IsStopped setup script after stop) slot out new_out made new_made
     block-stopped taken left next after reader x n m into rest r r' w w' stop out mid new_out made mid_made new_made so_far took small within cause stops =
         let split = split-script script first left next so_far.bytes (take n into) is so_far.took took in
-        let behind = stops.front_is.0 ++ (drop m (take n into) ++ split.0) in
-        let script-is : script ≡ (so_far.bytes ++ stops.front) ++ behind =
+        let tail = stops.front_is.0 ++ (drop m (take n into) ++ split.0) in
+        let script-is : script ≡ (so_far.bytes ++ stops.front) ++ tail =
         split.1
         ∙ ap (λ (l : List ℕ). (so_far.bytes ++ l) ++ split.0) (block-front n m into rest small within ∙ ap (λ (l : List ℕ). l ++ drop m (take n into)) stops.front_is.1)
         ∙ regroup so_far.bytes stops.front stops.front_is.0 (drop m (take n into)) split.0 in
         wrote-map (IsBroken setup (so_far.units ++ stops.units)) (IsStopped setup script after stop) out new_out made new_made
         (λ replies journal broken. stopped-is setup script after r r' w w' stop replies journal cause (record {
           taken = so_far.bytes ++ stops.front;
-          taken_are = (behind, script-is);
+          taken_are = (tail, script-is);
           units = so_far.units ++ stops.units;
           completed = inl (record { reader = stops.later; read = stops.reads setup.design.circuit.horizon so_far.bytes so_far.units so_far.read });
           broken = broken;
@@ -238,7 +240,7 @@ module _ (setup : Setup) (slot : ℕ) (desk : Desk) (fresh : KeepsDesk setup des
         (so_far.bytes, kept (Some script) left next so_far.bytes (subst (λ f. Consumes f left so_far.bytes) is so_far.took) same, omega (arith, so_far.long, small))
 
 -- a session begins
-pub fresh-desk : (setup : Setup) (desk : Desk) → ((shard : ℕ) → shard < setup.shards → get_or desk.stores.items shard [] ≡ []) → desk.counts ≡ no_counts → KeepsDesk setup desk opened
+pub fresh-desk : (setup : Setup) (desk : Desk) → ((shard : ℕ) → shard < setup.shards → cells_of desk.stores.items shard ≡ []) → desk.counts ≡ no_counts → KeepsDesk setup desk opened
 fresh-desk setup desk empty none = record {
   cells = empty;
   counts = record {

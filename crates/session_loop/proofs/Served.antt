@@ -1,23 +1,24 @@
 -- A unit that its parts served is a unit of the session; where a part failed, the session breaks off in it.
-use Rattle.std.proofs.Common.{◌≡◌, ℕ, Bool, suc, ◌+◌, ◌<◌, List, [], ◌∷◌, ◌++◌, length, get_or, take, drop, filter, fold, sum_by, refl, sym, ap, subst, ◌∙◌, append_assoc, append-nil, length-append, arith}
+use Rattle.std.proofs.Common.{◌≡◌, ℕ, Bool, suc, ◌+◌, ◌<◌, List, [], ◌∷◌, ◌++◌, length, get_or, take, drop, filter, sum_by, refl, sym, ap, subst, ◌∙◌, append_assoc, append-nil, length-append, arith}
 use Rattle.std.proofs.lemmas.List.Sums.{fold-append, sum_by-append, sum_by-cons}
 use Rattle.std.specs.List.{range_with_len}
 use Rattle.std.proofs.lemmas.List.{take_more, take-append-drop}
 use Rattle.std.proofs.lemmas.List.Elements.{filter-append}
 use Rattle.valid_intervals.specs.declared.SignalCell.{SignalCell}
+use Rattle.cell_store.specs.Recency.{Contents}
 use Rattle.backsim_io.specs.Counts.{Grows}
 use Rattle.backsim_io.specs.Held.{Made, FileGrows}
 use Rattle.journal_meaning.specs.declared.Entry.{Entry}
 use Rattle.journal_meaning.specs.States.{fresh}
 use Rattle.journal_meaning.specs.Replay.{IsLegalBatch, IsLegalTrim, replay}
-use Rattle.journal_meaning.specs.Sections.{Purpose, Asks, Trims, Holds, Section, own, list_of, cells_left, cells_after}
-use Rattle.journal_meaning.specs.Grown.{count}
+use Rattle.journal_meaning.specs.Sections.{Purpose, Asks, Trims, Forces, SectionEntries, own, cells_left, cells_after}
+use Rattle.journal_meaning.specs.Counts.{count}
 use Rattle.journal_text.specs.Spelling.{section_lines}
 use Rattle.query_lines.specs.declared.unit.Item.{Item}
 use Rattle.query_lines.specs.declared.unit.Unit.{Unit as ScriptUnit}
 use Rattle.query_lines.specs.declared.unit.Unit.TheVariants as units
-use Rattle.query_lines.specs.declared.reply.Reply.{Reply}
-use Rattle.query_lines.specs.Replies.{trimmed_line, stats_line}
+use Rattle.reply_lines.specs.declared.reply.Reply.{Reply}
+use Rattle.reply_lines.specs.Replies.{trimmed_line, stats_line}
 use Rattle.journal_text.specs.declared.sections.SectionKind.TheVariants.{Batch, Trim}
 use Rattle.session_meaning.specs.Replies.{replies_text}
 use Rattle.session_meaning.specs.Written.{kind_of, numbered}
@@ -26,30 +27,32 @@ use Rattle.session_meaning.specs.Broken.{IsPrefix, journal_of, IsBroken}
 use Rattle.session_meaning.proofs.Journals.{journal-more, broken-none, broken-more, broken-at, prefix-same, prefix-more, prefix-behind}
 use Rattle.session_loop.specs.declared.desk.Counts.{Counts}
 use Rattle.session_loop.specs.declared.desk.Desk.{Desk}
-use Rattle.session_loop.specs.Growing.{GrowsPart, FileGrowsPart}
-use Rattle.session_loop.specs.Desks.{AreStores, IsCount, IsCounted, batches_in, Keeps, IsBatchDone, IsTrimDone}
-use Rattle.session_loop.specs.Serving.{ServedTo, StoppedIn, Serves, Stops}
-use Rattle.session_loop.proofs.Growing.{goes-none, goes-more, file-goes-none, file-goes-more, file-part-none, part-whole, grows-none, file-none}
+use Rattle.session_loop.specs.inner.Growing.{GrowsPart, FileGrowsPart}
+use Rattle.unit_answers.specs.Stores.{AreStores, cells_of}
+use Rattle.unit_answers.specs.Done.{IsBatchDone, IsTrimDone}
+use Rattle.session_loop.specs.inner.Desks.{IsCount, IsCounted, batches_in, Keeps}
+use Rattle.session_loop.specs.inner.Serving.{ServedTo, StoppedIn, Serves, Stops}
+use Rattle.session_loop.proofs.Growing.{goes-none, goes-more, file-goes-none, file-goes-more}
 
-entries-more : (test : Entry → Bool) (sections : List Section) (section : Section) → own section.purpose ≡ (λ es. es)
+entries-more : (test : Entry → Bool) (sections : List SectionEntries) (section : SectionEntries) → own section.purpose ≡ (λ es. es)
     → entries_that test (sections ++ section ∷ []) ≡ entries_that test sections + sum_by (count test) section.lists
 entries-more test sections section mine =
-    sum_by-append (λ (s : Section). sum_by (λ entries. count test (own s.purpose entries)) s.lists) sections (section ∷ [])
+    sum_by-append (λ (s : SectionEntries). sum_by (λ entries. count test (own s.purpose entries)) s.lists) sections (section ∷ [])
     ∙ ap (λ n. entries_that test sections + n) (omega (arith, ap (λ (f : List Entry → List Entry). sum_by (λ entries. count test (f entries)) section.lists) mine))
 
-batches-more : (sections : List Section) (section : Section) → length (filter (λ s. is_batch s.purpose) (sections ++ section ∷ [])) ≡ length (filter (λ s. is_batch s.purpose) sections) + batches_in (kind_of section.purpose)
+batches-more : (sections : List SectionEntries) (section : SectionEntries) → length (filter (λ s. is_batch s.purpose) (sections ++ section ∷ [])) ≡ length (filter (λ s. is_batch s.purpose) sections) + batches_in (kind_of section.purpose)
 batches-more sections section =
-    ap length (filter-append (λ (s : Section). is_batch s.purpose) sections (section ∷ []))
+    ap length (filter-append (λ (s : SectionEntries). is_batch s.purpose) sections (section ∷ []))
     ∙ length-append (filter (λ s. is_batch s.purpose) sections) (filter (λ s. is_batch s.purpose) (section ∷ []))
     ∙ ap (λ n. length (filter (λ s. is_batch s.purpose) sections) + n) (one section.purpose section.lists)
   where
-    one : (p : Purpose) (lists : List (List Entry)) → length (filter (λ (s : Section). is_batch s.purpose) (record { purpose = p; lists = lists } ∷ [])) ≡ batches_in (kind_of p)
+    one : (p : Purpose) (lists : List (List Entry)) → length (filter (λ (s : SectionEntries). is_batch s.purpose) (record { purpose = p; lists = lists } ∷ [])) ≡ batches_in (kind_of p)
     one (Asks b) lists = refl
     one Trims lists = refl
-    one (Holds b) lists = refl
+    one (Forces b) lists = refl
 
 module _ (setup : Setup) where
-  counts-more : (counts later : Counts) (sections : List Section) (section : Section) → own section.purpose ≡ (λ es. es) → IsCount counts sections → IsCounted counts (kind_of section.purpose) section.lists later → IsCount later (sections ++ section ∷ [])
+  counts-more : (counts later : Counts) (sections : List SectionEntries) (section : SectionEntries) → own section.purpose ≡ (λ es. es) → IsCount counts sections → IsCounted counts (kind_of section.purpose) section.lists later → IsCount later (sections ++ section ∷ [])
   counts-more counts later sections section mine c more = record {
     sections_are = more.sections ∙ ap (λ n. n + 1) c.sections_are ∙ sym (length-append sections (section ∷ []));
     batches = more.batches ∙ ap (λ n. n + batches_in (kind_of section.purpose)) c.batches ∙ sym (batches-more sections section);
@@ -70,10 +73,10 @@ module _ (setup : Setup) where
 
       -- with a section of its own
       pub section-served : (later : Desk) → own purpose ≡ (λ es. es) → IsCounted desk.counts (kind_of purpose) lists later.counts
-          → ((shard : ℕ) → shard < setup.shards → get_or later.stores.items shard [] ≡ (replay (fresh (get_or desk.stores.items shard [])) (get_or lists shard [])).cells)
+          → ((shard : ℕ) → shard < setup.shards → cells_of later.stores.items shard ≡ (replay (fresh (cells_of desk.stores.items shard)) (get_or lists shard [])).cells)
           → Grows out new_out text → FileGrows made new_made slot section-text → ServedTo setup (units ++ unit ∷ []) now later slot out new_out made new_made
       section-served later mine counted leaves replied recorded =
-          let s : Section = record { purpose = purpose; lists = lists } in
+          let s : SectionEntries = record { purpose = purpose; lists = lists } in
           record {
             next = next;
             session = Served unit session served;
@@ -131,7 +134,7 @@ module _ (setup : Setup) where
   }
 
   -- A batch.
-  module _ (items : List Item) (desk : Desk) (replies : List Reply) (lists : List (List Entry)) (left : List (List SignalCell)) (done : IsBatchDone setup items desk.stores.items replies lists left) (counts : Counts) (counted : IsCounted desk.counts Batch lists counts) (slot : ℕ) (out new_out : List ℕ → Type 0) (made new_made : List Made → Type 0) where
+  module _ (items : List Item) (desk : Desk) (replies : List Reply) (lists : List (List Entry)) (left : List Contents) (done : IsBatchDone setup items desk.stores.items replies lists left) (counts : Counts) (counted : IsCounted desk.counts Batch lists counts) (slot : ℕ) (out new_out : List ℕ → Type 0) (made new_made : List Made → Type 0) where
     is-served : (now : Course) → Keeps setup desk now → IsServed setup now (units.Batch items) (with_section now (Asks (batch_of setup items)) lists (replies_text items replies))
     is-served now keeps = record {
       lists = lists;
@@ -146,7 +149,7 @@ module _ (setup : Setup) where
         → FileGrows made new_made slot (section_lines (record { kind = Batch; number = counts.sections; shards = lists })) → Serves setup desk later (units.Batch items ∷ []) slot out new_out made new_made
     batch-served later same stores replied recorded us now session keeps =
         section-served us (units.Batch items) now desk session keeps slot out new_out made new_made (Asks (batch_of setup items)) lists (replies_text items replies) (is-served now keeps) counts.sections counted.sections
-        later refl (subst (λ c. IsCounted desk.counts Batch lists c) (sym same) counted) (λ shard h. ap (λ l. get_or l shard []) stores ∙ done.leaves shard h) replied recorded
+        later refl (subst (λ c. IsCounted desk.counts Batch lists c) (sym same) counted) (λ shard h. ap (λ l. cells_of l shard) stores ∙ done.leaves shard h) replied recorded
 
     pub batch-stopped : GrowsPart out new_out (replies_text items replies) → FileGrowsPart made new_made slot (section_lines (record { kind = Batch; number = counts.sections; shards = lists }))
         → Stops setup desk (units.Batch items ∷ []) slot out new_out made new_made
@@ -154,7 +157,7 @@ module _ (setup : Setup) where
         section-stopped us (units.Batch items) now desk session keeps slot out new_out made new_made (Asks (batch_of setup items)) lists (replies_text items replies) (is-served now keeps) counts.sections counted.sections replied recorded
 
   -- A trim.
-  module _ (most : ℕ) (desk : Desk) (lists : List (List Entry)) (left : List (List SignalCell)) (done : IsTrimDone setup most desk.stores.items lists left) (counts : Counts) (counted : IsCounted desk.counts Trim lists counts) (slot : ℕ) (out new_out : List ℕ → Type 0) (made new_made : List Made → Type 0) where
+  module _ (most : ℕ) (desk : Desk) (lists : List (List Entry)) (left : List Contents) (done : IsTrimDone setup most desk.stores.items lists left) (counts : Counts) (counted : IsCounted desk.counts Trim lists counts) (slot : ℕ) (out new_out : List ℕ → Type 0) (made new_made : List Made → Type 0) where
     is-trimmed : (now : Course) → Keeps setup desk now → IsServed setup now (units.Trim most) (with_section now Trims lists (trimmed_line (sum_by length lists)))
     is-trimmed now keeps = record {
       lists = lists;
@@ -168,7 +171,7 @@ module _ (setup : Setup) where
         → FileGrows made new_made slot (section_lines (record { kind = Trim; number = counts.sections; shards = lists })) → Serves setup desk later (units.Trim most ∷ []) slot out new_out made new_made
     trim-served later same stores replied recorded us now session keeps =
         section-served us (units.Trim most) now desk session keeps slot out new_out made new_made Trims lists (trimmed_line (sum_by length lists)) (is-trimmed now keeps) counts.sections counted.sections
-        later refl (subst (λ c. IsCounted desk.counts Trim lists c) (sym same) counted) (λ shard h. ap (λ l. get_or l shard []) stores ∙ done.leaves shard h) replied recorded
+        later refl (subst (λ c. IsCounted desk.counts Trim lists c) (sym same) counted) (λ shard h. ap (λ l. cells_of l shard) stores ∙ done.leaves shard h) replied recorded
 
     pub trim-stopped : GrowsPart out new_out (trimmed_line (sum_by length lists)) → FileGrowsPart made new_made slot (section_lines (record { kind = Trim; number = counts.sections; shards = lists }))
         → Stops setup desk (units.Trim most ∷ []) slot out new_out made new_made
@@ -176,17 +179,17 @@ module _ (setup : Setup) where
         section-stopped us (units.Trim most) now desk session keeps slot out new_out made new_made Trims lists (trimmed_line (sum_by length lists)) (is-trimmed now keeps) counts.sections counted.sections replied recorded
 
   -- The counts.
-  stored-from : (stores : List (List SignalCell)) (first : ℕ) (cells : ℕ → List SignalCell) → ((i : ℕ) → i < length stores → get_or stores i [] ≡ cells (first + i))
-      → sum_by length stores ≡ sum_by (λ shard. length (cells shard)) (range_with_len first (length stores))
+  stored-from : (stores : List Contents) (first : ℕ) (cells : ℕ → List SignalCell) → ((i : ℕ) → i < length stores → cells_of stores i ≡ cells (first + i))
+      → sum_by (λ s. length s.cells) stores ≡ sum_by (λ shard. length (cells shard)) (range_with_len first (length stores))
   stored-from [] first cells same = refl
   stored-from (x ∷ stores) first cells same =
-      let here : length x ≡ length (cells first) = ap length (same 0 (omega arith)) ∙ ap (λ n. length (cells n)) (omega arith) in
+      let here : length x.cells ≡ length (cells first) = ap length (same 0 (omega arith)) ∙ ap (λ n. length (cells n)) (omega arith) in
       let rest = stored-from stores (first + 1) cells (λ i h. same (suc i) (omega (arith, h)) ∙ ap cells (omega arith)) in
-      sum_by-cons length x stores ∙ omega (arith, here, rest) ∙ sym (sum_by-cons (λ shard. length (cells shard)) first (range_with_len (first + 1) (length stores)))
+      sum_by-cons (λ (s : Contents). length s.cells) x stores ∙ omega (arith, here, rest) ∙ sym (sum_by-cons (λ shard. length (cells shard)) first (range_with_len (first + 1) (length stores)))
 
   module _ (desk : Desk) (stores : AreStores setup desk.stores.items) (slot : ℕ) (out new_out : List ℕ → Type 0) (made : List Made → Type 0) where
     abbrev pub told : List ℕ
-    told = stats_line desk.counts.batches desk.counts.fills desk.counts.evictions (sum_by length desk.stores.items)
+    told = stats_line desk.counts.batches desk.counts.fills desk.counts.evictions (sum_by (λ s. length s.cells) desk.stores.items)
 
     told-is : (now : Course) → Keeps setup desk now → told ≡ counts_line setup now.sections
     told-is now keeps =
@@ -225,7 +228,7 @@ module _ (setup : Setup) where
         recorded = file-goes-more made mid_made new_made slot (journal_of setup now) (journal_of setup f.next) (journal_of setup g.next) f.recorded g.recorded;
       }
 
-  -- a stop behind units that were served
+  -- a stop after units that were served
   pub stops-more : (a b : Desk) (us vs : List ScriptUnit) (slot : ℕ) (out mid new_out : List ℕ → Type 0) (made mid_made new_made : List Made → Type 0)
       → Serves setup a b us slot out mid made mid_made → Stops setup b vs slot mid new_out mid_made new_made → Stops setup a (us ++ vs) slot out new_out made new_made
   stops-more a b us vs slot out mid new_out made mid_made new_made first then units now session keeps =

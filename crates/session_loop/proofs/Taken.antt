@@ -1,19 +1,32 @@
 -- The bytes of a script are taken and served.
-use Rattle.std.proofs.Common.{◌≡◌, ℕ, ◌+◌, ◌<◌, ◌≤◌, List, [], ◌∷◌, ◌++◌, length, get_or, take, drop, Option, Some, None, Result, Ok, Err, refl, sym, ap, subst, ◌∙◌, append_assoc, append-nil, length-append, arith, ◌⊎◌, inl, inr}
-use Rattle.std.specs.Prelude.{IfOk, OnErr}
+use Rattle.std.proofs.Common.{◌≡◌, ℕ, ◌+◌, ◌<◌, ◌≤◌, List, [], ◌∷◌, ◌++◌, length, get_or, take, drop, Result, Ok, Err, refl, sym, ap, subst, ◌∙◌, append_assoc, append-nil, length-append, arith, inl, inr}
+use Rattle.std.specs.Prelude.{IfOk, OnErr, All}
+use Rattle.std.proofs.lemmas.List.Elements.{All-same}
 use Rattle.std.proofs.lemmas.List.{take_more, take-append-drop}
 use Rattle.backsim_io.specs.Held.{Made}
 use Rattle.query_lines.specs.declared.unit.Unit.{Unit as ScriptUnit}
-use Rattle.query_lines.specs.Reading.{Reader, HasRead, script_units}
+use Rattle.query_lines.specs.Reading.{Reader, HasRead}
+use Rattle.query_lines.specs.Fit.{IsFit}
+use Rattle.query_lines.proofs.OwnLines.{units-fit, given-fit, last-fit}
 use Rattle.session_meaning.specs.Session.{Setup}
 use Rattle.session_loop.specs.declared.desk.Desk.{Desk}
-use Rattle.session_loop.specs.Serving.{Serves, Stops, HasTaken, Reads, Ends, TakesServed, TakesStopped, EndsServed, EndsStopped}
+use Rattle.session_loop.specs.inner.Serving.{Serves, Stops, HasTaken, Reads, Ends, TakesServed, TakesStopped, EndsServed, EndsStopped}
 use Rattle.session_loop.proofs.Served.{serves-none, serves-more, stops-none, stops-more}
 
 -- one byte more was taken
-pub taken_more : (reader later : Reader) (taken byte : ℕ) (units : List ScriptUnit) → Reads reader later (byte ∷ []) units → HasTaken taken reader → HasTaken (taken + 1) later
-taken_more reader later taken byte units reads (horizon, script, given, read, long) =
-    (horizon, script ++ byte ∷ [], given ++ units, reads horizon script given read, omega (arith, long, length-append script (byte ∷ [])))
+pub taken-more : (horizon : ℕ) (reader later : Reader) (taken byte : ℕ) (units : List ScriptUnit) → Reads reader later (byte ∷ []) units → HasTaken horizon taken reader → HasTaken horizon (taken + 1) later
+taken-more horizon reader later taken byte units reads (script, given, read, long) =
+    (script ++ byte ∷ [], given ++ units, reads horizon script given read, omega (arith, long, length-append script (byte ∷ [])))
+
+-- the units that a byte completes are fit to be served
+pub taken-fit : (horizon : ℕ) (reader later : Reader) (taken byte : ℕ) (units : List ScriptUnit) → horizon ≤ 1000000 → Reads reader later (byte ∷ []) units → HasTaken horizon taken reader → All (IsFit horizon) units
+taken-fit horizon reader later taken byte units bound reads (script, given, read, long) =
+    last-fit horizon given units (given-fit horizon (script ++ byte ∷ []) (given ++ units) later (reads horizon script given read) bound)
+
+-- so are those that are left at the script's end
+pub left-fit : (horizon : ℕ) (reader : Reader) (taken : ℕ) (units : List ScriptUnit) → horizon ≤ 1000000 → Ends reader units → HasTaken horizon taken reader → All (IsFit horizon) units
+left-fit horizon reader taken units bound whole (script, given, read, long) =
+    last-fit horizon given units (All-same (IsFit horizon) _ _ (sym (whole horizon script given read)) (units-fit horizon script bound))
 
 pub reads-none : (reader : Reader) → Reads reader reader [] []
 reads-none reader horizon script given read = subst (λ l. HasRead horizon l (given ++ []) reader) (sym (append-nil script)) (subst (λ l. HasRead horizon script l reader) (sym (append-nil given)) read)

@@ -1,26 +1,42 @@
 -- A session with its journal, from the creation of the file to its end.
-use Rattle.std.specs.Prelude.{◌≡◌, ℕ, ◌⊎◌, List, [], ◌∷◌, Option}
-use Rattle.std.specs.Io.KnownBytes.{Consumes}
-use Rattle.backsim_io.specs.Counts.{Grows, Stays, Rose}
+use Rattle.std.specs.Prelude.{◌≡◌, ⊤, ℕ, ◌⊎◌, List, [], ◌∷◌, Option}
+use Rattle.backsim_io.specs.Counts.{Grows, Stays}
 use Rattle.backsim_io.specs.Held.{Made, SameMade}
 use Rattle.journal_text.specs.Spelling.{head_line}
-use Rattle.session_meaning.specs.Session.{Setup, IsSessionOf}
-use Rattle.session_meaning.specs.Broken.{IsHeadBegun}
+use Rattle.query_lines.specs.declared.unit.Item.{Item}
+use Rattle.query_lines.specs.declared.unit.Unit.TheVariants.{Batch}
+use Rattle.reply_lines.specs.declared.reply.Reply.{Reply}
+use Rattle.session_meaning.specs.Session.{Setup, Course, opened, IsBatchServed, IsSessionOf}
+use Rattle.session_meaning.specs.Broken.{IsPrefix, journal_of, IsHeadBegun, IsBroken}
+use Rattle.session_loop.specs.declared.stop.Stop.{Stop}
+use Rattle.session_loop.specs.declared.stop.Stop.TheVariants.{ScriptUnread, ScriptTooLong, RepliesUnwritten, JournalUnwritten, OutOfMemory}
 use Rattle.session_loop.specs.declared.halt.Halt.{Halt}
 use Rattle.session_loop.specs.declared.halt.Halt.TheVariants.{JournalUnmade, Stopped, JournalUnfinished}
-use Rattle.session_loop.specs.declared.stop.Stop.{Stop}
-use Rattle.session_loop.specs.Serving.{IsStopped, Explains}
+use Rattle.session_loop.specs.Serving.{IsStopped}
 
--- Such replies were written, and where no file had been created, the one file that is has this name and such bytes.
+-- The one file that was created has this name and these bytes, where none had been created before.
+abbrev pub Stands : List ℕ → List ℕ → (List Made → Type 0) → (List Made → Type 0) → Type 0
+Stands name bytes made new_made = made [] → new_made (record { name = name; bytes = bytes } ∷ [])
+
+-- Such replies were written, and such a journal.
 pub record WroteFile (such : List ℕ → List ℕ → Type 0) (name : List ℕ) (out new_out : List ℕ → Type 0) (made new_made : List Made → Type 0) : Type 0 where
   pub replies : List ℕ
   pub journal : List ℕ
   pub are : such replies journal
   pub replied : Grows out new_out replies
-  pub created : made [] → new_made (record { name = name; bytes = journal } ∷ [])
+  pub created : Stands name journal made new_made
+
+-- the stops that come before the script is read: the head is not written, or there is no memory
+abbrev pub IsEarly : Stop → Type 0
+IsEarly ScriptUnread = ⊥
+IsEarly ScriptTooLong = ⊥
+IsEarly RepliesUnwritten = ⊥
+IsEarly JournalUnwritten = ⊤
+IsEarly OutOfMemory = ⊤
 
 -- the source was not read, and a part of the head at most was written
-pub record IsUnbegun (setup : Setup) (left : Option (List ℕ)) (old_left : Option (List ℕ)) (replies journal : List ℕ) : Type 0 where
+pub record IsUnbegun (setup : Setup) (old_left left : Option (List ℕ)) (stop : Stop) (replies journal : List ℕ) : Type 0 where
+  pub early : IsEarly stop
   pub unread : left ≡ old_left
   pub head : IsHeadBegun setup replies journal
 
@@ -28,11 +44,41 @@ pub record IsUnbegun (setup : Setup) (left : Option (List ℕ)) (old_left : Opti
 abbrev pub IsHalted : Setup → List ℕ → List ℕ → Option (List ℕ) → Option (List ℕ) → (List ℕ → Type 0) → (List ℕ → Type 0) → (List Made → Type 0) → (List Made → Type 0) → Halt → Type 0
 IsHalted setup name script old_left left out new_out made new_made JournalUnmade = Stays out new_out × SameMade made new_made × (left ≡ old_left)
 IsHalted setup name script old_left left out new_out made new_made (Stopped stop) =
-    WroteFile (IsUnbegun setup left old_left) name out new_out made new_made ⊎ WroteFile (IsStopped setup script left stop) name out new_out made new_made
+    WroteFile (IsUnbegun setup old_left left stop) name out new_out made new_made ⊎ WroteFile (IsStopped setup script left stop) name out new_out made new_made
 IsHalted setup name script old_left left out new_out made new_made JournalUnfinished = WroteFile (IsSessionOf setup script) name out new_out made new_made
 
--- what the counts of faults tell of it
-abbrev pub HaltExplains : ℕ → ℕ → ℕ → ℕ → ℕ → ℕ → ℕ → ℕ → Halt → Type 0
-HaltExplains queries new_queries replies new_replies writes new_writes files new_files JournalUnmade = Rose files new_files
-HaltExplains queries new_queries replies new_replies writes new_writes files new_files (Stopped stop) = Explains queries new_queries replies new_replies writes new_writes stop
-HaltExplains queries new_queries replies new_replies writes new_writes files new_files JournalUnfinished = Rose files new_files
+-- Where the journal was not created, nothing was replied, and the script and the created files are as they were.
+pub record IsUntouched (old_left left : Option (List ℕ)) (out new_out : List ℕ → Type 0) (made new_made : List Made → Type 0) (files new_files : ℕ) : Type 0 where
+  pub unread : left ≡ old_left
+  pub unreplied : Stays out new_out
+  pub same_files : SameMade made new_made
+  pub no_file : new_files ≡ files
+
+-- A session without a script.
+
+-- Such a journal was written.
+pub record WroteJournal (such : List ℕ → Type 0) (name : List ℕ) (made new_made : List Made → Type 0) : Type 0 where
+  pub journal : List ℕ
+  pub are : such journal
+  pub created : Stands name journal made new_made
+
+-- the journal of the session of one batch of these items, with these replies
+pub record IsWork (setup : Setup) (items : List Item) (replies : List Reply) (journal : List ℕ) : Type 0 where
+  pub next : Course
+  pub served : IsBatchServed setup opened next items
+  pub replies_are : served.replies ≡ replies
+  pub journal_is : journal ≡ journal_of setup next
+
+-- the batch was answered, whatever the replies
+abbrev pub IsWorkDone : Setup → List Item → List ℕ → Type 0
+IsWorkDone setup items journal = (replies : List Reply) × IsWork setup items replies journal
+
+-- a part of the head at most was written, or a part of the batch's section after it
+abbrev pub IsWorkBegun : Setup → List Item → List ℕ → Type 0
+IsWorkBegun setup items journal = IsPrefix journal (head_line setup.shards setup.capacity) ⊎ IsBroken setup (Batch items ∷ []) [] journal
+
+-- what stands where a session of one batch halts
+abbrev pub IsWorkHalted : Setup → List Item → List ℕ → (List Made → Type 0) → (List Made → Type 0) → Halt → Type 0
+IsWorkHalted setup items name made new_made JournalUnmade = SameMade made new_made
+IsWorkHalted setup items name made new_made (Stopped stop) = WroteJournal (IsWorkBegun setup items) name made new_made
+IsWorkHalted setup items name made new_made JournalUnfinished = WroteJournal (IsWorkDone setup items) name made new_made

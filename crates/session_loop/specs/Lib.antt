@@ -1,4 +1,4 @@
-pub mod Growing
-pub mod Desks
+pub mod Faults
 pub mod Serving
 pub mod Halting
+pub mod inner

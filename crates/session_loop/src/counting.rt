@@ -1,28 +1,102 @@
 //! Counts of entries and of cells.
 
 ghost use Rattle.std.specs.Prelude.{◌≡◌, length, sum_by, IfSome};
-ghost use Rattle.session_loop.specs.Desks.{IsCounted};
+ghost use Rattle.journal_meaning.specs.Counts.{count};
+ghost use Rattle.session_meaning.specs.Session as session;
+ghost use Rattle.session_loop.specs.inner.Desks.{batches_in, IsCounted};
 
-use crate::desk::{Counts, Store};
+use crate::desk::Counts;
+use cell_store::CellStore;
+use journal_meaning::Entry;
 use journal_text::{EntryList, SectionKind};
 
-/// One section more, unless the counts are too great for their types. (A stub.)
-pub fn counted(_counts: Counts, _kind: SectionKind, _lists: &[EntryList]) -> Option<Counts>
-    ensures { IfSome result (λ later. IsCounted _counts _kind _lists.now later) }
+fn is_fill(entry: &Entry) -> bool
+    ensures { result ≡ session.is_fill entry.now }
 {
-    None
+    matches!(entry, Entry::Filled { .. })
 }
 
-/// How many entries there are, if that is a number. (A stub.)
-pub fn entries_in(_lists: &[EntryList]) -> Option<u64>
-    ensures { IfSome result (λ n. n ≡ sum_by length _lists.now) }
+fn is_eviction(entry: &Entry) -> bool
+    ensures { result ≡ session.is_eviction entry.now }
 {
-    None
+    matches!(entry, Entry::Evicted { .. })
 }
 
-/// How many cells the stores have, if that is a number. (A stub.)
-pub fn cells_in(_stores: &[Store]) -> Option<u64>
-    ensures { IfSome result (λ n. n ≡ sum_by length _stores.now) }
+/// How many of the entries are fills.
+fn fills_in(entries: &[Entry]) -> u64
+    ensures { result ≡ count session.is_fill entries.now }
 {
-    None
+    entries.iter().filter(|entry| is_fill(entry)).count() as u64
+}
+
+/// How many of the entries are evictions.
+fn evictions_in(entries: &[Entry]) -> u64
+    ensures { result ≡ count session.is_eviction entries.now }
+{
+    entries.iter().filter(|entry| is_eviction(entry)).count() as u64
+}
+
+/// How many fills there are in all lists, if that is a number.
+fn all_fills(lists: &[EntryList]) -> Option<u64>
+    ensures { IfSome result (λ n. n ≡ sum_by (count session.is_fill) lists.now) }
+{
+    let mut fills = 0u64;
+    for list in lists {
+        fills = fills.checked_add(fills_in(list.as_slice()))?;
+    }
+    Some(fills)
+}
+
+/// How many evictions there are in all lists, if that is a number.
+fn all_evictions(lists: &[EntryList]) -> Option<u64>
+    ensures { IfSome result (λ n. n ≡ sum_by (count session.is_eviction) lists.now) }
+{
+    let mut evictions = 0u64;
+    for list in lists {
+        evictions = evictions.checked_add(evictions_in(list.as_slice()))?;
+    }
+    Some(evictions)
+}
+
+fn batches_of(kind: SectionKind) -> u64
+    ensures { result ≡ batches_in kind }
+{
+    match kind {
+        SectionKind::Batch => 1,
+        SectionKind::Trim | SectionKind::Held => 0,
+    }
+}
+
+/// One section more, unless the counts are too great for their types.
+pub fn counted(counts: Counts, kind: SectionKind, lists: &[EntryList]) -> Option<Counts>
+    ensures { IfSome result (λ later. IsCounted counts kind lists.now later) }
+{
+    Some(Counts {
+        sections: counts.sections.checked_add(1)?,
+        batches: counts.batches.checked_add(batches_of(kind))?,
+        fills: counts.fills.checked_add(all_fills(lists)?)?,
+        evictions: counts.evictions.checked_add(all_evictions(lists)?)?,
+    })
+}
+
+/// How many entries there are, if that is a number.
+pub fn entries_in(lists: &[EntryList]) -> Option<u64>
+    ensures { IfSome result (λ n. n ≡ sum_by length lists.now) }
+{
+    let mut entries = 0u64;
+    for list in lists {
+        entries = entries.checked_add(list.as_slice().len() as u64)?;
+    }
+    Some(entries)
+}
+
+/// How many cells the stores have, if that is a number.
+pub fn cells_in(stores: &[CellStore]) -> Option<u64>
+    ensures { IfSome result (λ n. n ≡ sum_by (λ store. length store.cells) stores.now) }
+{
+    let mut cells = 0u64;
+    for store in stores {
+        cells = cells.checked_add(store.len() as u64)?;
+    }
+    Some(cells)
 }

@@ -10,8 +10,11 @@ use backsim_io::OutOfMemory;
 /// Why a session halts: its journal couldn't be created or finished, or it stopped between.
 #[derive(Clone, Copy, Debug, PartialEq, Eq)]
 pub enum Halt {
+    /// The journal couldn't be created. Nothing was read and nothing written.
     JournalUnmade,
+    /// The session stopped after the journal was created.
     Stopped(Stop),
+    /// All was written, and the journal couldn't be finished.
     JournalUnfinished,
 }
 

@@ -1,20 +1,46 @@
-//! The loop of a session: the script is read a block at a time and served a unit at a time, over the contracts of what answers a
-//! batch and what trims the stores.
+//! The loop of a session: a script is read a block at a time and served a unit at a time, and a journal is written beside the replies.
+//!
+//! [`serve_session`] is a session of a script, and [`serve_work`] one of a single batch without a script. Both create the journal,
+//! write its head, serve over empty stores and finish the journal. What a unit comes to is the matter of `unit_answers`, and who
+//! runs the strands of a batch that of a `batch_crew::Crew`: no handle appears here. What a session means, whole or broken off, is
+//! `session_meaning`; `specs/Halting` says what stands in the journal and in the replies at each end, and `specs/Faults` what the
+//! counts of faults tell of it.
+//!
+//! What callers may rely on:
+//!
+//! - After `Ok` the replies and the journal are those of the session of exactly the script's bytes, the journal is the one file that
+//!   was created, and nothing that the call created is unfinished.
+//! - The replies to a unit are written before its section, and both before the script is read again. So whoever waits for a reply
+//!   before he sends the next line is served.
+//! - A reply is one `write_all`. A section is written in pieces of at most 512 entries, so its text is never held as a whole.
+//!
+//! What a failure leaves: where the journal is not created, everything is as it was. After that, what stands of the replies and of
+//! the journal is the whole of the units that were served before, and a beginning of the next one's; a journal that a halt left is
+//! not finished. Nothing is taken back, and nothing is written after a failed write.
+//!
+//! Costs: a block of 4,096 bytes of the script at a time, the stores (as many cells as there is room for, in each shard), and for a
+//! unit what answers it, its entries and its replies among it. The time beside the answers is in proportion to the bytes that are
+//! read and written.
+//!
+//! ```text
+//! let sizes = Sizes { shards: 4, cells: 16_384 };
+//! serve_session(&crew, alloc, &design, sizes, "journal", &mut files, &mut queries, &mut out)?;
+//! ```
 #![tactic(auto)]
 
 mod counting;
 mod desk;
 mod halt;
-mod parts;
+mod journal;
 mod script;
 mod section;
 mod session;
 mod stop;
+mod stores;
 mod unit;
+mod work;
 
-pub use desk::{Counts, Desk, Sizes, Store};
 pub use halt::Halt;
-pub use parts::{BatchDone, TrimDone};
-pub use script::serve_script;
 pub use session::serve_session;
 pub use stop::Stop;
+pub use work::serve_work;

@@ -1,18 +1,24 @@
 //! The script, read a block at a time and served a unit at a time.
 
-ghost use Rattle.std.specs.Prelude.{◌≡◌, ◌+◌, ◌<◌, ◌≤◌, ℕ, List, [], length, get_or, Some, Contains, IfErr, IfOk, OnErr, OnOk};
+ghost use Rattle.std.specs.Prelude.{◌≡◌, ◌+◌, ◌<◌, ◌≤◌, ℕ, List, [], length, Some, Contains, IfErr, IfOk, OnErr, OnOk};
 ghost use Rattle.backsim_io.specs.Held.{ConsumesUpTo};
 ghost use Rattle.session_meaning.specs.Session.{IsSessionOf};
-ghost use Rattle.session_loop.specs.Desks.{setup_of, AreStores};
-ghost use Rattle.session_loop.specs.Serving.{UnitExplains, Explains, HasTaken, TakesServed, TakesStopped, EndsServed, EndsStopped, Wrote, IsStopped};
+ghost use Rattle.unit_answers.specs.Stores.{setup_of, AreStores, cells_of};
+ghost use Rattle.session_loop.specs.inner.Faults.{UnitExplains};
+ghost use Rattle.session_loop.specs.Faults.{Explains};
+ghost use Rattle.session_loop.specs.inner.Serving.{HasTaken, TakesServed, TakesStopped, EndsServed, EndsStopped, Wrote};
+ghost use Rattle.session_loop.specs.Serving.{IsStopped};
 
-use crate::desk::{Counts, Desk, Sizes, Store};
+use crate::desk::{Counts, Desk};
 use crate::stop::Stop;
 use crate::unit::serve_units;
 use backsim_io::{Files, Sink, Source};
+use batch_crew::Crew;
+use cell_store::CellStore;
 use design::Design;
 use query_lines::ScriptReader;
 use std::alloc::Global;
+use unit_answers::Sizes;
 
 /// The most bytes that a script has.
 const SCRIPT_LIMIT: u32 = 16_777_216;
@@ -29,8 +35,9 @@ struct Script {
 
 impl Script {
     /// Takes the next bytes, and serves each unit as soon as its last line has ended.
-    fn serve_bytes<F: Files, S: Sink>(
+    fn serve_bytes<C: Crew, F: Files, S: Sink>(
         &mut self,
+        crew: &C,
         alloc: Global,
         design: &Design,
         bytes: &[u8],
@@ -41,11 +48,13 @@ impl Script {
         out: &mut S,
     ) -> Result<Desk, Stop>
         requires limit { self.old.taken + length bytes.now ≤ 16777216 }
-        requires read { HasTaken self.old.taken self.old.reader }
+        requires horizon { design.now.circuit.horizon ≤ 1000000 }
+        requires read { HasTaken design.now.circuit.horizon self.old.taken self.old.reader }
+        requires shards { (0 < sizes.shards) × (sizes.shards ≤ 64) }
         requires stores { AreStores (setup_of design.now sizes) desk.stores.items }
         requires unfinished { Contains (F.unfinished files.old) slot }
         ensures taken { OnOk result (self.new.taken ≡ self.old.taken + length bytes.now) }
-        ensures read { OnOk result (HasTaken self.new.taken self.new.reader) }
+        ensures read { OnOk result (HasTaken design.now.circuit.horizon self.new.taken self.new.reader) }
         ensures stores { IfOk result (λ later. AreStores (setup_of design.now sizes) later.stores.items) }
         ensures served { IfOk result (λ later. TakesServed (setup_of design.now sizes) self.old.reader self.new.reader bytes.now desk later slot (S.written out.old) (S.written out.new) (F.made files.old) (F.made files.new)) }
         ensures stopped { OnErr result (TakesStopped (setup_of design.now sizes) self.old.reader bytes.now desk slot (S.written out.old) (S.written out.new) (F.made files.old) (F.made files.new)) }
@@ -63,6 +72,7 @@ impl Script {
             let units = self.reader.take(*byte)?;
             self.taken += 1;
             desk = serve_units(
+                crew,
                 alloc,
                 design,
                 units.as_slice(),
@@ -77,8 +87,9 @@ impl Script {
     }
 
     /// Serves the units that the script's end completes.
-    fn serve_end<F: Files, S: Sink>(
+    fn serve_end<C: Crew, F: Files, S: Sink>(
         self,
+        crew: &C,
         alloc: Global,
         design: &Design,
         sizes: Sizes,
@@ -88,7 +99,9 @@ impl Script {
         out: &mut S,
     ) -> Result<Desk, Stop>
         requires limit { self.taken ≤ 16777216 }
-        requires read { HasTaken self.taken self.reader }
+        requires horizon { design.now.circuit.horizon ≤ 1000000 }
+        requires read { HasTaken design.now.circuit.horizon self.taken self.reader }
+        requires shards { (0 < sizes.shards) × (sizes.shards ≤ 64) }
         requires stores { AreStores (setup_of design.now sizes) desk.stores.items }
         requires unfinished { Contains (F.unfinished files.old) slot }
         ensures served { IfOk result (λ later. EndsServed (setup_of design.now sizes) self.reader desk later slot (S.written out.old) (S.written out.new) (F.made files.old) (F.made files.new)) }
@@ -104,6 +117,7 @@ impl Script {
     {
         let units = self.reader.end()?;
         serve_units(
+            crew,
             alloc,
             design,
             units.as_slice(),
@@ -117,20 +131,24 @@ impl Script {
 }
 
 /// Serves a script to its end. It is read again only when each unit that was complete is served.
-pub fn serve_script<F: Files, Q: Source, S: Sink>(
+pub fn serve_script<C: Crew, F: Files, Q: Source, S: Sink>(
+    crew: &C,
     alloc: Global,
     design: &Design,
     sizes: Sizes,
-    stores: Vec<Store>,
+    stores: Vec<CellStore>,
     slot: u32,
     files: &mut F,
     queries: &mut Q,
     out: &mut S,
 ) -> Result<(), Stop>
+    requires shards { (0 < sizes.shards) × (sizes.shards ≤ 64) }
     requires stores { AreStores (setup_of design.now sizes) stores.items }
-    requires empty { (shard : ℕ) → shard < sizes.shards → get_or stores.items shard [] ≡ [] }
+    requires empty { (shard : ℕ) → shard < sizes.shards → cells_of stores.items shard ≡ [] }
     requires unfinished { Contains (F.unfinished files.old) slot }
-    ensures cause { IfErr result (Explains (Q.faults queries.old) (Q.faults queries.new) (S.faults out.old) (S.faults out.new) (F.write_faults files.old) (F.write_faults files.new)) }
+    ensures cause { IfErr result (Explains
+        (record { script = Q.faults queries.old; replies = S.faults out.old; writes = F.write_faults files.old; files = F.file_faults files.old })
+        (record { script = Q.faults queries.new; replies = S.faults out.new; writes = F.write_faults files.new; files = F.file_faults files.new })) }
     ensures calm_queries { OnOk result (Q.faults queries.new ≡ Q.faults queries.old) }
     ensures calm_replies { OnOk result (S.faults out.new ≡ S.faults out.old) }
     ensures calm_journal { OnOk result (F.write_faults files.new ≡ F.write_faults files.old) }
@@ -167,10 +185,11 @@ pub fn serve_script<F: Files, Q: Source, S: Sink>(
             return Err(Stop::ScriptUnread);
         };
         if n == 0 {
-            script.serve_end(alloc, design, sizes, desk, slot, files, out)?;
+            script.serve_end(crew, alloc, design, sizes, desk, slot, files, out)?;
             return Ok(());
         }
         desk = script.serve_bytes(
+            crew,
             alloc,
             design,
             &block[..n.min(left)],

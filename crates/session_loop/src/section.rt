@@ -5,16 +5,17 @@ ghost use Rattle.std.specs.List.{AllZip};
 ghost use Rattle.backsim_io.specs.Counts.{Grows};
 ghost use Rattle.backsim_io.specs.Held.{FileGrows};
 ghost use Rattle.journal_text.specs.Spelling.{entry_line, kind_word, shard_lines, section_lines};
-ghost use Rattle.query_lines.specs.Replies.{Suits};
+ghost use Rattle.reply_lines.specs.Replies.{Suits};
 ghost use Rattle.session_meaning.specs.Replies.{replies_text};
-ghost use Rattle.session_loop.specs.Growing.{GrowsPart, FileGrowsPart, shard_line};
-ghost use Rattle.session_loop.specs.Serving.{UnitExplains};
+ghost use Rattle.session_loop.specs.inner.Growing.{GrowsPart, FileGrowsPart, shard_line};
+ghost use Rattle.session_loop.specs.inner.Faults.{UnitExplains};
 
 use crate::stop::Stop;
 use backsim_io::{Files, OutOfMemory, Sink, write_all, write_file};
 use journal_meaning::Entry;
 use journal_text::{EntryList, SectionKind, entry_text};
-use query_lines::{Item, Reply, reply_text};
+use query_lines::Item;
+use reply_lines::{Reply, reply_text};
 use std::alloc::Global;
 
 /// How many entries are written at a time.
@@ -53,7 +54,7 @@ pub fn write_replies<S: Sink>(
     Ok(())
 }
 
-/// Writes a text behind a created file.
+/// Writes a text after the bytes of a created file.
 pub fn write_piece<F: Files>(slot: u32, text: &[u8], files: &mut F) -> Result<(), Stop>
     requires unfinished { Contains (F.unfinished files.old) slot }
     ensures written { OnOk result (FileGrows (F.made files.old) (F.made files.new) slot text.now) }
@@ -84,7 +85,7 @@ fn entries_text(alloc: Global, entries: &[Entry]) -> Result<Vec<u8>, OutOfMemory
     Ok(text)
 }
 
-/// Writes the lines of entries behind a created file, so many at a time.
+/// Writes the lines of entries to a created file, so many at a time.
 fn write_entries<F: Files>(
     alloc: Global,
     entries: &[Entry],
@@ -173,7 +174,7 @@ fn word_of(kind: SectionKind) -> &'static str
     }
 }
 
-/// Writes a section behind a created file, piece by piece, each of bounded size.
+/// Writes a section to a created file, piece by piece, each of bounded size.
 pub fn write_section<F: Files>(
     alloc: Global,
     kind: SectionKind,

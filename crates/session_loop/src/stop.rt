@@ -9,10 +9,15 @@ use std::alloc::AllocError;
 /// Why a session stops.
 #[derive(Clone, Copy, Debug, PartialEq, Eq)]
 pub enum Stop {
+    /// A read of the script failed.
     ScriptUnread,
+    /// The script has more than 16,777,216 bytes.
     ScriptTooLong,
+    /// A write of a reply failed.
     RepliesUnwritten,
+    /// A write to the journal failed.
     JournalUnwritten,
+    /// There is no memory, or a count is too great for its type.
     OutOfMemory,
 }
 

@@ -1,23 +1,29 @@
 //! A unit is served.
 
-ghost use Rattle.std.specs.Prelude.{◌≡◌, ◌∷◌, [], ℕ, List, Contains, IfErr, IfOk, OnErr, OnOk};
+ghost use Rattle.std.specs.Prelude.{◌≡◌, ◌<◌, ◌≤◌, ◌∷◌, [], ℕ, List, All, Contains, IfErr, IfOk, OnErr, OnOk};
 ghost use Rattle.query_lines.specs.declared.unit.Unit.TheVariants as kinds;
-ghost use Rattle.session_loop.specs.Desks.{setup_of, AreStores};
-ghost use Rattle.session_loop.specs.Serving.{Serves, Stops, UnitExplains};
+ghost use Rattle.query_lines.specs.Laws.{IsWithin};
+ghost use Rattle.query_lines.specs.Fit.{HaveOwnLines, IsFit};
+ghost use Rattle.unit_answers.specs.Stores.{setup_of, AreStores};
+ghost use Rattle.session_loop.specs.inner.Faults.{UnitExplains};
+ghost use Rattle.session_loop.specs.inner.Serving.{Serves, Stops};
 
 use crate::counting::{cells_in, counted, entries_in};
-use crate::desk::{Desk, Sizes};
-use crate::parts::{run_batch, trim_stores};
+use crate::desk::Desk;
 use crate::section::{write_replies, write_reply, write_section};
 use crate::stop::Stop;
 use backsim_io::{Files, Sink};
+use batch_crew::Crew;
 use design::Design;
 use journal_text::SectionKind;
-use query_lines::{Item, Unit, stats_text, trimmed_text};
+use query_lines::{Item, Unit};
+use reply_lines::{stats_text, trimmed_text};
 use std::alloc::Global;
+use unit_answers::{Sizes, answer_batch, trim_stores};
 
 /// Serves a batch: its replies in the order of the items, then its section.
-pub fn serve_batch<F: Files, S: Sink>(
+pub fn serve_batch<C: Crew, F: Files, S: Sink>(
+    crew: &C,
     alloc: Global,
     design: &Design,
     items: &[Item],
@@ -27,6 +33,9 @@ pub fn serve_batch<F: Files, S: Sink>(
     files: &mut F,
     out: &mut S,
 ) -> Result<Desk, Stop>
+    requires shards { (0 < sizes.shards) × (sizes.shards ≤ 64) }
+    requires within { IsWithin design.now.circuit.horizon items.now }
+    requires lines { HaveOwnLines items.now }
     requires stores { AreStores (setup_of design.now sizes) desk.stores.items }
     requires unfinished { Contains (F.unfinished files.old) slot }
     ensures stores { IfOk result (λ later. AreStores (setup_of design.now sizes) later.stores.items) }
@@ -42,7 +51,7 @@ pub fn serve_batch<F: Files, S: Sink>(
     ensures unfinished { F.unfinished files.new ≡ F.unfinished files.old }
 {
     let counts = desk.counts;
-    let done = run_batch(alloc, design, items, sizes, desk.stores)?;
+    let done = answer_batch(crew, alloc, design, items, sizes, desk.stores)?;
     let Some(counts) = counted(counts, SectionKind::Batch, &done.lists) else {
         return Err(Stop::OutOfMemory);
     };
@@ -144,7 +153,8 @@ pub fn serve_stats<F: Files, S: Sink>(
 }
 
 /// Serves a unit.
-pub fn serve_unit<F: Files, S: Sink>(
+pub fn serve_unit<C: Crew, F: Files, S: Sink>(
+    crew: &C,
     alloc: Global,
     design: &Design,
     unit: &Unit,
@@ -154,6 +164,8 @@ pub fn serve_unit<F: Files, S: Sink>(
     files: &mut F,
     out: &mut S,
 ) -> Result<Desk, Stop>
+    requires shards { (0 < sizes.shards) × (sizes.shards ≤ 64) }
+    requires fit { IsFit design.now.circuit.horizon unit.now }
     requires stores { AreStores (setup_of design.now sizes) desk.stores.items }
     requires unfinished { Contains (F.unfinished files.old) slot }
     ensures stores { IfOk result (λ later. AreStores (setup_of design.now sizes) later.stores.items) }
@@ -170,6 +182,7 @@ pub fn serve_unit<F: Files, S: Sink>(
 {
     match unit {
         Unit::Batch(items) => serve_batch(
+            crew,
             alloc,
             design,
             items.as_slice(),
@@ -185,7 +198,8 @@ pub fn serve_unit<F: Files, S: Sink>(
 }
 
 /// Serves units, one after another.
-pub fn serve_units<F: Files, S: Sink>(
+pub fn serve_units<C: Crew, F: Files, S: Sink>(
+    crew: &C,
     alloc: Global,
     design: &Design,
     units: &[Unit],
@@ -195,6 +209,8 @@ pub fn serve_units<F: Files, S: Sink>(
     files: &mut F,
     out: &mut S,
 ) -> Result<Desk, Stop>
+    requires shards { (0 < sizes.shards) × (sizes.shards ≤ 64) }
+    requires fit { All (IsFit design.now.circuit.horizon) units.now }
     requires stores { AreStores (setup_of design.now sizes) desk.stores.items }
     requires unfinished { Contains (F.unfinished files.old) slot }
     ensures stores { IfOk result (λ later. AreStores (setup_of design.now sizes) later.stores.items) }
@@ -211,7 +227,7 @@ pub fn serve_units<F: Files, S: Sink>(
 {
     let mut desk = desk;
     for unit in units {
-        desk = serve_unit(alloc, design, unit, sizes, desk, slot, files, out)?;
+        desk = serve_unit(crew, alloc, design, unit, sizes, desk, slot, files, out)?;
     }
     Ok(desk)
 }

@@ -3,14 +3,14 @@ use Rattle.std.proofs.Common.{◌≡◌, ℕ, ◌+◌, ◌<◌, List, [], ◌∷
 use Rattle.std.specs.Prelude.{flat_map}
 use Rattle.std.proofs.lemmas.List.Concat.{flat_map-append}
 use Rattle.journal_meaning.specs.declared.Entry.{Entry}
-use Rattle.journal_meaning.specs.Sections.{Section, Purpose}
+use Rattle.journal_meaning.specs.Sections.{SectionEntries, Purpose}
 use Rattle.journal_text.specs.Spelling.{section_lines, head_line}
 use Rattle.query_lines.specs.declared.unit.Unit.{Unit as ScriptUnit}
 use Rattle.session_meaning.specs.Written.{numbered, numbered_from}
 use Rattle.session_meaning.specs.Session.{Setup, Course, IsServed, Session, Served, with_section}
 use Rattle.session_meaning.specs.Broken.{IsPrefix, journal_of, IsFirstBegun, IsBroken}
 
-numbered-more : (n : ℕ) (sections : List Section) (section : Section) → numbered_from n (sections ++ section ∷ []) ≡ numbered_from n sections ++ numbered (n + length sections) section ∷ []
+numbered-more : (n : ℕ) (sections : List SectionEntries) (section : SectionEntries) → numbered_from n (sections ++ section ∷ []) ≡ numbered_from n sections ++ numbered (n + length sections) section ∷ []
 numbered-more n [] section = ap (λ k. numbered k section ∷ []) (omega arith)
 numbered-more n (s ∷ sections) section =
     ap (λ l. numbered n s ∷ l) (numbered-more (n + 1) sections section ∙ ap (λ k. numbered_from (n + 1) sections ++ numbered k section ∷ []) (omega arith))
@@ -19,7 +19,7 @@ numbered-more n (s ∷ sections) section =
 pub journal-more : (setup : Setup) (now : Course) (purpose : Purpose) (lists : List (List Entry)) (text : List ℕ) (number : ℕ) → number ≡ length now.sections + 1
     → journal_of setup (with_section now purpose lists text) ≡ journal_of setup now ++ section_lines (numbered number (record { purpose = purpose; lists = lists }))
 journal-more setup now purpose lists text number is =
-    let s : Section = record { purpose = purpose; lists = lists } in
+    let s : SectionEntries = record { purpose = purpose; lists = lists } in
     let head = head_line setup.shards setup.capacity in
     let before = numbered_from 1 now.sections in
     ap (λ l. head ++ flat_map section_lines l) (numbered-more 1 now.sections s)

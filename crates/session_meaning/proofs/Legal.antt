@@ -1,13 +1,13 @@
 -- The lists of a session are legal.
 use Rattle.std.proofs.Common.{ℕ, ◌<◌, List, [], ◌∷◌, ◌++◌, fold, sym, subst}
 use Rattle.valid_intervals.specs.declared.SignalCell.{SignalCell}
-use Rattle.journal_meaning.specs.Sections.{Section, Asks, Trims, IsLegalIn, list_of, cells_left, AreLegal}
+use Rattle.journal_meaning.specs.Sections.{SectionEntries, Asks, Trims, IsLegalIn, list_of, cells_left, AreLegal}
 use Rattle.query_lines.specs.declared.unit.Unit.{Unit as ScriptUnit}
 use Rattle.query_lines.specs.declared.unit.Unit.TheVariants as units
 use Rattle.session_meaning.specs.Session.{Setup, Course, IsServed, Session, Opened, Served, batch_of}
 
 -- one section more
-legal-more : (shard : ℕ) (cells : List SignalCell) (sections : List Section) (section : Section) → AreLegal shard cells sections
+legal-more : (shard : ℕ) (cells : List SignalCell) (sections : List SectionEntries) (section : SectionEntries) → AreLegal shard cells sections
     → IsLegalIn section.purpose shard (fold (cells_left shard) cells sections) (list_of section shard) → AreLegal shard cells (sections ++ section ∷ [])
 legal-more shard cells [] section legal more = (more, tt)
 legal-more shard cells (s ∷ sections) section legal more = (legal.0, legal-more shard (cells_left shard cells s) sections section legal.1 more)

@@ -1,3 +1,4 @@
+pub mod Asked
 pub mod Legal
 pub mod Enough
 pub mod Journals

@@ -4,3 +4,4 @@ pub mod Written
 pub mod Session
 pub mod Broken
 pub mod Laws
+pub mod inner

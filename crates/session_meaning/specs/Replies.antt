@@ -4,9 +4,9 @@ use Rattle.circuit_meaning.specs.Circuit.{Circuit}
 use Rattle.journal_meaning.specs.declared.Entry.{Entry}
 use Rattle.journal_meaning.specs.Answers.{IsAnswer}
 use Rattle.query_lines.specs.declared.unit.Item.{Item}
-use Rattle.query_lines.specs.declared.reply.Reply.{Reply}
-use Rattle.query_lines.specs.declared.reply.Reply.TheVariants as replies
-use Rattle.query_lines.specs.Replies.{text_of}
+use Rattle.reply_lines.specs.declared.reply.Reply.{Reply}
+use Rattle.reply_lines.specs.declared.reply.Reply.TheVariants as replies
+use Rattle.reply_lines.specs.Replies.{text_of}
 use Rattle.session_meaning.specs.declared.Verdict.{Verdict}
 use Rattle.session_meaning.specs.declared.Verdict.TheVariants.{Ask, Unknown, Past, Bad}
 

@@ -5,17 +5,16 @@ use Rattle.valid_intervals.specs.declared.SignalCell.{SignalCell}
 use Rattle.journal_meaning.specs.declared.Entry.{Entry}
 use Rattle.journal_meaning.specs.declared.Entry.TheVariants.{Filled, Evicted}
 use Rattle.journal_meaning.specs.States.{fresh}
-use Rattle.journal_meaning.specs.Batch.{Batch}
+use Rattle.batch_meaning.specs.Batches.{Batch}
 use Rattle.journal_meaning.specs.Replay.{IsLegalBatch, IsLegalTrim}
-use Rattle.journal_meaning.specs.Sections.{Purpose, Asks, Trims, Section, own, cells_after}
-use Rattle.journal_meaning.specs.Grown.{count}
-use Rattle.journal_meaning.specs.Laws.{of_batch}
+use Rattle.journal_meaning.specs.Sections.{Purpose, Asks, Trims, SectionEntries, own, cells_after, of_batch}
+use Rattle.journal_meaning.specs.Counts.{count}
 use Rattle.query_lines.specs.declared.unit.Item.{Item}
 use Rattle.query_lines.specs.declared.unit.Unit.{Unit as ScriptUnit}
 use Rattle.query_lines.specs.declared.unit.Unit.TheVariants as units
-use Rattle.query_lines.specs.declared.reply.Reply.{Reply}
+use Rattle.reply_lines.specs.declared.reply.Reply.{Reply}
 use Rattle.query_lines.specs.Reading.{script_units}
-use Rattle.query_lines.specs.Replies.{trimmed_line, stats_line}
+use Rattle.reply_lines.specs.Replies.{trimmed_line, stats_line}
 use Rattle.design.specs.Joined.{Joined}
 use Rattle.session_meaning.specs.Verdicts.{verdict_of, queries_of}
 use Rattle.session_meaning.specs.Replies.{IsReply, replies_text}
@@ -29,7 +28,7 @@ pub record Setup : Type 0 where
 
 -- what a session has come to: the sections of its journal, and the text of its replies
 pub record Course : Type 0 where
-  pub sections : List Section
+  pub sections : List SectionEntries
   pub out : List ℕ
 
 -- as it begins
@@ -95,14 +94,14 @@ is_eviction (Evicted signal start) = true
 is_eviction entry = false
 
 -- how many entries of the session's own memo pass the test
-abbrev pub entries_that : (Entry → Bool) → List Section → ℕ
+abbrev pub entries_that : (Entry → Bool) → List SectionEntries → ℕ
 entries_that test sections = sum_by (λ section. sum_by (λ entries. count test (own section.purpose entries)) section.lists) sections
 
 -- how many cells are stored in all shards
-abbrev pub cells_stored : ℕ → List Section → ℕ
+abbrev pub cells_stored : ℕ → List SectionEntries → ℕ
 cells_stored shards sections = sum_by (λ shard. length (cells_after shard sections)) (range_with_len 0 shards)
 
-abbrev pub counts_line : Setup → List Section → List ℕ
+abbrev pub counts_line : Setup → List SectionEntries → List ℕ
 counts_line setup sections = stats_line
     (length (filter (λ section. is_batch section.purpose) sections))
     (entries_that is_fill sections)

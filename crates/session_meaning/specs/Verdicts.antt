@@ -1,6 +1,6 @@
 -- What becomes of an item of a batch: the query that its line asks, or why there is none.
 use Rattle.std.specs.Prelude.{ℕ, ◌+◌, nat_le, List, [], ◌∷◌, flat_map, Option, Some, None, if◌then◌else◌}
-use Rattle.journal_meaning.specs.declared.Query.{Query}
+use Rattle.batch_meaning.specs.declared.Query.{Query}
 use Rattle.query_lines.specs.declared.line.What.{What}
 use Rattle.query_lines.specs.declared.line.What.TheVariants as whats
 use Rattle.query_lines.specs.declared.unit.Item.{Item}

@@ -1,29 +1,25 @@
 -- How the sections of a session are written into its journal.
-use Rattle.std.specs.Prelude.{ℕ, ◌+◌, List, [], ◌∷◌, flat_map}
-use Rattle.journal_meaning.specs.Sections.{Purpose, Asks, Trims, Holds, Section}
+use Rattle.std.specs.Prelude.{ℕ, ◌+◌, List, [], ◌∷◌}
+use Rattle.journal_meaning.specs.Sections.{Purpose, Asks, Trims, Forces, SectionEntries}
 use Rattle.journal_text.specs.declared.sections.SectionKind.{SectionKind}
 use Rattle.journal_text.specs.declared.sections.SectionKind.TheVariants as kinds
 use Rattle.journal_text.specs.declared.sections.Section.{Section as WrittenSection}
-use Rattle.journal_text.specs.Spelling.{section_lines, journal_lines}
+use Rattle.journal_text.specs.Spelling.{journal_lines}
 
 abbrev pub kind_of : Purpose → SectionKind
 kind_of (Asks batch) = kinds.Batch
 kind_of Trims = kinds.Trim
-kind_of (Holds batch) = kinds.Held
+kind_of (Forces batch) = kinds.Held
 
 -- a section under its number
-abbrev pub numbered : ℕ → Section → WrittenSection
+abbrev pub numbered : ℕ → SectionEntries → WrittenSection
 numbered number section = record { kind = kind_of section.purpose; number = number; shards = section.lists }
 
 -- sections under the numbers from this one on
-abbrev pub numbered_from : ℕ → List Section → List WrittenSection
+abbrev pub numbered_from : ℕ → List SectionEntries → List WrittenSection
 numbered_from number [] = []
 numbered_from number (section ∷ sections) = numbered number section ∷ numbered_from (number + 1) sections
 
--- the text of all sections of a session, behind the journal's head
-abbrev pub sections_text : List Section → List ℕ
-sections_text sections = flat_map section_lines (numbered_from 1 sections)
-
 -- the text of the journal, for so many shards with room for so many cells
-abbrev pub journal_text : ℕ → ℕ → List Section → List ℕ
+abbrev pub journal_text : ℕ → ℕ → List SectionEntries → List ℕ
 journal_text shards cells sections = journal_lines shards cells (numbered_from 1 sections)

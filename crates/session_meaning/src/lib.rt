@@ -16,7 +16,7 @@
 
 ghost use Rattle.session_meaning.specs.Laws.{SessionsAreLegal, EnoughBudgetIsServed};
 
-use journal_meaning::Query;
+use batch_meaning::Query;
 
 /// What becomes of an item: a query is asked, or there is none.
 #[derive(Clone, Copy, Debug, PartialEq, Eq)]

@@ -8,7 +8,7 @@ use Rattle.stimulus_file.specs.Causes.{out_of_memory}
 use Rattle.stimulus_file.specs.Forms.{Line, line_of}
 use Rattle.stimulus_file.specs.Stimulus.{first_fault, stimulus_of, horizon_of, with_horizon}
 use Rattle.std.specs.Prelude.{option_to_list, slice_get}
-use Rattle.stimulus_file.specs.Reading.{HasRead}
+use Rattle.stimulus_file.specs.inner.Reading.{HasRead}
 
 -- the lines in front of the rest have been read
 pub record Progress (all : List Line) (text : List ℕ) (r : Reader) (number : ℕ) (rest : List ℕ) : Type 0 where

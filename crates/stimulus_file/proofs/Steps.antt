@@ -13,7 +13,7 @@ use Rattle.stimulus_file.specs.declared.SetRow.{SetRow}
 use Rattle.stimulus_file.specs.declared.reader.Reader.{Reader}
 use Rattle.stimulus_file.specs.Forms.{Line, Blank, Horizon, Setting}
 use Rattle.stimulus_file.specs.Stimulus.{is_blank, is_horizon, sets, cause_of, stated, row_of, rows_from}
-use Rattle.stimulus_file.specs.Reading.{HasRead, key_eq}
+use Rattle.stimulus_file.specs.inner.Reading.{HasRead, key_eq}
 
 pub rows-append : (n : ℕ) (a b : List Line) → rows_from n (a ++ b) ≡ rows_from n a ++ rows_from (n + length a) b
 rows-append n [] b = ap (λ (k : ℕ). rows_from k b) (omega arith)

@@ -2,4 +2,4 @@ pub mod Causes
 pub mod Forms
 pub mod Stimulus
 pub mod Ranges
-pub mod Reading
+pub mod inner

@@ -94,6 +94,6 @@ unfoldable pub stimulus_of : List ℕ → Result Content StimulusFault
 stimulus_of text = of_lines (map line_of (lines text))
 
 -- the answer is this one, unless memory ran out
-abbrev pub Answers : Result Content StimulusFault → Result Content StimulusFault → Type 0
-Answers (Ok content) said = said ≡ Ok content
-Answers (Err fault) said = (fault ≡ out_of_memory) ⊎ (said ≡ Err fault)
+abbrev pub AnswersStimulus : Result Content StimulusFault → Result Content StimulusFault → Type 0
+AnswersStimulus (Ok content) said = said ≡ Ok content
+AnswersStimulus (Err fault) said = (fault ≡ out_of_memory) ⊎ (said ≡ Err fault)

@@ -4,7 +4,7 @@ ghost use Rattle.std.specs.Prelude.{◌≡◌, codes};
 ghost use Rattle.text_rules.specs.Text.{words};
 ghost use Rattle.stimulus_file.specs.Forms as forms;
 ghost use Rattle.stimulus_file.specs.Forms.{line_of, horizon_line, setting_line};
-ghost use Rattle.stimulus_file.specs.Reading.{line_seen};
+ghost use Rattle.stimulus_file.specs.inner.Reading.{line_seen};
 
 use gate_values::Value;
 use text_rules::{Amount, content, is_name, next_word, read_amount};

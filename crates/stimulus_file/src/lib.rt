@@ -12,8 +12,8 @@
 //! any order. A word that is a keyword may be a name where a name stands.
 //!
 //! `read_stimulus` reads a whole file. Its one clause says that the answer is
-//! `stimulus_of` of the text: the content, or the first line at fault with its
-//! cause. Only want of memory is left open. `Stimulus` is seen by contracts as
+//! `stimulus_of` of the text (`specs/Stimulus`): the content, or the first line
+//! at fault with its cause. Only want of memory is left open. `Stimulus` is seen by contracts as
 //! its content, `horizon` and `sets`, the settings in the order of the file.
 //! Whether a name is an input of some netlist is for the crate above to test.
 //!
@@ -57,7 +57,7 @@ pub enum StimulusCause {
 impl StimulusCause {
     ghost use Rattle.stimulus_file.specs.Causes.{number_of};
 
-    /// The number that is printed for the cause.
+    /// The number that is printed for the cause. That of `OutOfMemory` never is.
     pub fn number(self) -> u8
         ensures { result ≡ number_of self }
     {

@@ -3,8 +3,8 @@
 ghost use Rattle.std.specs.Prelude.{◌≡◌, ◌≤◌, Err, Some, length, map};
 ghost use Rattle.text_rules.specs.Text.{lines};
 ghost use Rattle.stimulus_file.specs.Forms.{Setting, Horizon, line_of};
-ghost use Rattle.stimulus_file.specs.Stimulus.{Answers, stimulus_of};
-ghost use Rattle.stimulus_file.specs.Reading.{Reads, ReadsAll, line_seen};
+ghost use Rattle.stimulus_file.specs.Stimulus.{AnswersStimulus, stimulus_of};
+ghost use Rattle.stimulus_file.specs.inner.Reading.{Reads, ReadsAll, line_seen};
 
 use crate::form::{Form, form_of};
 use crate::{SetRow, Stimulus, StimulusCause, StimulusFault};
@@ -122,7 +122,7 @@ fn take_all<'a>(alloc: Global, text: &'a [u8]) -> Result<Reader<'a>, StimulusFau
 /// What the file says, or its first line at fault.
 pub fn read_stimulus(alloc: Global, text: &[u8]) -> Result<Stimulus, StimulusFault>
     requires { length text.now ≤ 67108864 }
-    ensures { Answers result (stimulus_of text.now) }
+    ensures { AnswersStimulus result (stimulus_of text.now) }
 {
     let reader = take_all(alloc, text)?;
     match reader.horizon {

@@ -1,4 +1,3 @@
 pub mod Stacks
 pub mod Wanted
 pub mod Started
-pub mod Pieces

@@ -5,12 +5,12 @@ use Rattle.std.proofs.lemmas.List.Elements.{All-contains, recursion_from_All, Al
 use Rattle.circuit_meaning.specs.Circuit.{Circuit, Driver, Input, Gate, Flop, driver, IsCircuit}
 use Rattle.valid_intervals.specs.declared.Point.{Point}
 use Rattle.circuit_meaning.specs.declared.Window.{Window}
-use Rattle.circuit_meaning.specs.Need.{children, IsEvaluable, HasSources, IsNeeded, Root, Child}
+use Rattle.circuit_meaning.specs.Need.{children, IsEvaluable, HasChildren, IsNeeded, Root, Child}
 use Rattle.circuit_meaning.proofs.Points.{children-earlier}
-use Rattle.journal_meaning.specs.Batch.{Batch, window_of}
+use Rattle.batch_meaning.specs.Batches.{Batch, window_of}
 use Rattle.strand_meaning.specs.declared.Next.TheVariants.{Ask, Fill, Drop, Done}
 use Rattle.strand_meaning.specs.declared.Next.{Next}
-use Rattle.strand_meaning.specs.Strands.{Frame, Strand, has_sources, is_evaluable, sources_of, ask_or, next_in, next, rest, roots_heard, stack_heard, heard, claimed, dropped, finished, IsHeld, left_in, IsFirst, IsSource, IsChain, IsRootPoint, IsStrand}
+use Rattle.strand_meaning.specs.Strands.{Frame, Strand, has_children, is_evaluable, asked_children, ask_or, next_in, next, rest, roots_heard, stack_heard, heard, claimed, dropped, finished, IsHeld, left_in, IsFirst, IsAskedChild, IsChain, IsRootPoint, IsStrand}
 
 pub rest_all : {A : Type 0} (P : A → Type 0) (xs : List A) → AllByRecursion P xs → AllByRecursion P (rest xs)
 rest_all P [] h = tt
@@ -18,7 +18,7 @@ rest_all P (x ∷ xs) h = h.1
 
 pub chain-heard : (c : Circuit) (roots : List Point) (st : List Frame) → IsChain c roots st → IsChain c (roots_heard roots st) (stack_heard st)
 chain-heard c roots [] h = tt
-chain-heard c roots (f ∷ fs) h = (h.0, rest_all (IsSource c f.point) f.left h.1, h.2)
+chain-heard c roots (f ∷ fs) h = (h.0, rest_all (IsAskedChild c f.point) f.left h.1, h.2)
 
 pub roots-heard : (P : Point → Type 0) (roots : List Point) (st : List Frame) → AllByRecursion P roots → AllByRecursion P (roots_heard roots st)
 roots-heard P roots [] h = rest_all P roots h
@@ -123,15 +123,15 @@ first-all P [] p h e = absurd e
 first-all P (x ∷ xs) p h e = subst P e h.0
 
 module _ (c : Circuit) (ok : IsCircuit c) where
-  source-earlier : (a p : Point) → IsSource c a p → p.time < a.time
+  source-earlier : (a p : Point) → IsAskedChild c a p → p.time < a.time
   source-earlier a p h = All-contains (λ x. x.time < a.time) (children c a.signal a.time) p (children-earlier c ok a.signal a.time) h.child
 
   -- what a strand waits for is earlier than all that it holds
   pub earlier : (roots : List Point) (st : List Frame) (p x : Point) → IsChain c roots st → IsFirst (left_in roots st) p → IsHeld st x → p.time < x.time
   earlier roots [] p x chain first h = absurd h
-  earlier roots (f ∷ fs) p x chain first (inl h) = subst (λ (y : Point). p.time < y.time) h (source-earlier f.point p (first-all (IsSource c f.point) f.left p chain.1 first))
+  earlier roots (f ∷ fs) p x chain first (inl h) = subst (λ (y : Point). p.time < y.time) h (source-earlier f.point p (first-all (IsAskedChild c f.point) f.left p chain.1 first))
   earlier roots (f ∷ fs) p x chain first (inr h) =
-      let a : p.time < f.point.time = source-earlier f.point p (first-all (IsSource c f.point) f.left p chain.1 first) in
+      let a : p.time < f.point.time = source-earlier f.point p (first-all (IsAskedChild c f.point) f.left p chain.1 first) in
       let b : f.point.time < x.time = earlier roots fs f.point x chain.2 chain.0 h in
       omega arith
 
@@ -152,12 +152,12 @@ root-askable c w p h =
       evaluable = h.evaluable;
     }
 
-source-askable : (c : Circuit) (w : Window) (a p : Point) → IsAskable c w a → IsSource c a p → IsAskable c w p
+source-askable : (c : Circuit) (w : Window) (a p : Point) → IsAskable c w a → IsAskedChild c a p → IsAskable c w p
 source-askable c w a p h k = record { needed = Child h.needed k.child k.evaluable; evaluable = k.evaluable }
 
 pub first-askable : (c : Circuit) (w : Window) (roots : List Point) (st : List Frame) (p : Point) → AllByRecursion (IsRootPoint c w) roots → IsChain c roots st → IsFirst (left_in roots st) p → IsAskable c w p
 first-askable c w roots [] p all chain first = root-askable c w p (first-all (IsRootPoint c w) roots p all first)
-first-askable c w roots (f ∷ fs) p all chain first = source-askable c w f.point p (first-askable c w roots fs f.point all chain.2 chain.0) (first-all (IsSource c f.point) f.left p chain.1 first)
+first-askable c w roots (f ∷ fs) p all chain first = source-askable c w f.point p (first-askable c w roots fs f.point all chain.2 chain.0) (first-all (IsAskedChild c f.point) f.left p chain.1 first)
 
 -- each point of a stack is needed too
 pub held-askable : (c : Circuit) (w : Window) (roots : List Point) (st : List Frame) (p : Point) → AllByRecursion (IsRootPoint c w) roots → IsChain c roots st → IsHeld st p → IsAskable c w p
@@ -166,21 +166,21 @@ held-askable c w roots (f ∷ fs) p all chain (inl h) = subst (IsAskable c w) h 
 held-askable c w roots (f ∷ fs) p all chain (inr h) = held-askable c w roots fs p all chain.2 h
 
 -- the children that are asked for
-pub evaluable-true : (c : Circuit) (t : ℕ) (d : Driver) → has_sources t d ≡ true → HasSources t d
+pub evaluable-true : (c : Circuit) (t : ℕ) (d : Driver) → has_children t d ≡ true → HasChildren t d
 evaluable-true c t (Input settings) h = cc
 evaluable-true c t (Gate kind pins) h = leb-true _ _ h
 evaluable-true c t (Flop f) h = h
 
-filtered : (c : Circuit) (a : Point) (xs : List Point) → AllByRecursion (λ p. Contains (children c a.signal a.time) p) xs → AllByRecursion (IsSource c a) (filter (is_evaluable c) xs)
+filtered : (c : Circuit) (a : Point) (xs : List Point) → AllByRecursion (λ p. Contains (children c a.signal a.time) p) xs → AllByRecursion (IsAskedChild c a) (filter (is_evaluable c) xs)
 filtered c a [] h = tt
 filtered c a (x ∷ xs) h = go (is_evaluable c x) refl (filtered c a xs h.1)
   where
-    go : (b : Bool) → is_evaluable c x ≡ b → AllByRecursion (IsSource c a) (filter (is_evaluable c) xs) → AllByRecursion (IsSource c a) (cond b (x ∷ filter (is_evaluable c) xs) (filter (is_evaluable c) xs))
+    go : (b : Bool) → is_evaluable c x ≡ b → AllByRecursion (IsAskedChild c a) (filter (is_evaluable c) xs) → AllByRecursion (IsAskedChild c a) (cond b (x ∷ filter (is_evaluable c) xs) (filter (is_evaluable c) xs))
     go true e k = (record { child = h.0; evaluable = evaluable-true c x.time (driver c x.signal) e }, k)
     go false e k = k
 
-pub sources-right : (c : Circuit) (p : Point) → AllByRecursion (IsSource c p) (sources_of c p)
-unfolding sources_of
+pub sources-right : (c : Circuit) (p : Point) → AllByRecursion (IsAskedChild c p) (asked_children c p)
+unfolding asked_children
 sources-right c p =
     let xs = children c p.signal p.time in
     filtered c p xs (recursion_from_All (λ x. Contains xs x) xs (All-contains_itself xs))

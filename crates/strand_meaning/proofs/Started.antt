@@ -7,10 +7,11 @@ use Rattle.circuit_meaning.specs.declared.Window.{Window}
 use Rattle.circuit_meaning.specs.Circuit.{Circuit, driver}
 use Rattle.circuit_meaning.specs.Cells.{span}
 use Rattle.circuit_meaning.specs.Need.{IsRoot, Next}
-use Rattle.journal_meaning.specs.declared.Query.{Query}
-use Rattle.journal_meaning.specs.Batch.{Batch, window_of}
-use Rattle.strand_meaning.specs.Batches.{IsLawful, IsQueryOf}
-use Rattle.strand_meaning.specs.Strands.{Start, piece, started, is_evaluable, roots_from, IsStart, IsRootPoint, IsStrand}
+use Rattle.batch_meaning.specs.declared.Query.{Query}
+use Rattle.batch_meaning.specs.Batches.{Batch, window_of}
+use Rattle.batch_meaning.specs.Lawful.{IsLawful, IsQueryOf}
+use Rattle.batch_meaning.specs.Pieces.{Start, piece, IsStart}
+use Rattle.strand_meaning.specs.Strands.{started, is_evaluable, roots_from, IsRootPoint, IsStrand}
 use Rattle.strand_meaning.proofs.Stacks.{evaluable-true}
 
 record IsRootAt (c : Circuit) (w : Window) (p : Point) : Type 0 where

@@ -4,17 +4,17 @@ use Rattle.valid_intervals.specs.declared.Point.{Point}
 use Rattle.circuit_meaning.specs.declared.Window.{Window}
 use Rattle.circuit_meaning.specs.Circuit.{Circuit, IsCircuit}
 use Rattle.circuit_meaning.specs.Need.{IsNeeded}
-use Rattle.circuit_meaning.specs.Held.{held}
+use Rattle.circuit_meaning.specs.Forced.{forced}
 use Rattle.circuit_meaning.specs.Laws.{at_point}
 use Rattle.circuit_meaning.proofs.Alike.{held-fits}
 use Rattle.circuit_meaning.proofs.Free.{needed-alike}
 use Rattle.circuit_meaning.proofs.Roots.{needed-alone, needed-before}
-use Rattle.journal_meaning.specs.declared.Query.{Query}
-use Rattle.journal_meaning.specs.Batch.{Batch, Site, IsNeededBy, NeedOf, OfQuery, window_of}
-use Rattle.strand_meaning.specs.Batches.{IsLawful, IsQueryOf, start_of}
+use Rattle.batch_meaning.specs.declared.Query.{Query}
+use Rattle.batch_meaning.specs.Batches.{Batch, Site, IsNeededBy, NeedOf, OfQuery, window_of}
+use Rattle.batch_meaning.specs.Lawful.{IsLawful, IsQueryOf, start_of}
 use Rattle.strand_meaning.specs.declared.Next.TheVariants.{Ask}
 use Rattle.strand_meaning.specs.Strands.{Strand, IsStrand, next, IsHeld}
-use Rattle.strand_meaning.specs.Laws.{IsWanted, AsksWhatIsNeeded}
+use Rattle.strand_meaning.specs.Laws.{IsWantedBy, AsksWhatIsNeeded}
 use Rattle.strand_meaning.proofs.Started.{query-within}
 use Rattle.strand_meaning.proofs.Stacks.{IsAskable, first-askable, held-askable, asks-first, earlier}
 
@@ -27,7 +27,7 @@ module _ (c : Circuit) (ok : IsCircuit c) (q : Query) (within : q.to ≤ c.horiz
   of-site None n = needed-alone c ok (window_of q) within x.signal x.from n p.signal p.time here
   of-site (Some site) n =
       let alike = needed-alike c site.signal site.value ok (at_point x.signal x.from) n.1 p.signal p.time here in
-      (needed-alone (held c site.signal site.value) (held-fits c site.signal site.value ok) (window_of q) within x.signal x.from n.0 p.signal p.time alike.0, alike.1)
+      (needed-alone (forced c site.signal site.value) (held-fits c site.signal site.value ok) (window_of q) within x.signal x.from n.0 p.signal p.time alike.0, alike.1)
 
 within-of : (b : Batch) → IsLawful b → (q : Query) → Contains b.queries q → q.to ≤ b.circuit.horizon + 1
 within-of b l q (k, h, e) = subst (λ (x : Query). x.to ≤ b.circuit.horizon + 1) e (l.windows k q h)
@@ -42,7 +42,7 @@ asks-needed b l s is = record {
   held = λ p h. wanted p (held-askable b.circuit (window_of s.query) s.roots s.stack p is.roots is.chain h);
 }
   where
-    wanted : (p : Point) → IsAskable b.circuit (window_of s.query) p → IsWanted b s p
+    wanted : (p : Point) → IsAskable b.circuit (window_of s.query) p → IsWantedBy b s p
     wanted p a = record { needed = needed-of b l s.query is.known p a.needed; evaluable = a.evaluable }
 
 pub waits-earlier : (b : Batch) → IsLawful b → (s : Strand) → IsStrand b s → (p x : Point) → next s ≡ Ask p → IsHeld s.stack x → p.time < x.time

@@ -2,20 +2,20 @@
 use Rattle.std.specs.Prelude.{◌≡◌, ◌<◌}
 use Rattle.valid_intervals.specs.declared.Point.{Point}
 use Rattle.circuit_meaning.specs.Need.{IsEvaluable}
-use Rattle.journal_meaning.specs.Batch.{Batch, IsNeededBy, OfQuery}
-use Rattle.strand_meaning.specs.Batches.{IsLawful}
+use Rattle.batch_meaning.specs.Batches.{Batch, IsNeededBy, OfQuery}
+use Rattle.batch_meaning.specs.Lawful.{IsLawful}
 use Rattle.strand_meaning.specs.declared.Next.TheVariants.{Ask, Fill, Drop}
 use Rattle.strand_meaning.specs.Strands.{Strand, IsStrand, next, heard, claimed, given_up, dropped, finished, IsHeld}
 
 -- the point is needed by a query of the batch with the strand's number, and has no answer at once
-pub record IsWanted (b : Batch) (s : Strand) (p : Point) : Type 0 where
+pub record IsWantedBy (b : Batch) (s : Strand) (p : Point) : Type 0 where
   pub needed : OfQuery b s.query.number (λ q. IsNeededBy b q p)
   pub evaluable : IsEvaluable b.circuit p.signal p.time
 
 -- what a strand asks for, and what it holds, is needed
 pub record AsksWhatIsNeeded (b : Batch) (s : Strand) : Type 0 where
-  pub asked : (p : Point) → next s ≡ Ask p → IsWanted b s p
-  pub held : (p : Point) → IsHeld s.stack p → IsWanted b s p
+  pub asked : (p : Point) → next s ≡ Ask p → IsWantedBy b s p
+  pub held : (p : Point) → IsHeld s.stack p → IsWantedBy b s p
 
 abbrev pub StrandsAskWhatIsNeeded : Type 0
 StrandsAskWhatIsNeeded = (b : Batch) → IsLawful b → (s : Strand) → IsStrand b s → AsksWhatIsNeeded b s

@@ -1,4 +1,2 @@
-pub mod Batches
 pub mod Strands
 pub mod Laws
-pub mod Pieces

@@ -7,11 +7,12 @@ use Rattle.circuit_meaning.specs.Cells.{least_delay, span}
 use Rattle.valid_intervals.specs.declared.Point.{Point}
 use Rattle.circuit_meaning.specs.declared.Window.{Window}
 use Rattle.circuit_meaning.specs.Need.{children, IsEvaluable, IsRoot}
-use Rattle.journal_meaning.specs.declared.Query.{Query}
-use Rattle.journal_meaning.specs.Batch.{Batch, window_of}
+use Rattle.batch_meaning.specs.declared.Query.{Query}
+use Rattle.batch_meaning.specs.Batches.{Batch, window_of}
 use Rattle.strand_meaning.specs.declared.Next.{Next}
 use Rattle.strand_meaning.specs.declared.Next.TheVariants.{Ask, Fill, Drop, Done}
-use Rattle.strand_meaning.specs.Batches.{IsQueryOf}
+use Rattle.batch_meaning.specs.Lawful.{IsQueryOf}
+use Rattle.batch_meaning.specs.Pieces.{Start, piece}
 
 -- a claimed point, and those of its children that are still to be heard
 pub record Frame : Type 0 where
@@ -30,33 +31,22 @@ pub record Strand : Type 0 where
   pub waits : Bool
 
 -- whether a point has no answer at once
-abbrev pub has_sources : ℕ → Driver → Bool
-has_sources t (Input settings) = false
-has_sources t (Gate kind pins) = nat_le (least_delay pins) t
-has_sources t (Flop f) = is_some (shown_edge f.clock f.delay t)
+abbrev pub has_children : ℕ → Driver → Bool
+has_children t (Input settings) = false
+has_children t (Gate kind pins) = nat_le (least_delay pins) t
+has_children t (Flop f) = is_some (shown_edge f.clock f.delay t)
 
 abbrev pub is_evaluable : Circuit → Point → Bool
-is_evaluable c p = has_sources p.time (driver c p.signal)
+is_evaluable c p = has_children p.time (driver c p.signal)
 
 -- the children that a strand has to ask for; it hears the others by itself
-unfoldable pub sources_of : Circuit → Point → List Point
-sources_of c p = filter (is_evaluable c) (children c p.signal p.time)
+unfoldable pub asked_children : Circuit → Point → List Point
+asked_children c p = filter (is_evaluable c) (children c p.signal p.time)
 
 -- the ends of cells from t on, in at most n steps
 unfoldable pub roots_from : Circuit → Window → ℕ → ℕ → List Point
 roots_from c w zero t = []
 roots_from c w (suc n) t = if nat_lt t w.stop then record { signal = w.signal; time = t } ∷ roots_from c w n (span c w.signal t).stop else []
-
--- what a strand is started with: the times of its query's window from start on and below stop, and what it may charge
-pub record Start : Type 0 where
-  pub query : Query
-  pub start : ℕ
-  pub stop : ℕ
-  pub budget : ℕ
-  pub charged : ℕ
-
-abbrev pub piece : Start → Window
-piece a = record { signal = a.query.signal; start = a.start; stop = a.stop }
 
 abbrev pub started : Circuit → Start → Strand
 started c a = record {
@@ -69,13 +59,6 @@ started c a = record {
   spent = false;
   waits = false;
 }
-
-pub record IsStart (b : Batch) (a : Start) : Type 0 where
-  pub known : IsQueryOf b a.query
-  pub root : a.start < a.stop → IsRoot b.circuit (window_of a.query) a.start
-  pub stop : a.stop ≤ a.query.to
-  pub charge : a.charged ≤ a.budget
-  pub budget : a.budget ≤ a.query.budget
 
 -- what is left to be heard is asked for, and then comes the end
 abbrev pub ask_or : Next → List Point → Next
@@ -107,7 +90,7 @@ abbrev pub heard : Strand → Strand
 heard s = record s { roots = roots_heard s.roots s.stack; stack = stack_heard s.stack }
 
 abbrev pub claimed : Circuit → Strand → Point → Strand
-claimed c s p = record s { stack = record { point = p; left = sources_of c p } ∷ s.stack; charged = s.charged + 1 }
+claimed c s p = record s { stack = record { point = p; left = asked_children c p } ∷ s.stack; charged = s.charged + 1 }
 
 abbrev pub waiting : Strand → Strand
 waiting s = record s { waits = true }
@@ -140,14 +123,14 @@ abbrev pub IsFirst : List Point → Point → Type 0
 IsFirst [] p = ⊥
 IsFirst (x ∷ xs) p = x ≡ p
 
-pub record IsSource (c : Circuit) (parent p : Point) : Type 0 where
+pub record IsAskedChild (c : Circuit) (parent p : Point) : Type 0 where
   pub child : Contains (children c parent.signal parent.time) p
   pub evaluable : IsEvaluable c p.signal p.time
 
 -- each point of a stack is what the one below it waits for, and the lowest is what the strand waits for
 abbrev pub IsChain : Circuit → List Point → List Frame → Type 0
 IsChain c roots [] = Unit {0}
-IsChain c roots (f ∷ fs) = IsFirst (left_in roots fs) f.point × AllByRecursion (IsSource c f.point) f.left × IsChain c roots fs
+IsChain c roots (f ∷ fs) = IsFirst (left_in roots fs) f.point × AllByRecursion (IsAskedChild c f.point) f.left × IsChain c roots fs
 
 pub record IsRootPoint (c : Circuit) (w : Window) (p : Point) : Type 0 where
   pub signal : p.signal ≡ w.signal

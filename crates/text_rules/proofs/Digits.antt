@@ -3,7 +3,7 @@ use Rattle.std.proofs.Common.{◌≡◌, ℕ, ◌+◌, ◌-◌, ◌*◌, ◌<◌
 use Rattle.std.specs.List.{fold, list_all}
 use Rattle.std.proofs.lemmas.Bool.{lt-leb, leb-true}
 use Rattle.text_rules.specs.declared.Amount.TheVariants.{NoNumber, Above, Within}
-use Rattle.text_rules.specs.Text.{is_digit, is_number, decimal, amount}
+use Rattle.text_rules.specs.Text.{is_digit, is_number, decimal_value, amount}
 
 abbrev pub with_digit : ℕ → ℕ → ℕ
 with_digit n b = n * 10 + (b - 48)
@@ -17,11 +17,11 @@ pub number_is : (word : List ℕ) → 0 < length word → list_all is_digit word
 number_is [] h d = absurd (omega arith)
 number_is (b ∷ word) h d = d
 
-pub is_above : (word : List ℕ) (limit : ℕ) → is_number word ≡ true → limit < decimal word → Above ≡ amount limit word
-is_above word limit n lt = rw (n, lt-leb (decimal word) limit lt) refl
+pub is_above : (word : List ℕ) (limit : ℕ) → is_number word ≡ true → limit < decimal_value word → Above ≡ amount limit word
+is_above word limit n lt = rw (n, lt-leb (decimal_value word) limit lt) refl
 
 -- a number that is above the limit before its last digit is above it
-pub passes : (word : List ℕ) (limit n i : ℕ) → i < length word → fold with_digit n (drop i word) ≡ decimal word → limit < n * 10 + (get_or word i 0 - 48) → limit < decimal word
+pub passes : (word : List ℕ) (limit n i : ℕ) → i < length word → fold with_digit n (drop i word) ≡ decimal_value word → limit < n * 10 + (get_or word i 0 - 48) → limit < decimal_value word
 passes word limit n i lt so_far h =
     let more = grows (with_digit n (get_or word i 0)) (drop (suc i) word) in
     let whole : fold with_digit n (drop i word) ≡ fold with_digit (with_digit n (get_or word i 0)) (drop (suc i) word) = rw (drop-cons word i 0 lt) refl in
@@ -29,9 +29,9 @@ passes word limit n i lt so_far h =
 
 -- what is read is at most the limit
 pub within : (limit : ℕ) (word : List ℕ) (n : ℕ) → amount limit word ≡ Within n → n ≤ limit
-within limit word n h = cases (is_number word) (leb (decimal word) limit) refl h
+within limit word n h = cases (is_number word) (leb (decimal_value word) limit) refl h
   where
-    cases : (a b : Bool) → leb (decimal word) limit ≡ b → cond a (cond b (Within (decimal word)) Above) NoNumber ≡ Within n → n ≤ limit
+    cases : (a b : Bool) → leb (decimal_value word) limit ≡ b → cond a (cond b (Within (decimal_value word)) Above) NoNumber ≡ Within n → n ≤ limit
     cases false b e h = absurd cc
     cases true false e h = absurd cc
-    cases true true e h = let same : decimal word ≡ n = cc in omega (arith, same, leb-true (decimal word) limit e)
+    cases true true e h = let same : decimal_value word ≡ n = cc in omega (arith, same, leb-true (decimal_value word) limit e)

@@ -28,7 +28,7 @@ is_name_byte b = nat_le 33 b && nat_le b 126 && not (is_mark b) && not (is_hash 
 abbrev pub is_digit : ℕ → Bool
 is_digit b = nat_le 48 b && nat_le b 57
 
--- an empty part behind the last line feed is no line
+-- an empty part after the last line feed is no line
 abbrev pub less_empty_last : List (List ℕ) → List (List ℕ)
 less_empty_last [] = []
 less_empty_last ([] ∷ []) = []
@@ -66,9 +66,9 @@ abbrev pub is_number : List ℕ → Bool
 is_number word = is_filled word && list_all is_digit word
 
 -- the value of a word of digits
-abbrev pub decimal : List ℕ → ℕ
-decimal word = fold (λ n b. n * 10 + (b - 48)) 0 word
+abbrev pub decimal_value : List ℕ → ℕ
+decimal_value word = fold (λ n b. n * 10 + (b - 48)) 0 word
 
 -- a number of any length: above the limit, or its value
 abbrev pub amount : ℕ → List ℕ → Amount
-amount limit word = if is_number word then (if nat_le (decimal word) limit then Within (decimal word) else Above) else NoNumber
+amount limit word = if is_number word then (if nat_le (decimal_value word) limit then Within (decimal_value word) else Above) else NoNumber

@@ -1,7 +1,7 @@
 //! The rules that the text files of the simulator share: lines, comments,
 //! blanks, words, tokens, names and numbers.
 //!
-//! A text is a list of bytes. A **line** ends at a line feed; bytes behind the
+//! A text is a list of bytes. A **line** ends at a line feed; bytes after the
 //! last line feed are a line too. A **comment** runs from `#` to the end of its
 //! line, and `content` is what stands before it. Space, tab and carriage return
 //! are **blanks**, so a line may end in a carriage return and a line feed. The
@@ -23,9 +23,9 @@
 //! ```
 //!
 //! Nothing here takes memory: each call gives parts of the slice that it was
-//! given. A call reads each byte in front of the end of its answer a fixed
-//! number of times, so a walk over a text takes time in proportion to its
-//! length, however it is cut into lines and words.
+//! given. A call reads each byte up to the end of its answer a fixed number of
+//! times, so a walk over a text takes time in proportion to its length, however
+//! it is cut into lines and words.
 #![tactic(auto)]
 
 mod byte;

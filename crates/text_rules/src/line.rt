@@ -5,7 +5,7 @@ ghost use Rattle.text_rules.specs.Text as text;
 
 use crate::byte::{feed_at, hash_at};
 
-/// The first line without its line feed, and what stands behind that.
+/// The first line without its line feed, and what comes after that.
 pub fn next_line(bytes: &[u8]) -> (&[u8], &[u8])
     requires { 0 < length bytes.now }
     ensures cut { text.lines bytes.now ≡ result.0.now ∷ text.lines result.1.now }

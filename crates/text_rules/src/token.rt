@@ -22,7 +22,7 @@ fn first_token(bytes: &[u8]) -> (&[u8], &[u8])
     }
 }
 
-/// The first token, and what stands behind it; `None` where there is no token.
+/// The first token, and what comes after it; `None` where there is no token.
 pub fn next_token(bytes: &[u8]) -> Option<(&[u8], &[u8])>
     ensures { MatchOption result
         (text.tokens bytes.now ≡ [])

@@ -17,7 +17,7 @@ fn first_word(bytes: &[u8]) -> (&[u8], &[u8])
     }
 }
 
-/// The first word, and what stands behind it; `None` where there is no word.
+/// The first word, and what comes after it; `None` where there is no word.
 pub fn next_word(bytes: &[u8]) -> Option<(&[u8], &[u8])>
     ensures { MatchOption result
         (text.words bytes.now ≡ [])

@@ -7,7 +7,7 @@ use Rattle.std.proofs.lemmas.List.Sorted.{list_any-IsPermutation}
 use Rattle.timing_file.specs.declared.entry.Subject.{Subject}
 use Rattle.timing_file.specs.declared.entry.Subject.TheVariants as keys
 use Rattle.timing_file.specs.contracts.entry.SubjectPartialEq.TheImpl.{eq-value}
-use Rattle.timing_file.specs.Views.{is_alike}
+use Rattle.timing_file.specs.inner.Views.{is_alike}
 
 -- the derived equality is that of the subjects
 pub eq-is : (a b : Subject) → eq-value.it a b ≡ is_alike a b

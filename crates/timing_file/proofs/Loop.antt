@@ -7,7 +7,7 @@ use Rattle.timing_file.specs.declared.reader.Reader.{Reader}
 use Rattle.timing_file.specs.Causes.{out_of_memory}
 use Rattle.timing_file.specs.Forms.{Line, line_of}
 use Rattle.timing_file.specs.Timing.{first_fault, timing_of}
-use Rattle.timing_file.specs.Reading.{HasRead}
+use Rattle.timing_file.specs.inner.Reading.{HasRead}
 
 -- the lines in front of the rest have been read
 pub record Progress (all : List Line) (text : List ℕ) (r : Reader) (number : ℕ) (rest : List ℕ) : Type 0 where

@@ -19,9 +19,9 @@ use Rattle.timing_file.specs.Forms.{Entry, CommonClock, NamedClock, Default, Def
 use Rattle.timing_file.specs.Subjects.{same_subject, subject_of}
 use Rattle.timing_file.specs.Subjects as subjects
 use Rattle.timing_file.specs.Timing.{Content, Statement, clock_stated, default_stated, kind_stated, row_of, clock_row_of, is_blank, is_version, cause_of, cause_of_entry, content_from, is_repeated, statements_at, statements_from}
-use Rattle.timing_file.specs.Views.{is_alike, subject_seen}
+use Rattle.timing_file.specs.inner.Views.{is_alike, subject_seen}
 use Rattle.timing_file.specs.Causes.{out_of_memory}
-use Rattle.timing_file.specs.Reading.{HasRead, IsStatement, Steps, StepsEntry, with_entry}
+use Rattle.timing_file.specs.inner.Reading.{HasRead, IsStatement, Steps, StepsEntry, with_entry}
 
 pub statements-append : (n : ℕ) (a b : List Line) → statements_from n (a ++ b) ≡ statements_from n a ++ statements_from (n + length a) b
 statements-append n [] b = ap (λ (k : ℕ). statements_from k b) (omega arith)

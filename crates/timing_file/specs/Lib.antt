@@ -3,5 +3,4 @@ pub mod Forms
 pub mod Subjects
 pub mod Timing
 pub mod Ranges
-pub mod Views
-pub mod Reading
+pub mod inner

@@ -137,6 +137,6 @@ unfoldable pub timing_of : List ℕ → Result Content TimingFault
 timing_of text = of_lines (map line_of (lines text))
 
 -- the answer is this one, unless memory ran out
-abbrev pub Answers : Result Content TimingFault → Result Content TimingFault → Type 0
-Answers (Ok content) said = said ≡ Ok content
-Answers (Err fault) said = (fault ≡ out_of_memory) ⊎ (said ≡ Err fault)
+abbrev pub AnswersTiming : Result Content TimingFault → Result Content TimingFault → Type 0
+AnswersTiming (Ok content) said = said ≡ Ok content
+AnswersTiming (Err fault) said = (fault ≡ out_of_memory) ⊎ (said ≡ Err fault)

@@ -2,7 +2,7 @@
 
 ghost use Rattle.std.specs.Prelude.{◌≡◌};
 ghost use Rattle.timing_file.specs.Subjects as subjects;
-ghost use Rattle.timing_file.specs.Views.{entry_seen, subject_seen};
+ghost use Rattle.timing_file.specs.inner.Views.{entry_seen, subject_seen};
 
 use flip_flops::Clock;
 use gate_values::{Kind, Value};

@@ -4,7 +4,7 @@ ghost use Rattle.std.specs.Prelude.{◌≡◌, codes};
 ghost use Rattle.text_rules.specs.Text.{words};
 ghost use Rattle.timing_file.specs.Forms as forms;
 ghost use Rattle.timing_file.specs.Forms.{line_of, number_in};
-ghost use Rattle.timing_file.specs.Views.{line_seen};
+ghost use Rattle.timing_file.specs.inner.Views.{line_seen};
 
 use crate::entry::Entry;
 use flip_flops::Clock;

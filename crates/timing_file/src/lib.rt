@@ -26,8 +26,8 @@
 //! name, and for each kind, name, and name and place, one line of each form.
 //!
 //! `read_timing` reads a whole file. Its one clause says that the answer is
-//! `timing_of` of the text: the content, or the first line at fault with its
-//! cause. Only want of memory is left open. `Timing` is seen by contracts as its
+//! `timing_of` of the text (`specs/Timing`): the content, or the first line at
+//! fault with its cause. Only want of memory is left open. `Timing` is seen by contracts as its
 //! content. Whether a name is a gate or a flip-flop of some netlist is for the
 //! crate above to test.
 //!
@@ -77,7 +77,7 @@ pub enum TimingCause {
 impl TimingCause {
     ghost use Rattle.timing_file.specs.Causes.{number_of};
 
-    /// The number that is printed for the cause.
+    /// The number that is printed for the cause. That of `OutOfMemory` never is.
     pub fn number(self) -> u8
         ensures { result ≡ number_of self }
     {

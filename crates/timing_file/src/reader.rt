@@ -6,9 +6,9 @@ ghost use Rattle.text_rules.specs.Text.{lines};
 ghost use Rattle.timing_file.specs.Causes.{out_of_memory};
 ghost use Rattle.timing_file.specs.Forms.{line_of};
 ghost use Rattle.timing_file.specs.Forms as forms;
-ghost use Rattle.timing_file.specs.Timing.{Answers, timing_of};
-ghost use Rattle.timing_file.specs.Views.{line_seen, stated_seen, entry_seen};
-ghost use Rattle.timing_file.specs.Reading.{AddsSubject, Reads, ReadsAll, ReadsEntry, was_seen};
+ghost use Rattle.timing_file.specs.Timing.{AnswersTiming, timing_of};
+ghost use Rattle.timing_file.specs.inner.Views.{line_seen, stated_seen, entry_seen};
+ghost use Rattle.timing_file.specs.inner.Reading.{AddsSubject, Reads, ReadsAll, ReadsEntry, was_seen};
 
 use crate::entry::{Entry, Subject};
 use crate::form::{Form, form_of};
@@ -135,7 +135,7 @@ fn take_all<'a>(alloc: Global, text: &'a [u8]) -> Result<Reader<'a>, TimingFault
 /// What the file says, or its first line at fault.
 pub fn read_timing(alloc: Global, text: &[u8]) -> Result<Timing, TimingFault>
     requires { length text.now ≤ 67108864 }
-    ensures { Answers result (timing_of text.now) }
+    ensures { AnswersTiming result (timing_of text.now) }
 {
     let reader = take_all(alloc, text)?;
     Ok(Timing::new(reader.stated))

@@ -2,11 +2,11 @@
 
 ghost use Rattle.std.specs.Prelude.{◌≡◌, ◌∷◌, ◌++◌, [], OnOk, IfErr};
 ghost use Rattle.timing_file.specs.Causes.{out_of_memory};
-ghost use Rattle.timing_file.specs.Reading.{with_entry};
+ghost use Rattle.timing_file.specs.inner.Reading.{with_entry};
 ghost use Rattle.timing_file.specs.Subjects.{same_kind};
 ghost use Rattle.timing_file.specs.Timing as content;
 ghost use Rattle.timing_file.specs.Timing.{content_from};
-ghost use Rattle.timing_file.specs.Views.{entry_seen};
+ghost use Rattle.timing_file.specs.inner.Views.{entry_seen};
 
 use crate::entry::Entry;
 use crate::{ClockRow, TimingFault, TimingRow, TimingWhat};

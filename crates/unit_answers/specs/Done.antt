@@ -5,10 +5,10 @@ use Rattle.cell_store.specs.Recency.{Contents}
 use Rattle.journal_meaning.specs.declared.Entry.{Entry}
 use Rattle.journal_meaning.specs.States.{fresh}
 use Rattle.journal_meaning.specs.Replay.{IsLegalBatch, IsLegalTrim, replay}
-use Rattle.journal_meaning.specs.Laws.{of_batch}
+use Rattle.journal_meaning.specs.Sections.{of_batch}
 use Rattle.query_lines.specs.declared.unit.Item.{Item}
-use Rattle.query_lines.specs.declared.reply.Reply.{Reply}
-use Rattle.query_lines.specs.Replies.{Suits}
+use Rattle.reply_lines.specs.declared.reply.Reply.{Reply}
+use Rattle.reply_lines.specs.Replies.{Suits}
 use Rattle.session_meaning.specs.Verdicts.{verdict_of}
 use Rattle.session_meaning.specs.Replies.{IsReply}
 use Rattle.session_meaning.specs.Session.{Setup, batch_of, trim_entries}

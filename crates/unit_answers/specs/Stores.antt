@@ -2,7 +2,7 @@
 use Rattle.std.specs.Prelude.{◌≡◌, ℕ, List, [], length, get_or, All}
 use Rattle.valid_intervals.specs.declared.SignalCell.{SignalCell}
 use Rattle.cell_store.specs.Recency.{Contents, contents}
-use Rattle.journal_meaning.specs.Batch.{IsRight}
+use Rattle.journal_meaning.specs.Allowed.{IsRight}
 use Rattle.design.specs.Joined.{Joined}
 use Rattle.session_meaning.specs.Session.{Setup}
 use Rattle.unit_answers.specs.declared.sizes.Sizes.{Sizes}

@@ -5,14 +5,19 @@ ghost use Rattle.query_lines.specs.Laws.{IsWithin};
 ghost use Rattle.unit_answers.specs.Stores.{setup_of, AreStores};
 ghost use Rattle.unit_answers.specs.Done.{IsBatchDone};
 
+use crate::replies::{placed, queries_of};
+use crate::run::run_batch;
 use crate::sizes::Sizes;
 use backsim_io::OutOfMemory;
 use batch_crew::Crew;
 use cell_store::CellStore;
 use design::Design;
 use journal_text::EntryList;
-use query_lines::{Item, Reply};
+use query_lines::Item;
+use reply_lines::Reply;
 use std::alloc::Global;
+use std::marker::Brand;
+use window_answers::verdicts_of;
 
 /// What came of a batch: the reply to each item, the journal of each shard, and the stores that are left.
 #[derive(Drop)]
@@ -22,20 +27,40 @@ pub struct BatchDone {
     pub stores: Vec<CellStore>,
 }
 
-/// Answers the items of a batch over the stores.
-pub fn answer_batch<C: Crew>(
-    _crew: &C,
-    _alloc: Global,
-    _design: &Design,
-    _items: &[Item],
-    _sizes: Sizes,
-    _stores: Vec<CellStore>,
-) -> Result<BatchDone, OutOfMemory>
-    requires stores { AreStores (setup_of _design.now _sizes) _stores.items }
-    requires shards { (0 < _sizes.shards) × (_sizes.shards ≤ 64) }
-    requires within { IsWithin _design.now.circuit.horizon _items.now }
-    requires lines { AllPairs (λ a b. a.line ≢ b.line) _items.now }
-    ensures { IfOk result (λ done. IsBatchDone (setup_of _design.now _sizes) _items.now _stores.items done.replies.items done.lists.items done.stores.items) }
+/// What is known of the stores: each has room for a cell.
+fn have_room(design: &Design, sizes: Sizes, stores: &[CellStore])
+    requires stores { AreStores (setup_of design.now sizes) stores.now }
+    requires some { 0 < sizes.shards }
+    ensures { 0 < sizes.cells }
 {
-    Err(OutOfMemory)
+    let _capacity = stores[0].capacity();
+}
+
+/// Answers the items of a batch over the stores. The crew runs the strands of the queries; what it leaves undone, settlement does.
+/// Where memory runs out, the stores are given up.
+pub fn answer_batch<C: Crew>(
+    crew: &C,
+    alloc: Global,
+    design: &Design,
+    items: &[Item],
+    sizes: Sizes,
+    stores: Vec<CellStore>,
+) -> Result<BatchDone, OutOfMemory>
+    requires stores { AreStores (setup_of design.now sizes) stores.items }
+    requires shards { (0 < sizes.shards) × (sizes.shards ≤ 64) }
+    requires within { IsWithin design.now.circuit.horizon items.now }
+    requires lines { AllPairs (λ a b. a.line ≢ b.line) items.now }
+    ensures { IfOk result (λ done. IsBatchDone (setup_of design.now sizes) items.now stores.items done.replies.items done.lists.items done.stores.items) }
+{
+    design.facts();
+    have_room(design, sizes, &stores);
+    let verdicts = verdicts_of(alloc, design, items)?;
+    let queries = queries_of(alloc, &verdicts)?;
+    let ran = run_batch::<Brand, C>(crew, alloc, design, &queries, sizes, stores)?;
+    let replies = placed(alloc, &verdicts, ran.replies)?;
+    Ok(BatchDone {
+        replies,
+        lists: ran.lists,
+        stores: ran.stores,
+    })
 }

@@ -1,6 +1,6 @@
 //! Intervals of times, cells and points.
 //!
-//! A [`Span`] is an interval of times that has at least one: its start is in it, its end is the first time behind it. A
+//! A [`Span`] is an interval of times that has at least one: its start is in it, its end is the first time after it. A
 //! [`Cell`] is a span with the one value that a signal has in it, a [`Point`] is a signal at a time, and a [`SignalCell`]
 //! is a cell together with its signal, which is what a memo stores.
 //!

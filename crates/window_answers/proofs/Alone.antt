@@ -7,51 +7,42 @@ use Rattle.valid_intervals.specs.declared.Point.{Point}
 use Rattle.valid_intervals.specs.declared.SignalCell.{SignalCell}
 use Rattle.circuit_meaning.specs.Need.{IsEvaluable}
 use Rattle.journal_meaning.specs.declared.Entry.{Entry}
-use Rattle.journal_meaning.specs.declared.Query.{Query}
-use Rattle.journal_meaning.specs.Batch.{Batch}
+use Rattle.batch_meaning.specs.declared.Query.{Query}
+use Rattle.batch_meaning.specs.Batches.{Batch}
 use Rattle.journal_meaning.specs.Answers.{IsCovered, filled, is_fill_of}
-use Rattle.journal_meaning.specs.Grown.{IsRightEntry, AreAdded}
-use Rattle.journal_meaning.specs.Index.{said, IsFound, IsIndexed}
+use Rattle.journal_meaning.specs.inner.Grown.{IsRightEntry}
+use Rattle.journal_meaning.specs.Grown.{AreAdded}
+use Rattle.journal_meaning.specs.inner.Index.{cells_said, IsFound, IsCellIndex}
 use Rattle.journal_meaning.proofs.Index.{found-said, said-found}
 use Rattle.journal_meaning.proofs.Lists.{Each}
-use Rattle.strand_meaning.specs.Batches.{IsLawful}
-use Rattle.strand_meaning.specs.Strands.{Strand, Start, IsStart, IsStrand, started}
+use Rattle.batch_meaning.specs.Lawful.{IsLawful}
+use Rattle.strand_meaning.specs.Strands.{Strand, IsStrand, started}
+use Rattle.batch_meaning.specs.Pieces.{Start, IsStart}
 use Rattle.strand_meaning.proofs.Started.{started-right}
 use Rattle.plan_machine.specs.Shards.{Shard}
 use Rattle.plan_machine.specs.Plans.{no_shard}
 use Rattle.plan_machine.specs.Sound.{IsFresh}
-use Rattle.plan_machine.specs.Settle.{IsStanding, IsAskedFor, Reaches, AskedAlone, journals_of}
+use Rattle.plan_machine.specs.inner.Settle.{IsStanding, IsAskedFor, Reaches, AskedAlone}
+use Rattle.plan_machine.specs.Settle.{journals_of}
 use Rattle.plan_machine.proofs.Settle.{stays, asked-reaches, right-of}
 use Rattle.demand_points.specs.Demands.{Demand}
-use Rattle.memo_shards.specs.Kept.{KeptShard}
-use Rattle.plan_core.specs.Parts.{AreInOrder, AreNew, AreFree, IsNew, shards_in}
+use Rattle.memo_shards.specs.KeptShards.{KeptShard}
+use Rattle.plan_core.specs.Parts.{AreInOrder, AreFreshStrands, AreFree, IsFreshStrand, shards_in}
 use Rattle.window_answers.specs.Shards.{AreNumbered}
-use Rattle.window_answers.specs.Memos.{IsAsking, entries_of, lengths_of, tails, asked, at_time, live, standing, is_missing}
-use Rattle.window_answers.proofs.Said.{SameEntries, shard-at, lengths-at, regroup, IsBehind, index-same, each-from, filled-append}
-
--- what stands at a place
-low-at : {A : Type 0} (xs : List A) (n : ℕ) (x : A) → slice_get xs n ≡ Some x → n < length xs
-low-at [] n x e = absurd (cc e)
-low-at (y ∷ xs) zero x e = omega arith
-low-at (y ∷ xs) (suc n) x e = let l = low-at xs n x e in omega arith
-
-or-at : {A : Type 0} (xs : List A) (n : ℕ) (x d : A) → slice_get xs n ≡ Some x → get_or xs n d ≡ x
-or-at [] n x d e = absurd (cc e)
-or-at (y ∷ xs) zero x d e = cc e
-or-at (y ∷ xs) (suc n) x d e = or-at xs n x d e
-
-at-or : {A : Type 0} (xs : List A) (n : ℕ) (d : A) → n < length xs → slice_get xs n ≡ Some (get_or xs n d)
-at-or [] n d low = absurd (omega arith)
-at-or (y ∷ xs) zero d low = refl
-at-or (y ∷ xs) (suc n) d low = at-or xs n d (omega arith)
+use Rattle.window_answers.specs.inner.Memos.{IsChargedMemo, entries_of, lengths_of, tails, asked_at, at_time, live, standing, is_missing}
+use Rattle.window_answers.proofs.Index.{SameEntries, index-same}
+use Rattle.window_answers.proofs.Entries.{shard-at, lengths-at, regroup, HaveGrown, filled-append}
+use Rattle.window_answers.proofs.Lists.{low-at, or-at, at-or, each-from}
 
 -- the plan's word for shards in order, and the one here
 in-order : (ms : List KeptShard) → AreNumbered ms → AreInOrder ms
 in-order ms numbers i m e = subst (λ (x : KeptShard). x.number ≡ i) (or-at ms i m m e) (numbers i m (low-at ms i m e))
 
+-- and back
 pub numbered : (ms : List KeptShard) → AreInOrder ms → AreNumbered ms
 numbered ms order n d low = order n (get_or ms n d) (at-or ms n d low)
 
+-- shards without claims are free
 pub free-shards : (b : Batch) (opening : ℕ → List SignalCell) (ms : List KeptShard) → AreNumbered ms → IsFresh b opening (shards_in ms) → AreFree b ms
 free-shards b opening ms numbers fresh = record {
   count = sym (length-map ms (λ (m : KeptShard). m.shard)) ∙ fresh.count;
@@ -66,10 +57,10 @@ free-shards b opening ms numbers fresh = record {
         subst (λ (h : Shard). h.state.claims ≡ []) (shard-at ms k d no_shard low) (fresh.free k (omega arith))
 
 -- one strand that starts is new
-pub new-strand : (b : Batch) (a : Start) → IsStart b a → (s : Demand) → s.number ≡ 0 → s.strand ≡ started b.circuit a → AreNew b (s ∷ [])
+pub new-strand : (b : Batch) (a : Start) → IsStart b a → (s : Demand) → s.number ≡ 0 → s.strand ≡ started b.circuit a → AreFreshStrands b (s ∷ [])
 new-strand b a start s number is zero r e =
     let same : s ≡ r = cc e in
-    subst (IsNew b 0) same (record {
+    subst (IsFreshStrand b 0) same (record {
       number = number;
       strand = subst (IsStrand b) (sym is) (started-right b a start);
       empty = ap (λ (t : Strand). t.stack) is;
@@ -77,7 +68,7 @@ new-strand b a start s number is zero r e =
     })
 new-strand b a start s number is (suc i) r e = absurd (cc e)
 
--- what is behind each journal once entries were added
+-- What stands after each journal once entries were added.
 module _ (b : Batch) (lawful : IsLawful b) (opening : ℕ → List SignalCell) (old new : List KeptShard) (added : List Entry) (j : AreAdded (journals_of (shards_in old)) added (journals_of (shards_in new))) where
   lengths-same : length new ≡ length old
   lengths-same =
@@ -88,36 +79,40 @@ module _ (b : Batch) (lawful : IsLawful b) (opening : ℕ → List SignalCell) (
       let f = length-map old (λ (m : KeptShard). m.shard) in
       omega arith
 
-  behind : IsBehind old new
-  behind = λ k. let l = j.lists k in (l.more, l.longer)
+  grown : HaveGrown old new
+  grown = λ k. let l = j.lists k in (l.more, l.longer)
 
   journal-of : (ms : List KeptShard) (k : ℕ) (e : KeptShard) → k < length ms → get_or (journals_of (shards_in ms)) k [] ≡ (get_or ms k e).shard.journal
   journal-of [] k e low = absurd (omega arith)
   journal-of (m ∷ ms) zero e low = refl
   journal-of (m ∷ ms) (suc k) e low = journal-of ms k e (omega arith)
 
+  -- each journal is at least as long as it was
   pub read-longer : (k d : ℕ) (e : KeptShard) → k < length (lengths_of old) → get_or (lengths_of old) k d ≤ length (get_or new k e).shard.journal
   read-longer k d e low =
       let c = lengths-same in
       let l = length-map old (λ (m : KeptShard). length m.shard.journal) in
       let at = lengths-at old k d e (omega arith) in
-      let h = behind k in
+      let h = grown k in
       let is : (get_or new k e).shard.journal ≡ (get_or old k e).shard.journal ++ h.0 = sym (journal-of new k e (omega arith)) ∙ h.1 ∙ ap (λ z. z ++ h.0) (journal-of old k e (omega arith)) in
       let n = ap length is ∙ length-append (get_or old k e).shard.journal h.0 in
       omega arith
 
+  -- there are as many lengths as journals
   pub read-count : length (lengths_of old) ≡ length new
   read-count = length-map old (λ (m : KeptShard). length m.shard.journal) ∙ sym lengths-same
 
   same : SameEntries (entries_of old ++ tails (lengths_of old) new) (entries_of new)
-  same = regroup old new lengths-same behind
+  same = regroup old new lengths-same grown
 
+  -- what was added is right
   pub tails-right : IsFresh b opening (shards_in new) → Each (IsRightEntry b.circuit) (tails (lengths_of old) new)
   tails-right fresh = each-from (IsRightEntry b.circuit) (tails (lengths_of old) new) (λ e h. right-of b lawful opening (shards_in new) fresh e (same.to e (Contains-append_right (entries_of old) (tails (lengths_of old) new) e h)))
 
-  pub asking-on : (q : Query) (index after : Point → Option Cell) (charge more : ℕ) → IsAsking b opening old index q charge → AreNumbered new → IsFresh b opening (shards_in new)
-      → ((es : List Entry) → IsIndexed b.circuit (said es) index → Each (IsRightEntry b.circuit) (tails (lengths_of old) new) → IsIndexed b.circuit (said (es ++ tails (lengths_of old) new)) after)
-      → more ≡ min (charge + filled (tails (lengths_of old) new) q.number) q.budget → IsAsking b opening new after q more
+  -- the memo with what was added, and what the query is charged then
+  pub asking-on : (q : Query) (index after : Point → Option Cell) (charge more : ℕ) → IsChargedMemo b opening old index q charge → AreNumbered new → IsFresh b opening (shards_in new)
+      → ((es : List Entry) → IsCellIndex b.circuit (cells_said es) index → Each (IsRightEntry b.circuit) (tails (lengths_of old) new) → IsCellIndex b.circuit (cells_said (es ++ tails (lengths_of old) new)) after)
+      → more ≡ min (charge + filled (tails (lengths_of old) new) q.number) q.budget → IsChargedMemo b opening new after q more
   asking-on q index after charge more a numbers fresh read counts = record {
     kept = record {
       numbers = numbers;
@@ -132,32 +127,37 @@ module _ (b : Batch) (lawful : IsLawful b) (opening : ℕ → List SignalCell) (
         omega arith;
   }
 
--- a point is covered as it stands
 module _ (b : Batch) (lawful : IsLawful b) (opening : ℕ → List SignalCell) (q : Query) (start : List Entry) (first : List Shard) (ms : List KeptShard) (x : Point) where
+  -- a covered point is reached as it stands
   pub reach-known : IsStanding b opening q start first (live ms) → IsCovered b.circuit (entries_of ms) x → Reaches b opening q start first (live ms) x (standing ms false)
   reach-known s h = (stays b opening q start first (live ms) s, λ _. h)
 
-pub covered-found : (b : Batch) (es : List Entry) (x : Point) → IsFound (said es) x → IsCovered b.circuit es x
+-- what is found is covered
+pub covered-found : (b : Batch) (es : List Entry) (x : Point) → IsFound (cells_said es) x → IsCovered b.circuit es x
 covered-found b es x h = inr (found-said x es h)
 
 -- what is covered and has no base answer is found
-pub found-covered : (b : Batch) (es : List Entry) (x : Point) → IsEvaluable b.circuit x.signal x.time → IsCovered b.circuit es x → IsFound (said es) x
+pub found-covered : (b : Batch) (es : List Entry) (x : Point) → IsEvaluable b.circuit x.signal x.time → IsCovered b.circuit es x → IsFound (cells_said es) x
 found-covered b es x e (inl h) = absurd (h e)
 found-covered b es x e (inr h) = said-found x es h
 
+-- a look-up finds what is there
 pub not-missing : (o : Option Cell) (P : Type 0) → IfNone o (P → ⊥) → P → is_missing o ≡ false
 not-missing None P h p = absurd (h p)
 not-missing (Some x) P h p = refl
 
 module _ (b : Batch) (lawful : IsLawful b) (opening : ℕ → List SignalCell) (q : Query) (start : List Entry) (first : List Shard) (old new : List KeptShard) (query : Query) (t charge : ℕ) where
-  pub reach-asked : IsStanding b opening q start first (live old) → IsAskedFor q (entries_of old) (at_time query t) (asked query t charge) → (o : Option Point) → AskedAlone b opening (asked query t charge) (shards_in old) (shards_in new) o
+  -- a point is asked for
+  pub reach-asked : IsStanding b opening q start first (live old) → IsAskedFor q (entries_of old) (at_time query t) (asked_at query t charge) → (o : Option Point) → AskedAlone b opening (asked_at query t charge) (shards_in old) (shards_in new) o
       → Reaches b opening q start first (live old) (at_time query t) (standing new (is_some o))
-  reach-asked s a o k = asked-reaches b lawful opening q start first (live old) s refl (at_time query t) (asked query t charge) a (shards_in new) o k
+  reach-asked s a o k = asked-reaches b lawful opening q start first (live old) s refl (at_time query t) (asked_at query t charge) a (shards_in new) o k
 
+-- what holds where nothing was found
 pub none-of : (o : Option Cell) (P : Type 0) → IfNone o P → o ≡ None → P
 none-of None P h e = h
 none-of (Some x) P h e = absurd (cc e)
 
+-- what holds of what was found
 pub some-of : {A : Type 0} (P : A → Type 0) (o : Option A) (x : A) → IfSome o P → o ≡ Some x → P x
 some-of P None x h e = absurd (cc e)
 some-of P (Some y) x h e = let same : y ≡ x = cc e in subst P same h

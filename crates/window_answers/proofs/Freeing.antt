@@ -12,35 +12,37 @@ use Rattle.valid_intervals.specs.declared.Point.{Point}
 use Rattle.valid_intervals.specs.declared.SignalCell.{SignalCell}
 use Rattle.journal_meaning.specs.declared.Entry.TheVariants.{Dropped}
 use Rattle.journal_meaning.specs.States.{Claim, holder}
-use Rattle.journal_meaning.specs.Batch.{Batch}
+use Rattle.batch_meaning.specs.Batches.{Batch}
 use Rattle.journal_meaning.proofs.Lists.{Each, each-imply}
 use Rattle.journal_meaning.proofs.Claims.{holder-each, claim-here, claim-other}
 use Rattle.journal_meaning.proofs.Grown.{added-more}
-use Rattle.strand_meaning.specs.Batches.{IsLawful}
+use Rattle.batch_meaning.specs.Lawful.{IsLawful}
 use Rattle.plan_machine.specs.Shards.{Shard, IsShard, recorded}
 use Rattle.plan_machine.specs.Plans.{no_shard}
 use Rattle.plan_machine.specs.Sound.{IsFresh}
 use Rattle.plan_machine.specs.Settle.{AreShards, AreFreed, IsOrder, drop_of, freed, journals_of}
 use Rattle.plan_machine.proofs.Freed.{all-freed, all-before}
-use Rattle.claim_waiters.specs.Claims.{point_cmp}
-use Rattle.memo_shards.specs.Kept.{KeptShard, IsKnown}
+use Rattle.valid_intervals.specs.Cells.{point_cmp}
+use Rattle.memo_shards.specs.KeptShards.{KeptShard, IsKnownShard}
 use Rattle.memo_shards.specs.Ends.{FreesAll, recorded_all}
 use Rattle.plan_core.specs.Parts.{shards_in}
 use Rattle.window_answers.specs.Shards.{AreNumbered}
-use Rattle.query_lines.specs.declared.reply.Reply.{Reply}
-use Rattle.window_answers.specs.Memos.{IsKept, entries_of}
-use Rattle.window_answers.specs.Phases.{IsWalking, refused_of}
+use Rattle.reply_lines.specs.declared.reply.Reply.{Reply}
+use Rattle.window_answers.specs.inner.Memos.{IsIndexedMemo, entries_of}
+use Rattle.window_answers.specs.inner.Phases.{IsWalking}
+use Rattle.window_answers.specs.Phases.{refused_of}
 use Rattle.window_answers.specs.Settlement.{HasSettled}
-use Rattle.window_answers.proofs.Said.{shard-at, each-from}
+use Rattle.window_answers.proofs.Entries.{shard-at}
+use Rattle.window_answers.proofs.Lists.{each-from}
 
 -- the shards in hand are those of the batch
-pub known-shards : (b : Batch) (opening : ℕ → List SignalCell) (ms : List KeptShard) → length ms ≡ b.shards → AreNumbered ms → All (IsKnown b opening) ms → AreShards b opening (shards_in ms)
+pub known-shards : (b : Batch) (opening : ℕ → List SignalCell) (ms : List KeptShard) → length ms ≡ b.shards → AreNumbered ms → All (IsKnownShard b opening) ms → AreShards b opening (shards_in ms)
 known-shards b opening ms count numbers known = record {
   count = length-map ms (λ (m : KeptShard). m.shard) ∙ count;
   right = λ n low. by n (omega arith) ms count numbers known;
 }
   where
-    by : (n : ℕ) → n < b.shards → (ms : List KeptShard) → length ms ≡ b.shards → AreNumbered ms → All (IsKnown b opening) ms → IsShard b n (opening n) (get_or (shards_in ms) n no_shard)
+    by : (n : ℕ) → n < b.shards → (ms : List KeptShard) → length ms ≡ b.shards → AreNumbered ms → All (IsKnownShard b opening) ms → IsShard b n (opening n) (get_or (shards_in ms) n no_shard)
     by n low [] count numbers known = absurd (omega arith)
     by n low (m ∷ ms) count numbers known =
         let k = known n m (omega arith) in
@@ -92,6 +94,7 @@ module _ (old new : KeptShard) (f : FreesAll old new) where
   freed-shard : new.shard ≡ freed f.claims old.shard
   freed-shard = f.shard ∙ recorded-freed f.claims old.shard
 
+-- all claims of the shards are freed, in an order that names each once
 pub shards-freed : (old new : List KeptShard) → length new ≡ length old → ((n : ℕ) (d : KeptShard) → n < length old → FreesAll (get_or old n d) (get_or new n d)) → AreFreed (shards_in old) (shards_in new)
 shards-freed old new count f = record {
   count = length-map new (λ (m : KeptShard). m.shard) ∙ count ∙ sym (length-map old (λ (m : KeptShard). m.shard));
@@ -112,15 +115,17 @@ shards-freed old new count f = record {
           is ∙ freed-shard (get_or (m ∷ old) n m) (get_or new n m) k ∙ ap (freed k.claims) (sym was),
         )
 
+-- the shards keep their numbers
 pub freed-numbers : (old new : List KeptShard) → length new ≡ length old → ((n : ℕ) (d : KeptShard) → n < length old → FreesAll (get_or old n d) (get_or new n d)) → AreNumbered old → AreNumbered new
 freed-numbers old new count f numbers n d low = (f n d (omega arith)).number ∙ numbers n d (omega arith)
 
 module _ (b : Batch) (lawful : IsLawful b) (opening : ℕ → List SignalCell) (handed begun : List KeptShard) (are : AreShards b opening (shards_in handed)) (f : AreFreed (shards_in handed) (shards_in begun)) where
+  -- no claim is left
   pub freed-fresh : IsFresh b opening (shards_in begun)
   freed-fresh = (all-freed b lawful opening (shards_in handed) (shards_in begun) are f).fresh
 
   -- both phases are done
-  pub has-settled : (new : List KeptShard) (replies : List Reply) (index : Point → Option _) → IsKept b opening new index → IsWalking b (entries_of begun) (shards_in begun) (shards_in new) b.queries replies [] [] → HasSettled b opening handed new replies
+  pub has-settled : (new : List KeptShard) (replies : List Reply) (index : Point → Option _) → IsIndexedMemo b opening new index → IsWalking b (entries_of begun) (shards_in begun) (shards_in new) b.queries replies [] [] → HasSettled b opening handed new replies
   has-settled new replies index kept w =
       let r = all-freed b lawful opening (shards_in handed) (shards_in begun) are f in
       record {

@@ -1,7 +1,9 @@
-pub mod Said
+pub mod Lists
+pub mod Index
+pub mod Entries
+pub mod Filled
 pub mod Alone
 pub mod Pins
-pub mod Points
 pub mod Phases
 pub mod Freeing
-pub mod Cuts
+pub mod Pieces

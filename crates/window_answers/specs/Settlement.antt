@@ -1,10 +1,10 @@
 -- What settlement leaves and replies.
 use Rattle.std.specs.Prelude.{ℕ, List}
 use Rattle.valid_intervals.specs.declared.SignalCell.{SignalCell}
-use Rattle.journal_meaning.specs.Batch.{Batch}
+use Rattle.batch_meaning.specs.Batches.{Batch}
 use Rattle.plan_machine.specs.Settle.{AreSettled}
-use Rattle.query_lines.specs.declared.reply.Reply.{Reply}
-use Rattle.memo_shards.specs.Kept.{KeptShard}
+use Rattle.reply_lines.specs.declared.reply.Reply.{Reply}
+use Rattle.memo_shards.specs.KeptShards.{KeptShard}
 use Rattle.plan_core.specs.Parts.{shards_in}
 use Rattle.window_answers.specs.Shards.{AreNumbered}
 use Rattle.window_answers.specs.Phases.{AreReplies, refused_of}

@@ -1,7 +1,7 @@
 -- Shards and strands in order.
 use Rattle.std.specs.Prelude.{◌≡◌, ℕ, ◌<◌, List, length, get_or}
 use Rattle.demand_points.specs.Demands.{Demand}
-use Rattle.memo_shards.specs.Kept.{KeptShard}
+use Rattle.memo_shards.specs.KeptShards.{KeptShard}
 
 -- the shard at each place has its number
 abbrev pub AreNumbered : List KeptShard → Type 0

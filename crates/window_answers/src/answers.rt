@@ -1,24 +1,30 @@
 //! The queries of a batch, one after another.
 
-ghost use Rattle.std.specs.Prelude.{◌≡◌, min, List, [], Contains, None, length, IfOk, OnOk};
+ghost use Rattle.std.specs.Prelude.{◌≡◌, min, List, [], All, Contains, None, length, IfOk, OnOk};
 ghost use Rattle.std.specs.BTreeMap.{get};
 ghost use Rattle.journal_meaning.specs.declared.Entry.{Entry as EntryRecord};
-ghost use Rattle.journal_meaning.specs.Index.{point_cmp};
-ghost use Rattle.strand_meaning.specs.Batches.{IsLawful};
+ghost use Rattle.journal_meaning.specs.Answers.{filled};
+ghost use Rattle.batch_meaning.specs.Batches.{IsNeededBy};
+ghost use Rattle.valid_intervals.specs.Cells.{point_cmp};
+ghost use Rattle.batch_meaning.specs.Lawful.{IsLawful};
 ghost use Rattle.plan_machine.specs.Shards.{Shard as ShardRecord};
-ghost use Rattle.plan_machine.specs.Settle.{IsOpen, SettlesQuery, charge_of};
+ghost use Rattle.plan_machine.specs.inner.Settle.{IsOpen, SettlesQuery};
+ghost use Rattle.plan_machine.specs.Settle.{charge_of};
+ghost use Rattle.plan_machine.specs.Settling.{fills_of};
 ghost use Rattle.plan_core.specs.Parts.{shards_in};
-ghost use Rattle.window_answers.specs.Memos.{IsKept, entries_of, standing};
-ghost use Rattle.window_answers.specs.Phases.{IsFedWith, FeedsQuery, IsFeeding, IsWalking, IsReplyTo, is_budget};
+ghost use Rattle.window_answers.specs.inner.Memos.{IsIndexedMemo, entries_of, standing};
+ghost use Rattle.window_answers.specs.inner.Phases.{IsFedWith, FeedsQuery, IsFeeding, IsWalking};
+ghost use Rattle.window_answers.specs.Phases.{IsReplyTo, is_budget};
 
-use crate::fills::fills;
+use crate::fills::FilledPoints;
 use crate::memo::Memo;
 use crate::visits::{settle_fills, settle_window};
 use backsim_io::OutOfMemory;
+use batch_meaning::Query;
 use demand_points::BatchName;
 use design::Design;
-use journal_meaning::Query;
-use query_lines::Reply;
+use reply_lines::Reply;
+use valid_intervals::Point;
 
 /// What a query is charged once its fills are visited, and whether it was refused.
 #[derive(Clone, Copy)]
@@ -38,24 +44,31 @@ fn charge_at(fills: usize, budget: u32) -> u32
     }
 }
 
-/// Visits what a query filled.
-fn feed_one<B: BatchName>(memo: &mut Memo<B>, design: &Design, q: Query) -> Result<Fed, OutOfMemory>
+/// Visits the points that a query had filled as settlement began.
+fn feed_one<B: BatchName>(
+    memo: &mut Memo<B>,
+    design: &Design,
+    q: Query,
+    points: &[Point],
+) -> Result<Fed, OutOfMemory>
     requires lawful { IsLawful B.batch }
     requires site { B.batch.site ≡ None }
     requires design { design.now.circuit ≡ B.batch.circuit }
     requires known { Contains B.batch.queries q }
-    requires kept { IsKept B.batch B.opening memo.old.shards.items (get point_cmp memo.old.cells.cells) }
-    ensures kept { OnOk result (IsKept B.batch B.opening memo.new.shards.items (get point_cmp memo.new.cells.cells)) }
-    ensures feeds { (start : List EntryRecord) → IsOpen B.batch.circuit q start (entries_of memo.old.shards.items)
+    requires needed { All (IsNeededBy B.batch q) points.now }
+    requires counts { length points.now ≡ filled (entries_of memo.old.shards.items) q.number }
+    requires kept { IsIndexedMemo B.batch B.opening memo.old.shards.items (get point_cmp memo.old.cells.cells) }
+    ensures kept { OnOk result (IsIndexedMemo B.batch B.opening memo.new.shards.items (get point_cmp memo.new.cells.cells)) }
+    ensures feeds { (start : List EntryRecord) → IsOpen B.batch.circuit q start (entries_of memo.old.shards.items) → points.now ≡ fills_of start q.number
         → IfOk result (λ f. FeedsQuery B.batch q start (shards_in memo.old.shards.items) (shards_in memo.new.shards.items) f) }
 {
-    let points = fills(memo.alloc, &memo.shards, q.number)?;
     let mut charge = charge_at(points.len(), q.budget);
-    let refused = settle_fills(memo, design, q, &points, &mut charge)?;
+    let refused = settle_fills(memo, design, q, points, &mut charge)?;
     Ok(Fed { charge, refused })
 }
 
-/// Visits what each query filled.
+/// Visits what each query filled. The fills of all queries are gathered before the first is visited: the strands that run alone
+/// meanwhile fill for the query that is visited, and for no other.
 pub fn feed_all<B: BatchName>(
     memo: &mut Memo<B>,
     design: &Design,
@@ -65,13 +78,14 @@ pub fn feed_all<B: BatchName>(
     requires site { B.batch.site ≡ None }
     requires design { design.now.circuit ≡ B.batch.circuit }
     requires queries { queries.now ≡ B.batch.queries }
-    requires kept { IsKept B.batch B.opening memo.old.shards.items (get point_cmp memo.old.cells.cells) }
-    ensures kept { OnOk result (IsKept B.batch B.opening memo.new.shards.items (get point_cmp memo.new.cells.cells)) }
+    requires kept { IsIndexedMemo B.batch B.opening memo.old.shards.items (get point_cmp memo.old.cells.cells) }
+    ensures kept { OnOk result (IsIndexedMemo B.batch B.opening memo.new.shards.items (get point_cmp memo.new.cells.cells)) }
     ensures fed { IfOk result (λ fed. IsFeeding B.batch (entries_of memo.old.shards.items) (shards_in memo.old.shards.items) (shards_in memo.new.shards.items) B.batch.queries fed.items []) }
 {
+    let gathered = FilledPoints::gather(memo.alloc, &memo.shards)?;
     let mut fed = Vec::new(memo.alloc);
     for &q in queries {
-        let one = feed_one(memo, design, q)?;
+        let one = feed_one(memo, design, q, gathered.of(q.number))?;
         fed.push(one)?;
     }
     Ok(fed)
@@ -89,8 +103,8 @@ fn answer_one<B: BatchName>(
     requires design { design.now.circuit ≡ B.batch.circuit }
     requires known { Contains B.batch.queries q }
     requires counts { fed.charge ≡ charge_of (entries_of memo.old.shards.items) q }
-    requires kept { IsKept B.batch B.opening memo.old.shards.items (get point_cmp memo.old.cells.cells) }
-    ensures kept { OnOk result (IsKept B.batch B.opening memo.new.shards.items (get point_cmp memo.new.cells.cells)) }
+    requires kept { IsIndexedMemo B.batch B.opening memo.old.shards.items (get point_cmp memo.old.cells.cells) }
+    ensures kept { OnOk result (IsIndexedMemo B.batch B.opening memo.new.shards.items (get point_cmp memo.new.cells.cells)) }
     ensures reply { IfOk result (IsReplyTo B.batch.circuit q) }
     ensures settles { (start : List EntryRecord) → IsFedWith B.batch.circuit q start (entries_of memo.old.shards.items) fed
         → IfOk result (λ r. SettlesQuery B.batch B.opening q start (shards_in memo.old.shards.items) (standing memo.new.shards.items (is_budget r))) }
@@ -117,9 +131,9 @@ pub fn answer_all<B: BatchName>(
     requires design { design.now.circuit ≡ B.batch.circuit }
     requires queries { queries.now ≡ B.batch.queries }
     requires count { length fed.now ≡ length queries.now }
-    requires kept { IsKept B.batch B.opening memo.old.shards.items (get point_cmp memo.old.cells.cells) }
+    requires kept { IsIndexedMemo B.batch B.opening memo.old.shards.items (get point_cmp memo.old.cells.cells) }
     requires fed { (start : List EntryRecord) × ((first : List ShardRecord) × IsWalking B.batch start first (shards_in memo.old.shards.items) [] [] queries.now fed.now) }
-    ensures kept { OnOk result (IsKept B.batch B.opening memo.new.shards.items (get point_cmp memo.new.cells.cells)) }
+    ensures kept { OnOk result (IsIndexedMemo B.batch B.opening memo.new.shards.items (get point_cmp memo.new.cells.cells)) }
     ensures settled { (start : List EntryRecord) (first : List ShardRecord) → IsWalking B.batch start first (shards_in memo.old.shards.items) [] [] queries.now fed.now
         → IfOk result (λ replies. IsWalking B.batch start first (shards_in memo.new.shards.items) B.batch.queries replies.items [] []) }
 {

@@ -4,11 +4,12 @@ ghost use Rattle.std.specs.Prelude.{◌≡◌, ◌<◌, ℕ, [], All, length, ge
 ghost use Rattle.std.specs.BTreeMap.{get};
 ghost use Rattle.std.specs.List.{AllByRecursion};
 ghost use Rattle.circuit_meaning.specs.Circuit.{Circuit, IsCircuit};
-ghost use Rattle.journal_meaning.specs.Grown.{IsRightEntry};
-ghost use Rattle.journal_meaning.specs.Index.{said, point_cmp, IsIndexed};
-ghost use Rattle.memo_shards.specs.Kept.{KeptShard, IsKnown};
+ghost use Rattle.journal_meaning.specs.inner.Grown.{IsRightEntry};
+ghost use Rattle.journal_meaning.specs.inner.Index.{cells_said, IsCellIndex};
+ghost use Rattle.valid_intervals.specs.Cells.{point_cmp};
+ghost use Rattle.memo_shards.specs.KeptShards.{KeptShard, IsKnownShard};
 ghost use Rattle.memo_shards.specs.Ends.{FreesAll};
-ghost use Rattle.window_answers.specs.Memos.{entries_of};
+ghost use Rattle.window_answers.specs.inner.Memos.{entries_of};
 
 use crate::cells::SaidCells;
 use backsim_io::OutOfMemory;
@@ -18,7 +19,7 @@ use std::alloc::Global;
 
 /// What is known of each shard.
 pub fn know_all<B: BatchName>(shards: &[Shard<B>])
-    ensures { All (IsKnown B.batch B.opening) shards.now }
+    ensures { All (IsKnownShard B.batch B.opening) shards.now }
 {
     for shard in shards {
         shard.facts();
@@ -38,7 +39,7 @@ pub fn free_all<B: BatchName>(shards: &mut Vec<Shard<B>>)
 /// The cells that the entries of shards say.
 pub fn read_all<B: BatchName>(alloc: Global, shards: &[Shard<B>]) -> Result<SaidCells, OutOfMemory>
     ensures { (c : Circuit) → IsCircuit c → AllByRecursion (IsRightEntry c) (entries_of shards.now)
-        → IfOk result (λ cells. IsIndexed c (said (entries_of shards.now)) (get point_cmp cells.cells)) }
+        → IfOk result (λ cells. IsCellIndex c (cells_said (entries_of shards.now)) (get point_cmp cells.cells)) }
 {
     let mut cells = SaidCells::new(alloc);
     for shard in shards {

@@ -5,9 +5,10 @@ ghost use Rattle.std.specs.BTreeMap.{get};
 ghost use Rattle.std.specs.List.{AllByRecursion};
 ghost use Rattle.circuit_meaning.specs.Circuit.{Circuit, IsCircuit};
 ghost use Rattle.journal_meaning.specs.declared.Entry.{Entry as EntryRecord};
-ghost use Rattle.journal_meaning.specs.Batch.{cell_at};
-ghost use Rattle.journal_meaning.specs.Grown.{IsRightEntry};
-ghost use Rattle.journal_meaning.specs.Index.{Said, said, IsFound, point_cmp, IsIndexed};
+ghost use Rattle.circuit_meaning.specs.Cells.{cell_at};
+ghost use Rattle.journal_meaning.specs.inner.Grown.{IsRightEntry};
+ghost use Rattle.journal_meaning.specs.inner.Index.{SaidCell, cells_said, IsFound, IsCellIndex};
+ghost use Rattle.valid_intervals.specs.Cells.{point_cmp};
 
 use backsim_io::OutOfMemory;
 use journal_meaning::Entry;
@@ -25,7 +26,7 @@ pub struct SaidCells {
 impl SaidCells {
     /// Nothing is said yet.
     pub fn new(alloc: Global) -> SaidCells
-        ensures { (c : Circuit) → IsIndexed c [] (get point_cmp result.cells) }
+        ensures { (c : Circuit) → IsCellIndex c [] (get point_cmp result.cells) }
     {
         SaidCells {
             cells: BTreeMap::new(alloc),
@@ -34,9 +35,9 @@ impl SaidCells {
 
     /// The cell that covers the point.
     pub fn find(&self, p: Point) -> Option<Cell>
-        ensures cell { (c : Circuit) (cells : List Said) → IsCircuit c → IsIndexed c cells (get point_cmp self.now.cells) → IfSome result (λ cell. cell ≡ cell_at c p) }
-        ensures some { (c : Circuit) (cells : List Said) → IsCircuit c → IsIndexed c cells (get point_cmp self.now.cells) → OnSome result (IsFound cells p) }
-        ensures none { (c : Circuit) (cells : List Said) → IsCircuit c → IsIndexed c cells (get point_cmp self.now.cells) → IfNone result (IsFound cells p → ⊥) }
+        ensures cell { (c : Circuit) (cells : List SaidCell) → IsCircuit c → IsCellIndex c cells (get point_cmp self.now.cells) → IfSome result (λ cell. cell ≡ cell_at c p) }
+        ensures some { (c : Circuit) (cells : List SaidCell) → IsCircuit c → IsCellIndex c cells (get point_cmp self.now.cells) → OnSome result (IsFound cells p) }
+        ensures none { (c : Circuit) (cells : List SaidCell) → IsCircuit c → IsCellIndex c cells (get point_cmp self.now.cells) → IfNone result (IsFound cells p → ⊥) }
     {
         let (first, cell) = self.cells.range(..=p).next_back()?;
         if first.signal == p.signal && cell.covers(p.time) {
@@ -48,8 +49,8 @@ impl SaidCells {
 
     /// Adds the cell of a point.
     fn insert(&mut self, point: Point, cell: Cell) -> Result<(), OutOfMemory>
-        ensures { (c : Circuit) (cells : List Said) → IsCircuit c → IsIndexed c cells (get point_cmp self.old.cells) → cell ≡ cell_at c point → point.time ≤ c.horizon
-            → let one : Said = record { point = point; cell = cell } in OnOk result (IsIndexed c (cells ++ one ∷ []) (get point_cmp self.new.cells)) }
+        ensures { (c : Circuit) (cells : List SaidCell) → IsCircuit c → IsCellIndex c cells (get point_cmp self.old.cells) → cell ≡ cell_at c point → point.time ≤ c.horizon
+            → let one : SaidCell = record { point = point; cell = cell } in OnOk result (IsCellIndex c (cells ++ one ∷ []) (get point_cmp self.new.cells)) }
     {
         let first = Point {
             signal: point.signal,
@@ -61,8 +62,8 @@ impl SaidCells {
 
     /// Adds what an entry says.
     fn note(&mut self, entry: &Entry) -> Result<(), OutOfMemory>
-        ensures { (c : Circuit) (es : List EntryRecord) → IsCircuit c → IsIndexed c (said es) (get point_cmp self.old.cells) → IsRightEntry c entry.now
-            → OnOk result (IsIndexed c (said (es ++ entry.now ∷ [])) (get point_cmp self.new.cells)) }
+        ensures { (c : Circuit) (es : List EntryRecord) → IsCircuit c → IsCellIndex c (cells_said es) (get point_cmp self.old.cells) → IsRightEntry c entry.now
+            → OnOk result (IsCellIndex c (cells_said (es ++ entry.now ∷ [])) (get point_cmp self.new.cells)) }
     {
         match entry {
             Entry::Told { p, cell, .. } => self.insert(*p, *cell),
@@ -76,8 +77,8 @@ impl SaidCells {
 
     /// Adds what entries say.
     pub fn note_all(&mut self, entries: &[Entry]) -> Result<(), OutOfMemory>
-        ensures { (c : Circuit) (es : List EntryRecord) → IsCircuit c → IsIndexed c (said es) (get point_cmp self.old.cells) → AllByRecursion (IsRightEntry c) entries.now
-            → OnOk result (IsIndexed c (said (es ++ entries.now)) (get point_cmp self.new.cells)) }
+        ensures { (c : Circuit) (es : List EntryRecord) → IsCircuit c → IsCellIndex c (cells_said es) (get point_cmp self.old.cells) → AllByRecursion (IsRightEntry c) entries.now
+            → OnOk result (IsCellIndex c (cells_said (es ++ entries.now)) (get point_cmp self.new.cells)) }
     {
         for entry in entries {
             self.note(entry)?;

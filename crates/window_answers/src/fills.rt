@@ -1,56 +1,98 @@
-//! The points that a query filled.
+//! The points that each query of a batch filled.
 
-ghost use Rattle.std.specs.Prelude.{◌≡◌, ◌++◌, ◌∷◌, [], IfOk, OnOk};
+ghost use Rattle.std.specs.Prelude.{◌≡◌, ◌++◌, ◌∷◌, [], ℕ, IfOk, OnOk};
+ghost use Rattle.std.specs.BTreeMap.{get};
+ghost use Rattle.std.specs.Ordering.{nat_cmp};
 ghost use Rattle.plan_machine.specs.Settling.{fills_of};
-ghost use Rattle.window_answers.specs.Memos.{entries_of};
+ghost use Rattle.window_answers.specs.inner.Fills.{points_in, added_for};
+ghost use Rattle.window_answers.specs.inner.Memos.{entries_of};
 
 use backsim_io::OutOfMemory;
 use demand_points::BatchName;
 use journal_meaning::Entry;
 use memo_shards::Shard;
 use std::alloc::Global;
+use std::collections::BTreeMap;
 use valid_intervals::Point;
 
-/// Adds the point of an entry, if it is a fill for the query with this number.
-fn push_fill(fills: &mut Vec<Point>, entry: &Entry, number: u32) -> Result<(), OutOfMemory>
-    ensures { OnOk result (fills.new.items ≡ fills.old.items ++ fills_of (entry.now ∷ []) number) }
-{
-    match entry {
-        Entry::Filled { q, p, .. } => {
-            if *q == number {
-                fills.push(*p)?;
-            }
-            Ok(())
-        }
-        Entry::Told { .. } => Ok(()),
-        Entry::Claimed { .. } => Ok(()),
-        Entry::Evicted { .. } => Ok(()),
-        Entry::Dropped { .. } => Ok(()),
-        Entry::Spent { .. } => Ok(()),
-    }
-}
-
-/// Adds the points of entries.
-fn push_fills(fills: &mut Vec<Point>, entries: &[Entry], number: u32) -> Result<(), OutOfMemory>
-    ensures { OnOk result (fills.new.items ≡ fills.old.items ++ fills_of entries.now number) }
-{
-    for entry in entries {
-        push_fill(fills, entry, number)?;
-    }
-    Ok(())
-}
-
-/// The points that the query with this number filled, one shard after another.
-pub fn fills<B: BatchName>(
+/// The points that queries filled, by the numbers of the queries. For n numbers one point more takes O(log n) steps, and so does a
+/// look-up.
+#[derive(Drop)]
+pub struct FilledPoints {
     alloc: Global,
-    shards: &[Shard<B>],
-    number: u32,
-) -> Result<Vec<Point>, OutOfMemory>
-    ensures { IfOk result (λ points. points.items ≡ fills_of (entries_of shards.now) number) }
-{
-    let mut points = Vec::new(alloc);
-    for shard in shards {
-        push_fills(&mut points, shard.journal(), number)?;
+    by_query: BTreeMap<u32, Vec<Point>>,
+}
+
+impl FilledPoints {
+    /// Nothing is filled.
+    fn new(alloc: Global) -> FilledPoints
+        ensures { (n : ℕ) → points_in (get nat_cmp result.by_query n) ≡ [] }
+    {
+        FilledPoints {
+            alloc,
+            by_query: BTreeMap::new(alloc),
+        }
     }
-    Ok(points)
+
+    /// Adds a point that the query with this number filled.
+    fn push(&mut self, number: u32, p: Point) -> Result<(), OutOfMemory>
+        ensures { OnOk result ((n : ℕ) → points_in (get nat_cmp self.new.by_query n) ≡ points_in (get nat_cmp self.old.by_query n) ++ added_for number p n) }
+    {
+        if let Some(points) = self.by_query.get_mut(&number) {
+            points.push(p)?;
+            return Ok(());
+        }
+        let mut first = Vec::new(self.alloc);
+        first.push(p)?;
+        self.by_query.insert(number, first)?;
+        Ok(())
+    }
+
+    /// Adds the point of an entry, if it is a fill.
+    fn note(&mut self, entry: &Entry) -> Result<(), OutOfMemory>
+        ensures { OnOk result ((n : ℕ) → points_in (get nat_cmp self.new.by_query n) ≡ points_in (get nat_cmp self.old.by_query n) ++ fills_of (entry.now ∷ []) n) }
+    {
+        match entry {
+            Entry::Filled { q, p, .. } => self.push(*q, *p),
+            Entry::Told { .. } => Ok(()),
+            Entry::Claimed { .. } => Ok(()),
+            Entry::Evicted { .. } => Ok(()),
+            Entry::Dropped { .. } => Ok(()),
+            Entry::Spent { .. } => Ok(()),
+        }
+    }
+
+    /// Adds the points of entries.
+    fn note_all(&mut self, entries: &[Entry]) -> Result<(), OutOfMemory>
+        ensures { OnOk result ((n : ℕ) → points_in (get nat_cmp self.new.by_query n) ≡ points_in (get nat_cmp self.old.by_query n) ++ fills_of entries.now n) }
+    {
+        for entry in entries {
+            self.note(entry)?;
+        }
+        Ok(())
+    }
+
+    /// The points that the queries of a batch filled, gathered by one scan of the journals.
+    pub fn gather<B: BatchName>(
+        alloc: Global,
+        shards: &[Shard<B>],
+    ) -> Result<FilledPoints, OutOfMemory>
+        ensures { IfOk result (λ filled. (n : ℕ) → points_in (get nat_cmp filled.by_query n) ≡ fills_of (entries_of shards.now) n) }
+    {
+        let mut filled = FilledPoints::new(alloc);
+        for shard in shards {
+            filled.note_all(shard.journal())?;
+        }
+        Ok(filled)
+    }
+
+    /// The points that the query with this number filled, as often as it filled each.
+    pub fn of(&self, number: u32) -> &[Point]
+        ensures { result.now ≡ points_in (get nat_cmp self.now.by_query number) }
+    {
+        match self.by_query.get(&number) {
+            Some(points) => points.as_slice(),
+            None => &[],
+        }
+    }
 }

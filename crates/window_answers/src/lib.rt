@@ -1,15 +1,33 @@
 //! Answers to the queries of a batch.
 //!
-//! [`verdicts_of`] says what each item asks, and [`strands_of`] makes the strands of the queries, one for each piece of each window.
-//! Once these have run, [`settle`] goes over the batch alone:
+//! [`verdicts_of`] says what becomes of each item of a batch, and [`strands_of`] makes the strands of its queries, one for each piece
+//! of each window. A caller has these run over the shards (`plan_core`, `batch_crew`), as far as it likes. Then [`settle`] goes over
+//! the batch alone, and answers every query:
 //! - It frees the claims that are left.
-//! - For each query in order it visits the points that the query filled in this batch: the cell of each looked pin is found among the base answers and
-//!   the cells that entries of the batch say, or a strand that runs alone asks for it.
+//! - For each query in order it visits the points that the query had filled as settlement began: the cell of each looked pin is
+//!   found among the base answers and the cells that entries of the batch say, or a strand that runs alone asks for it.
 //! - For each query in order it walks the window from cell to cell in the same way, and gathers its runs.
 //!
-//! A query that is refused meanwhile is replied its budget, and every other its waveform (`specs/Settlement`). The cells that entries say
-//! are kept in an index by signal and first time, to which the entries of each strand that ran are added: a look-up takes O(log n)
-//! steps, and so does each entry.
+//! A query that is refused meanwhile is replied its budget, and every other its waveform (`specs/Settlement`). Where memory runs out,
+//! the shards are given up.
+//!
+//! What settlement costs grows with what the batch recorded, and not with the number of its queries. Let n be the number of entries
+//! that the journals have in the end:
+//! - The journals are read as settlement begins, once for an index of the cells that entries say, by signal and first time, and once
+//!   for the points that each query filled. After that only what a strand adds is read, once it has run.
+//! - An entry takes O(log n) steps to be read, and so does a look-up of a cell or of a query's points.
+//! - Cells are looked up once for each looked pin of each point that is visited, and once for each cell of each window.
+//! - A look-up that finds nothing starts a strand. This adds at least one entry, and takes a step for each shard besides.
+//!
+//! So for s shards, p looked pins and c cells of windows settlement takes O((n + p + c) log n + s n) steps. It takes memory for the
+//! index and the points, at most one of each for an entry, and for the runs. `strands_of` takes a step for each piece, and
+//! `verdicts_of` one look-up by hashing for each item.
+//!
+//! ```
+//! let strands = strands_of::<B>(alloc, queries)?;
+//! let shards = crew.run(alloc, design, shards, strands)?;
+//! let Settled { replies, shards } = settle(alloc, design, shards, queries)?;
+//! ```
 #![tactic(auto)]
 
 mod answers;
@@ -19,9 +37,12 @@ mod fills;
 mod memo;
 mod settlement;
 mod strands;
+#[cfg(test)]
+mod tests;
 mod verdicts;
 mod visits;
 
+pub use session_meaning::Verdict;
 pub use settlement::{Settled, settle};
 pub use strands::strands_of;
-pub use verdicts::{Verdict, verdicts_of};
+pub use verdicts::verdicts_of;

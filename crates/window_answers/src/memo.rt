@@ -6,27 +6,29 @@ ghost use Rattle.std.specs.List.{AllByRecursion};
 ghost use Rattle.circuit_meaning.specs.Circuit.{Circuit, IsCircuit};
 ghost use Rattle.circuit_meaning.specs.Need.{IsEvaluable};
 ghost use Rattle.journal_meaning.specs.declared.Entry.{Entry as EntryRecord};
-ghost use Rattle.journal_meaning.specs.declared.Query.{Query as QueryRecord};
+ghost use Rattle.batch_meaning.specs.declared.Query.{Query as QueryRecord};
 ghost use Rattle.journal_meaning.specs.Answers.{is_fill_of, filled};
-ghost use Rattle.journal_meaning.specs.Batch.{cell_at};
-ghost use Rattle.journal_meaning.specs.Grown.{IsRightEntry};
-ghost use Rattle.journal_meaning.specs.Index.{said, point_cmp, IsIndexed};
-ghost use Rattle.strand_meaning.specs.Batches.{IsLawful};
-ghost use Rattle.strand_meaning.specs.Strands.{IsStart};
+ghost use Rattle.circuit_meaning.specs.Cells.{cell_at};
+ghost use Rattle.journal_meaning.specs.inner.Grown.{IsRightEntry};
+ghost use Rattle.journal_meaning.specs.inner.Index.{cells_said, IsCellIndex};
+ghost use Rattle.valid_intervals.specs.Cells.{point_cmp};
+ghost use Rattle.batch_meaning.specs.Lawful.{IsLawful};
+ghost use Rattle.batch_meaning.specs.Pieces.{IsStart};
 ghost use Rattle.plan_machine.specs.Shards.{Shard as ShardRecord};
 ghost use Rattle.plan_machine.specs.Sound.{IsFresh};
-ghost use Rattle.plan_machine.specs.Settle.{AskedAlone, IsStanding, IsAskedFor, Reaches};
-ghost use Rattle.memo_shards.specs.Kept.{KeptShard};
+ghost use Rattle.plan_machine.specs.inner.Settle.{AskedAlone, IsStanding, IsAskedFor, Reaches};
+ghost use Rattle.memo_shards.specs.KeptShards.{KeptShard};
 ghost use Rattle.plan_core.specs.Parts.{shards_in};
 ghost use Rattle.window_answers.specs.Shards.{AreNumbered};
-ghost use Rattle.window_answers.specs.Memos.{IsKept, IsAsking, entries_of, lengths_of, tails, asked, at_time, live, standing, is_missing};
+ghost use Rattle.window_answers.specs.inner.Memos.{IsIndexedMemo, IsChargedMemo, entries_of, lengths_of, tails, asked_at, at_time, live, standing, is_missing};
 ghost use Rattle.valid_intervals.specs.declared.Point.{Point as PointRecord};
 
 use crate::cells::SaidCells;
 use backsim_io::OutOfMemory;
+use batch_meaning::Query;
 use demand_points::{BatchName, Strand};
 use design::Design;
-use journal_meaning::{Entry, Query};
+use journal_meaning::Entry;
 use memo_shards::Shard;
 use plan_core::{Alone, Plan};
 use std::alloc::Global;
@@ -93,7 +95,7 @@ fn lengths<B: BatchName>(alloc: Global, shards: &[Shard<B>]) -> Result<Vec<usize
     Ok(lengths)
 }
 
-/// Reads the entries of one journal behind so many.
+/// Reads the entries of one journal after so many.
 fn read_tail<B: BatchName>(
     cells: &mut SaidCells,
     shard: &Shard<B>,
@@ -103,9 +105,9 @@ fn read_tail<B: BatchName>(
 ) -> Result<(), OutOfMemory>
     requires from { from ≤ length shard.now.shard.journal }
     requires charge { charge.old ≤ query.budget }
-    ensures indexed { (c : Circuit) (es : List EntryRecord) → IsCircuit c → IsIndexed c (said es) (get point_cmp cells.old.cells)
+    ensures indexed { (c : Circuit) (es : List EntryRecord) → IsCircuit c → IsCellIndex c (cells_said es) (get point_cmp cells.old.cells)
         → AllByRecursion (IsRightEntry c) (drop from shard.now.shard.journal)
-        → OnOk result (IsIndexed c (said (es ++ drop from shard.now.shard.journal)) (get point_cmp cells.new.cells)) }
+        → OnOk result (IsCellIndex c (cells_said (es ++ drop from shard.now.shard.journal)) (get point_cmp cells.new.cells)) }
     ensures charge { OnOk result (charge.new ≡ min (charge.old + filled (drop from shard.now.shard.journal) query.number) query.budget) }
 {
     let new = &shard.journal()[from..];
@@ -114,7 +116,7 @@ fn read_tail<B: BatchName>(
     Ok(())
 }
 
-/// Reads what stands in the journals behind so many entries of each.
+/// Reads what stands in the journals after so many entries of each.
 fn read_new<B: BatchName>(
     cells: &mut SaidCells,
     shards: &[Shard<B>],
@@ -125,9 +127,9 @@ fn read_new<B: BatchName>(
     requires count { length read.now ≡ length shards.now }
     requires read { (i d : ℕ) (e : KeptShard) → i < length read.now → get_or read.now i d ≤ length (get_or shards.now i e).shard.journal }
     requires charge { charge.old ≤ query.budget }
-    ensures indexed { (c : Circuit) (es : List EntryRecord) → IsCircuit c → IsIndexed c (said es) (get point_cmp cells.old.cells)
+    ensures indexed { (c : Circuit) (es : List EntryRecord) → IsCircuit c → IsCellIndex c (cells_said es) (get point_cmp cells.old.cells)
         → AllByRecursion (IsRightEntry c) (tails read.now shards.now)
-        → OnOk result (IsIndexed c (said (es ++ tails read.now shards.now)) (get point_cmp cells.new.cells)) }
+        → OnOk result (IsCellIndex c (cells_said (es ++ tails read.now shards.now)) (get point_cmp cells.new.cells)) }
     ensures charge { OnOk result (charge.new ≡ min (charge.old + filled (tails read.now shards.now) query.number) query.budget) }
 {
     for k in 0..read.len() {
@@ -149,9 +151,9 @@ fn run_one<B: BatchName>(
     requires design { design.now.circuit ≡ B.batch.circuit }
     requires numbers { AreNumbered shards.items }
     requires fresh { IsFresh B.batch B.opening (shards_in shards.items) }
-    requires start { IsStart B.batch (asked query time charge) }
+    requires start { IsStart B.batch (asked_at query time charge) }
     ensures numbers { IfOk result (λ r. AreNumbered r.0.items) }
-    ensures asked { IfOk result (λ r. (o : Option PointRecord) × ((r.1 ≡ is_some o) × AskedAlone B.batch B.opening (asked query time charge) (shards_in shards.items) (shards_in r.0.items) o)) }
+    ensures asked { IfOk result (λ r. (o : Option PointRecord) × ((r.1 ≡ is_some o) × AskedAlone B.batch B.opening (asked_at query time charge) (shards_in shards.items) (shards_in r.0.items) o)) }
 {
     let strand = Strand::<B>::start(alloc, 0, query, time, time + 1, query.budget, charge);
     let mut strands = Vec::new(alloc);
@@ -172,10 +174,10 @@ fn ask<B: BatchName>(
 ) -> Result<bool, OutOfMemory>
     requires lawful { IsLawful B.batch }
     requires design { design.now.circuit ≡ B.batch.circuit }
-    requires asking { IsAsking B.batch B.opening memo.old.shards.items (get point_cmp memo.old.cells.cells) query charge.old }
-    requires start { IsStart B.batch (asked query time charge.old) }
-    ensures asking { OnOk result (IsAsking B.batch B.opening memo.new.shards.items (get point_cmp memo.new.cells.cells) query charge.new) }
-    ensures asked { IfOk result (λ r. (o : Option PointRecord) × ((r ≡ is_some o) × AskedAlone B.batch B.opening (asked query time charge.old) (shards_in memo.old.shards.items) (shards_in memo.new.shards.items) o)) }
+    requires asking { IsChargedMemo B.batch B.opening memo.old.shards.items (get point_cmp memo.old.cells.cells) query charge.old }
+    requires start { IsStart B.batch (asked_at query time charge.old) }
+    ensures asking { OnOk result (IsChargedMemo B.batch B.opening memo.new.shards.items (get point_cmp memo.new.cells.cells) query charge.new) }
+    ensures asked { IfOk result (λ r. (o : Option PointRecord) × ((r ≡ is_some o) × AskedAlone B.batch B.opening (asked_at query time charge.old) (shards_in memo.old.shards.items) (shards_in memo.new.shards.items) o)) }
 {
     let read = lengths(memo.alloc, &memo.shards)?;
     let shards = mem::replace(&mut memo.shards, Vec::new(memo.alloc));
@@ -197,12 +199,12 @@ pub fn reach<B: BatchName>(
     requires design { design.now.circuit ≡ B.batch.circuit }
     requires signal { query.signal < length B.batch.circuit.drivers }
     requires time { time ≤ B.batch.circuit.horizon }
-    requires asking { IsAsking B.batch B.opening memo.old.shards.items (get point_cmp memo.old.cells.cells) query charge.old }
-    requires start { IsEvaluable B.batch.circuit query.signal time → IsStart B.batch (asked query time charge.old) }
-    ensures asking { OnOk result (IsAsking B.batch B.opening memo.new.shards.items (get point_cmp memo.new.cells.cells) query charge.new) }
+    requires asking { IsChargedMemo B.batch B.opening memo.old.shards.items (get point_cmp memo.old.cells.cells) query charge.old }
+    requires start { IsEvaluable B.batch.circuit query.signal time → IsStart B.batch (asked_at query time charge.old) }
+    ensures asking { OnOk result (IsChargedMemo B.batch B.opening memo.new.shards.items (get point_cmp memo.new.cells.cells) query charge.new) }
     ensures cell { IfOk result (λ r. IfSome r (λ cell. cell ≡ cell_at B.batch.circuit (at_time query time))) }
     ensures reaches { (q : QueryRecord) (start : List EntryRecord) (first : List ShardRecord) → IsStanding B.batch B.opening q start first (live memo.old.shards.items)
-        → IsAskedFor q (entries_of memo.old.shards.items) (at_time query time) (asked query time charge.old)
+        → IsAskedFor q (entries_of memo.old.shards.items) (at_time query time) (asked_at query time charge.old)
         → IfOk result (λ r. Reaches B.batch B.opening q start first (live memo.old.shards.items) (at_time query time) (standing memo.new.shards.items (is_missing r))) }
 {
     if let Some(cell) = design.base(query.signal, time) {

@@ -2,23 +2,23 @@
 
 ghost use Rattle.std.specs.Prelude.{◌≡◌, None, length, IfOk, OnOk};
 ghost use Rattle.std.specs.BTreeMap.{get};
-ghost use Rattle.journal_meaning.specs.Index.{point_cmp};
-ghost use Rattle.strand_meaning.specs.Batches.{IsLawful};
+ghost use Rattle.valid_intervals.specs.Cells.{point_cmp};
+ghost use Rattle.batch_meaning.specs.Lawful.{IsLawful};
 ghost use Rattle.plan_machine.specs.Settle.{AreShards, AreFreed};
 ghost use Rattle.plan_core.specs.Parts.{shards_in};
 ghost use Rattle.window_answers.specs.Shards.{AreNumbered};
-ghost use Rattle.window_answers.specs.Memos.{IsKept};
+ghost use Rattle.window_answers.specs.inner.Memos.{IsIndexedMemo};
 ghost use Rattle.window_answers.specs.Settlement.{HasSettled};
 
 use crate::answers::{answer_all, feed_all};
 use crate::begin::{free_all, know_all, read_all};
 use crate::memo::Memo;
 use backsim_io::OutOfMemory;
+use batch_meaning::Query;
 use demand_points::BatchName;
 use design::Design;
-use journal_meaning::Query;
 use memo_shards::Shard;
-use query_lines::Reply;
+use reply_lines::Reply;
 use std::alloc::Global;
 
 /// What settlement replies to the queries, and the shards that it leaves.
@@ -35,7 +35,7 @@ fn begin<B: BatchName>(alloc: Global, shards: Vec<Shard<B>>) -> Result<Memo<B>, 
     requires numbers { AreNumbered shards.items }
     ensures shards { AreShards B.batch B.opening (shards_in shards.items) }
     ensures freed { IfOk result (λ memo. AreFreed (shards_in shards.items) (shards_in memo.shards.items)) }
-    ensures kept { IfOk result (λ memo. IsKept B.batch B.opening memo.shards.items (get point_cmp memo.cells.cells)) }
+    ensures kept { IfOk result (λ memo. IsIndexedMemo B.batch B.opening memo.shards.items (get point_cmp memo.cells.cells)) }
 {
     know_all(&shards);
     let mut freed = shards;

@@ -1,16 +1,17 @@
 //! The strands of a batch: one for each piece of each window.
 
 ghost use Rattle.std.specs.Prelude.{◌≡◌, ◌≤◌, ◌++◌, ◌∷◌, [], Contains, None, length, map, flat_map, IfOk, OnOk};
-ghost use Rattle.strand_meaning.specs.Batches.{IsLawful};
-ghost use Rattle.strand_meaning.specs.Strands.{IsStart, started};
-ghost use Rattle.strand_meaning.specs.Pieces.{next_cut, spans_of, pieces};
+ghost use Rattle.batch_meaning.specs.Lawful.{IsLawful};
+ghost use Rattle.batch_meaning.specs.Pieces.{IsStart};
+ghost use Rattle.strand_meaning.specs.Strands.{started};
+ghost use Rattle.batch_meaning.specs.Pieces.{next_cut, spans_of, pieces};
 ghost use Rattle.plan_core.specs.Parts.{strands_in};
 ghost use Rattle.window_answers.specs.Shards.{IsInOrder};
-ghost use Rattle.window_answers.specs.Starts.{piece_start};
+ghost use Rattle.window_answers.specs.inner.Starts.{piece_start};
 
 use backsim_io::OutOfMemory;
+use batch_meaning::Query;
 use demand_points::{BatchName, Strand};
-use journal_meaning::Query;
 use std::alloc::Global;
 
 /// The least multiple of 65,536 above a time.

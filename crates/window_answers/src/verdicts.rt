@@ -1,38 +1,27 @@
 //! What the items of a batch ask.
 
-ghost use Rattle.std.specs.Prelude.{◌≡◌, IfOk};
-ghost use Rattle.window_answers.specs.Verdicts.{IsWindowVerdict, IsVerdict, AreVerdicts};
+ghost use Rattle.std.specs.Prelude.{◌≡◌, map, IfOk};
+ghost use Rattle.design.specs.Join.{number};
+ghost use Rattle.session_meaning.specs.Verdicts.{window_verdict, verdict_of};
 
 use backsim_io::{OutOfMemory, Text};
+use batch_meaning::Query;
 use design::Design;
-use journal_meaning::Query;
 use query_lines::{Item, What};
+use session_meaning::Verdict;
 use std::alloc::Global;
-
-/// What an item asks: a query, or nothing that can be asked.
-#[derive(Clone, Copy, Debug, PartialEq, Eq)]
-pub enum Verdict {
-    Ask(Query),
-    /// The name is no signal.
-    Unknown,
-    /// The window ends behind the horizon.
-    Past,
-    /// The line is of none of the forms.
-    Bad,
-}
 
 /// What a window of a name asks.
 fn window_verdict(
     design: &Design,
-    number: u32,
+    line: u32,
     name: &Text,
     from: u32,
     to: u64,
     budget: u32,
 ) -> Verdict
-    ensures { IsWindowVerdict design.now number name.now from to budget result }
+    ensures { result ≡ window_verdict design.now.circuit.horizon line from to budget (number design.now.netlist name.now) }
 {
-    design.facts();
     let Some(signal) = design.netlist().id_of(name.bytes()) else {
         return Verdict::Unknown;
     };
@@ -40,7 +29,7 @@ fn window_verdict(
         return Verdict::Past;
     }
     Verdict::Ask(Query {
-        number,
+        number: line,
         signal,
         from,
         to: to as u32,
@@ -50,7 +39,7 @@ fn window_verdict(
 
 /// What an item asks.
 fn verdict_of(design: &Design, item: &Item) -> Verdict
-    ensures { IsVerdict design.now item.now result }
+    ensures { result ≡ verdict_of design.now item.now }
 {
     match &item.what {
         What::Bad => Verdict::Bad,
@@ -66,13 +55,13 @@ fn verdict_of(design: &Design, item: &Item) -> Verdict
     }
 }
 
-/// What each item asks.
+/// What each item asks: one look-up of its name by hashing.
 pub fn verdicts_of(
     alloc: Global,
     design: &Design,
     items: &[Item],
 ) -> Result<Vec<Verdict>, OutOfMemory>
-    ensures { IfOk result (λ verdicts. AreVerdicts design.now items.now verdicts.items) }
+    ensures { IfOk result (λ verdicts. verdicts.items ≡ map (verdict_of design.now) items.now) }
 {
     let mut verdicts = Vec::new(alloc);
     for item in items {

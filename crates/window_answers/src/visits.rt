@@ -5,22 +5,23 @@ ghost use Rattle.std.specs.BTreeMap.{get};
 ghost use Rattle.circuit_meaning.specs.Forward.{wave};
 ghost use Rattle.journal_meaning.specs.declared.Entry.{Entry as EntryRecord};
 ghost use Rattle.journal_meaning.specs.Answers.{IsCovered};
-ghost use Rattle.journal_meaning.specs.Batch.{IsNeededBy};
-ghost use Rattle.journal_meaning.specs.Index.{point_cmp};
-ghost use Rattle.strand_meaning.specs.Batches.{IsLawful};
+ghost use Rattle.batch_meaning.specs.Batches.{IsNeededBy};
+ghost use Rattle.valid_intervals.specs.Cells.{point_cmp};
+ghost use Rattle.batch_meaning.specs.Lawful.{IsLawful};
 ghost use Rattle.plan_machine.specs.Shards.{Shard as ShardRecord};
-ghost use Rattle.plan_machine.specs.Settle.{IsStanding, Advances, IsVisited, IsCoveredTo, entries_in};
-ghost use Rattle.demand_points.specs.Frames.{IsFrame, IsLooking, LooksOn, next_source};
+ghost use Rattle.plan_machine.specs.inner.Settle.{IsStanding, Advances, IsVisited, IsCoveredTo};
+ghost use Rattle.plan_machine.specs.Settle.{entries_in};
+ghost use Rattle.demand_points.specs.Frames.{IsFrame, IsLooking, LooksOn, next_point};
 ghost use Rattle.plan_core.specs.Parts.{shards_in};
-ghost use Rattle.window_answers.specs.Memos.{IsAsking, IsSourceCovered, entries_of, live, standing, is_missing};
+ghost use Rattle.window_answers.specs.inner.Memos.{IsChargedMemo, IsSourceCovered, entries_of, live, standing, is_missing};
 
 use crate::memo::{Memo, reach};
 use backsim_io::OutOfMemory;
+use batch_meaning::Query;
 use demand_points::{BatchName, Frame};
 use design::Design;
-use journal_meaning::Query;
-use query_lines::{Runs, WindowWalk};
 use valid_intervals::Point;
+use window_walks::{Runs, WindowWalk};
 
 /// Looks at the next pin of a filled point; none where the query is refused.
 fn look<B: BatchName>(
@@ -36,13 +37,13 @@ fn look<B: BatchName>(
     requires frame { IsFrame design.now.circuit frame.now }
     requires looking { IsLooking design.now.circuit frame.now }
     requires needed { IsNeededBy B.batch q frame.now.point }
-    requires asking { IsAsking B.batch B.opening memo.old.shards.items (get point_cmp memo.old.cells.cells) q charge.old }
-    ensures asking { OnOk result (IsAsking B.batch B.opening memo.new.shards.items (get point_cmp memo.new.cells.cells) q charge.new) }
+    requires asking { IsChargedMemo B.batch B.opening memo.old.shards.items (get point_cmp memo.old.cells.cells) q charge.old }
+    ensures asking { OnOk result (IsChargedMemo B.batch B.opening memo.new.shards.items (get point_cmp memo.new.cells.cells) q charge.new) }
     ensures frame { IfOk result (λ r. IfSome r (LooksOn design.now.circuit frame.now)) }
     ensures advances { (start : List EntryRecord) (first : List ShardRecord) → IsStanding B.batch B.opening q start first (live memo.old.shards.items)
         → IfOk result (λ r. Advances B.batch B.opening q start first (live memo.old.shards.items) (standing memo.new.shards.items (is_missing r))) }
     ensures covered { (start : List EntryRecord) (first : List ShardRecord) → IsStanding B.batch B.opening q start first (live memo.old.shards.items)
-        → IfOk result (λ r. is_missing r ≡ false → IsSourceCovered B.batch.circuit (entries_of memo.new.shards.items) (next_source design.now.circuit frame.now)) }
+        → IfOk result (λ r. is_missing r ≡ false → IsSourceCovered B.batch.circuit (entries_of memo.new.shards.items) (next_point design.now.circuit frame.now)) }
 {
     let Some(x) = frame.next_source(design) else {
         return Ok(Some(frame.see(design, None)));
@@ -73,8 +74,8 @@ fn settle_children<B: BatchName>(
     requires design { design.now.circuit ≡ B.batch.circuit }
     requires known { Contains B.batch.queries q }
     requires needed { IsNeededBy B.batch q p }
-    requires asking { IsAsking B.batch B.opening memo.old.shards.items (get point_cmp memo.old.cells.cells) q charge.old }
-    ensures asking { OnOk result (IsAsking B.batch B.opening memo.new.shards.items (get point_cmp memo.new.cells.cells) q charge.new) }
+    requires asking { IsChargedMemo B.batch B.opening memo.old.shards.items (get point_cmp memo.old.cells.cells) q charge.old }
+    ensures asking { OnOk result (IsChargedMemo B.batch B.opening memo.new.shards.items (get point_cmp memo.new.cells.cells) q charge.new) }
     ensures advances { (start : List EntryRecord) (first : List ShardRecord) → IsStanding B.batch B.opening q start first (live memo.old.shards.items)
         → IfOk result (λ r. Advances B.batch B.opening q start first (live memo.old.shards.items) (standing memo.new.shards.items r)) }
     ensures visited { (start : List EntryRecord) (first : List ShardRecord) → IsStanding B.batch B.opening q start first (live memo.old.shards.items)
@@ -103,8 +104,8 @@ pub fn settle_fills<B: BatchName>(
     requires design { design.now.circuit ≡ B.batch.circuit }
     requires known { Contains B.batch.queries q }
     requires needed { All (IsNeededBy B.batch q) fills.now }
-    requires asking { IsAsking B.batch B.opening memo.old.shards.items (get point_cmp memo.old.cells.cells) q charge.old }
-    ensures asking { OnOk result (IsAsking B.batch B.opening memo.new.shards.items (get point_cmp memo.new.cells.cells) q charge.new) }
+    requires asking { IsChargedMemo B.batch B.opening memo.old.shards.items (get point_cmp memo.old.cells.cells) q charge.old }
+    ensures asking { OnOk result (IsChargedMemo B.batch B.opening memo.new.shards.items (get point_cmp memo.new.cells.cells) q charge.new) }
     ensures advances { (start : List EntryRecord) (first : List ShardRecord) → IsStanding B.batch B.opening q start first (live memo.old.shards.items)
         → IfOk result (λ r. Advances B.batch B.opening q start first (live memo.old.shards.items) (standing memo.new.shards.items r)) }
     ensures visited { (start : List EntryRecord) (first : List ShardRecord) → IsStanding B.batch B.opening q start first (live memo.old.shards.items)
@@ -129,8 +130,8 @@ pub fn settle_window<B: BatchName>(
     requires site { B.batch.site ≡ None }
     requires design { design.now.circuit ≡ B.batch.circuit }
     requires known { Contains B.batch.queries q }
-    requires asking { IsAsking B.batch B.opening memo.old.shards.items (get point_cmp memo.old.cells.cells) q charge.old }
-    ensures asking { OnOk result (IsAsking B.batch B.opening memo.new.shards.items (get point_cmp memo.new.cells.cells) q charge.new) }
+    requires asking { IsChargedMemo B.batch B.opening memo.old.shards.items (get point_cmp memo.old.cells.cells) q charge.old }
+    ensures asking { OnOk result (IsChargedMemo B.batch B.opening memo.new.shards.items (get point_cmp memo.new.cells.cells) q charge.new) }
     ensures wave { IfOk result (λ r. IfSome r (λ runs. runs ≡ wave B.batch.circuit q.signal q.from q.to)) }
     ensures advances { (start : List EntryRecord) (first : List ShardRecord) → IsStanding B.batch B.opening q start first (live memo.old.shards.items)
         → IfOk result (λ r. Advances B.batch B.opening q start first (live memo.old.shards.items) (standing memo.new.shards.items (is_missing r))) }

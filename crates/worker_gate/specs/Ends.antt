@@ -5,7 +5,7 @@ use Rattle.demand_points.specs.declared.strand.Task.{Task}
 use Rattle.demand_points.specs.Demands.{Demand}
 use Rattle.strand_meaning.specs.Strands.{next}
 use Rattle.strand_meaning.specs.declared.Next.TheVariants.{Done}
-use Rattle.memo_shards.specs.Kept.{KeptShard}
+use Rattle.memo_shards.specs.KeptShards.{KeptShard}
 
 -- what a strand was started with
 abbrev pub task_of : Demand → Task

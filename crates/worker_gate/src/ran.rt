@@ -14,7 +14,7 @@ pub struct ShardList<B: BatchName> {
 
 impl<B: BatchName> Model for ShardList<B> {
     ghost use Rattle.std.specs.Prelude.{List};
-    ghost use Rattle.memo_shards.specs.Kept.{KeptShard};
+    ghost use Rattle.memo_shards.specs.KeptShards.{KeptShard};
 
     ghost Value = { List KeptShard };
 

@@ -1,17 +1,18 @@
 //! Two workers over small designs, with gates that hold them where they have to meet.
 
 ghost use Rattle.std.specs.Prelude.{◌≡◌, ◌+◌, ◌<◌, ◌≤◌, ℕ, false, [], length, vec_len, All, IfOk, IfSome};
-ghost use Rattle.strand_meaning.specs.Batches.{IsLawful, IsQueryOf};
+ghost use Rattle.batch_meaning.specs.Lawful.{IsLawful, IsQueryOf};
 ghost use Rattle.worker_gate.specs.Ends.{AreInOrder, AreNew};
 
 use super::*;
 use backsim_io::OutOfMemory;
+use batch_meaning::Query;
 use bench_reader::read_bench;
 use cell_store::CellStore;
 use demand_points::{BatchName, Strand};
 use design::{Design, JoinFault};
 use gate_values::Value;
-use journal_meaning::{Entry, Query};
+use journal_meaning::Entry;
 use memo_shards::Shard;
 use std::alloc::Global;
 use std::marker::Brand;

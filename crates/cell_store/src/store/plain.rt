@@ -3,7 +3,8 @@ ghost use Rattle.std.specs.Prelude.{◌≡◌, ◌<◌, ◌≤◌, ◌-◌, [], 
 ghost use Rattle.std.specs.List.{list_any};
 ghost use Rattle.valid_intervals.specs.Cells as cells;
 ghost use Rattle.valid_intervals.specs.Cells.{all_but_last, cell_for, same_stored, to_front};
-ghost use Rattle.cell_store.specs.Recency.{contents, with_cells, covering, key_of, last_key, is_stored, pushes_out, after_put};
+ghost use Rattle.cell_store.specs.Recency.{contents, with_cells, key_of, last_key, pushes_out, after_put};
+ghost use Rattle.valid_intervals.specs.Cells.{stored_at, is_stored};
 
 use crate::{Key, Put};
 use backsim_io::OutOfMemory;
@@ -43,7 +44,7 @@ impl PlainStore {
     }
 
     pub fn find(&mut self, p: Point) -> Option<Cell>
-        ensures found { result ≡ option_map (λ x. x.cell) (covering p self.old.cells) }
+        ensures found { result ≡ option_map (λ x. x.cell) (stored_at self.old.cells p) }
         ensures used { IfSome result (λ cell. self.new ≡ with_cells self.old (to_front (cell_for p cell) self.old.cells)) }
         ensures unchanged { IfNone result (self.new ≡ self.old) }
     {
@@ -139,7 +140,7 @@ fn holds(x: &SignalCell, cells: &[SignalCell]) -> bool
 }
 
 fn find_covering(cells: &[SignalCell], p: Point) -> Option<Cell>
-    ensures { result ≡ option_map (λ x. x.cell) (covering p cells.now) }
+    ensures { result ≡ option_map (λ x. x.cell) (stored_at cells.now p) }
 {
     let x = cells.iter().find(|x| covers(x, p))?;
     Some(x.cell)

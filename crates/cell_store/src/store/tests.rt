@@ -1,6 +1,6 @@
 //! Runs of the store, and of the plain list beside it.
 ghost use Rattle.std.specs.Prelude.{◌≡◌, ◌<◌, OnOk};
-ghost use Rattle.cell_store.specs.Beside.{is_apart, is_fitting};
+ghost use Rattle.cell_store.specs.inner.Beside.{is_apart, is_fitting};
 
 use crate::Key;
 use crate::store::CellStore;

@@ -1,6 +1,6 @@
-use Rattle.std.proofs.Common.{ℕ, List, Option, Ok, refl, ap, ◌∙◌}
+use Rattle.std.proofs.Common.{ℕ, List, Option, Ok, ap, ◌∙◌}
 use Rattle.std.proofs.lemmas.Result.{err_from_is_err_and}
-use Rattle.backsim.proofs.Explained.{explains_later}
+use Rattle.backsim.proofs.Explained.{calm-later, explains-later}
 use Rattle.backsim.proofs.Designed.{refuses, netlist_stops, netlist_refused, netlist_read, timing_stops, timing_refused, timing_read, stimulus_stops, stimulus_refused, stimulus_read, files_stop_netlist, files_stop_timing, files_stop_stimulus, netlist_faulty, timing_faulty, stimulus_faulty, join_refused, files_joined}
 use Rattle.backsim.proofs.Firsts.{passes, stops_first, two_stop, behind_netlist}
 use Rattle.backsim.proofs.inputs.read_design.Goals as goal
@@ -18,9 +18,8 @@ returns-in_err-read_text-clause-design g c first second third held_first held_se
 
 pub returns-in_err-netlist-clause-cause : goal.returns-in_err-netlist-clause-cause
 returns-in_err-netlist-clause-cause g c queries replies =
-    let first = c.in_ok-read_text.ensures in
     let p = err_from_is_err_and c.from_residual-in_err-netlist.result c.from_residual-in_err-netlist.ensures.1 in
-    rw p.1 (p.2.quiet _ _ (record { queries = refl; replies = refl; file = first.calm_file; read = first.calm_read; write = first.calm_write }))
+    rw p.1 (p.2.quiet 3 _ _ (c.in_ok-read_text.ensures.cause queries replies))
 
 pub returns-in_err-netlist-clause-design : goal.returns-in_err-netlist-clause-design
 returns-in_err-netlist-clause-design g c first second third held_first held_second held_third =
@@ -30,9 +29,8 @@ returns-in_err-netlist-clause-design g c first second third held_first held_seco
 -- the timing file
 pub returns-in_err-read_text-2-clause-cause : goal.returns-in_err-read_text-2-clause-cause
 returns-in_err-read_text-2-clause-cause g c queries replies =
-    let first = c.in_ok-read_text.ensures in
     let p = err_from_is_err_and c.from_residual-in_err-read_text-2.result c.from_residual-in_err-read_text-2.ensures.1 in
-    rw (p.1, p.2) (explains_later _ _ _ _ (record { queries = refl; replies = refl; file = first.calm_file; read = first.calm_read; write = first.calm_write }) (c.in_err-read_text-2.ensures.cause queries replies))
+    rw (p.1, p.2) (explains-later 3 _ _ _ _ (c.in_ok-read_text.ensures.cause queries replies) (c.in_err-read_text-2.ensures.cause queries replies))
 
 pub returns-in_err-read_text-2-clause-design : goal.returns-in_err-read_text-2-clause-design
 returns-in_err-read_text-2-clause-design g c first second third held_first held_second held_third =
@@ -42,10 +40,8 @@ returns-in_err-read_text-2-clause-design g c first second third held_first held_
 
 pub returns-in_err-timing-clause-cause : goal.returns-in_err-timing-clause-cause
 returns-in_err-timing-clause-cause g c queries replies =
-    let first = c.in_ok-read_text.ensures in
-    let second = c.in_ok-read_text-2.ensures in
     let p = err_from_is_err_and c.from_residual-in_err-timing.result c.from_residual-in_err-timing.ensures.1 in
-    rw p.1 (p.2.quiet _ _ (record { queries = refl; replies = refl; file = second.calm_file ∙ first.calm_file; read = second.calm_read ∙ first.calm_read; write = second.calm_write ∙ first.calm_write }))
+    rw p.1 (p.2.quiet 3 _ _ (calm-later _ _ _ (c.in_ok-read_text.ensures.cause queries replies) (c.in_ok-read_text-2.ensures.cause queries replies)))
 
 pub returns-in_err-timing-clause-design : goal.returns-in_err-timing-clause-design
 returns-in_err-timing-clause-design g c first second third held_first held_second held_third =
@@ -56,10 +52,8 @@ returns-in_err-timing-clause-design g c first second third held_first held_secon
 -- the stimulus file
 pub returns-in_err-read_text-3-clause-cause : goal.returns-in_err-read_text-3-clause-cause
 returns-in_err-read_text-3-clause-cause g c queries replies =
-    let first = c.in_ok-read_text.ensures in
-    let second = c.in_ok-read_text-2.ensures in
     let p = err_from_is_err_and c.from_residual-in_err-read_text-3.result c.from_residual-in_err-read_text-3.ensures.1 in
-    rw (p.1, p.2) (explains_later _ _ _ _ (record { queries = refl; replies = refl; file = second.calm_file ∙ first.calm_file; read = second.calm_read ∙ first.calm_read; write = second.calm_write ∙ first.calm_write }) (c.in_err-read_text-3.ensures.cause queries replies))
+    rw (p.1, p.2) (explains-later 3 _ _ _ _ (calm-later _ _ _ (c.in_ok-read_text.ensures.cause queries replies) (c.in_ok-read_text-2.ensures.cause queries replies)) (c.in_err-read_text-3.ensures.cause queries replies))
 
 pub returns-in_err-read_text-3-clause-design : goal.returns-in_err-read_text-3-clause-design
 returns-in_err-read_text-3-clause-design g c first second third held_first held_second held_third =
@@ -70,11 +64,8 @@ returns-in_err-read_text-3-clause-design g c first second third held_first held_
 
 pub returns-in_err-stimulus-clause-cause : goal.returns-in_err-stimulus-clause-cause
 returns-in_err-stimulus-clause-cause g c queries replies =
-    let first = c.in_ok-read_text.ensures in
-    let second = c.in_ok-read_text-2.ensures in
-    let third = c.in_ok-read_text-3.ensures in
     let p = err_from_is_err_and c.from_residual-in_err-stimulus.result c.from_residual-in_err-stimulus.ensures.1 in
-    rw p.1 (p.2.quiet _ _ (record { queries = refl; replies = refl; file = third.calm_file ∙ second.calm_file ∙ first.calm_file; read = third.calm_read ∙ second.calm_read ∙ first.calm_read; write = third.calm_write ∙ second.calm_write ∙ first.calm_write }))
+    rw p.1 (p.2.quiet 3 _ _ (calm-later _ _ _ (calm-later _ _ _ (c.in_ok-read_text.ensures.cause queries replies) (c.in_ok-read_text-2.ensures.cause queries replies)) (c.in_ok-read_text-3.ensures.cause queries replies)))
 
 pub returns-in_err-stimulus-clause-design : goal.returns-in_err-stimulus-clause-design
 returns-in_err-stimulus-clause-design g c first second third held_first held_second held_third =
@@ -86,11 +77,8 @@ returns-in_err-stimulus-clause-design g c first second third held_first held_sec
 -- the join
 pub returns-in_err-join-clause-cause : goal.returns-in_err-join-clause-cause
 returns-in_err-join-clause-cause g c queries replies =
-    let first = c.in_ok-read_text.ensures in
-    let second = c.in_ok-read_text-2.ensures in
-    let third = c.in_ok-read_text-3.ensures in
     let p = err_from_is_err_and c.from_residual-in_err-join.result c.from_residual-in_err-join.ensures.1 in
-    rw p.1 (p.2.quiet _ _ (record { queries = refl; replies = refl; file = third.calm_file ∙ second.calm_file ∙ first.calm_file; read = third.calm_read ∙ second.calm_read ∙ first.calm_read; write = third.calm_write ∙ second.calm_write ∙ first.calm_write }))
+    rw p.1 (p.2.quiet 3 _ _ (calm-later _ _ _ (calm-later _ _ _ (c.in_ok-read_text.ensures.cause queries replies) (c.in_ok-read_text-2.ensures.cause queries replies)) (c.in_ok-read_text-3.ensures.cause queries replies)))
 
 pub returns-in_err-join-clause-design : goal.returns-in_err-join-clause-design
 returns-in_err-join-clause-design g c first second third held_first held_second held_third =
@@ -178,3 +166,47 @@ returns-in_err-join-clause-second g c first second held_first held_second =
 pub returns-clause-second : goal.returns-clause-second
 returns-clause-second g c first second held_first held_second =
     passes (Ok c.in_ok-join.field-0) _ _ (behind_netlist first second _ (netlist_read first _ _ _ (c.in_ok-read_text.ensures.text first held_first) c.deref.ensures.value c.in_ok-netlist.ensures) ∙ (timing_read second _ _ _ (c.in_ok-read_text-2.ensures.text second (ap (λ (h : List ℕ → Option (List ℕ)). h c.args.timing.now) c.in_ok-read_text.ensures.held ∙ held_second)) c.deref-2.ensures.value c.in_ok-timing.ensures))
+
+-- where it stopped
+pub returns-in_err-read_text-clause-place : goal.returns-in_err-read_text-clause-place
+returns-in_err-read_text-clause-place g c =
+    let p = err_from_is_err_and c.from_residual.result c.from_residual.ensures.1 in
+    rw (p.1, p.2) c.in_err-read_text.ensures.place
+
+pub returns-in_err-read_text-2-clause-place : goal.returns-in_err-read_text-2-clause-place
+returns-in_err-read_text-2-clause-place g c =
+    let p = err_from_is_err_and c.from_residual-in_err-read_text-2.result c.from_residual-in_err-read_text-2.ensures.1 in
+    rw (p.1, p.2) c.in_err-read_text-2.ensures.place
+
+pub returns-in_err-read_text-3-clause-place : goal.returns-in_err-read_text-3-clause-place
+returns-in_err-read_text-3-clause-place g c =
+    let p = err_from_is_err_and c.from_residual-in_err-read_text-3.result c.from_residual-in_err-read_text-3.ensures.1 in
+    rw (p.1, p.2) c.in_err-read_text-3.ensures.place
+
+pub returns-in_err-netlist-clause-place : goal.returns-in_err-netlist-clause-place
+returns-in_err-netlist-clause-place g c =
+    let p = err_from_is_err_and c.from_residual-in_err-netlist.result c.from_residual-in_err-netlist.ensures.1 in
+    rw p.1 p.2.place
+
+pub returns-in_err-timing-clause-place : goal.returns-in_err-timing-clause-place
+returns-in_err-timing-clause-place g c =
+    let p = err_from_is_err_and c.from_residual-in_err-timing.result c.from_residual-in_err-timing.ensures.1 in
+    rw p.1 p.2.place
+
+pub returns-in_err-stimulus-clause-place : goal.returns-in_err-stimulus-clause-place
+returns-in_err-stimulus-clause-place g c =
+    let p = err_from_is_err_and c.from_residual-in_err-stimulus.result c.from_residual-in_err-stimulus.ensures.1 in
+    rw p.1 p.2.place
+
+pub returns-in_err-join-clause-place : goal.returns-in_err-join-clause-place
+returns-in_err-join-clause-place g c =
+    let p = err_from_is_err_and c.from_residual-in_err-join.result c.from_residual-in_err-join.ensures.1 in
+    rw p.1 p.2.place
+
+-- all three were read
+pub returns-clause-cause : goal.returns-clause-cause
+returns-clause-cause g c queries replies =
+    calm-later _ _ _ (calm-later _ _ _ (c.in_ok-read_text.ensures.cause queries replies) (c.in_ok-read_text-2.ensures.cause queries replies)) (c.in_ok-read_text-3.ensures.cause queries replies)
+
+pub returns-clause-made : goal.returns-clause-made
+returns-clause-made g c before h = c.in_ok-read_text-3.ensures.made before (c.in_ok-read_text-2.ensures.made before (c.in_ok-read_text.ensures.made before h))

@@ -1,92 +1,60 @@
-use Rattle.std.proofs.Common.{Bor, List, ℕ, [], true, false, refl, ap}
-use Rattle.backsim.specs.Script.{may_cut}
-use Rattle.backsim.proofs.Sessions.{given_of, told_of, refusal_told, served_whole, stop_front, stop_begun, told_whole, refusal_whole, refusal_begun, refusal_none, grows_whole, unread_told}
-use Rattle.backsim.specs.Texts.{usage}
+use Rattle.std.proofs.Common.{map}
+use Rattle.command_words.specs.Words.{words_of}
+use Rattle.backsim.proofs.Asked.{session-complete, form-said, workload-explained}
+use Rattle.backsim.proofs.Ranges.{session-in-range, workload-in-range}
 use Rattle.backsim.proofs.serve.serve.Goals as goal
 
--- the line of the refusal was written
-pub returns-in-Ok-write_all-clause-refused : goal.returns-in-Ok-write_all-clause-refused
-returns-in-Ok-write_all-clause-refused g c given are same =
-    refusal_told given c.in-Err-Refused.refusal _ _ _ _ _
-    (told_of given c.in-Err-Refused.field-0 c.in-Err-Refused.refusal _ _ c.in-Err-Refused.field-0-is
-    (c.in-Err-Refused.ensures.refused given (given_of (λ (word : Bor (List ℕ)). word.now) (record { ref_ptr = (0, 0); now = [] }) _ _ c.args.words.now given refl are)))
-    c.in-Ok-text.ensures c.as_bytes.ensures.value c.in-Ok-write_all.ensures.ok
+-- the words name numbers in their ranges
+pub serve_files-requires-clause-workers : goal.serve_files-requires-clause-workers
+serve_files-requires-clause-workers g c κs within =
+    let s = c.in-Ok-Some-Session in
+    let asked = words_of (map (λ word. word.now) c.args.words.now) in
+    (session-in-range (map (λ word. word.now) c.args.words.now) s.netlist.now s.timing.now s.stimulus.now s.journal.now s.workers s.shards s.cells
+    (form-said s.field-0 s.field-0-0 _ asked s.field-0-is s.field-0-0-is s.ensures)).workers
 
--- all of the usage was written
-pub returns-in-Ok-clause-usage_prefix : goal.returns-in-Ok-clause-usage_prefix
-returns-in-Ok-clause-usage_prefix g c other = grows_whole (g.S.Sink.written c.args.out.now) (g.S.Sink.written c.write_all.new.sink) usage c.in-Ok.ensures.ok
+pub serve_files-requires-clause-shards : goal.serve_files-requires-clause-shards
+serve_files-requires-clause-shards g c κs within =
+    let s = c.in-Ok-Some-Session in
+    let asked = words_of (map (λ word. word.now) c.args.words.now) in
+    (session-in-range (map (λ word. word.now) c.args.words.now) s.netlist.now s.timing.now s.stimulus.now s.journal.now s.workers s.shards s.cells
+    (form-said s.field-0 s.field-0-0 _ asked s.field-0-is s.field-0-0-is s.ensures)).shards
 
--- the session ended
-pub returns-in-Ok-session-clause-replies : goal.returns-in-Ok-session-clause-replies
-returns-in-Ok-session-clause-replies g c given are same = c.in-Ok-session.ensures.served given (given_of (λ (word : Bor (List ℕ)). word.now) (record { ref_ptr = (0, 0); now = [] }) _ _ c.args.words.now given refl are)
+pub serve_files-requires-clause-cells : goal.serve_files-requires-clause-cells
+serve_files-requires-clause-cells g c κs within =
+    let s = c.in-Ok-Some-Session in
+    let asked = words_of (map (λ word. word.now) c.args.words.now) in
+    (session-in-range (map (λ word. word.now) c.args.words.now) s.netlist.now s.timing.now s.stimulus.now s.journal.now s.workers s.shards s.cells
+    (form-said s.field-0 s.field-0-0 _ asked s.field-0-is s.field-0-0-is s.ensures)).cells
 
-pub returns-in-Ok-session-clause-whole : goal.returns-in-Ok-session-clause-whole
-returns-in-Ok-session-clause-whole g c given are command = served_whole given _ _ (c.in-Ok-session.ensures.served given (given_of (λ (word : Bor (List ℕ)). word.now) (record { ref_ptr = (0, 0); now = [] }) _ _ c.args.words.now given refl are))
+-- a session without a fault, of files and a script that are accepted
+pub returns-in-Ok-Some-Session-clause-complete : goal.returns-in-Ok-Some-Session-clause-complete
+returns-in-Ok-Some-Session-clause-complete g c =
+    let s = c.in-Ok-Some-Session in
+    let asked = words_of (map (λ word. word.now) c.args.words.now) in
+    let served = c.serve_files.ensures in
+    let W = g.S.Sink.written in
+    let M = g.F.Files.made in
+    session-complete asked s.netlist.now s.timing.now s.stimulus.now s.journal.now s.workers s.shards s.cells
+    (g.F.Files.held c.args.files.now) (g.Q.Source.left c.args.queries.now) (g.Q.Source.left c.serve_files.new.queries) (W c.args.out.now) (W c.serve_files.new.out) (M c.args.files.now) (M c.serve_files.new.files) _ _ c.serve_files.result
+    (form-said s.field-0 s.field-0-0 _ asked s.field-0-is s.field-0-0-is s.ensures) served.cause served.no_usage served.refused
 
-pub returns-in-Ok-session-clause-prefix : goal.returns-in-Ok-session-clause-prefix
-returns-in-Ok-session-clause-prefix g c given are command = stop_begun given false _ _ (served_whole given _ _ (c.in-Ok-session.ensures.served given (given_of (λ (word : Bor (List ℕ)). word.now) (record { ref_ptr = (0, 0); now = [] }) _ _ c.args.words.now given refl are)))
+pub serve_workload-requires-clause-number : goal.serve_workload-requires-clause-number
+serve_workload-requires-clause-number g c κs within =
+    let s = c.in-Ok-Some-Workload in
+    let asked = words_of (map (λ word. word.now) c.args.words.now) in
+    (workload-in-range (map (λ word. word.now) c.args.words.now) s.number s.journal.now s.workers
+    (form-said s.field-0 s.field-0-0 _ asked s.field-0-is s.field-0-0-is s.ensures)).number
 
--- it stopped, and refused nothing
-pub returns-in-Err-ReadFault-clause-whole : goal.returns-in-Err-ReadFault-clause-whole
-returns-in-Err-ReadFault-clause-whole g c given are command = stop_front given (may_cut c.in-Err-ReadFault.field-0) false _ _ (ap may_cut c.in-Err-ReadFault.field-0-is) (c.in-Err-ReadFault.ensures.begun given (given_of (λ (word : Bor (List ℕ)). word.now) (record { ref_ptr = (0, 0); now = [] }) _ _ c.args.words.now given refl are))
+pub serve_workload-requires-clause-workers : goal.serve_workload-requires-clause-workers
+serve_workload-requires-clause-workers g c κs within =
+    let s = c.in-Ok-Some-Workload in
+    let asked = words_of (map (λ word. word.now) c.args.words.now) in
+    (workload-in-range (map (λ word. word.now) c.args.words.now) s.number s.journal.now s.workers
+    (form-said s.field-0 s.field-0-0 _ asked s.field-0-is s.field-0-0-is s.ensures)).workers
 
-pub returns-in-Err-ReadFault-clause-prefix : goal.returns-in-Err-ReadFault-clause-prefix
-returns-in-Err-ReadFault-clause-prefix g c given are command = stop_begun given (may_cut c.in-Err-ReadFault.field-0) _ _ (c.in-Err-ReadFault.ensures.begun given (given_of (λ (word : Bor (List ℕ)). word.now) (record { ref_ptr = (0, 0); now = [] }) _ _ c.args.words.now given refl are))
-
-pub returns-in-Err-WriteFault-clause-whole : goal.returns-in-Err-WriteFault-clause-whole
-returns-in-Err-WriteFault-clause-whole g c given are command = stop_front given (may_cut c.in-Err-WriteFault.field-0) true _ _ (ap may_cut c.in-Err-WriteFault.field-0-is) (c.in-Err-WriteFault.ensures.begun given (given_of (λ (word : Bor (List ℕ)). word.now) (record { ref_ptr = (0, 0); now = [] }) _ _ c.args.words.now given refl are))
-
-pub returns-in-Err-WriteFault-clause-prefix : goal.returns-in-Err-WriteFault-clause-prefix
-returns-in-Err-WriteFault-clause-prefix g c given are command = stop_begun given (may_cut c.in-Err-WriteFault.field-0) _ _ (c.in-Err-WriteFault.ensures.begun given (given_of (λ (word : Bor (List ℕ)). word.now) (record { ref_ptr = (0, 0); now = [] }) _ _ c.args.words.now given refl are))
-
-pub returns-in-Err-FileFault-clause-whole : goal.returns-in-Err-FileFault-clause-whole
-returns-in-Err-FileFault-clause-whole g c given are command = stop_front given (may_cut c.in-Err-FileFault.field-0) false _ _ (ap may_cut c.in-Err-FileFault.field-0-is) (c.in-Err-FileFault.ensures.begun given (given_of (λ (word : Bor (List ℕ)). word.now) (record { ref_ptr = (0, 0); now = [] }) _ _ c.args.words.now given refl are))
-
-pub returns-in-Err-FileFault-clause-prefix : goal.returns-in-Err-FileFault-clause-prefix
-returns-in-Err-FileFault-clause-prefix g c given are command = stop_begun given (may_cut c.in-Err-FileFault.field-0) _ _ (c.in-Err-FileFault.ensures.begun given (given_of (λ (word : Bor (List ℕ)). word.now) (record { ref_ptr = (0, 0); now = [] }) _ _ c.args.words.now given refl are))
-
-pub returns-in-Err-OutOfMemory-clause-whole : goal.returns-in-Err-OutOfMemory-clause-whole
-returns-in-Err-OutOfMemory-clause-whole g c given are command = stop_front given (may_cut c.in-Err-OutOfMemory.field-0) false _ _ (ap may_cut c.in-Err-OutOfMemory.field-0-is) (c.in-Err-OutOfMemory.ensures.begun given (given_of (λ (word : Bor (List ℕ)). word.now) (record { ref_ptr = (0, 0); now = [] }) _ _ c.args.words.now given refl are))
-
-pub returns-in-Err-OutOfMemory-clause-prefix : goal.returns-in-Err-OutOfMemory-clause-prefix
-returns-in-Err-OutOfMemory-clause-prefix g c given are command = stop_begun given (may_cut c.in-Err-OutOfMemory.field-0) _ _ (c.in-Err-OutOfMemory.ensures.begun given (given_of (λ (word : Bor (List ℕ)). word.now) (record { ref_ptr = (0, 0); now = [] }) _ _ c.args.words.now given refl are))
-
--- the script was read until a fault
-pub returns-in-Err-ReadFault-clause-unread : goal.returns-in-Err-ReadFault-clause-unread
-returns-in-Err-ReadFault-clause-unread g c given are same =
-    unread_told c.in-Err-ReadFault.field-0 c.in-Err-ReadFault.place _ c.in-Err-ReadFault.field-0-is same (c.in-Err-ReadFault.ensures.unread given (given_of (λ (word : Bor (List ℕ)). word.now) (record { ref_ptr = (0, 0); now = [] }) _ _ c.args.words.now given refl are))
-
--- the line of the refusal was not made, or written, or not wholly
-pub returns-in_default-text-clause-prefix : goal.returns-in_default-text-clause-prefix
-returns-in_default-text-clause-prefix g c given are command =
-    refusal_none given c.in-Err-Refused.refusal _ _ (told_of given c.in-Err-Refused.field-0 c.in-Err-Refused.refusal _ _ c.in-Err-Refused.field-0-is
-    (c.in-Err-Refused.ensures.refused given (given_of (λ (word : Bor (List ℕ)). word.now) (record { ref_ptr = (0, 0); now = [] }) _ _ c.args.words.now given refl are)))
-
-pub returns-in-Ok-write_all-clause-prefix : goal.returns-in-Ok-write_all-clause-prefix
-returns-in-Ok-write_all-clause-prefix g c given are command =
-    refusal_begun given c.in-Err-Refused.refusal _ _ _ _ _ (told_of given c.in-Err-Refused.field-0 c.in-Err-Refused.refusal _ _ c.in-Err-Refused.field-0-is
-    (c.in-Err-Refused.ensures.refused given (given_of (λ (word : Bor (List ℕ)). word.now) (record { ref_ptr = (0, 0); now = [] }) _ _ c.args.words.now given refl are)))
-    c.in-Ok-text.ensures c.as_bytes.ensures.value (grows_whole (g.S.Sink.written c.session.new.out) (g.S.Sink.written c.write_all-2.new.sink) c.as_bytes.result.now c.in-Ok-write_all.ensures.ok)
-
-pub returns-clause-prefix : goal.returns-clause-prefix
-returns-clause-prefix g c given are command =
-    refusal_begun given c.in-Err-Refused.refusal _ _ _ _ _ (told_of given c.in-Err-Refused.field-0 c.in-Err-Refused.refusal _ _ c.in-Err-Refused.field-0-is
-    (c.in-Err-Refused.ensures.refused given (given_of (λ (word : Bor (List ℕ)). word.now) (record { ref_ptr = (0, 0); now = [] }) _ _ c.args.words.now given refl are)))
-    c.in-Ok-text.ensures c.as_bytes.ensures.value c.in-Err-write_all.ensures.prefix
-
-pub returns-in_default-text-clause-whole : goal.returns-in_default-text-clause-whole
-returns-in_default-text-clause-whole g c given are command =
-    refusal_whole given c.in-Err-Refused.refusal _ _ (told_of given c.in-Err-Refused.field-0 c.in-Err-Refused.refusal _ _ c.in-Err-Refused.field-0-is
-    (c.in-Err-Refused.ensures.refused given (given_of (λ (word : Bor (List ℕ)). word.now) (record { ref_ptr = (0, 0); now = [] }) _ _ c.args.words.now given refl are)))
-
-pub returns-in-Ok-write_all-clause-whole : goal.returns-in-Ok-write_all-clause-whole
-returns-in-Ok-write_all-clause-whole g c given are command =
-    told_whole given _ _ (refusal_told given c.in-Err-Refused.refusal _ _ _ _ _ (told_of given c.in-Err-Refused.field-0 c.in-Err-Refused.refusal _ _ c.in-Err-Refused.field-0-is
-    (c.in-Err-Refused.ensures.refused given (given_of (λ (word : Bor (List ℕ)). word.now) (record { ref_ptr = (0, 0); now = [] }) _ _ c.args.words.now given refl are)))
-    c.in-Ok-text.ensures c.as_bytes.ensures.value c.in-Ok-write_all.ensures.ok)
-
-pub returns-clause-whole : goal.returns-clause-whole
-returns-clause-whole g c given are command =
-    refusal_begun given c.in-Err-Refused.refusal _ _ _ _ _ (told_of given c.in-Err-Refused.field-0 c.in-Err-Refused.refusal _ _ c.in-Err-Refused.field-0-is
-    (c.in-Err-Refused.ensures.refused given (given_of (λ (word : Bor (List ℕ)). word.now) (record { ref_ptr = (0, 0); now = [] }) _ _ c.args.words.now given refl are)))
-    c.in-Ok-text.ensures c.as_bytes.ensures.value c.in-Err-write_all.ensures.prefix
+pub returns-in-Ok-Some-Workload-clause-cause : goal.returns-in-Ok-Some-Workload-clause-cause
+returns-in-Ok-Some-Workload-clause-cause g c =
+    let s = c.in-Ok-Some-Workload in
+    let asked = words_of (map (λ word. word.now) c.args.words.now) in
+    workload-explained asked s.number s.journal.now s.workers _ _ c.serve_workload.result
+    (form-said s.field-0 s.field-0-0 _ asked s.field-0-is s.field-0-0-is s.ensures) (c.serve_workload.ensures.cause (g.Q.Source.faults c.args.queries.now))

@@ -1,5 +1,5 @@
 use Rattle.std.proofs.Common.{◌≡◌, All, vec_len}
-use Rattle.backsim_io.specs.SureFiles.{IsBlank}
+use Rattle.backsim_io.specs.inner.SureFiles.{IsBlank}
 use Rattle.backsim_io.proofs.sure_files.blank_files.Given as goal
 
 abbrev pub invariant-loop : goal.invariant-loop

@@ -1,5 +1,5 @@
 use Rattle.std.proofs.Common.{[], refl, arith}
-use Rattle.bench_reader.specs.Kept.{texts}
+use Rattle.bench_reader.specs.inner.KeptNetlists.{texts}
 use Rattle.bench_reader.proofs.Keys.{all_step, adds_none, adds_all}
 use Rattle.bench_reader.proofs.names.number_all.Goals as goal
 

@@ -1,7 +1,7 @@
 use Rattle.std.proofs.Common.{◌≡◌, ◌≤◌, ◌+◌, length, map, take}
 use Rattle.std.specs.Str.{bytes_eq}
 use Rattle.indexmap.specs.IndexSet.{insert_all}
-use Rattle.bench_reader.specs.Kept.{texts}
+use Rattle.bench_reader.specs.inner.KeptNetlists.{texts}
 use Rattle.bench_reader.proofs.Keys.{Adds}
 use Rattle.bench_reader.proofs.names.number_all.Given as goal
 

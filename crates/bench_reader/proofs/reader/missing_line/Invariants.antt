@@ -1,5 +1,5 @@
 use Rattle.std.proofs.Common.{◌≡◌, drop}
-use Rattle.bench_reader.specs.Reading.{first_missing}
+use Rattle.bench_reader.specs.inner.Reading.{first_missing}
 use Rattle.bench_reader.proofs.reader.missing_line.Given as goal
 
 abbrev pub invariant-loop-row : goal.invariant-loop-row

@@ -1,6 +1,6 @@
 use Rattle.std.proofs.Common.{inr, sym, ap, ◌∙◌}
 use Rattle.std.proofs.lemmas.Result.{err_from_is_err_and}
-use Rattle.bench_reader.specs.Reading.{first_missing}
+use Rattle.bench_reader.specs.inner.Reading.{first_missing}
 use Rattle.bench_reader.proofs.Loop.{fault_answers, undefined_said, netlist_said}
 use Rattle.bench_reader.proofs.Whole.{held}
 use Rattle.bench_reader.proofs.reader.read_bench.Goals as goal

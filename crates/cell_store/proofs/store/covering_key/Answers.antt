@@ -2,7 +2,7 @@ use Rattle.std.proofs.Common.{◌≡◌, ◌≤◌, option_map, sym, ap, ◌∙�
 use Rattle.std.specs.BTreeMap.{get}
 use Rattle.cell_store.specs.declared.Key.{Key}
 use Rattle.cell_store.specs.Recency.{key_of}
-use Rattle.cell_store.specs.Index.{key_cmp}
+use Rattle.cell_store.specs.inner.Index.{key_cmp}
 use Rattle.cell_store.proofs.Keys.{key_le-numbers, numbers-key_le, key_not_lt-numbers}
 use Rattle.cell_store.proofs.Found.{covered, past, none_before, lower}
 use Rattle.cell_store.proofs.store.covering_key.Goals.{else-key-p-via-then-key-p+else-p-end, else-key-p-via-else-key-p}

@@ -1,7 +1,7 @@
 use Rattle.std.proofs.Common.{ap, ◌∙◌, sym, subst, Err}
 use Rattle.std.proofs.lemmas.Result.{err_from_is_err_and}
 use Rattle.design.specs.Join.{set_fault}
-use Rattle.design.specs.Said.{HasSets, TakesSets}
+use Rattle.design.specs.inner.Said.{HasSets, TakesSets}
 use Rattle.design.proofs.Rereads.{refused-at, passed-at, taken-at}
 use Rattle.design.proofs.settings.read.Goals as goal
 

@@ -1,6 +1,6 @@
 use Rattle.std.proofs.Common.{◌≡◌, take, drop}
 use Rattle.design.specs.Join.{first_fault, set_fault}
-use Rattle.design.specs.Said.{HasSets}
+use Rattle.design.specs.inner.Said.{HasSets}
 use Rattle.design.proofs.settings.read.Given as goal
 
 abbrev pub invariant-loop-row : goal.invariant-loop-row

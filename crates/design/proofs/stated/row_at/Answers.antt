@@ -8,5 +8,5 @@ returns c =
     let e = row-is c.args.netlist.now c.args.signal _ c.row.ensures in
     record {
       driver = e;
-      sound = subst (netlists.IsDriver (length c.args.netlist.now.names)) (sym e) (row-sound c.args.netlist.now c.facts.ensures c.args.signal c.requires);
+      sound = subst (netlists.IsNetlistDriver (length c.args.netlist.now.names)) (sym e) (row-sound c.args.netlist.now c.facts.ensures c.args.signal c.requires);
     }

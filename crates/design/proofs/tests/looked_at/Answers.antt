@@ -8,8 +8,8 @@ use Rattle.valid_intervals.specs.Spans.{Span, IsSpan, from_to, meet}
 use Rattle.flip_flops.specs.Edges.{shown_edge}
 use Rattle.circuit_meaning.specs.Circuit.{Driver, Input, Gate, Flop, Circuit, driver, read_by, IsDriver}
 use Rattle.circuit_meaning.specs.Cells.{span}
-use Rattle.circuit_meaning.specs.Need.{HasSources, IsEvaluable}
-use Rattle.circuit_meaning.specs.Looks.{kind_of, source, flop_sources, sources_at, pin_sources, sees, looked_sources, pin_interval, met_interval, no_pin}
+use Rattle.circuit_meaning.specs.Need.{HasChildren, IsEvaluable}
+use Rattle.circuit_meaning.specs.Looks.{kind_of, pin_point, flop_points, pin_points_at, pin_points, sees, looked_points, pin_interval, met_interval, no_pin}
 use Rattle.circuit_meaning.proofs.Equations.{driver_fits}
 use Rattle.design.specs.Pins.{pin_at, heard_of}
 use Rattle.design.proofs.tests.looked_at.Goals as goal
@@ -27,18 +27,18 @@ reads-within n h (Flop f) zero ok below = ok.pin
 reads-within n h (Flop f) (suc k) ok below = absurd (omega arith)
 
 -- what is heard of a pin is the interval of what it reads
-heard-is : (c : Circuit) (s t k : ℕ) (u : Option ℕ) (h : Option Span) → slice_get (pin_sources c s t) k ≡ Some (option_map (pin_at c s k) u)
+heard-is : (c : Circuit) (s t k : ℕ) (u : Option ℕ) (h : Option Span) → slice_get (pin_points c s t) k ≡ Some (option_map (pin_at c s k) u)
     → h ≡ option_map (λ u. span c (get_or (read_by (driver c s)) k 0) u) u → h ≡ heard_of c s t k
-heard-is c s t k None h e is = is ∙ sym (ap (option_map (λ p. span c p.signal p.time)) (get_or_from_slice_get (pin_sources c s t) k None None e))
-heard-is c s t k (Some u) h e is = is ∙ sym (ap (option_map (λ p. span c p.signal p.time)) (get_or_from_slice_get (pin_sources c s t) k (Some (pin_at c s k u)) None e))
+heard-is c s t k None h e is = is ∙ sym (ap (option_map (λ p. span c p.signal p.time)) (get_or_from_slice_get (pin_points c s t) k None None e))
+heard-is c s t k (Some u) h e is = is ∙ sym (ap (option_map (λ p. span c p.signal p.time)) (get_or_from_slice_get (pin_points c s t) k (Some (pin_at c s k u)) None e))
 
 -- of one pin, that is looked at
-sources-one : (t : ℕ) (d : Driver) → HasSources t d → length (read_by d) ≡ 1 → length (sources_at t d) ≡ 1
+sources-one : (t : ℕ) (d : Driver) → HasChildren t d → length (read_by d) ≡ 1 → length (pin_points_at t d) ≡ 1
 sources-one t (Input settings) h one = absurd h
-sources-one t (Gate kind pins) h one = length-map pins (source t) ∙ sym (length-map pins (λ p. p.signal)) ∙ one
+sources-one t (Gate kind pins) h one = length-map pins (pin_point t) ∙ sym (length-map pins (λ p. p.signal)) ∙ one
 sources-one t (Flop f) h one = go (shown_edge f.clock f.delay t) h
   where
-    go : (o : Option ℕ) → IsSome o → length (flop_sources f.pin o) ≡ 1
+    go : (o : Option ℕ) → IsSome o → length (flop_points f.pin o) ≡ 1
     go None h = absurd (cc h)
     go (Some e) h = refl
 
@@ -50,9 +50,9 @@ cut-one test (x ∷ y ∷ more) e = absurd (omega arith)
 met-one : (a : Span) → IsSpan a → a ≡ meet (from_to 0 2000002) a
 met-one a is = ap₂ from_to (omega arith) (let h = is.within in omega arith)
 
-over-one : (c : Circuit) (s t : ℕ) → IsEvaluable c s t → length (read_by (driver c s)) ≡ 1 → (a : Span) → IsSpan a → a ≡ pin_interval c s t 0 → a ≡ met_interval c s t (length (looked_sources c s t))
+over-one : (c : Circuit) (s t : ℕ) → IsEvaluable c s t → length (read_by (driver c s)) ≡ 1 → (a : Span) → IsSpan a → a ≡ pin_interval c s t 0 → a ≡ met_interval c s t (length (looked_points c s t))
 over-one c s t e one a is there =
-    let count : length (looked_sources c s t) ≡ 1 = cut-one (λ o. decides (kind_of (driver c s)) (sees c o)) (pin_sources c s t) (sources-one t (driver c s) e one) in
+    let count : length (looked_points c s t) ≡ 1 = cut-one (λ o. decides (kind_of (driver c s)) (sees c o)) (pin_points c s t) (sources-one t (driver c s) e one) in
     met-one a is ∙ ap (meet (from_to 0 2000002)) there ∙ ap (met_interval c s t) (sym count)
 
 pub base-requires-in-Some-clause-signal : goal.base-requires-in-Some-clause-signal
@@ -67,13 +67,13 @@ pin_span-sees-requires-clause-heard c =
     let circuit = c.args.design.now.circuit in
     let s = c.in_ok-signal.signal in
     let k = c.args.pin in
-    let source = c.child_time-reads.ensures.source in
+    let pin_point = c.child_time-reads.ensures.source in
     elim c.match-reads.branch [
-      | in-None w ↦ heard-is circuit s c.args.time k None c.match-reads.heard (source ∙ ap (λ u. Some (option_map (pin_at circuit s k) u)) w.in-None.is) w.heard-is
+      | in-None w ↦ heard-is circuit s c.args.time k None c.match-reads.heard (pin_point ∙ ap (λ u. Some (option_map (pin_at circuit s k) u)) w.in-None.is) w.heard-is
       | in-Some+in_ok-base-in-Some w ↦
           let pins = ap (λ xs. span circuit (get_or xs k 0) w.in-Some.child) c.gate_of-kind.ensures.pins in
           let cell = ap (λ (x : Cell). x.span) (w.in_ok-base-in-Some.ensures.cell) in
-          heard-is circuit s c.args.time k (Some w.in-Some.child) c.match-reads.heard (source ∙ ap (λ u. Some (option_map (pin_at circuit s k) u)) w.in-Some.is) (w.heard-is ∙ ap Some (cell ∙ pins))
+          heard-is circuit s c.args.time k (Some w.in-Some.child) c.match-reads.heard (pin_point ∙ ap (λ u. Some (option_map (pin_at circuit s k) u)) w.in-Some.is) (w.heard-is ∙ ap Some (cell ∙ pins))
     ]
 
 pub span_over-requires-clause-looked : goal.span_over-requires-clause-looked

@@ -1,5 +1,5 @@
 use Rattle.std.proofs.Common.{rules, ◌≡◌, ◌+◌, ◌*◌, ◌<◌, ◌≤◌, ℕ, List, ap, arith, ◌^◌}
-use Rattle.journal_text.specs.Reading.{digit_at, digits_at}
+use Rattle.journal_text.specs.inner.Reading.{digit_at, digits_at}
 use Rattle.journal_text.proofs.Numbers.{digit_read, digits_next, digits_at_ge}
 use Rattle.journal_text.proofs.reading.digits_of.Goals as goal
 

@@ -1,6 +1,6 @@
 -- The digits that are left go on with the number so far.
 use Rattle.std.proofs.Common.{◌≡◌, length}
-use Rattle.journal_text.specs.Reading.{digits_at}
+use Rattle.journal_text.specs.inner.Reading.{digits_at}
 use Rattle.journal_text.proofs.reading.digits_of.Given as goal
 
 abbrev pub invariant-loop-digit : goal.invariant-loop-digit

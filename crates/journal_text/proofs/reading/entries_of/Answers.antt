@@ -1,6 +1,6 @@
 use Rattle.std.proofs.Common.{rules, ◌≡◌, ◌++◌, ◌∷◌, [], List, length, ◌∙◌, ap, sym, Some}
 use Rattle.journal_meaning.specs.declared.Entry.{Entry}
-use Rattle.journal_text.specs.Reading.{entry_at, entries_at}
+use Rattle.journal_text.specs.inner.Reading.{entry_at, entries_at}
 use Rattle.journal_text.proofs.Lines.{shorter, put_all, put_next}
 use Rattle.journal_text.proofs.reading.entries_of.Goals as goal
 

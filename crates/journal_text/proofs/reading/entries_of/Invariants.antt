@@ -1,6 +1,6 @@
--- The entries that are left come behind those read so far.
+-- The entries that are left come after those read so far.
 use Rattle.std.proofs.Common.{◌≡◌, ◌≤◌, length}
-use Rattle.journal_text.specs.Reading.{entries_at}
+use Rattle.journal_text.specs.inner.Reading.{entries_at}
 use Rattle.journal_text.proofs.Lines.{put_all}
 use Rattle.journal_text.proofs.reading.entries_of.Given as goal
 

@@ -1,5 +1,5 @@
 use Rattle.std.proofs.Common.{rules, ◌≡◌, ◌+◌, ◌<◌, ◌≤◌, ◌^◌, ℕ, List, length, get_or, ap, arith}
-use Rattle.journal_text.specs.Reading.{digits_at}
+use Rattle.journal_text.specs.inner.Reading.{digits_at}
 use Rattle.journal_text.proofs.Numbers.{digits_shorter, number_wide, number_empty, number_zero, number_read}
 use Rattle.journal_text.proofs.reading.number_of.Goals.{else-len-gt1-via-then-len-gt1+else-text-eq48, else-len-gt1-via-else-len-gt1}
 use Rattle.journal_text.proofs.reading.number_of.Goals as goal

@@ -1,5 +1,5 @@
 use Rattle.std.proofs.Common.{rules, ◌≡◌, None}
-use Rattle.journal_text.specs.Reading.{section_at}
+use Rattle.journal_text.specs.inner.Reading.{section_at}
 use Rattle.journal_text.proofs.WholeSections.{section_read, not_read, read_shorter, read_found, read_only}
 use Rattle.journal_text.proofs.reading.read_section.Goals as goal
 

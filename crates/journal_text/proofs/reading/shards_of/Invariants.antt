@@ -1,6 +1,6 @@
--- The shards that are left come behind those read so far.
+-- The shards that are left come after those read so far.
 use Rattle.std.proofs.Common.{◌≡◌, ◌-◌}
-use Rattle.journal_text.specs.Reading.{shards_at}
+use Rattle.journal_text.specs.inner.Reading.{shards_at}
 use Rattle.journal_text.proofs.Shards.{put_shards}
 use Rattle.journal_text.proofs.reading.shards_of.Given as goal
 

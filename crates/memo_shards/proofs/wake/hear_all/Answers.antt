@@ -1,7 +1,7 @@
 use Rattle.std.proofs.Common.{◌≡◌, List, length, sym, subst}
 use Rattle.std.specs.List.{AllZip}
 use Rattle.strand_meaning.specs.Strands.{heard}
-use Rattle.demand_points.specs.Demands.{Demand, Steps}
+use Rattle.demand_points.specs.Demands.{Demand, TakesStep}
 use Rattle.memo_shards.proofs.Hearing.{all-done, refill-same}
 use Rattle.memo_shards.proofs.wake.hear_all.Goals as goal
 
@@ -11,7 +11,7 @@ returns g c =
     let ys = c.loop-s.s-items in
     let old = c.as_mut_slice-s-items.result.now in
     let long : length ys ≡ length old = c.loop-s.auto.s-items in
-    let done : AllZip (Steps heard) old ys = all-done (Steps heard) old ys c.loop-s.s-index c.loop-s-test.false long c.loop-s.invariant in
-    let there : AllZip (Steps heard) xs ys = subst (λ (l : List Demand). AllZip (Steps heard) l ys) c.as_mut_slice-s-items.ensures.value done in
+    let done : AllZip (TakesStep heard) old ys = all-done (TakesStep heard) old ys c.loop-s.s-index c.loop-s-test.false long c.loop-s.invariant in
+    let there : AllZip (TakesStep heard) xs ys = subst (λ (l : List Demand). AllZip (TakesStep heard) l ys) c.as_mut_slice-s-items.ensures.value done in
     let longer : length ys ≡ length xs = subst (λ (l : List Demand). length ys ≡ length l) c.as_mut_slice-s-items.ensures.value long in
-    subst (λ (l : List Demand). AllZip (Steps heard) xs l) (sym (refill-same xs ys longer)) there
+    subst (λ (l : List Demand). AllZip (TakesStep heard) xs l) (sym (refill-same xs ys longer)) there

@@ -1,5 +1,5 @@
 use Rattle.std.proofs.Common.{◌≡◌, ◌∙◌, length, sym, refl, true≢false}
-use Rattle.plan_core.specs.Parts.{plan_at}
+use Rattle.plan_core.specs.inner.Parts.{plan_at}
 use Rattle.plan_core.proofs.Refusing.{refused-spent, refused-asks, refused-here, refused-open, refused-end}
 use Rattle.plan_core.proofs.Resting.{unplaced-waits}
 use Rattle.plan_core.proofs.alone.refuse.Goals as goal

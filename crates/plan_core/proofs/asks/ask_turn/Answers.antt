@@ -2,8 +2,8 @@ use Rattle.std.proofs.Common.{◌≡◌, ◌%◌, List, length, slice_set, ap, s
 use Rattle.strand_meaning.specs.Strands.{next}
 use Rattle.strand_meaning.specs.declared.Next.TheVariants.{Ask}
 use Rattle.demand_points.specs.Demands.{Demand}
-use Rattle.plan_core.specs.Parts.{plan_at}
-use Rattle.plan_core.specs.Turns.{OfTurn}
+use Rattle.plan_core.specs.inner.Parts.{plan_at}
+use Rattle.plan_core.specs.inner.Turns.{OfTurn}
 use Rattle.plan_core.proofs.Lists.{set-twice}
 use Rattle.plan_core.proofs.Asking.{asked}
 use Rattle.plan_core.proofs.asks.ask_turn.Goals as goal

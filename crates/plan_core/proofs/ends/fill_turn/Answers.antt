@@ -4,13 +4,13 @@ use Rattle.std.proofs.lemmas.Option.{slice_get_within}
 use Rattle.strand_meaning.specs.Strands.{next}
 use Rattle.strand_meaning.specs.declared.Next.TheVariants.{Fill}
 use Rattle.plan_machine.specs.Plans.{itself}
-use Rattle.plan_machine.specs.Parts.{put_back as put_all}
+use Rattle.plan_machine.specs.inner.Parts.{put_back as put_all}
 use Rattle.plan_machine.specs.Turns.{turn}
 use Rattle.demand_points.specs.Demands.{Demand}
-use Rattle.memo_shards.specs.Seen.{waiter_of}
-use Rattle.plan_core.specs.Places.{seats, AreNumbered, HaveNumbers}
-use Rattle.plan_core.specs.Parts.{plan_at}
-use Rattle.plan_core.specs.Turns.{IsSeen}
+use Rattle.memo_shards.specs.inner.Seen.{numbered_strand}
+use Rattle.plan_core.specs.inner.Places.{seats, AreNumbered, HaveNumbers}
+use Rattle.plan_core.specs.inner.Parts.{plan_at}
+use Rattle.plan_core.specs.inner.Turns.{IsSeen}
 use Rattle.plan_core.proofs.Lists.{numbers-none}
 use Rattle.plan_core.proofs.Ending.{holds-filled, filled-numbers, filled, filled-not}
 use Rattle.plan_core.proofs.ends.fill_turn.Goals as goal
@@ -95,7 +95,7 @@ returns-in-Ok g c =
     let rest = c.take_at.ensures.rest in
     let mid = c.put_back.new.places.items in
     let list = c.in-Ok.woken.items in
-    let seats_are = subst (λ (xs : List (Option Demand)). seats mid ≡ put_all itself (seats xs) (map waiter_of list)) rest c.put_back.ensures.seats in
+    let seats_are = subst (λ (xs : List (Option Demand)). seats mid ≡ put_all itself (seats xs) (map numbered_strand list)) rest c.put_back.ensures.seats in
     let long = subst (λ (xs : List (Option Demand)). length mid ≡ length xs) rest c.put_back.ensures.length in
     let k = filled b o places shards parts n s at p c.len.result count h0 index step c.in-Ok.strand c.new.result c.fill.new.shard list c.fill.ensures.known c.in-Ok.ensures.came c.new.ensures mid seats_are long c.put_back.ensures.numbered in
     (subst (λ (xs : List (Option Demand)). IsSeen b o xs (slice_set shards (p.signal % c.len.result) c.fill.new.shard) (turn b (plan_at places shards) n)) (sym c.put_at.ensures) k.0, k.1)

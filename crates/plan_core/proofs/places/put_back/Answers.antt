@@ -1,13 +1,12 @@
-use Rattle.std.proofs.Common.{◌≡◌, length, sym, ap, ◌∙◌, subst, refl, rules}
+use Rattle.std.proofs.Common.{◌≡◌, length, sym, ap, ◌∙◌, subst, refl, rules, List, map, ◌<◌}
 use Rattle.smallvec.specs.Iter.{drain_items}
-use Rattle.memo_shards.specs.Seen.{waiter_of}
-use Rattle.plan_core.specs.Places.{seats, HaveNumbers}
+use Rattle.memo_shards.specs.inner.Seen.{numbered_strand}
+use Rattle.plan_core.specs.inner.Places.{seats, HaveNumbers}
 use Rattle.plan_core.proofs.Lists.{put-first, put-one, put-last, whole}
 use Rattle.plan_core.proofs.places.put_back.Goals as goal
-use Rattle.std.proofs.Common.{List, map, ◌<◌}
 use Rattle.demand_points.specs.Demands.{Demand}
 use Rattle.plan_machine.specs.Plans.{itself}
-use Rattle.plan_machine.specs.Parts.{put_back as put_all}
+use Rattle.plan_machine.specs.inner.Parts.{put_back as put_all}
 
 pub put_at-requires : goal.put_at-requires
 put_at-requires g c =
@@ -34,7 +33,7 @@ loop-strand-preserved g c =
 pub returns-clause-seats : goal.returns-clause-seats
 returns-clause-seats g c =
     let all : drain_items c.into_iter-strand-iterator.result ≡ c.args.woken.items = ap drain_items c.into_iter-strand-iterator.ensures.into_iter_gives ∙ c.drain-strand-items.ensures.rest ∙ whole c.args.woken.items _ refl in
-    put-last _ _ c.loop-strand.places.items _ c.loop-strand.invariant.2 c.in-None.ensures.steps.0 ∙ ap (λ (l : List Demand). put_all itself (seats c.args.places.now.items) (map waiter_of l)) all
+    put-last _ _ c.loop-strand.places.items _ c.loop-strand.invariant.2 c.in-None.ensures.steps.0 ∙ ap (λ (l : List Demand). put_all itself (seats c.args.places.now.items) (map numbered_strand l)) all
 
 pub returns-clause-length : goal.returns-clause-length
 returns-clause-length g c = c.loop-strand.invariant.2.long

@@ -2,7 +2,7 @@ use Rattle.std.proofs.Common.{◌≡◌, ◌++◌, [], ◌∷◌, List, arith, a
 use Rattle.circuit_meaning.specs.Need.{First}
 use Rattle.strand_meaning.specs.Strands.{Strand}
 use Rattle.demand_points.specs.Demands.{Demand}
-use Rattle.plan_core.specs.Parts.{AreNew}
+use Rattle.plan_core.specs.Parts.{AreFreshStrands}
 use Rattle.plan_core.proofs.Beginning.{two-new}
 use Rattle.plan_core.proofs.tests.two.Goals as goal
 
@@ -22,6 +22,6 @@ new-requires-2-clause-strands g c =
     let window_r = c.requires.window_second in
     let to_s = c.start-one.ensures.to in
     let to_r = c.start-other.ensures.to in
-    subst (AreNew b) (sym e) (two-new b s r
+    subst (AreFreshStrands b) (sym e) (two-new b s r
     (record { number = c.start-one.ensures.number; strand = c.facts.ensures.strand (omega arith); empty = ap (λ (z : Strand). z.stack) c.start-one.ensures.strand; awake = ap (λ (z : Strand). z.waits) c.start-one.ensures.strand })
     (record { number = c.start-other.ensures.number; strand = c.facts-2.ensures.strand (omega arith); empty = ap (λ (z : Strand). z.stack) c.start-other.ensures.strand; awake = ap (λ (z : Strand). z.waits) c.start-other.ensures.strand }))

@@ -1,6 +1,6 @@
 use Rattle.std.proofs.Common.{List, Option, subst, Some, None}
 use Rattle.demand_points.specs.Demands.{Demand}
-use Rattle.plan_core.specs.Places.{IsNextAt}
+use Rattle.plan_core.specs.inner.Places.{IsNextAt}
 use Rattle.plan_core.proofs.Resting.{gap-rests, end-rests}
 use Rattle.plan_core.proofs.turns.turn.Goals as goal
 

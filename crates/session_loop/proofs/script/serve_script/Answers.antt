@@ -1,9 +1,10 @@
-use Rattle.std.proofs.Common.{ℕ, refl, ap, subst, ◌∙◌, [], take, drop, length, arith, length-append, length-drop, length-take}
+use Rattle.std.proofs.Common.{ℕ, refl, subst, ◌∙◌, [], take, drop, arith, length-append, length-drop, length-take}
 use Rattle.std.proofs.lemmas.Result.{err_from_is_err_and}
 use Rattle.query_lines.specs.Reading.{HasRead}
-use Rattle.session_loop.specs.Desks.{setup_of, no_counts}
+use Rattle.unit_answers.specs.Stores.{setup_of}
+use Rattle.session_loop.specs.inner.Desks.{no_counts}
 use Rattle.session_loop.specs.declared.desk.Desk.{Desk}
-use Rattle.session_loop.proofs.Scripts.{fresh-desk, has-none, has-more, all-served, end-stopped, block-stopped, unread, cut-off, read-some, read-none}
+use Rattle.session_loop.proofs.Scripts.{fresh-desk, has-none, has-more, all-served, end-stopped, block-stopped, unread, cut-off, read-some}
 use Rattle.session_loop.proofs.script.serve_script.Goals as goal
 
 pub loop-n-init : goal.loop-n-init
@@ -13,7 +14,7 @@ loop-n-init g c =
     record {
       block = refl;
       most = omega arith;
-      read = (c.args.design.now.circuit.horizon, [], [], at-horizon, refl);
+      read = ([], [], at-horizon, refl);
       stores = c.requires.stores;
       served = has-none setup c.args.slot desk (fresh-desk setup desk c.requires.empty refl) (g.Q.Source.left c.args.queries.now) c.new.result (g.S.Sink.written c.args.out.now) (g.F.Files.made c.args.files.now) at-horizon;
       calm_queries = refl;

@@ -1,14 +1,14 @@
 -- What was read so far was taken and served, and no fault was met.
 use Rattle.std.proofs.Common.{◌≡◌, ◌≤◌, ◌-◌, length}
-use Rattle.session_loop.specs.Desks.{setup_of, AreStores}
-use Rattle.session_loop.specs.Serving.{HasTaken, HasServed}
+use Rattle.unit_answers.specs.Stores.{setup_of, AreStores}
+use Rattle.session_loop.specs.inner.Serving.{HasTaken, HasServed}
 use Rattle.session_loop.proofs.script.serve_script.Given as goal
 
 abbrev pub invariant-loop-n : goal.invariant-loop-n
 invariant-loop-n g l = record {
   block : length l.block ≡ 4096;
   most : l.script.taken ≤ 16777216;
-  read : HasTaken l.script.taken l.script.reader;
+  read : HasTaken l.design.circuit.horizon l.script.taken l.script.reader;
   stores : AreStores (setup_of l.design l.sizes) l.desk.stores.items;
   served : HasServed (setup_of l.design l.sizes) l.script.taken (g.Q.Source.left l.initial.queries) (g.Q.Source.left l.queries) l.script.reader l.initial.desk l.desk l.slot (g.S.Sink.written l.initial.out) (g.S.Sink.written l.out) (g.F.Files.made l.initial.files) (g.F.Files.made l.files);
   calm_queries : g.Q.Source.faults l.queries ≡ g.Q.Source.faults l.initial.queries;

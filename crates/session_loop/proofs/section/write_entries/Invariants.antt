@@ -2,7 +2,7 @@
 use Rattle.std.proofs.Common.{◌≡◌, ◌≤◌, ◌-◌, length, take}
 use Rattle.std.specs.Prelude.{flat_map}
 use Rattle.backsim_io.specs.Held.{FileGrows}
-use Rattle.journal_text.specs.Spelling.{entry_line, shard_lines}
+use Rattle.journal_text.specs.Spelling.{entry_line}
 use Rattle.session_loop.proofs.section.write_entries.Given as goal
 
 abbrev pub invariant-loop-done : goal.invariant-loop-done

@@ -1,11 +1,11 @@
-use Rattle.std.proofs.Common.{◌≡◌, ◌<◌, ap, sym, subst, ◌∙◌, take, length, arith}
+use Rattle.std.proofs.Common.{◌<◌, ap, sym, subst, ◌∙◌, take, length, arith}
 use Rattle.std.proofs.lemmas.List.{take_all}
 use Rattle.std.proofs.lemmas.Result.{err_from_is_err_and}
 use Rattle.backsim_io.specs.Counts.{Grows}
-use Rattle.query_lines.specs.Replies.{Suits, text_of}
+use Rattle.reply_lines.specs.Replies.{Suits, text_of}
 use Rattle.session_meaning.specs.Replies.{replies_text}
-use Rattle.session_loop.specs.Growing.{GrowsPart}
-use Rattle.session_loop.specs.Serving.{UnitExplains}
+use Rattle.session_loop.specs.inner.Growing.{GrowsPart}
+use Rattle.session_loop.specs.inner.Faults.{UnitExplains}
 use Rattle.session_loop.proofs.Growing.{on-err, part-whole, part-longer}
 use Rattle.session_loop.proofs.Pieces.{zip-length, zip-get, replies-next, replies-part, replies-of-first}
 use Rattle.session_loop.proofs.section.write_replies.Goals as goal

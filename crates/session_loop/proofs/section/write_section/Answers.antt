@@ -1,12 +1,12 @@
-use Rattle.std.proofs.Common.{◌≡◌, subst, sym, ◌∙◌, ◌++◌, refl, arith}
+use Rattle.std.proofs.Common.{◌≡◌, subst, sym, ◌++◌, arith}
 use Rattle.std.proofs.lemmas.Grind.{common_steps}
 use Rattle.std.specs.Prelude.{codes, OnOk, OnErr}
 use Rattle.std.proofs.lemmas.Result.{err_from_is_err_and}
 use Rattle.backsim_io.specs.Held.{FileGrows}
-use Rattle.journal_text.specs.Spelling.{shard_lines, section_lines}
-use Rattle.session_loop.specs.Growing.{FileGrowsPart}
-use Rattle.session_loop.specs.Serving.{UnitExplains}
-use Rattle.session_loop.proofs.Growing.{on-err, file-more, file-part-none, file-part-behind, file-part-longer}
+use Rattle.journal_text.specs.Spelling.{shard_lines}
+use Rattle.session_loop.specs.inner.Growing.{FileGrowsPart}
+use Rattle.session_loop.specs.inner.Faults.{UnitExplains}
+use Rattle.session_loop.proofs.Growing.{on-err, file-more, file-part-none, file-part-after, file-part-longer}
 use Rattle.session_loop.proofs.Pieces.{file-ok, file-err, section_head, section-parts, head-of-section, shards-of-section}
 use Rattle.session_loop.proofs.section.write_section.Goals as goal
 
@@ -28,7 +28,7 @@ returns-in_err-write_shards-clause-begun g c =
     let text : c.as_bytes.result.now ≡ section_head c.args.kind c.args.number = grind (arith, common_steps) in
     on-err c.from_residual-in_err-write_shards.result (file-part-longer (M c.args.files.now) (M c.write_shards.new.files) c.args.slot (head ++ shard_lines 0 c.args.lists.now) _
     (shards-of-section c.args.kind c.args.number c.args.lists.now)
-    (file-part-behind (M c.args.files.now) (M c.write_piece.new.files) (M c.write_shards.new.files) c.args.slot head (shard_lines 0 c.args.lists.now)
+    (file-part-after (M c.args.files.now) (M c.write_piece.new.files) (M c.write_shards.new.files) c.args.slot head (shard_lines 0 c.args.lists.now)
     (subst (FileGrows (M c.args.files.now) (M c.write_piece.new.files) c.args.slot) text c.in_ok-write_piece.ensures.written) c.in_err-write_shards.ensures.begun))
 
 pub returns-in_err-write_shards-clause-cause : goal.returns-in_err-write_shards-clause-cause

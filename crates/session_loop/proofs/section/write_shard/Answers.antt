@@ -1,9 +1,9 @@
-use Rattle.std.proofs.Common.{◌≡◌, subst, ◌∙◌, ◌++◌, refl, arith}
+use Rattle.std.proofs.Common.{◌≡◌, subst, ◌++◌, arith}
 use Rattle.std.proofs.lemmas.Grind.{common_steps}
 use Rattle.std.specs.Prelude.{flat_map}
 use Rattle.backsim_io.specs.Held.{FileGrows}
 use Rattle.journal_text.specs.Spelling.{entry_line}
-use Rattle.session_loop.specs.Growing.{FileGrowsPart, shard_line}
+use Rattle.session_loop.specs.inner.Growing.{FileGrowsPart, shard_line}
 use Rattle.session_meaning.proofs.Journals.{prefix-more}
 use Rattle.session_loop.proofs.Growing.{on-err, file-part-none, file-part-longer}
 use Rattle.session_loop.proofs.Pieces.{file-ok, file-err}

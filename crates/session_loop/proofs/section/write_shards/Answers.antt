@@ -1,10 +1,10 @@
-use Rattle.std.proofs.Common.{◌≡◌, refl, ap, sym, subst, ◌∙◌, ◌++◌, take, get_or, arith}
+use Rattle.std.proofs.Common.{refl, subst, ◌∙◌, ◌++◌, arith}
 use Rattle.std.specs.Prelude.{flat_map}
 use Rattle.std.proofs.lemmas.Result.{err_from_is_err_and}
 use Rattle.backsim_io.specs.Held.{FileGrows}
 use Rattle.journal_text.specs.Spelling.{entry_line}
-use Rattle.session_loop.specs.Growing.{FileGrowsPart, shard_line}
-use Rattle.session_loop.specs.Serving.{UnitExplains}
+use Rattle.session_loop.specs.inner.Growing.{FileGrowsPart, shard_line}
+use Rattle.session_loop.specs.inner.Faults.{UnitExplains}
 use Rattle.session_loop.proofs.Growing.{on-err, file-none}
 use Rattle.session_loop.proofs.Pieces.{shards-next, shards-part}
 use Rattle.session_loop.proofs.section.write_shards.Goals as goal

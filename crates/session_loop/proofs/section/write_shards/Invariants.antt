@@ -1,8 +1,7 @@
 -- What was written so far met no fault.
-use Rattle.std.proofs.Common.{◌≡◌, ◌≤◌, ◌-◌, length, take}
-use Rattle.std.specs.Prelude.{flat_map}
+use Rattle.std.proofs.Common.{◌≡◌, take}
 use Rattle.backsim_io.specs.Held.{FileGrows}
-use Rattle.journal_text.specs.Spelling.{entry_line, shard_lines}
+use Rattle.journal_text.specs.Spelling.{shard_lines}
 use Rattle.session_loop.proofs.section.write_shards.Given as goal
 
 abbrev pub invariant-loop-list : goal.invariant-loop-list

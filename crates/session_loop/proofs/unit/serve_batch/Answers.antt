@@ -1,14 +1,13 @@
-use Rattle.std.proofs.Common.{refl, subst, ap, sym, length, sum_by, ◌∙◌, ◌∷◌, [], true, Result, Ok, Err}
-use Rattle.std.specs.Prelude.{OnErr}
+use Rattle.std.proofs.Common.{refl, subst}
 use Rattle.std.proofs.lemmas.Result.{err_from_is_err_and}
 use Rattle.backsim_io.specs.Counts.{Grows}
 use Rattle.backsim_io.specs.Held.{FileGrows}
 use Rattle.journal_text.specs.Spelling.{section_lines}
-use Rattle.journal_text.specs.declared.sections.SectionKind.TheVariants.{Batch, Trim}
-use Rattle.query_lines.specs.Replies.{trimmed_line, stats_line}
+use Rattle.journal_text.specs.declared.sections.SectionKind.TheVariants.{Batch}
 use Rattle.session_meaning.specs.Replies.{replies_text}
-use Rattle.session_loop.specs.Growing.{GrowsPart, FileGrowsPart}
-use Rattle.session_loop.specs.Desks.{setup_of, IsCounted}
+use Rattle.session_loop.specs.inner.Growing.{GrowsPart, FileGrowsPart}
+use Rattle.unit_answers.specs.Stores.{setup_of}
+use Rattle.session_loop.specs.inner.Desks.{IsCounted}
 use Rattle.session_loop.proofs.Growing.{on-err, part-whole, file-part-none}
 use Rattle.session_loop.proofs.Served.{stops-none, batch-served, batch-stopped}
 use Rattle.session_loop.proofs.unit.serve_batch.Goals as goal
@@ -27,7 +26,7 @@ returns-in_err-write_replies-clause-stopped g c =
     let W = g.S.Sink.written in
     let M = g.F.Files.made in
     on-err c.from_residual-in_err-write_replies.result
-    (batch-stopped (setup_of c.args.design.now c.args.sizes) c.args.items.now c.args.desk done.replies.items done.lists.items done.stores.items c.in_ok-done.ensures.done
+    (batch-stopped (setup_of c.args.design.now c.args.sizes) c.args.items.now c.args.desk done.replies.items done.lists.items done.stores.items c.in_ok-done.ensures
     c.in-Some.counts (subst (λ l. IsCounted c.args.desk.counts Batch l c.in-Some.counts) c.deref.ensures.value c.in-Some.ensures) c.args.slot
     (W c.args.out.now) (W c.write_replies.new.out) (M c.args.files.now) (M c.args.files.now)
     (subst (λ r. GrowsPart (W c.args.out.now) (W c.write_replies.new.out) (replies_text c.args.items.now r)) c.deref-2.ensures.value c.in_err-write_replies.ensures.begun)
@@ -45,7 +44,7 @@ returns-in_err-write_section-clause-stopped g c =
     let W = g.S.Sink.written in
     let M = g.F.Files.made in
     on-err c.from_residual-in_err-write_section.result
-    (batch-stopped (setup_of c.args.design.now c.args.sizes) c.args.items.now c.args.desk done.replies.items done.lists.items done.stores.items c.in_ok-done.ensures.done
+    (batch-stopped (setup_of c.args.design.now c.args.sizes) c.args.items.now c.args.desk done.replies.items done.lists.items done.stores.items c.in_ok-done.ensures
     c.in-Some.counts (subst (λ l. IsCounted c.args.desk.counts Batch l c.in-Some.counts) c.deref.ensures.value c.in-Some.ensures) c.args.slot
     (W c.args.out.now) (W c.write_replies.new.out) (M c.args.files.now) (M c.write_section.new.files)
     (part-whole (W c.args.out.now) (W c.write_replies.new.out) (replies_text c.args.items.now done.replies.items) (subst (λ r. Grows (W c.args.out.now) (W c.write_replies.new.out) (replies_text c.args.items.now r)) c.deref-2.ensures.value c.in_ok-write_replies.ensures.written))
@@ -61,7 +60,7 @@ returns-clause-served g c =
     let done = c.in_ok-done.done in
     let W = g.S.Sink.written in
     let M = g.F.Files.made in
-    batch-served (setup_of c.args.design.now c.args.sizes) c.args.items.now c.args.desk done.replies.items done.lists.items done.stores.items c.in_ok-done.ensures.done
+    batch-served (setup_of c.args.design.now c.args.sizes) c.args.items.now c.args.desk done.replies.items done.lists.items done.stores.items c.in_ok-done.ensures
     c.in-Some.counts (subst (λ l. IsCounted c.args.desk.counts Batch l c.in-Some.counts) c.deref.ensures.value c.in-Some.ensures) c.args.slot
     (W c.args.out.now) (W c.write_replies.new.out) (M c.args.files.now) (M c.write_section.new.files)
     (record { stores = done.stores; counts = c.in-Some.counts }) refl refl

@@ -1,14 +1,9 @@
-use Rattle.std.proofs.Common.{refl, subst, ap, sym, length, sum_by, ◌∙◌, ◌∷◌, [], true, Result, Ok, Err}
-use Rattle.std.specs.Prelude.{OnErr}
+use Rattle.std.proofs.Common.{subst, ap, length, sum_by, ◌∙◌}
 use Rattle.std.proofs.lemmas.Result.{err_from_is_err_and}
 use Rattle.backsim_io.specs.Counts.{Grows}
-use Rattle.backsim_io.specs.Held.{FileGrows}
-use Rattle.journal_text.specs.Spelling.{section_lines}
-use Rattle.journal_text.specs.declared.sections.SectionKind.TheVariants.{Batch, Trim}
-use Rattle.query_lines.specs.Replies.{trimmed_line, stats_line}
-use Rattle.session_meaning.specs.Replies.{replies_text}
-use Rattle.session_loop.specs.Growing.{GrowsPart, FileGrowsPart}
-use Rattle.session_loop.specs.Desks.{setup_of, IsCounted}
+use Rattle.reply_lines.specs.Replies.{stats_line}
+use Rattle.session_loop.specs.inner.Growing.{GrowsPart}
+use Rattle.unit_answers.specs.Stores.{setup_of}
 use Rattle.session_loop.proofs.Growing.{on-err}
 use Rattle.session_loop.proofs.Served.{stops-none, stats-served, stats-stopped}
 use Rattle.session_loop.proofs.unit.serve_stats.Goals as goal
@@ -27,7 +22,7 @@ returns-in_err-write_reply-clause-stopped g c =
     on-err c.from_residual-in_err-write_reply.result
     (stats-stopped (setup_of c.args.design.now c.args.sizes) desk c.requires.stores c.args.slot (W c.args.out.now) (W c.write_reply.new.out) (g.F.Files.made c.args.files.now)
     (subst (GrowsPart (W c.args.out.now) (W c.write_reply.new.out))
-    (c.deref-2.ensures.value ∙ c.in_ok-text.ensures ∙ ap (stats_line desk.counts.batches desk.counts.fills desk.counts.evictions) (c.in-Some.ensures ∙ ap (sum_by length) c.deref.ensures.value)) c.in_err-write_reply.ensures.begun))
+    (c.deref-2.ensures.value ∙ c.in_ok-text.ensures ∙ ap (stats_line desk.counts.batches desk.counts.fills desk.counts.evictions) (c.in-Some.ensures ∙ ap (sum_by (λ store. length store.cells)) c.deref.ensures.value)) c.in_err-write_reply.ensures.begun))
 
 pub returns-in_err-write_reply-clause-cause : goal.returns-in_err-write_reply-clause-cause
 returns-in_err-write_reply-clause-cause g c =
@@ -40,4 +35,4 @@ returns-clause-served g c =
     let W = g.S.Sink.written in
     stats-served (setup_of c.args.design.now c.args.sizes) desk c.requires.stores c.args.slot (W c.args.out.now) (W c.write_reply.new.out) (g.F.Files.made c.args.files.now)
     (subst (Grows (W c.args.out.now) (W c.write_reply.new.out))
-    (c.deref-2.ensures.value ∙ c.in_ok-text.ensures ∙ ap (stats_line desk.counts.batches desk.counts.fills desk.counts.evictions) (c.in-Some.ensures ∙ ap (sum_by length) c.deref.ensures.value)) c.in_ok-write_reply.ensures.written)
+    (c.deref-2.ensures.value ∙ c.in_ok-text.ensures ∙ ap (stats_line desk.counts.batches desk.counts.fills desk.counts.evictions) (c.in-Some.ensures ∙ ap (sum_by (λ store. length store.cells)) c.deref.ensures.value)) c.in_ok-write_reply.ensures.written)

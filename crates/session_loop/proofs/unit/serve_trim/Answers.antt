@@ -1,14 +1,13 @@
-use Rattle.std.proofs.Common.{refl, subst, ap, sym, length, sum_by, ◌∙◌, ◌∷◌, [], true, Result, Ok, Err}
-use Rattle.std.specs.Prelude.{OnErr}
+use Rattle.std.proofs.Common.{refl, subst, ap, length, sum_by, ◌∙◌}
 use Rattle.std.proofs.lemmas.Result.{err_from_is_err_and}
 use Rattle.backsim_io.specs.Counts.{Grows}
 use Rattle.backsim_io.specs.Held.{FileGrows}
 use Rattle.journal_text.specs.Spelling.{section_lines}
-use Rattle.journal_text.specs.declared.sections.SectionKind.TheVariants.{Batch, Trim}
-use Rattle.query_lines.specs.Replies.{trimmed_line, stats_line}
-use Rattle.session_meaning.specs.Replies.{replies_text}
-use Rattle.session_loop.specs.Growing.{GrowsPart, FileGrowsPart}
-use Rattle.session_loop.specs.Desks.{setup_of, IsCounted}
+use Rattle.journal_text.specs.declared.sections.SectionKind.TheVariants.{Trim}
+use Rattle.reply_lines.specs.Replies.{trimmed_line}
+use Rattle.session_loop.specs.inner.Growing.{GrowsPart, FileGrowsPart}
+use Rattle.unit_answers.specs.Stores.{setup_of}
+use Rattle.session_loop.specs.inner.Desks.{IsCounted}
 use Rattle.session_loop.proofs.Growing.{on-err, part-whole, file-part-none}
 use Rattle.session_loop.proofs.Served.{stops-none, trim-served, trim-stopped}
 use Rattle.session_loop.proofs.unit.serve_trim.Goals as goal
@@ -31,7 +30,7 @@ returns-in_err-write_reply-clause-stopped g c =
     let W = g.S.Sink.written in
     let M = g.F.Files.made in
     on-err c.from_residual-in_err-write_reply.result
-    (trim-stopped (setup_of c.args.design.now c.args.sizes) c.args.most c.args.desk done.lists.items done.stores.items c.in_ok-done.ensures.done
+    (trim-stopped (setup_of c.args.design.now c.args.sizes) c.args.most c.args.desk done.lists.items done.stores.items c.in_ok-done.ensures
     some.counts (subst (λ l. IsCounted c.args.desk.counts Trim l some.counts) c.deref.ensures.value some.ensures) c.args.slot
     (W c.args.out.now) (W c.write_reply.new.out) (M c.args.files.now) (M c.args.files.now)
     (subst (GrowsPart (W c.args.out.now) (W c.write_reply.new.out)) (c.deref-3.ensures.value ∙ c.in_ok-text.ensures ∙ ap trimmed_line (some.ensures' ∙ ap (sum_by length) c.deref-2.ensures.value)) c.in_err-write_reply.ensures.begun)
@@ -50,7 +49,7 @@ returns-in_err-write_section-clause-stopped g c =
     let W = g.S.Sink.written in
     let M = g.F.Files.made in
     on-err c.from_residual-in_err-write_section.result
-    (trim-stopped (setup_of c.args.design.now c.args.sizes) c.args.most c.args.desk done.lists.items done.stores.items c.in_ok-done.ensures.done
+    (trim-stopped (setup_of c.args.design.now c.args.sizes) c.args.most c.args.desk done.lists.items done.stores.items c.in_ok-done.ensures
     some.counts (subst (λ l. IsCounted c.args.desk.counts Trim l some.counts) c.deref.ensures.value some.ensures) c.args.slot
     (W c.args.out.now) (W c.write_reply.new.out) (M c.args.files.now) (M c.write_section.new.files)
     (part-whole (W c.args.out.now) (W c.write_reply.new.out) (trimmed_line (sum_by length done.lists.items))
@@ -68,7 +67,7 @@ returns-clause-served g c =
     let some = c.in-Some-Some in
     let W = g.S.Sink.written in
     let M = g.F.Files.made in
-    trim-served (setup_of c.args.design.now c.args.sizes) c.args.most c.args.desk done.lists.items done.stores.items c.in_ok-done.ensures.done
+    trim-served (setup_of c.args.design.now c.args.sizes) c.args.most c.args.desk done.lists.items done.stores.items c.in_ok-done.ensures
     some.counts (subst (λ l. IsCounted c.args.desk.counts Trim l some.counts) c.deref.ensures.value some.ensures) c.args.slot
     (W c.args.out.now) (W c.write_reply.new.out) (M c.args.files.now) (M c.write_section.new.files)
     (record { stores = done.stores; counts = some.counts }) refl refl

@@ -1,5 +1,6 @@
-use Rattle.std.proofs.Common.{refl, ◌∙◌}
-use Rattle.session_loop.specs.Desks.{setup_of}
+use Rattle.std.proofs.Common.{refl, sym, subst, ◌∙◌}
+use Rattle.query_lines.specs.Fit.{IsFit}
+use Rattle.unit_answers.specs.Stores.{setup_of}
 use Rattle.session_loop.proofs.Growing.{on-err}
 use Rattle.session_loop.proofs.Served.{serves-none, serves-next, stops-next}
 use Rattle.session_loop.proofs.unit.serve_units.Goals as goal
@@ -47,3 +48,7 @@ returns-in_err-desk-clause-stopped g c =
     (stops-next (setup_of c.args.design.now c.args.sizes) c.args.desk c.loop-unit.desk c.args.units.now c.loop-unit.unit-index c.unit-item.result c.args.slot
     (W c.args.out.now) (W c.loop-unit.out) (W c.serve_unit.new.out) (M c.args.files.now) (M c.loop-unit.files) (M c.serve_unit.new.files)
     c.loop-unit-test.true c.unit-item.is c.loop-unit.invariant.served c.in_err-desk.ensures.stopped)
+
+pub serve_unit-requires-clause-fit : goal.serve_unit-requires-clause-fit
+serve_unit-requires-clause-fit g c = λ κs w.
+    subst (IsFit c.args.design.now.circuit.horizon) (sym c.unit-item.is) (c.requires.fit c.loop-unit.unit-index c.unit-item.result c.loop-unit-test.true)

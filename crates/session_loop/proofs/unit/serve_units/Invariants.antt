@@ -1,7 +1,7 @@
 -- The units so far were served, and met no fault.
 use Rattle.std.proofs.Common.{◌≡◌, take}
-use Rattle.session_loop.specs.Desks.{setup_of, AreStores}
-use Rattle.session_loop.specs.Serving.{Serves}
+use Rattle.unit_answers.specs.Stores.{setup_of, AreStores}
+use Rattle.session_loop.specs.inner.Serving.{Serves}
 use Rattle.session_loop.proofs.unit.serve_units.Given as goal
 
 abbrev pub invariant-loop-unit : goal.invariant-loop-unit

@@ -1,5 +1,5 @@
 use Rattle.std.proofs.Common.{ap}
-use Rattle.stimulus_file.specs.Reading.{line_seen}
+use Rattle.stimulus_file.specs.inner.Reading.{line_seen}
 use Rattle.stimulus_file.proofs.Steps.{blank_gives}
 use Rattle.stimulus_file.proofs.reader.take.Goals as goal
 

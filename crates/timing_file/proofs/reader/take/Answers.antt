@@ -1,5 +1,5 @@
 use Rattle.std.proofs.Common.{ap, ◌∙◌}
-use Rattle.timing_file.specs.Views.{line_seen}
+use Rattle.timing_file.specs.inner.Views.{line_seen}
 use Rattle.timing_file.proofs.Steps.{blank_gives, plain_steps, versioned_steps}
 use Rattle.timing_file.proofs.reader.take.Goals as goal
 

@@ -1,5 +1,5 @@
 use Rattle.std.proofs.Common.{ap}
-use Rattle.timing_file.specs.Views.{stated_seen}
+use Rattle.timing_file.specs.inner.Views.{stated_seen}
 use Rattle.timing_file.proofs.Steps.{entry_steps}
 use Rattle.timing_file.proofs.reader.take_entry.Goals as goal
 

@@ -1,6 +1,6 @@
 use Rattle.std.proofs.Common.{◌≡◌, inr, refl, sym, ◌∙◌, true, false}
 use Rattle.timing_file.specs.Timing.{is_repeated}
-use Rattle.timing_file.specs.Views.{entry_seen}
+use Rattle.timing_file.specs.inner.Views.{entry_seen}
 use Rattle.timing_file.proofs.Steps.{stated_step, repeated, not_false, not_true, on_true}
 use Rattle.timing_file.proofs.reader.take_stated.Goals as goal
 

@@ -1,7 +1,7 @@
 use Rattle.std.proofs.Common.{◌<◌, ◌+◌, [], List, false, length, take, drop, sym, subst, arith}
 use Rattle.plan_core.specs.Parts.{shards_in}
-use Rattle.query_lines.specs.declared.reply.Reply.{Reply}
-use Rattle.window_answers.specs.Phases.{IsWalking}
+use Rattle.reply_lines.specs.declared.reply.Reply.{Reply}
+use Rattle.window_answers.specs.inner.Phases.{IsWalking}
 use Rattle.window_answers.proofs.Phases.{walk-fed, walk-next, walk-last}
 use Rattle.window_answers.proofs.answers.answer_all.Goals as goal
 

@@ -1,7 +1,7 @@
 use Rattle.std.proofs.Common.{false, true, ap, subst}
-use Rattle.plan_machine.specs.Settle.{Advances, IsCoveredTo}
+use Rattle.plan_machine.specs.inner.Settle.{Advances, IsCoveredTo}
 use Rattle.plan_core.specs.Parts.{shards_in}
-use Rattle.window_answers.specs.Memos.{live, standing, is_missing}
+use Rattle.window_answers.specs.inner.Memos.{live, standing, is_missing}
 use Rattle.window_answers.proofs.Phases.{walks-refused, walk-begins, walks}
 use Rattle.window_answers.proofs.answers.answer_one.Goals as goal
 

@@ -1,5 +1,5 @@
 use Rattle.std.proofs.Common.{◌≡◌, ℕ, ◌<◌, ◌≤◌, length, get_or}
-use Rattle.memo_shards.specs.Kept.{KeptShard}
+use Rattle.memo_shards.specs.KeptShards.{KeptShard}
 use Rattle.memo_shards.specs.Ends.{FreesAll}
 use Rattle.window_answers.proofs.begin.free_all.Given as goal
 

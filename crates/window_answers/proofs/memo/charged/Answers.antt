@@ -1,6 +1,7 @@
 use Rattle.std.proofs.Common.{◌≡◌, ◌+◌, ◌∷◌, [], take, ap, ◌∙◌, arith}
 use Rattle.journal_meaning.specs.Answers.{filled}
-use Rattle.window_answers.proofs.Said.{filled-append, take-item, take-all}
+use Rattle.window_answers.proofs.Entries.{filled-append}
+use Rattle.window_answers.proofs.Lists.{take-item, take-all}
 use Rattle.window_answers.proofs.memo.charged.Goals as goal
 
 pub loop-entry-preserved : goal.loop-entry-preserved

@@ -1,7 +1,7 @@
 use Rattle.std.proofs.Common.{◌++◌, ◌∷◌, [], List, ℕ, length, ap, ap₂, sym, ◌∙◌, arith}
-use Rattle.memo_shards.specs.Kept.{KeptShard}
-use Rattle.window_answers.specs.Memos.{lengths_of}
-use Rattle.window_answers.proofs.Said.{map-item, take-all}
+use Rattle.memo_shards.specs.KeptShards.{KeptShard}
+use Rattle.window_answers.specs.inner.Memos.{lengths_of}
+use Rattle.window_answers.proofs.Lists.{map-item, take-all}
 use Rattle.window_answers.proofs.memo.lengths.Goals as goal
 
 pub loop-shard-preserved : goal.loop-shard-preserved

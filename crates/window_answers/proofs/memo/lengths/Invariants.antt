@@ -1,5 +1,5 @@
 use Rattle.std.proofs.Common.{◌≡◌, take}
-use Rattle.window_answers.specs.Memos.{lengths_of}
+use Rattle.window_answers.specs.inner.Memos.{lengths_of}
 use Rattle.window_answers.proofs.memo.lengths.Given as goal
 
 abbrev pub invariant-loop-shard : goal.invariant-loop-shard

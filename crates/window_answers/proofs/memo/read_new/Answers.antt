@@ -2,15 +2,17 @@ use Rattle.std.proofs.Common.{◌≡◌, ◌<◌, ◌+◌, ◌++◌, List, get_o
 use Rattle.std.specs.BTreeMap.{get}
 use Rattle.journal_meaning.specs.declared.Entry.{Entry}
 use Rattle.journal_meaning.specs.Answers.{filled}
-use Rattle.journal_meaning.specs.Grown.{IsRightEntry}
-use Rattle.journal_meaning.specs.Index.{said, point_cmp, IsIndexed}
-use Rattle.window_answers.specs.Memos.{tails}
-use Rattle.window_answers.proofs.Said.{tails-item, tails-one, take-all, filled-append}
+use Rattle.journal_meaning.specs.inner.Grown.{IsRightEntry}
+use Rattle.journal_meaning.specs.inner.Index.{cells_said, IsCellIndex}
+use Rattle.valid_intervals.specs.Cells.{point_cmp}
+use Rattle.window_answers.specs.inner.Memos.{tails}
+use Rattle.window_answers.proofs.Entries.{tails-item, tails-one, filled-append}
+use Rattle.window_answers.proofs.Lists.{take-all}
 use Rattle.window_answers.proofs.memo.read_new.Goals as goal
 
 pub loop-k-init : goal.loop-k-init
 loop-k-init g c = record {
-  indexed = λ d es ok i right. subst (λ l. IsIndexed d (said l) (get point_cmp c.args.cells.now.cells)) (sym (append-nil es)) i;
+  indexed = λ d es ok i right. subst (λ l. IsCellIndex d (cells_said l) (get point_cmp c.args.cells.now.cells)) (sym (append-nil es)) i;
   counts = let r = c.requires.charge in omega arith;
 }
 
@@ -28,8 +30,8 @@ loop-k-preserved g c =
     let more : tails (take (k + 1) ns) (take (k + 1) ms) ≡ tails (take k ns) (take k ms) ++ es = tails-item ns ms k 0 m low high c.index-shards-k.is in
     record {
       indexed = λ d all ok i right.
-          subst (λ l. IsIndexed d (said (all ++ l)) (get point_cmp c.read_tail.new.cells.cells)) (sym more)
-          (subst (λ l. IsIndexed d (said l) (get point_cmp c.read_tail.new.cells.cells)) (append_assoc all (tails (take k ns) (take k ms)) es)
+          subst (λ l. IsCellIndex d (cells_said (all ++ l)) (get point_cmp c.read_tail.new.cells.cells)) (sym more)
+          (subst (λ l. IsCellIndex d (cells_said l) (get point_cmp c.read_tail.new.cells.cells)) (append_assoc all (tails (take k ns) (take k ms)) es)
           (c.in_ok-read_tail.ensures.indexed d (all ++ tails (take k ns) (take k ms)) ok (c.loop-k.invariant.indexed d all ok i right) (tails-one (IsRightEntry d) ns ms k 0 m low high c.index-shards-k.is right)));
       counts =
           let a = c.loop-k.invariant.counts in
@@ -46,7 +48,7 @@ returns-clause-indexed g c = λ d es ok i right.
     let count = c.requires.count in
     let t = c.loop-k-test.false in
     let all : tails (take k ns) (take k ms) ≡ tails ns ms = ap₂ tails (take-all ns k (omega arith)) (take-all ms k (omega arith)) in
-    subst (λ l. IsIndexed d (said (es ++ l)) (get point_cmp c.loop-k.cells.cells)) all (c.loop-k.invariant.indexed d es ok i right)
+    subst (λ l. IsCellIndex d (cells_said (es ++ l)) (get point_cmp c.loop-k.cells.cells)) all (c.loop-k.invariant.indexed d es ok i right)
 
 pub returns-clause-charge : goal.returns-clause-charge
 returns-clause-charge g c =

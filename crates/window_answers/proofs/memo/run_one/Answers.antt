@@ -4,12 +4,12 @@ use Rattle.strand_meaning.specs.Strands as strands
 use Rattle.plan_machine.specs.Plans.{Plan, new_plan}
 use Rattle.plan_machine.specs.Alone.{RanAlone}
 use Rattle.plan_machine.specs.Laws.{BeginsAlone}
-use Rattle.plan_machine.specs.Settle.{AskedAlone}
+use Rattle.plan_machine.specs.inner.Settle.{AskedAlone}
 use Rattle.plan_machine.proofs.Settle.{begins, asked}
 use Rattle.demand_points.specs.Demands.{Demand}
-use Rattle.plan_core.specs.Parts.{AreNew, shards_in, strands_in}
+use Rattle.plan_core.specs.Parts.{AreFreshStrands, shards_in, strands_in}
 use Rattle.plan_core.specs.Refusals.{point_of}
-use Rattle.window_answers.specs.Memos as memos
+use Rattle.window_answers.specs.inner.Memos as memos
 use Rattle.window_answers.proofs.Alone.{free-shards, new-strand, numbered}
 use Rattle.window_answers.proofs.memo.run_one.Goals as goal
 use Rattle.window_answers.proofs.memo.run_one.Goals.{in-Spent, in_default}
@@ -20,10 +20,10 @@ new-requires-clause-shards g c = free-shards g.B.BatchName.batch g.B.BatchName.o
 pub new-requires-clause-strands : goal.new-requires-clause-strands
 new-requires-clause-strands g c =
     let b = g.B.BatchName.batch in
-    let a = memos.asked c.args.query c.args.time c.args.charge in
+    let a = memos.asked_at c.args.query c.args.time c.args.charge in
     let strand = c.start-strand.result in
     let items : c.push.new.self.items ≡ strand ∷ [] = c.in_ok-push.ensures.items ∙ ap (λ (l : List Demand). l ++ strand ∷ []) c.new-strands.ensures.items in
-    subst (AreNew b) (sym items) (new-strand b a c.requires.start strand c.start-strand.ensures.number c.start-strand.ensures.strand)
+    subst (AreFreshStrands b) (sym items) (new-strand b a c.requires.start strand c.start-strand.ensures.number c.start-strand.ensures.strand)
 
 pub returns-clause-numbers : goal.returns-clause-numbers
 returns-clause-numbers g c = numbered c.into_shards.result.items c.into_shards.ensures.order
@@ -32,7 +32,7 @@ pub returns-clause-asked : goal.returns-clause-asked
 returns-clause-asked g c =
     let b = g.B.BatchName.batch in
     let opening = g.B.BatchName.opening in
-    let a = memos.asked c.args.query c.args.time c.args.charge in
+    let a = memos.asked_at c.args.query c.args.time c.args.charge in
     let old = shards_in c.args.shards.items in
     let made : Plan = new_plan b (a ∷ []) old in
     let strand = c.start-strand.result in

@@ -1,11 +1,11 @@
 use Rattle.std.proofs.Common.{[], List, length, sym, ap, subst, ◌∙◌}
 use Rattle.std.specs.BTreeMap.{get}
-use Rattle.journal_meaning.specs.declared.Query.{Query}
-use Rattle.journal_meaning.specs.Index.{point_cmp}
+use Rattle.batch_meaning.specs.declared.Query.{Query}
+use Rattle.valid_intervals.specs.Cells.{point_cmp}
 use Rattle.plan_core.specs.Parts.{shards_in}
 use Rattle.window_answers.specs.declared.answers.Fed.{Fed}
-use Rattle.window_answers.specs.Memos.{entries_of}
-use Rattle.window_answers.specs.Phases.{IsWalking}
+use Rattle.window_answers.specs.inner.Memos.{entries_of}
+use Rattle.window_answers.specs.inner.Phases.{IsWalking}
 use Rattle.window_answers.proofs.Phases.{fed-walks, all-fed-count}
 use Rattle.window_answers.proofs.Freeing.{has-settled}
 use Rattle.window_answers.proofs.settlement.settle.Goals as goal

@@ -1,6 +1,6 @@
 use Rattle.std.proofs.Common.{◌≡◌, ◌+◌, ◌/◌, length, refl, ap, arith}
-use Rattle.strand_meaning.specs.Pieces.{cuts, spans_of}
-use Rattle.window_answers.proofs.Cuts.{cuts-last, count-next}
+use Rattle.batch_meaning.specs.Pieces.{cuts, spans_of}
+use Rattle.window_answers.proofs.Pieces.{cuts-last, count-next}
 use Rattle.window_answers.proofs.strands.count_pieces.Goals as goal
 
 pub cuts-init : goal.cuts-init

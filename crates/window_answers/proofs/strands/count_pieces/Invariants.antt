@@ -1,5 +1,5 @@
 use Rattle.std.proofs.Common.{◌≡◌, ◌≤◌, ◌+◌, ◌-◌, ◌*◌, ℕ, length}
-use Rattle.strand_meaning.specs.Pieces.{cuts, next_cut, spans_of}
+use Rattle.batch_meaning.specs.Pieces.{cuts, next_cut, spans_of}
 use Rattle.window_answers.proofs.strands.count_pieces.Given as goal
 
 abbrev pub invariant-cuts : goal.invariant-cuts

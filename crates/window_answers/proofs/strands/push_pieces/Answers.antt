@@ -1,12 +1,12 @@
 use Rattle.std.proofs.Common.{◌≡◌, ◌+◌, ◌/◌, ◌++◌, ◌∷◌, [], List, map, sym, ap, subst, ◌∙◌, arith}
 use Rattle.std.specs.List.{AllByRecursion}
-use Rattle.strand_meaning.specs.Strands.{Start, IsStart, started}
-use Rattle.strand_meaning.specs.Pieces.{pieces}
-use Rattle.strand_meaning.proofs.Pieces.{pieces-lawful}
+use Rattle.batch_meaning.specs.Pieces.{Start, IsStart, pieces}
+use Rattle.strand_meaning.specs.Strands.{started}
+use Rattle.batch_meaning.proofs.Pieces.{pieces-lawful}
 use Rattle.plan_core.specs.Parts.{strands_in}
-use Rattle.window_answers.specs.Starts.{piece_start}
-use Rattle.window_answers.proofs.Said.{on-ok}
-use Rattle.window_answers.proofs.Cuts.{pieces-by, last-start, last-left, next-start, next-left}
+use Rattle.window_answers.specs.inner.Starts.{piece_start}
+use Rattle.window_answers.proofs.Lists.{on-ok}
+use Rattle.window_answers.proofs.Pieces.{pieces-by, last-start, last-left, next-start, next-left}
 use Rattle.window_answers.proofs.strands.push_pieces.Goals as goal
 
 pub cuts-init : goal.cuts-init

@@ -1,7 +1,7 @@
 use Rattle.std.proofs.Common.{◌≡◌, ◌≤◌, ◌+◌, ◌-◌, ◌*◌, ◌++◌, ℕ, map}
 use Rattle.std.specs.List.{AllByRecursion}
-use Rattle.strand_meaning.specs.Strands.{IsStart, started}
-use Rattle.strand_meaning.specs.Pieces.{cuts, next_cut, starts_of, pieces}
+use Rattle.batch_meaning.specs.Pieces.{IsStart, cuts, next_cut, starts_of, pieces}
+use Rattle.strand_meaning.specs.Strands.{started}
 use Rattle.plan_core.specs.Parts.{strands_in}
 use Rattle.window_answers.specs.Shards.{IsInOrder}
 use Rattle.window_answers.proofs.strands.push_pieces.Given as goal

@@ -1,9 +1,9 @@
 use Rattle.std.proofs.Common.{map, flat_map, ap, ◌∙◌, arith}
 use Rattle.strand_meaning.specs.Strands.{started}
-use Rattle.strand_meaning.specs.Pieces.{pieces}
+use Rattle.batch_meaning.specs.Pieces.{pieces}
 use Rattle.plan_core.specs.Parts.{strands_in}
-use Rattle.window_answers.proofs.Said.{take-all}
-use Rattle.window_answers.proofs.Cuts.{strands-next}
+use Rattle.window_answers.proofs.Lists.{take-all}
+use Rattle.window_answers.proofs.Pieces.{strands-next}
 use Rattle.window_answers.proofs.strands.strands_of.Goals as goal
 
 pub loop-q-preserved : goal.loop-q-preserved

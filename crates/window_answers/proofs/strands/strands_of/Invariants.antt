@@ -1,6 +1,6 @@
 use Rattle.std.proofs.Common.{◌≡◌, map, flat_map, take}
 use Rattle.strand_meaning.specs.Strands.{started}
-use Rattle.strand_meaning.specs.Pieces.{pieces}
+use Rattle.batch_meaning.specs.Pieces.{pieces}
 use Rattle.plan_core.specs.Parts.{strands_in}
 use Rattle.window_answers.specs.Shards.{IsInOrder}
 use Rattle.window_answers.proofs.strands.strands_of.Given as goal

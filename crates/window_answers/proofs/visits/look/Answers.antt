@@ -1,8 +1,8 @@
 use Rattle.std.proofs.Common.{◌≡◌, Some, None, sym, ap, subst, ◌∙◌, arith, get_or}
 use Rattle.circuit_meaning.specs.Circuit.{Circuit}
-use Rattle.plan_machine.specs.Settle.{Advances}
+use Rattle.plan_machine.specs.inner.Settle.{Advances}
 use Rattle.demand_points.specs.Frames.{looked_at}
-use Rattle.window_answers.specs.Memos.{IsSourceCovered, entries_of, live, standing, is_missing}
+use Rattle.window_answers.specs.inner.Memos.{IsSourceCovered, entries_of, live, standing, is_missing}
 use Rattle.window_answers.proofs.Pins.{source-start, child-asks}
 use Rattle.window_answers.proofs.visits.look.Goals as goal
 

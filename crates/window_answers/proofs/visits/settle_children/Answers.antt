@@ -3,11 +3,11 @@ use Rattle.std.proofs.lemmas.Bool.{cases_lt}
 use Rattle.valid_intervals.specs.declared.Point.{Point}
 use Rattle.circuit_meaning.specs.Circuit.{Circuit}
 use Rattle.circuit_meaning.specs.Need.{IsEvaluable}
-use Rattle.journal_meaning.specs.Batch.{IsNeededBy}
-use Rattle.plan_machine.specs.Settle.{Advances}
+use Rattle.batch_meaning.specs.Batches.{IsNeededBy}
+use Rattle.plan_machine.specs.inner.Settle.{Advances}
 use Rattle.plan_machine.proofs.Settle.{stays, then}
 use Rattle.demand_points.specs.Frames.{IsPoint, LooksOn, looked_at}
-use Rattle.window_answers.specs.Memos.{IsSourceCovered, entries_of, live, standing, is_missing}
+use Rattle.window_answers.specs.inner.Memos.{IsSourceCovered, entries_of, live, standing, is_missing}
 use Rattle.window_answers.proofs.Alone.{some-of}
 use Rattle.window_answers.proofs.Pins.{needed-has, needed-point, pins-visited, source-kept}
 use Rattle.window_answers.proofs.visits.settle_children.Goals as goal

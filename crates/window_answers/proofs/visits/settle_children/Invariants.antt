@@ -1,18 +1,18 @@
 use Rattle.std.proofs.Common.{◌≡◌, ◌<◌, ◌-◌, ℕ, List, None, get_or, length}
 use Rattle.std.specs.BTreeMap.{get}
 use Rattle.journal_meaning.specs.declared.Entry.{Entry}
-use Rattle.journal_meaning.specs.Index.{point_cmp}
+use Rattle.valid_intervals.specs.Cells.{point_cmp}
 use Rattle.plan_machine.specs.Shards.{Shard}
-use Rattle.plan_machine.specs.Settle.{IsStanding, Advances}
+use Rattle.plan_machine.specs.inner.Settle.{IsStanding, Advances}
 use Rattle.demand_points.specs.Frames.{IsFrame, looked_at}
-use Rattle.window_answers.specs.Memos.{IsAsking, IsSourceCovered, entries_of, live}
+use Rattle.window_answers.specs.inner.Memos.{IsChargedMemo, IsSourceCovered, entries_of, live}
 use Rattle.window_answers.proofs.visits.settle_children.Given as goal
 
 abbrev pub invariant-pins : goal.invariant-pins
 invariant-pins g l = record {
   frame : IsFrame l.design.circuit l.frame;
   point : l.frame.point ≡ l.fn.p;
-  asking : IsAsking g.B.BatchName.batch g.B.BatchName.opening l.memo.shards.items (get point_cmp l.memo.cells.cells) l.q l.charge;
+  asking : IsChargedMemo g.B.BatchName.batch g.B.BatchName.opening l.memo.shards.items (get point_cmp l.memo.cells.cells) l.q l.charge;
   advances : (start : List Entry) (first : List Shard) → IsStanding g.B.BatchName.batch g.B.BatchName.opening l.q start first (live l.initial.memo.shards.items)
       → Advances g.B.BatchName.batch g.B.BatchName.opening l.q start first (live l.initial.memo.shards.items) (live l.memo.shards.items);
   covered : (start : List Entry) (first : List Shard) → IsStanding g.B.BatchName.batch g.B.BatchName.opening l.q start first (live l.initial.memo.shards.items)

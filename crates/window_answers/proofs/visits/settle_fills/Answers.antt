@@ -4,9 +4,10 @@ use Rattle.std.proofs.lemmas.List.{get_or_default}
 use Rattle.std.proofs.lemmas.List.Elements.{All-weaker}
 use Rattle.circuit_meaning.specs.Need.{children}
 use Rattle.journal_meaning.specs.Answers.{IsCovered}
-use Rattle.plan_machine.specs.Settle.{Standing, Advances, IsVisited}
+use Rattle.plan_machine.specs.Settle.{Standing}
+use Rattle.plan_machine.specs.inner.Settle.{Advances, IsVisited}
 use Rattle.plan_machine.proofs.Settle.{then}
-use Rattle.window_answers.specs.Memos.{live, standing, entries_of}
+use Rattle.window_answers.specs.inner.Memos.{live, standing, entries_of}
 use Rattle.window_answers.proofs.visits.settle_fills.Goals as goal
 
 pub returns-then-branch-clause-advances : goal.returns-then-branch-clause-advances

@@ -2,15 +2,15 @@ use Rattle.std.proofs.Common.{ℕ, ◌<◌, List, get_or}
 use Rattle.std.specs.BTreeMap.{get}
 use Rattle.valid_intervals.specs.declared.Point.{Point}
 use Rattle.journal_meaning.specs.declared.Entry.{Entry}
-use Rattle.journal_meaning.specs.Index.{point_cmp}
+use Rattle.valid_intervals.specs.Cells.{point_cmp}
 use Rattle.plan_machine.specs.Shards.{Shard}
-use Rattle.plan_machine.specs.Settle.{IsStanding, Advances, IsVisited}
-use Rattle.window_answers.specs.Memos.{IsAsking, entries_of, live}
+use Rattle.plan_machine.specs.inner.Settle.{IsStanding, Advances, IsVisited}
+use Rattle.window_answers.specs.inner.Memos.{IsChargedMemo, entries_of, live}
 use Rattle.window_answers.proofs.visits.settle_fills.Given as goal
 
 abbrev pub invariant-loop-p : goal.invariant-loop-p
 invariant-loop-p g l = record {
-  asking : IsAsking g.B.BatchName.batch g.B.BatchName.opening l.memo.shards.items (get point_cmp l.memo.cells.cells) l.q l.charge;
+  asking : IsChargedMemo g.B.BatchName.batch g.B.BatchName.opening l.memo.shards.items (get point_cmp l.memo.cells.cells) l.q l.charge;
   advances : (start : List Entry) (first : List Shard) → IsStanding g.B.BatchName.batch g.B.BatchName.opening l.q start first (live l.initial.memo.shards.items)
       → Advances g.B.BatchName.batch g.B.BatchName.opening l.q start first (live l.initial.memo.shards.items) (live l.memo.shards.items);
   visited : (start : List Entry) (first : List Shard) → IsStanding g.B.BatchName.batch g.B.BatchName.opening l.q start first (live l.initial.memo.shards.items)

@@ -1,13 +1,13 @@
 use Rattle.std.proofs.Common.{◌≡◌, ◌<◌, true, false, [], sym, ap, subst, ◌∙◌, arith}
 use Rattle.valid_intervals.specs.declared.Cell.{Cell}
-use Rattle.circuit_meaning.specs.Cells.{span}
+use Rattle.circuit_meaning.specs.Cells.{span, cell_at}
 use Rattle.circuit_meaning.specs.Cells as cells
 use Rattle.circuit_meaning.specs.Need.{IsRoot, First, Next}
 use Rattle.circuit_meaning.proofs.Cover.{cell-covers}
-use Rattle.journal_meaning.specs.Batch.{window_of, cell_at}
-use Rattle.plan_machine.specs.Settle.{Advances, Reaches, IsCoveredTo}
+use Rattle.batch_meaning.specs.Batches.{window_of}
+use Rattle.plan_machine.specs.inner.Settle.{Advances, Reaches, IsCoveredTo}
 use Rattle.plan_machine.proofs.Settle.{stays, then, within, window-step}
-use Rattle.window_answers.specs.Memos.{entries_of, live, standing, is_missing, at_time}
+use Rattle.window_answers.specs.inner.Memos.{entries_of, live, standing, is_missing, at_time}
 use Rattle.window_answers.proofs.Pins.{root-asks}
 use Rattle.window_answers.proofs.Alone.{some-of}
 use Rattle.window_answers.proofs.visits.settle_window.Goals as goal
@@ -70,7 +70,7 @@ roots-preserved g c =
       asking = c.in_ok-cell.ensures.asking;
       start = pushed.start ∙ i.start;
       stop = pushed.stop ∙ i.stop;
-      walked = pushed.walked b.circuit q.signal i.walked (subst (λ u. c.in-Some-2.cell ≡ cells.cell b.circuit q.signal u) next.0 right);
+      walked = pushed.walked b.circuit q.signal i.walked (subst (λ u. c.in-Some-2.cell ≡ cells.cell_at b.circuit (cells.point_at q.signal u)) next.0 right);
       root = λ h. subst (IsRoot b.circuit (window_of q)) (sym end) (Next root (omega (arith, h, end)));
       advances = λ start first s.
           let a = i.advances start first s in

@@ -2,17 +2,17 @@ use Rattle.std.proofs.Common.{◌≡◌, ◌<◌, ◌-◌, List}
 use Rattle.std.specs.BTreeMap.{get}
 use Rattle.circuit_meaning.specs.Need.{IsRoot}
 use Rattle.journal_meaning.specs.declared.Entry.{Entry}
-use Rattle.journal_meaning.specs.Batch.{window_of}
-use Rattle.journal_meaning.specs.Index.{point_cmp}
+use Rattle.batch_meaning.specs.Batches.{window_of}
+use Rattle.valid_intervals.specs.Cells.{point_cmp}
 use Rattle.plan_machine.specs.Shards.{Shard}
-use Rattle.plan_machine.specs.Settle.{IsStanding, Advances, IsCoveredTo}
-use Rattle.query_lines.specs.Walks.{IsWalked}
-use Rattle.window_answers.specs.Memos.{IsAsking, live}
+use Rattle.plan_machine.specs.inner.Settle.{IsStanding, Advances, IsCoveredTo}
+use Rattle.window_walks.specs.Walks.{IsWalked}
+use Rattle.window_answers.specs.inner.Memos.{IsChargedMemo, live}
 use Rattle.window_answers.proofs.visits.settle_window.Given as goal
 
 abbrev pub invariant-roots : goal.invariant-roots
 invariant-roots g l = record {
-  asking : IsAsking g.B.BatchName.batch g.B.BatchName.opening l.memo.shards.items (get point_cmp l.memo.cells.cells) l.q l.charge;
+  asking : IsChargedMemo g.B.BatchName.batch g.B.BatchName.opening l.memo.shards.items (get point_cmp l.memo.cells.cells) l.q l.charge;
   start : l.walk.start ≡ l.q.from;
   stop : l.walk.stop ≡ l.q.to;
   walked : IsWalked g.B.BatchName.batch.circuit l.q.signal l.walk;

@@ -1,6 +1,6 @@
 use Rattle.std.proofs.Common.{rules, [], ◌≡◌, ap, length}
 use Rattle.std.proofs.lemmas.List.Elements.{All-push}
-use Rattle.memo_shards.specs.Kept.{KeptShard}
+use Rattle.memo_shards.specs.KeptShards.{KeptShard}
 use Rattle.worker_gate.proofs.Places.{places_more}
 use Rattle.worker_gate.proofs.tests.shards_of.Goals as goal
 

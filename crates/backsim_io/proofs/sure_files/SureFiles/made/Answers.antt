@@ -1,5 +1,5 @@
 use Rattle.std.proofs.Common.{rules, ◌≡◌, ◌<◌, ◌≤◌, ◌∙◌, ap, Some, length, get_or}
-use Rattle.backsim_io.specs.SureFiles.{KeptFile}
+use Rattle.backsim_io.specs.inner.SureFiles.{KeptFile}
 use Rattle.backsim_io.proofs.KeptFiles.{kept_at, kept_past}
 use Rattle.backsim_io.proofs.sure_files.SureFiles.made.Goals as goal
 

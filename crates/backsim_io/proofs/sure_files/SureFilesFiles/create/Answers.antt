@@ -1,7 +1,7 @@
 use Rattle.std.proofs.Common.{rules, ◌≡◌, ◌++◌, ◌∷◌, [], take, ◌∙◌, ap, All, subst, sym, map}
 use Rattle.std.specs.Option.{option_to_list}
 use Rattle.std.proofs.lemmas.List.Elements.{All-push}
-use Rattle.backsim_io.specs.SureFiles.{KeptFile, kept_file}
+use Rattle.backsim_io.specs.inner.SureFiles.{KeptFile, kept_file}
 use Rattle.backsim_io.proofs.KeptFiles.{blank_front, blank_last, kept-created}
 use Rattle.backsim_io.proofs.sure_files.SureFilesFiles.create.Goals as goal
 

@@ -1,7 +1,7 @@
 use Rattle.std.proofs.Common.{rules, ◌≡◌, ◌<◌, ◌∙◌, ap, length, take, map, arith, List, ℕ}
 use Rattle.std.proofs.lemmas.List.{take_all}
 use Rattle.backsim_io.specs.Held.{grown}
-use Rattle.backsim_io.specs.SureFiles.{cut}
+use Rattle.backsim_io.specs.inner.SureFiles.{cut}
 use Rattle.backsim_io.proofs.KeptFiles.{kept-grown}
 use Rattle.backsim_io.proofs.sure_files.SureFilesFiles.write.Goals as goal
 

@@ -3,7 +3,7 @@ use Rattle.std.specs.List.{flat_map, sum_by}
 use Rattle.bench_reader.specs.declared.netlist.Definition.TheVariants as Held
 use Rattle.bench_lines.specs.Lines.{Input}
 use Rattle.bench_reader.specs.Netlists.{is_long, is_among, is_crowded, gates_in}
-use Rattle.bench_reader.specs.Kept.{texts, pin_count}
+use Rattle.bench_reader.specs.inner.KeptNetlists.{texts, pin_count}
 use Rattle.bench_reader.proofs.Rows.{all_names}
 use Rattle.bench_reader.proofs.Sound.{total_grown, kept_grown, kept_set}
 use Rattle.bench_reader.proofs.Steps.{gate_known, rows_len, rows_are, crowd, pins_none, input_twice, input_crowds, knows_input}

@@ -1,7 +1,7 @@
 use Rattle.std.proofs.Common.{◌≡◌, ◌++◌, ◌∷◌, [], length, true, false, inr, refl, sym, ◌∙◌}
 use Rattle.bench_lines.specs.Lines.{Output}
 use Rattle.bench_reader.specs.Netlists.{is_long, is_crowded}
-use Rattle.bench_reader.specs.Kept.{texts}
+use Rattle.bench_reader.specs.inner.KeptNetlists.{texts}
 use Rattle.bench_reader.proofs.Rows.{all_names}
 use Rattle.bench_reader.proofs.Steps.{rows_len, rows_are, crowd, pins_none, output_crowds, knows_output}
 use Rattle.bench_reader.proofs.reader.Reader.take_output.Goals as goal

@@ -3,7 +3,7 @@ use Rattle.std.specs.List.{flat_map, sum_by}
 use Rattle.bench_reader.specs.declared.netlist.Definition.TheVariants as Held
 use Rattle.bench_lines.specs.Lines.{Gate}
 use Rattle.bench_reader.specs.Netlists.{is_among, is_crowded, defined_in}
-use Rattle.bench_reader.specs.Kept.{texts, pin_count}
+use Rattle.bench_reader.specs.inner.KeptNetlists.{texts, pin_count}
 use Rattle.bench_lines.specs.Views.{each_now}
 use Rattle.bench_reader.proofs.Rows.{all_names}
 use Rattle.bench_reader.proofs.Steps.{definition_known, rows_len, rows_are, keys_of, id_stays, crowd, pins_some, gate_cause, gate_twice, gate_crowds, knows_gate}

@@ -3,7 +3,7 @@ use Rattle.std.specs.List.{list_any}
 use Rattle.valid_intervals.specs.declared.SignalCell.{SignalCell}
 use Rattle.valid_intervals.specs.Cells as cells
 use Rattle.cell_store.specs.Recency.{Contents, key_of}
-use Rattle.cell_store.specs.Index.{cells_of}
+use Rattle.cell_store.specs.inner.Index.{cells_of}
 use Rattle.cell_store.proofs.Found.{is_some-find}
 use Rattle.cell_store.proofs.store.CellStore.covers.Goals as goal
 

@@ -4,10 +4,10 @@ use Rattle.std.specs.BTreeMap.{get}
 use Rattle.lru.specs.LruCache.{LruCache}
 use Rattle.valid_intervals.specs.declared.Cell.{Cell}
 use Rattle.valid_intervals.specs.declared.SignalCell.{SignalCell}
-use Rattle.valid_intervals.specs.Cells.{cell_for, to_front}
+use Rattle.valid_intervals.specs.Cells.{cell_for, to_front, stored_at}
 use Rattle.cell_store.specs.declared.Key.{Key}
-use Rattle.cell_store.specs.Recency.{Contents, contents, with_cells, covering}
-use Rattle.cell_store.specs.Index.{key_cmp, cells_of, IsSound}
+use Rattle.cell_store.specs.Recency.{Contents, contents, with_cells}
+use Rattle.cell_store.specs.inner.Index.{key_cmp, cells_of, IsSoundStore}
 use Rattle.cell_store.proofs.Calls.{IsFound, is_found, used_shows}
 use Rattle.cell_store.proofs.store.CellStore.find.Goals as goal
 
@@ -21,11 +21,11 @@ gives c =
     ∙ ap (λ (l : List (Key × Cell)). option_map (λ (e : Key × Cell). e.1) (slice_get l 0)) (found c).used.list
 
 pub invariant_of-self : goal.invariant_of-self
-invariant_of-self c = subst (λ (l : LruCache Key Cell). IsSound (get key_cmp c.self.inside.index) l.entries l.cap) (sym c.use_cell.ensures.cache) (found c).used.sound
+invariant_of-self c = subst (λ (l : LruCache Key Cell). IsSoundStore (get key_cmp c.self.inside.index) l.entries l.cap) (sym c.use_cell.ensures.cache) (found c).used.sound
 
 pub returns-clause-found : goal.returns-clause-found
 returns-clause-found c =
-    gives c ∙ sym (ap (option_map (λ (x : SignalCell). x.cell)) (found c).found) ∙ ap (λ (s : Contents). option_map (λ (x : SignalCell). x.cell) (covering c.args.p s.cells)) c.self.view_is
+    gives c ∙ sym (ap (option_map (λ (x : SignalCell). x.cell)) (found c).found) ∙ ap (λ (s : Contents). option_map (λ (x : SignalCell). x.cell) (stored_at s.cells c.args.p)) c.self.view_is
 
 pub returns-clause-used : goal.returns-clause-used
 returns-clause-used c =

@@ -5,7 +5,7 @@ use Rattle.lru.specs.LruCache.{LruCache}
 use Rattle.valid_intervals.specs.declared.Cell.{Cell}
 use Rattle.cell_store.specs.declared.Key.{Key}
 use Rattle.cell_store.specs.Recency.{contents, last_key}
-use Rattle.cell_store.specs.Index.{key_cmp, cells_of, IsSound}
+use Rattle.cell_store.specs.inner.Index.{key_cmp, cells_of, IsSoundStore}
 use Rattle.cell_store.proofs.Calls.{same_sound}
 use Rattle.cell_store.proofs.Puts.{IsPut, IsMissed, put_again, put_missed, put_refused, put_in_room, put_in_place}
 use Rattle.cell_store.proofs.store.CellStore.put.Goals as goal
@@ -99,7 +99,7 @@ refused c =
 
 pub invariant_of-self-in-Err : goal.invariant_of-self-in-Err
 invariant_of-self-in-Err c =
-    subst (λ (l : LruCache Key Cell). IsSound (get key_cmp c.remove-in-Err.new.self) l.entries l.cap) (sym c.in-Err.ensures.err)
+    subst (λ (l : LruCache Key Cell). IsSoundStore (get key_cmp c.remove-in-Err.new.self) l.entries l.cap) (sym c.in-Err.ensures.err)
     (put_refused (get key_cmp c.self.inside.index) c.promote.new.self c.args.self.now (record { signal = c.args.signal; cell = c.args.cell }) (refused c) (the_key c.args.signal c.start.result) c.end.result (ap (the_key c.args.signal) c.start.ensures.start) c.end.ensures.end (get key_cmp c.insert.new.self) c.in_ok-insert.ensures.updates.0 (get key_cmp c.remove-in-Err.new.self) c.remove-in-Err.ensures.updates.0)
 
 pub returns-in-Err-clause-err : goal.returns-in-Err-clause-err

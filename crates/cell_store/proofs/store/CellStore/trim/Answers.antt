@@ -4,7 +4,7 @@ use Rattle.std.specs.BTreeMap.{get}
 use Rattle.lru.specs.LruCache.{LruCache}
 use Rattle.valid_intervals.specs.declared.Cell.{Cell}
 use Rattle.cell_store.specs.declared.Key.{Key}
-use Rattle.cell_store.specs.Index.{key_cmp}
+use Rattle.cell_store.specs.inner.Index.{key_cmp}
 use Rattle.cell_store.proofs.Trims.{IsTrimmed, goes_on, shows}
 use Rattle.cell_store.proofs.store.CellStore.trim.Goals as goal
 

@@ -1,6 +1,6 @@
 use Rattle.std.proofs.Common.{◌+◌, ◌-◌, ◌≤◌, length, vec_len, vec_capacity}
 use Rattle.std.specs.BTreeMap.{get}
-use Rattle.cell_store.specs.Index.{key_cmp}
+use Rattle.cell_store.specs.inner.Index.{key_cmp}
 use Rattle.cell_store.proofs.Trims.{IsTrimmed}
 use Rattle.cell_store.proofs.store.CellStore.trim.Given as goal
 

@@ -1,7 +1,8 @@
 use Rattle.std.proofs.Common.{List, ◌∙◌, ap}
 use Rattle.std.specs.BTreeMap.{insert_entry}
-use Rattle.claim_waiters.specs.Claims.{Claims, point_cmp, with_claim}
-use Rattle.claim_waiters.specs.View.{claims_of}
+use Rattle.claim_waiters.specs.Claims.{Claims, with_claim}
+use Rattle.valid_intervals.specs.Cells.{point_cmp}
+use Rattle.claim_waiters.specs.inner.View.{claims_of}
 use Rattle.claim_waiters.proofs.ClaimLemmas.{insert-claims}
 use Rattle.claim_waiters.proofs.table.ClaimTable.claim.Goals as goal
 

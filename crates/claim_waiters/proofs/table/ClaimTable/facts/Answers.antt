@@ -1,7 +1,8 @@
 use Rattle.std.proofs.Common.{List, sym, subst}
 use Rattle.std.specs.List.Sorted.{IsStrictlySortedBy}
 use Rattle.valid_intervals.specs.declared.Point.{Point}
-use Rattle.claim_waiters.specs.Claims.{Claims, point_cmp, IsInOrder}
+use Rattle.claim_waiters.specs.Claims.{Claims, IsInOrder}
+use Rattle.valid_intervals.specs.Cells.{point_cmp}
 use Rattle.claim_waiters.proofs.ClaimLemmas.{keys_of-claims}
 use Rattle.claim_waiters.proofs.table.ClaimTable.facts.Goals as goal
 

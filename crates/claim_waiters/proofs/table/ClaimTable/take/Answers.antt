@@ -1,7 +1,8 @@
 use Rattle.std.proofs.Common.{◌≡◌, sym, ◌∙◌, ap, Some, None, subst, option_map, rules}
 use Rattle.std.specs.BTreeMap.{is_at}
-use Rattle.claim_waiters.specs.Claims.{Claims, claim_at, point_cmp, without}
-use Rattle.claim_waiters.specs.View.{claim_of, claims_of}
+use Rattle.claim_waiters.specs.Claims.{Claims, claim_at, without_claim}
+use Rattle.valid_intervals.specs.Cells.{point_cmp}
+use Rattle.claim_waiters.specs.inner.View.{claim_of, claims_of}
 use Rattle.claim_waiters.proofs.ClaimLemmas.{lookup-claims, remove-claims}
 use Rattle.claim_waiters.proofs.table.ClaimTable.take.Goals as goal
 
@@ -18,5 +19,5 @@ returns-clause-waiters g c =
 
 pub returns-clause-rest : goal.returns-clause-rest
 returns-clause-rest g c =
-    let e : claims_of g.W.Waiter.items c.remove.new.self.entries ≡ without (claims_of g.W.Waiter.items c.self.inside.map.entries) c.args.p = ap (claims_of g.W.Waiter.items) c.remove.ensures.entries ∙ remove-claims g.W.Waiter.items (is_at (point_cmp c.args.p)) c.self.inside.map.entries in
-    e ∙ ap (λ (v : Claims g.row.W.Denot). without v c.args.p) c.self.view_is
+    let e : claims_of g.W.Waiter.items c.remove.new.self.entries ≡ without_claim (claims_of g.W.Waiter.items c.self.inside.map.entries) c.args.p = ap (claims_of g.W.Waiter.items) c.remove.ensures.entries ∙ remove-claims g.W.Waiter.items (is_at (point_cmp c.args.p)) c.self.inside.map.entries in
+    e ∙ ap (λ (v : Claims g.row.W.Denot). without_claim v c.args.p) c.self.view_is

@@ -1,9 +1,9 @@
 use Rattle.std.proofs.Common.{◌≡◌, List, sym, ◌∙◌, ap, None, subst, option_map}
 use Rattle.std.specs.BTreeMap.{is_at}
-use Rattle.claim_waiters.specs.Claims.{Claims, claim_at, point_cmp, with_waiter}
-use Rattle.claim_waiters.specs.View.{claim_of, claims_of}
-use Rattle.claim_waiters.proofs.ClaimLemmas.{lookup-claims, write-claims, write-alike}
-use Rattle.claim_waiters.proofs.ClaimLemmas.{by_case_ok, by_case_err}
+use Rattle.claim_waiters.specs.Claims.{Claims, claim_at, with_waiter}
+use Rattle.valid_intervals.specs.Cells.{point_cmp}
+use Rattle.claim_waiters.specs.inner.View.{claim_of, claims_of}
+use Rattle.claim_waiters.proofs.ClaimLemmas.{lookup-claims, write-claims, write-alike, by_case_ok, by_case_err}
 use Rattle.claim_waiters.proofs.table.ClaimTable.wait.Goals as goal
 
 pub unreachable-requires : goal.unreachable-requires

@@ -1,6 +1,6 @@
 use Rattle.std.proofs.Common.{ap, ◌∙◌, ◌<◌, rules}
 use Rattle.valid_intervals.specs.Spans.{meet}
-use Rattle.demand_points.specs.Frames.{next_source}
+use Rattle.demand_points.specs.Frames.{next_point}
 use Rattle.demand_points.proofs.FrameLemmas.{pin-below, few-looked, heard-there, heard-value, some-time, looks-on, sees-more}
 use Rattle.demand_points.proofs.frame.Frame.see.Goals as goal
 
@@ -18,7 +18,7 @@ common-requires c = some-time c.args.design.now.circuit c.facts.ensures.circuit 
 
 pub returns : goal.returns
 returns c = rw c.decides.ensures (looks-on c.args.design.now.circuit c.facts.ensures.circuit c.args.self.now c.requires.frame c.requires.looking c.see.result c.value_there-value.result c.common.result
-    (c.value_there-value.ensures ∙ heard-value c.args.design.now.circuit (next_source c.args.design.now.circuit c.args.self.now) c.args.heard c.requires.heard)
+    (c.value_there-value.ensures ∙ heard-value c.args.design.now.circuit (next_point c.args.design.now.circuit c.args.self.now) c.args.heard c.requires.heard)
     c.see.ensures.kind
     (sees-more c.args.design.now.circuit c.facts.ensures.circuit c.args.self.now c.requires.frame c.requires.looking c.see.result c.value_there-value.result c.see.ensures.seen)
     (c.common.ensures ∙ ap (meet c.args.self.now.interval) c.pin_span-interval.ensures))

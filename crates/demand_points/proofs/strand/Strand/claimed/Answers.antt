@@ -1,7 +1,8 @@
 use Rattle.std.proofs.Common.{◌≡◌, ◌<◌, sym, subst}
 use Rattle.strand_meaning.specs.declared.Next.TheVariants.{Ask}
 use Rattle.strand_meaning.specs.Strands.{next}
-use Rattle.demand_points.specs.Demands.{Demand, strand_of}
+use Rattle.demand_points.specs.Demands.{Demand}
+use Rattle.demand_points.specs.inner.Demands.{strand_of}
 use Rattle.demand_points.proofs.Keeps.{claimed-demand}
 use Rattle.demand_points.proofs.strand.Strand.claimed.Goals as goal
 

@@ -1,7 +1,8 @@
 use Rattle.std.proofs.Common.{◌≡◌, sym, subst, rules}
 use Rattle.strand_meaning.specs.declared.Next.TheVariants.{Fill}
 use Rattle.strand_meaning.specs.Strands.{next}
-use Rattle.demand_points.specs.Demands.{Demand, strand_of}
+use Rattle.demand_points.specs.Demands.{Demand}
+use Rattle.demand_points.specs.inner.Demands.{strand_of}
 use Rattle.demand_points.proofs.Keeps.{fill-room}
 use Rattle.demand_points.proofs.strand.Strand.finish_top.Goals as goal
 

@@ -1,5 +1,5 @@
 use Rattle.std.proofs.Common.{take}
-use Rattle.design.specs.Walk.{Marks}
+use Rattle.design.specs.inner.Walk.{Marks}
 use Rattle.design.proofs.cone.Walk.mark_all.Given as goal
 
 abbrev pub invariant-loop-signal : goal.invariant-loop-signal

@@ -1,7 +1,7 @@
 use Rattle.std.proofs.Common.{ap, ◌∙◌, sym, subst, inl, Err}
 use Rattle.std.proofs.lemmas.Result.{err_from_is_err_and}
-use Rattle.design.specs.Join.{Answers, design_of}
-use Rattle.design.specs.Said.{HasSets}
+use Rattle.design.specs.Join.{AnswersDesign, design_of}
+use Rattle.design.specs.inner.Said.{HasSets}
 use Rattle.design.proofs.Finished.{refused-timing, refused-set, none-at, accepted}
 use Rattle.design.proofs.Joining.{joined-is, is-kept, ordered-are}
 use Rattle.design.proofs.design.Design.join.Goals as goal
@@ -9,19 +9,19 @@ use Rattle.design.proofs.design.Design.join.Goals as goal
 pub returns-in_err-stated : goal.returns-in_err-stated
 returns-in_err-stated c =
     let p = err_from_is_err_and c.from_residual.result c.from_residual.ensures.1 in
-    subst (λ r. Answers r (design_of c.args.netlist c.args.timing.now c.args.stimulus.now)) (sym (p.1 ∙ ap Err p.2))
+    subst (λ r. AnswersDesign r (design_of c.args.netlist c.args.timing.now c.args.stimulus.now)) (sym (p.1 ∙ ap Err p.2))
     (refused-timing c.args.netlist c.args.timing.now c.args.stimulus.now c.in_err-stated.field-0.0 c.in_err-stated.ensures)
 
 pub returns-in_err-settings : goal.returns-in_err-settings
 returns-in_err-settings c =
     let p = err_from_is_err_and c.from_residual-in_err-settings.result c.from_residual-in_err-settings.ensures.1 in
-    subst (λ r. Answers r (design_of c.args.netlist c.args.timing.now c.args.stimulus.now)) (sym (p.1 ∙ ap Err p.2))
+    subst (λ r. AnswersDesign r (design_of c.args.netlist c.args.timing.now c.args.stimulus.now)) (sym (p.1 ∙ ap Err p.2))
     (refused-set c.args.netlist c.args.timing.now c.args.stimulus.now c.horizon.result c.sets.result.now c.in_err-settings.field-0.0 c.horizon.ensures c.sets.ensures c.in_ok-stated.ensures.0 c.in_err-settings.ensures)
 
 pub returns-in_err-rows : goal.returns-in_err-rows
 returns-in_err-rows c =
     let p = err_from_is_err_and c.from_residual-in_err-rows.result c.from_residual-in_err-rows.ensures.1 in
-    subst (λ r. Answers r (design_of c.args.netlist c.args.timing.now c.args.stimulus.now)) (sym p.1) (inl p.2)
+    subst (λ r. AnswersDesign r (design_of c.args.netlist c.args.timing.now c.args.stimulus.now)) (sym p.1) (inl p.2)
 
 pub invariant_of-result : goal.invariant_of-result
 invariant_of-result c =

@@ -1,7 +1,7 @@
 use Rattle.std.proofs.Common.{◌++◌, ◌∷◌, [], List, ap, ◌∙◌, refl, arith, length}
 use Rattle.std.proofs.lemmas.List.{take_all}
 use Rattle.design.specs.declared.lists.Range.{Range}
-use Rattle.design.specs.Lists.{pieces}
+use Rattle.design.specs.inner.Lists.{pieces}
 use Rattle.design.proofs.Listed.{pieces-pushed}
 use Rattle.design.proofs.lists.Lists.push.Goals as goal
 

@@ -1,5 +1,5 @@
 use Rattle.std.proofs.Common.{take}
-use Rattle.design.specs.Said.{KnowsClocks}
+use Rattle.design.specs.inner.Said.{KnowsClocks}
 use Rattle.design.proofs.stated.NamedClocks.read.Given as goal
 
 abbrev pub invariant-loop-row : goal.invariant-loop-row

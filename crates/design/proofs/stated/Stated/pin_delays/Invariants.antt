@@ -2,7 +2,7 @@ use Rattle.std.proofs.Common.{◌≡◌, map}
 use Rattle.std.specs.List.{range_with_len}
 use Rattle.bench_reader.specs.Netlists as netlists
 use Rattle.design.specs.Join.{pin_delay}
-use Rattle.design.specs.Said.{HasStated}
+use Rattle.design.specs.inner.Said.{HasStated}
 use Rattle.design.proofs.stated.Stated.pin_delays.Given as goal
 
 abbrev pub invariant-loop-place : goal.invariant-loop-place

@@ -2,7 +2,7 @@ use Rattle.std.proofs.Common.{◌≡◌, ap, ◌∙◌, sym, subst, inl, Err, �
 use Rattle.std.proofs.lemmas.Result.{err_from_is_err_and}
 use Rattle.design.specs.Causes.{out_of_memory}
 use Rattle.design.specs.Join.{timing_fault, first_fault}
-use Rattle.design.specs.Said.{KnowsClocks, HasStated, TakesRows}
+use Rattle.design.specs.inner.Said.{KnowsClocks, HasStated, TakesRows}
 use Rattle.design.proofs.Rereads.{refused-at, passed-at, taken-at}
 use Rattle.design.proofs.stated.Stated.read.Goals as goal
 

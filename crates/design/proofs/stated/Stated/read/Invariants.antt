@@ -1,6 +1,6 @@
 use Rattle.std.proofs.Common.{◌≡◌, take, drop}
 use Rattle.design.specs.Join.{first_fault, timing_fault}
-use Rattle.design.specs.Said.{HasStated}
+use Rattle.design.specs.inner.Said.{HasStated}
 use Rattle.design.proofs.stated.Stated.read.Given as goal
 
 abbrev pub invariant-loop-row : goal.invariant-loop-row

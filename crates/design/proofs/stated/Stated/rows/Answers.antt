@@ -2,7 +2,7 @@ use Rattle.std.proofs.Common.{◌++◌, ◌∷◌, [], ap, ap₂, ◌∙◌, sym
 use Rattle.std.proofs.lemmas.List.FromFn.{map-range_with_len_more}
 use Rattle.design.specs.declared.rows.Row.{Row}
 use Rattle.design.specs.Join.{driver_at}
-use Rattle.design.specs.Said.{row_of, delays_of}
+use Rattle.design.specs.inner.Said.{row_of, delays_of}
 use Rattle.design.proofs.stated.Stated.rows.Goals as goal
 
 pub loop-signal-preserved : goal.loop-signal-preserved

@@ -1,4 +1,4 @@
-use Rattle.design.specs.Said.{HasStated, KeepsRows}
+use Rattle.design.specs.inner.Said.{HasStated, KeepsRows}
 use Rattle.design.proofs.stated.Stated.rows.Given as goal
 
 abbrev pub invariant-loop-signal : goal.invariant-loop-signal

@@ -1,13 +1,14 @@
 use Rattle.std.proofs.Common.{◌≡◌, ◌∷◌, [], ◌++◌, ◌%◌, ◌+◌, List, length, IsSome, sym, ap, ap₂, subst, ◌∙◌, arith}
-use Rattle.journal_meaning.specs.declared.Query.{Query}
+use Rattle.batch_meaning.specs.declared.Query.{Query}
 use Rattle.journal_meaning.specs.declared.Entry.{Entry}
 use Rattle.journal_meaning.specs.declared.Entry.TheVariants as entry
-use Rattle.claim_waiters.specs.Claims.{Claims, claim_at, with_claim, without}
+use Rattle.claim_waiters.specs.Claims.{Claims, claim_at, with_claim, without_claim}
 use Rattle.claim_waiters.proofs.Tables.{length-inserted, removed-inserted}
 use Rattle.demand_points.specs.Demands.{Demand}
-use Rattle.memo_shards.specs.Kept.{KeptShard, shard_at, waits_in}
-use Rattle.memo_shards.specs.View.{Agrees}
-use Rattle.memo_shards.specs.Asks.{IsHere, IsOpen, ClaimsIt}
+use Rattle.memo_shards.specs.KeptShards.{KeptShard, shard_at}
+use Rattle.memo_shards.specs.inner.KeptShards.{waits_in}
+use Rattle.memo_shards.specs.inner.View.{Agrees}
+use Rattle.memo_shards.specs.Asks.{IsHere, IsUnfound, ClaimsIt}
 use Rattle.memo_shards.proofs.Entries.{unclaimed, stands-claimed, claimed-agrees, claimed-shown}
 use Rattle.memo_shards.proofs.shard.Shard.claim.Goals as goal
 
@@ -22,7 +23,7 @@ end_claim-requires g c =
     let w = c.args.strand.now in
     let here : p.signal % b.shards ≡ s.number = subst (λ (v : KeptShard). IsHere b v p) (sym c.self.view_is) c.requires.here in
     let q = w.strand.query.number in
-    let un : IsOpen (record { number = s.number; shard = shard_at o es; waiting = waits_in s.claims }) p = subst (λ (v : KeptShard). IsOpen v p) (sym c.self.view_is) c.requires.unfound in
+    let un : IsUnfound (record { number = s.number; shard = shard_at o es; waiting = waits_in s.claims }) p = subst (λ (v : KeptShard). IsUnfound v p) (sym c.self.view_is) c.requires.unfound in
     let none = unclaimed b o s.number s.store s.claims es a p un.unclaimed in
     let made : c.claim.new.self ≡ with_claim s.claims q p = c.in_ok-claim.ensures.ok ∙ ap (λ (x : Query). with_claim s.claims x.number p) c.query-q.ensures in
     (omega arith, subst (λ (l : Claims Demand). IsSome (claim_at l p)) (sym made) (stands-claimed s.claims p q none))
@@ -38,7 +39,7 @@ invariant_of-self-in-Ok g c =
     let w = c.args.strand.now in
     let here : p.signal % b.shards ≡ s.number = subst (λ (v : KeptShard). IsHere b v p) (sym c.self.view_is) c.requires.here in
     let q = w.strand.query.number in
-    let un : IsOpen (record { number = s.number; shard = shard_at o es; waiting = waits_in s.claims }) p = subst (λ (v : KeptShard). IsOpen v p) (sym c.self.view_is) c.requires.unfound in
+    let un : IsUnfound (record { number = s.number; shard = shard_at o es; waiting = waits_in s.claims }) p = subst (λ (v : KeptShard). IsUnfound v p) (sym c.self.view_is) c.requires.unfound in
     let none = unclaimed b o s.number s.store s.claims es a p un.unclaimed in
     let made : c.claim.new.self ≡ with_claim s.claims q p = c.in_ok-claim.ensures.ok ∙ ap (λ (x : Query). with_claim s.claims x.number p) c.query-q.ensures in
     let items : c.push_reserved.new.self.items ≡ es ++ entry.Claimed q p ∷ [] =
@@ -62,10 +63,10 @@ invariant_of-self-in-Err g c =
     let w = c.args.strand.now in
     let here : p.signal % b.shards ≡ s.number = subst (λ (v : KeptShard). IsHere b v p) (sym c.self.view_is) c.requires.here in
     let q = w.strand.query.number in
-    let un : IsOpen (record { number = s.number; shard = shard_at o es; waiting = waits_in s.claims }) p = subst (λ (v : KeptShard). IsOpen v p) (sym c.self.view_is) c.requires.unfound in
+    let un : IsUnfound (record { number = s.number; shard = shard_at o es; waiting = waits_in s.claims }) p = subst (λ (v : KeptShard). IsUnfound v p) (sym c.self.view_is) c.requires.unfound in
     let none = unclaimed b o s.number s.store s.claims es a p un.unclaimed in
     let made : c.claim.new.self ≡ with_claim s.claims q p = c.in_ok-claim.ensures.ok ∙ ap (λ (x : Query). with_claim s.claims x.number p) c.query-q.ensures in
-    let gone : c.end_claim.new.claims ≡ s.claims = c.end_claim.ensures ∙ ap (λ (l : Claims Demand). without l p) made ∙ removed-inserted s.claims p (record { q = q; waiters = [] }) none in
+    let gone : c.end_claim.new.claims ≡ s.claims = c.end_claim.ensures ∙ ap (λ (l : Claims Demand). without_claim l p) made ∙ removed-inserted s.claims p (record { q = q; waiters = [] }) none in
     let same : length c.end_claim.new.claims ≡ length s.claims = ap length gone in
     record {
       agrees = subst (λ (l : List Entry). Agrees b o s.number s.store c.end_claim.new.claims l) (sym c.make_room.ensures.items) (subst (λ (l : Claims Demand). Agrees b o s.number s.store l es) (sym gone) a);
@@ -83,7 +84,7 @@ returns-in-Ok g c =
     let w = c.args.strand.now in
     let here : p.signal % b.shards ≡ s.number = subst (λ (v : KeptShard). IsHere b v p) (sym c.self.view_is) c.requires.here in
     let q = w.strand.query.number in
-    let un : IsOpen (record { number = s.number; shard = shard_at o es; waiting = waits_in s.claims }) p = subst (λ (v : KeptShard). IsOpen v p) (sym c.self.view_is) c.requires.unfound in
+    let un : IsUnfound (record { number = s.number; shard = shard_at o es; waiting = waits_in s.claims }) p = subst (λ (v : KeptShard). IsUnfound v p) (sym c.self.view_is) c.requires.unfound in
     let none = unclaimed b o s.number s.store s.claims es a p un.unclaimed in
     let made : c.claim.new.self ≡ with_claim s.claims q p = c.in_ok-claim.ensures.ok ∙ ap (λ (x : Query). with_claim s.claims x.number p) c.query-q.ensures in
     let items : c.push_reserved.new.self.items ≡ es ++ entry.Claimed q p ∷ [] =
@@ -104,8 +105,8 @@ returns-in-Err g c =
     let w = c.args.strand.now in
     let here : p.signal % b.shards ≡ s.number = subst (λ (v : KeptShard). IsHere b v p) (sym c.self.view_is) c.requires.here in
     let q = w.strand.query.number in
-    let un : IsOpen (record { number = s.number; shard = shard_at o es; waiting = waits_in s.claims }) p = subst (λ (v : KeptShard). IsOpen v p) (sym c.self.view_is) c.requires.unfound in
+    let un : IsUnfound (record { number = s.number; shard = shard_at o es; waiting = waits_in s.claims }) p = subst (λ (v : KeptShard). IsUnfound v p) (sym c.self.view_is) c.requires.unfound in
     let none = unclaimed b o s.number s.store s.claims es a p un.unclaimed in
     let made : c.claim.new.self ≡ with_claim s.claims q p = c.in_ok-claim.ensures.ok ∙ ap (λ (x : Query). with_claim s.claims x.number p) c.query-q.ensures in
-    let gone : c.end_claim.new.claims ≡ s.claims = c.end_claim.ensures ∙ ap (λ (l : Claims Demand). without l p) made ∙ removed-inserted s.claims p (record { q = q; waiters = [] }) none in
+    let gone : c.end_claim.new.claims ≡ s.claims = c.end_claim.ensures ∙ ap (λ (l : Claims Demand). without_claim l p) made ∙ removed-inserted s.claims p (record { q = q; waiters = [] }) none in
     (c.in-Err.ensures.err, ap₂ (λ (l : List Entry) (k : Claims Demand). record { number = s.number; shard = shard_at o l; waiting = waits_in k }) c.make_room.ensures.items gone ∙ c.self.view_is)

@@ -1,14 +1,16 @@
 use Rattle.std.proofs.Common.{◌≡◌, ◌∷◌, [], ◌++◌, ◌+◌, List, length, Some, refl, sym, ap, subst, ◌∙◌, arith}
 use Rattle.std.specs.BTreeMap.{is_at}
 use Rattle.journal_meaning.specs.States.{holder}
-use Rattle.journal_meaning.specs.declared.Query.{Query}
+use Rattle.batch_meaning.specs.declared.Query.{Query}
 use Rattle.journal_meaning.specs.declared.Entry.{Entry}
 use Rattle.journal_meaning.specs.declared.Entry.TheVariants as entry
-use Rattle.claim_waiters.specs.Claims.{Claims, point_cmp}
+use Rattle.claim_waiters.specs.Claims.{Claims}
+use Rattle.valid_intervals.specs.Cells.{point_cmp}
 use Rattle.claim_waiters.proofs.Tables.{length-removed}
 use Rattle.demand_points.specs.Demands.{Demand}
-use Rattle.memo_shards.specs.Kept.{KeptShard, shard_at, waits_in}
-use Rattle.memo_shards.specs.View.{Agrees}
+use Rattle.memo_shards.specs.KeptShards.{KeptShard, shard_at}
+use Rattle.memo_shards.specs.inner.KeptShards.{waits_in}
+use Rattle.memo_shards.specs.inner.View.{Agrees}
 use Rattle.memo_shards.specs.Ends.{DropsIt}
 use Rattle.memo_shards.proofs.Entries.{some-held}
 use Rattle.memo_shards.proofs.Endings.{dropped-agrees, dropped-shown}

@@ -1,20 +1,22 @@
 use Rattle.std.proofs.Common.{◌≡◌, ◌∷◌, [], ◌++◌, ◌+◌, cond, List, length, Some, None, refl, sym, ap, subst, ◌∙◌, arith}
 use Rattle.std.specs.BTreeMap.{is_at}
 use Rattle.valid_intervals.specs.declared.Cell.{Cell}
-use Rattle.valid_intervals.specs.Cells.{cell_for}
+use Rattle.valid_intervals.specs.Cells.{cell_for, point_cmp}
 use Rattle.cell_store.specs.Recency.{pushes_out, last_key, after_put}
 use Rattle.journal_meaning.specs.States.{holder}
-use Rattle.journal_meaning.specs.Batch.{cell_at}
-use Rattle.journal_meaning.specs.declared.Query.{Query}
+use Rattle.circuit_meaning.specs.Cells.{cell_at}
+use Rattle.batch_meaning.specs.declared.Query.{Query}
 use Rattle.journal_meaning.specs.declared.Entry.{Entry}
 use Rattle.journal_meaning.specs.declared.Entry.TheVariants as entry
 use Rattle.plan_machine.specs.Shards.{filled_shard}
-use Rattle.claim_waiters.specs.Claims.{Claims, point_cmp, claim_at}
+use Rattle.claim_waiters.specs.Claims.{Claims, claim_at}
 use Rattle.claim_waiters.proofs.Tables.{length-removed}
 use Rattle.demand_points.specs.Demands.{Demand}
-use Rattle.memo_shards.specs.Kept.{KeptShard, shard_at, waits_in}
-use Rattle.memo_shards.specs.View.{Agrees}
-use Rattle.memo_shards.specs.Ends.{FillsIt, after_eviction}
+use Rattle.memo_shards.specs.KeptShards.{KeptShard, shard_at}
+use Rattle.memo_shards.specs.inner.KeptShards.{waits_in}
+use Rattle.memo_shards.specs.inner.View.{Agrees}
+use Rattle.memo_shards.specs.Ends.{FillsIt}
+use Rattle.memo_shards.specs.inner.Ends.{after_eviction}
 use Rattle.memo_shards.proofs.Entries.{some-held}
 use Rattle.memo_shards.proofs.Endings.{filled-fits, waiters-ask, answers-all, filled-items, filled-agrees, filled-shown}
 use Rattle.memo_shards.proofs.shard.Shard.fill.Goals as goal

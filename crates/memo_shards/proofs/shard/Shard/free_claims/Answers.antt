@@ -2,9 +2,11 @@ use Rattle.std.proofs.Common.{◌≡◌, List, ◌++◌, map, sym, subst, arith,
 use Rattle.journal_meaning.specs.declared.Entry.{Entry}
 use Rattle.claim_waiters.specs.Claims.{Claims}
 use Rattle.demand_points.specs.Demands.{Demand}
-use Rattle.memo_shards.specs.Kept.{KeptShard, shard_at, waits_in}
-use Rattle.memo_shards.specs.View.{Agrees}
-use Rattle.memo_shards.specs.Ends.{FreesAll, drop_of}
+use Rattle.memo_shards.specs.KeptShards.{KeptShard, shard_at}
+use Rattle.memo_shards.specs.inner.KeptShards.{waits_in}
+use Rattle.memo_shards.specs.inner.View.{Agrees}
+use Rattle.memo_shards.specs.Ends.{FreesAll}
+use Rattle.memo_shards.specs.inner.Ends.{drop_of}
 use Rattle.memo_shards.proofs.Freed.{freed-agrees, freed-shown}
 use Rattle.memo_shards.proofs.shard.Shard.free_claims.Goals as goal
 

@@ -1,13 +1,14 @@
 use Rattle.std.proofs.Common.{◌≡◌, None, IsSome, ◌≤◌, ◌+◌, ◌*◌, sym, subst, vec_len, vec_capacity}
 use Rattle.std.specs.BTreeMap.{is_at}
 use Rattle.journal_meaning.specs.States.{holder}
-use Rattle.plan_machine.specs.Shards.{stored_at}
-use Rattle.claim_waiters.specs.Claims.{Claims, point_cmp}
+use Rattle.valid_intervals.specs.Cells.{stored_at, point_cmp}
+use Rattle.claim_waiters.specs.Claims.{Claims}
 use Rattle.claim_waiters.proofs.Tables.{length-waited}
 use Rattle.demand_points.specs.Demands.{Demand}
-use Rattle.memo_shards.specs.Kept.{KeptShard, shard_at, waits_in}
-use Rattle.memo_shards.specs.View.{IsMemo}
-use Rattle.memo_shards.specs.Asks.{OfPark}
+use Rattle.memo_shards.specs.KeptShards.{KeptShard, shard_at}
+use Rattle.memo_shards.specs.inner.KeptShards.{waits_in}
+use Rattle.memo_shards.specs.inner.View.{IsMemo}
+use Rattle.memo_shards.specs.inner.Asks.{OfPark}
 use Rattle.memo_shards.proofs.Entries.{by_case, waited-agrees, parked}
 use Rattle.memo_shards.proofs.shard.Shard.park.Goals as goal
 

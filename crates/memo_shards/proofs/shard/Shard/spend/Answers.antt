@@ -1,11 +1,12 @@
 use Rattle.std.proofs.Common.{◌≡◌, ℕ, ◌∷◌, [], ◌++◌, ◌%◌, List, length, sym, ap, ap₂, subst, ◌∙◌, arith}
-use Rattle.journal_meaning.specs.declared.Query.{Query}
+use Rattle.batch_meaning.specs.declared.Query.{Query}
 use Rattle.journal_meaning.specs.declared.Entry.{Entry}
 use Rattle.journal_meaning.specs.declared.Entry.TheVariants as entry
 use Rattle.plan_machine.specs.Shards.{recorded}
-use Rattle.memo_shards.specs.Kept.{KeptShard, shard_at, waits_in}
-use Rattle.memo_shards.specs.View.{Agrees}
-use Rattle.memo_shards.specs.Asks.{IsHere, IsOpen}
+use Rattle.memo_shards.specs.KeptShards.{KeptShard, shard_at}
+use Rattle.memo_shards.specs.inner.KeptShards.{waits_in}
+use Rattle.memo_shards.specs.inner.View.{Agrees}
+use Rattle.memo_shards.specs.Asks.{IsHere, IsUnfound}
 use Rattle.memo_shards.specs.Ends.{with_shard}
 use Rattle.memo_shards.proofs.Endings.{spent-agrees, spent-shown}
 use Rattle.memo_shards.proofs.shard.Shard.spend.Goals as goal
@@ -22,7 +23,7 @@ invariant_of-self-2 g c =
     let q = w.strand.query.number in
     let k = length w.strand.stack in
     let here : p.signal % b.shards ≡ s.number = subst (λ (v : KeptShard). IsHere b v p) (sym c.self.view_is) c.requires.here in
-    let un : IsOpen (record { number = s.number; shard = shard_at o es; waiting = waits_in s.claims }) p = subst (λ (v : KeptShard). IsOpen v p) (sym c.self.view_is) c.requires.unfound in
+    let un : IsUnfound (record { number = s.number; shard = shard_at o es; waiting = waits_in s.claims }) p = subst (λ (v : KeptShard). IsUnfound v p) (sym c.self.view_is) c.requires.unfound in
     let items : c.push_reserved.new.self.items ≡ es ++ entry.Spent q p k ∷ [] =
     c.push_reserved.ensures.items ∙ ap (λ (l : List Entry). l ++ entry.Spent c.query-q.result.number p c.held-held.result ∷ []) c.make_room.ensures.items
     ∙ ap₂ (λ (x : Query) (n : ℕ). es ++ entry.Spent x.number p n ∷ []) c.query-q.ensures c.held-held.ensures in
@@ -43,7 +44,7 @@ returns-clause-ok g c =
     let q = w.strand.query.number in
     let k = length w.strand.stack in
     let here : p.signal % b.shards ≡ s.number = subst (λ (v : KeptShard). IsHere b v p) (sym c.self.view_is) c.requires.here in
-    let un : IsOpen (record { number = s.number; shard = shard_at o es; waiting = waits_in s.claims }) p = subst (λ (v : KeptShard). IsOpen v p) (sym c.self.view_is) c.requires.unfound in
+    let un : IsUnfound (record { number = s.number; shard = shard_at o es; waiting = waits_in s.claims }) p = subst (λ (v : KeptShard). IsUnfound v p) (sym c.self.view_is) c.requires.unfound in
     let items : c.push_reserved.new.self.items ≡ es ++ entry.Spent q p k ∷ [] =
     c.push_reserved.ensures.items ∙ ap (λ (l : List Entry). l ++ entry.Spent c.query-q.result.number p c.held-held.result ∷ []) c.make_room.ensures.items
     ∙ ap₂ (λ (x : Query) (n : ℕ). es ++ entry.Spent x.number p n ∷ []) c.query-q.ensures c.held-held.ensures in

@@ -1,9 +1,10 @@
 use Rattle.std.proofs.Common.{◌≡◌, ◌∷◌, [], ◌++◌, ◌%◌, List, sym, ap, subst, ◌∙◌, arith}
-use Rattle.journal_meaning.specs.declared.Query.{Query}
+use Rattle.batch_meaning.specs.declared.Query.{Query}
 use Rattle.journal_meaning.specs.declared.Entry.{Entry}
 use Rattle.journal_meaning.specs.declared.Entry.TheVariants as entry
-use Rattle.memo_shards.specs.Kept.{KeptShard, shard_at, waits_in}
-use Rattle.memo_shards.specs.View.{Agrees}
+use Rattle.memo_shards.specs.KeptShards.{KeptShard, shard_at}
+use Rattle.memo_shards.specs.inner.KeptShards.{waits_in}
+use Rattle.memo_shards.specs.inner.View.{Agrees}
 use Rattle.memo_shards.specs.Asks.{IsHere, Tells}
 use Rattle.memo_shards.proofs.Entries.{told, told-agrees, told-shown}
 use Rattle.memo_shards.proofs.shard.Shard.tell.Goals as goal

@@ -1,6 +1,6 @@
 use Rattle.std.proofs.Common.{ap, sym, ◌∙◌, Result, Ok, Err, IfOk}
 use Rattle.plan_machine.specs.Plans.{ready}
-use Rattle.plan_core.specs.Places.{ready_of}
+use Rattle.plan_core.specs.inner.Places.{ready_of}
 use Rattle.plan_core.proofs.Readying.{plan-ready, plan-none, plan-all}
 use Rattle.plan_core.proofs.plan.Plan.ready.Goals as goal
 

@@ -2,7 +2,7 @@ use Rattle.std.proofs.Common.{◌≡◌, ◌<◌, ◌∙◌, sym, ap, subst, ari
 use Rattle.plan_machine.specs.Plans.{Plan}
 use Rattle.plan_machine.specs.Turns.{turn}
 use Rattle.plan_machine.specs.Bounds.{all_left}
-use Rattle.plan_core.specs.Refusals.{IsRefusedAt}
+use Rattle.plan_core.specs.inner.Refusals.{IsRefusedAt}
 use Rattle.plan_core.proofs.Refusing.{was-refused}
 use Rattle.plan_core.proofs.Rounds.{round-count, round-less, round-on, round-ends, round-refused, left-same, refused-tells, refused-records}
 use Rattle.plan_core.proofs.plan.Plan.turn_alone.Goals as goal

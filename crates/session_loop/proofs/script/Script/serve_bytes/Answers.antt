@@ -1,7 +1,9 @@
 use Rattle.std.proofs.Common.{refl, ◌∙◌, arith}
-use Rattle.session_loop.specs.Desks.{setup_of}
+use Rattle.std.proofs.lemmas.List.Elements.{All-same}
+use Rattle.query_lines.specs.Fit.{IsFit}
+use Rattle.unit_answers.specs.Stores.{setup_of}
 use Rattle.session_loop.proofs.Growing.{on-err}
-use Rattle.session_loop.proofs.Taken.{taken_more, takes-none, takes-next, takes-rest, takes-stop}
+use Rattle.session_loop.proofs.Taken.{taken-more, taken-fit, takes-none, takes-next, takes-rest, takes-stop}
 use Rattle.session_loop.proofs.script.Script.serve_bytes.Goals as goal
 
 pub loop-byte-init : goal.loop-byte-init
@@ -27,7 +29,7 @@ loop-byte-preserved g c =
     let held = c.loop-byte.invariant in
     let served = c.in_ok-desk.ensures in
     record {
-      read = taken_more c.loop-byte.self.reader c.take.new.self c.loop-byte.self.taken _ c.in_ok-units.units c.in_ok-units.ensures.read held.read;
+      read = taken-more c.args.design.now.circuit.horizon c.loop-byte.self.reader c.take.new.self c.loop-byte.self.taken _ c.in_ok-units.units c.in_ok-units.ensures.read held.read;
       taken = omega (arith, held.taken);
       stores = served.stores;
       served = takes-next (setup_of c.args.design.now c.args.sizes) c.args.slot c.args.self.now.reader c.loop-byte.self.reader c.take.new.self c.args.bytes.now c.loop-byte.byte-index c.in_ok-units.units c.as_slice.result.now
@@ -58,3 +60,8 @@ returns-in_err-desk-clause-stopped g c =
     c.args.desk c.loop-byte.desk
     (W c.args.out.now) (W c.loop-byte.out) (W c.serve_units.new.out) (M c.args.files.now) (M c.loop-byte.files) (M c.serve_units.new.files)
     c.loop-byte-test.true c.loop-byte.invariant.served c.in_ok-units.ensures.read c.as_slice.ensures c.in_err-desk.ensures.stopped)
+
+pub serve_units-requires-clause-fit : goal.serve_units-requires-clause-fit
+serve_units-requires-clause-fit g c = λ κs w.
+    let horizon = c.args.design.now.circuit.horizon in
+    All-same (IsFit horizon) _ _ c.as_slice.ensures (taken-fit horizon c.loop-byte.self.reader c.take.new.self c.loop-byte.self.taken _ c.in_ok-units.units c.requires.horizon c.in_ok-units.ensures.read c.loop-byte.invariant.read)

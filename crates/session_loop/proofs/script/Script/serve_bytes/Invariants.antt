@@ -1,12 +1,12 @@
 -- The bytes so far were taken and served, and met no fault.
 use Rattle.std.proofs.Common.{◌≡◌, ◌+◌, take}
-use Rattle.session_loop.specs.Desks.{setup_of, AreStores}
-use Rattle.session_loop.specs.Serving.{HasTaken, TakesServed}
+use Rattle.unit_answers.specs.Stores.{setup_of, AreStores}
+use Rattle.session_loop.specs.inner.Serving.{HasTaken, TakesServed}
 use Rattle.session_loop.proofs.script.Script.serve_bytes.Given as goal
 
 abbrev pub invariant-loop-byte : goal.invariant-loop-byte
 invariant-loop-byte g l = record {
-  read : HasTaken l.self.taken l.self.reader;
+  read : HasTaken l.design.circuit.horizon l.self.taken l.self.reader;
   taken : l.self.taken ≡ l.initial.self.taken + l.byte-index;
   stores : AreStores (setup_of l.design l.sizes) l.desk.stores.items;
   served : TakesServed (setup_of l.design l.sizes) l.initial.self.reader l.self.reader (take l.byte-index l.bytes) l.initial.desk l.desk l.slot (g.S.Sink.written l.initial.out) (g.S.Sink.written l.out) (g.F.Files.made l.initial.files) (g.F.Files.made l.files);

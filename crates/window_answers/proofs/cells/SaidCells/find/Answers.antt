@@ -2,7 +2,8 @@ use Rattle.std.proofs.Common.{Option, IfNone, sym, subst}
 use Rattle.std.specs.BTreeMap.{get}
 use Rattle.valid_intervals.specs.declared.Cell.{Cell}
 use Rattle.valid_intervals.specs.declared.Point.{Point}
-use Rattle.journal_meaning.specs.Index.{point_cmp, IsFound}
+use Rattle.valid_intervals.specs.Cells.{point_cmp}
+use Rattle.journal_meaning.specs.inner.Index.{IsFound}
 use Rattle.journal_meaning.proofs.Index.{found-right, found-some, none-before, none-last}
 use Rattle.window_answers.proofs.cells.SaidCells.find.Goals as goal
 use Rattle.window_answers.proofs.cells.SaidCells.find.Goals.{else-first-p-via-then-first-p+else-covers, else-first-p-via-else-first-p}

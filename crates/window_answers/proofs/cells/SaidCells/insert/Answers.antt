@@ -1,7 +1,7 @@
 use Rattle.std.proofs.Common.{◌≡◌, ap}
 use Rattle.std.specs.BTreeMap.{get}
 use Rattle.valid_intervals.specs.declared.Point.{Point}
-use Rattle.journal_meaning.specs.Index.{point_cmp}
+use Rattle.valid_intervals.specs.Cells.{point_cmp}
 use Rattle.journal_meaning.proofs.Index.{index-more}
 use Rattle.window_answers.proofs.cells.SaidCells.insert.Goals as goal
 

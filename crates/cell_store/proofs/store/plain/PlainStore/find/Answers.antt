@@ -1,6 +1,6 @@
 use Rattle.std.proofs.Common.{◌≡◌, List, true, subst}
 use Rattle.valid_intervals.specs.declared.SignalCell.{SignalCell}
-use Rattle.cell_store.specs.Recency.{is_stored}
+use Rattle.valid_intervals.specs.Cells.{is_stored}
 use Rattle.cell_store.proofs.Plain.{stored_again}
 use Rattle.cell_store.proofs.store.plain.PlainStore.find.Goals as goal
 

@@ -1,7 +1,7 @@
 use Rattle.std.proofs.Common.{◌≡◌, ◌==◌, cond, false, List, length, sym, ap, subst, ◌∙◌}
 use Rattle.valid_intervals.specs.declared.SignalCell.{SignalCell}
-use Rattle.valid_intervals.specs.Cells.{all_but_last}
-use Rattle.cell_store.specs.Recency.{Contents, contents, is_stored, after_put}
+use Rattle.valid_intervals.specs.Cells.{all_but_last, is_stored}
+use Rattle.cell_store.specs.Recency.{Contents, contents, after_put}
 use Rattle.cell_store.proofs.Plain.{put_in_front}
 use Rattle.cell_store.proofs.store.plain.PlainStore.put.Goals as goal
 

@@ -1,0 +1,18 @@
+#!/usr/bin/env bash
+# A chain of 399,997 evaluations by one strand over one shard at its capacity, in plain Rust and in this repository's shard. Both write
+# down the same entries: what they print differs in the time alone.
+# The program over the shard is proved and built beside copies of the crates; the texts here are its source and its proofs.
+set -euo pipefail
+here=$(cd "$(dirname "$0")" && pwd)
+. "$here/../common.sh"
+begin "$here"
+below="backsim_io text_rules gate_values valid_intervals flip_flops circuit_meaning batch_meaning journal_meaning strand_meaning plan_machine cell_store claim_waiters bench_lines bench_reader timing_file stimulus_file design demand_points memo_shards"
+copy_crates "$copy/repository" $below
+echo "memo_time: smallvec backsim_io gate_values valid_intervals circuit_meaning batch_meaning journal_meaning strand_meaning plan_machine cell_store claim_waiters bench_reader timing_file stimulus_file design demand_points memo_shards" >>"$copy/repository/crates.txt"
+program=$copy/repository/crates/memo_time
+mkdir -p "$program/src" "$program/proofs/serve" "$program/proofs/serve_loop"
+cp "$here/program.txt" "$program/src/main.rt"
+cp "$here/serve.txt" "$program/proofs/serve/Answers.antt"
+cp "$here/serve_loop.txt" "$program/proofs/serve_loop/Invariants.antt"
+(cd "$program" && rt run >/dev/null)
+in_turn "$copy/plain" "$program/out/memo_time"

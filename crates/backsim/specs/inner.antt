@@ -1,0 +1,5 @@
+pub mod Cause
+pub mod Files
+pub mod Statuses
+pub mod Stops
+pub mod Work

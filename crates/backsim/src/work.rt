@@ -1,0 +1,159 @@
+//! A run of the workload, from its number to the status.
+
+ghost use Rattle.std.specs.Prelude.{◌≡◌, ◌<◌, ◌≤◌, ℕ, [], IfOk, IfSome, filter, length, string_bytes};
+ghost use Rattle.backsim.specs.Broken.{OnFileFault};
+ghost use Rattle.backsim.specs.Cause.{counts_of, Explains};
+ghost use Rattle.backsim.specs.Work as work;
+ghost use Rattle.backsim.specs.Work.{counts_line, run_count, one_count, work_line, runs_in, IsWorkServed, LeavesWork};
+ghost use Rattle.backsim.specs.inner.Work.{IsLineTold, LineExplains};
+
+use crate::refusal::Stop;
+use crate::serve::end_stopped;
+use crate::status::{Place, Status};
+use backsim_io::{Files, Sink, write_all};
+use batch_crew::Workers;
+use gate_values::Value;
+use query_lines::script_units_are_fit;
+use reply_lines::Reply;
+use session_loop::serve_work;
+use std::alloc::{AllocError, Global};
+use std::sync::Wait;
+use std::thread::Threads;
+use unit_answers::Sizes;
+use window_walks::Run;
+use worker_gate::Gate;
+use workload::workload;
+
+/// The horizon of every workload. That its stimulus text names it isn't proved, so it is looked at.
+const HORIZON: u32 = 100_000;
+
+/// Serves the workload of this number, of 31 bits. In place of the replies one line is written, which counts them.
+pub fn serve_workload<F: Files, S: Sink, G: Gate, R: Threads + Wait + Sync>(
+    rt: &R,
+    alloc: Global,
+    number: u32,
+    journal: &str,
+    workers: u32,
+    files: &mut F,
+    out: &mut S,
+    gate: &G,
+) -> Status
+    requires number { number ≤ 2147483647 }
+    requires started { F.started files.old ≡ 0 }
+    requires created { F.files files.old ≡ 0 }
+    requires workers { (0 < workers) × (workers ≤ 64) }
+    ensures cause { (queries : ℕ) → Explains 0
+        (counts_of queries (S.faults out.old) (F.file_faults files.old) (F.read_faults files.old) (F.write_faults files.old) (F.started files.old) (F.files files.old))
+        (counts_of queries (S.faults out.new) (F.file_faults files.new) (F.read_faults files.new) (F.write_faults files.new) (F.started files.new) (F.files files.new))
+        result }
+    ensures no_usage { ¬ (result ≡ Status.Words) }
+    ensures no_file_read { OnFileFault ⊥ result }
+    ensures served { result ≡ Status.Ended
+        → IsWorkServed number journal.now (S.written out.old) (S.written out.new) (F.made files.old) (F.made files.new) }
+    ensures leaves { LeavesWork number journal.now (S.written out.old) (S.written out.new) (F.made files.old) (F.made files.new) result }
+    ensures one { result ≡ Status.Ended → F.files files.new ≡ 1 }
+    ensures finished { result ≡ Status.Ended → F.unfinished files.new ≡ [] }
+{
+    let Ok(work) = workload(alloc, number) else {
+        return Status::OutOfMemory;
+    };
+    if work.design.horizon() != HORIZON {
+        return Status::OutOfMemory;
+    }
+    script_units_are_fit();
+    let crew = Workers::new(rt, gate, workers);
+    let sizes = Sizes {
+        shards: 8,
+        cells: 16_384,
+    };
+    match serve_work(
+        &crew,
+        alloc,
+        &work.design,
+        work.items.as_slice(),
+        sizes,
+        journal,
+        files,
+    ) {
+        Ok(replies) => tell(alloc, number, &replies, out),
+        Err(halt) => end_stopped(alloc, Stop::from(halt), out),
+    }
+}
+
+/// Writes the line that counts the replies.
+fn tell<S: Sink>(alloc: Global, number: u32, replies: &[Reply], out: &mut S) -> Status
+    ensures told { IsLineTold (work_line number replies.now) (S.written out.old) (S.written out.new) result }
+    ensures cause { LineExplains (S.faults out.old) (S.faults out.new) result }
+{
+    let Some(runs) = all_runs(replies) else {
+        return Status::OutOfMemory;
+    };
+    let Some(ones) = all_ones(replies) else {
+        return Status::OutOfMemory;
+    };
+    let Ok(text) = line_text(alloc, number, runs, ones) else {
+        return Status::OutOfMemory;
+    };
+    match write_all(out, text.as_bytes()) {
+        Ok(()) => Status::Ended,
+        Err(_) => Status::WriteFault(Place::Replies),
+    }
+}
+
+fn line_text(alloc: Global, number: u32, runs: u64, ones: u64) -> Result<String, AllocError>
+    ensures { IfOk result (λ text. string_bytes text ≡ counts_line number runs ones) }
+{
+    format!(in alloc; "work {number} replies 16 lines {runs} ones {ones}\n")
+}
+
+/// How many runs the waves have, if that is a number.
+fn all_runs(replies: &[Reply]) -> Option<u64>
+    ensures { IfSome result (λ n. n ≡ run_count replies.now) }
+{
+    let mut runs = 0u64;
+    for reply in replies {
+        runs = runs.checked_add(runs_of(reply))?;
+    }
+    Some(runs)
+}
+
+/// How many of their runs have the value 1, if that is a number.
+fn all_ones(replies: &[Reply]) -> Option<u64>
+    ensures { IfSome result (λ n. n ≡ one_count replies.now) }
+{
+    let mut ones = 0u64;
+    for reply in replies {
+        ones = ones.checked_add(ones_of(reply))?;
+    }
+    Some(ones)
+}
+
+fn runs_of(reply: &Reply) -> u64
+    ensures { result ≡ length (runs_in reply.now) }
+{
+    match reply {
+        Reply::Wave(runs) => runs.as_slice().len() as u64,
+        _ => 0,
+    }
+}
+
+fn ones_of(reply: &Reply) -> u64
+    ensures { result ≡ work.ones_in reply.now }
+{
+    match reply {
+        Reply::Wave(runs) => ones_among(runs.as_slice()),
+        _ => 0,
+    }
+}
+
+fn ones_among(runs: &[Run]) -> u64
+    ensures { result ≡ length (filter work.is_one runs.now) }
+{
+    runs.iter().filter(|run| is_one(run)).count() as u64
+}
+
+fn is_one(run: &Run) -> bool
+    ensures { result ≡ work.is_one run.now }
+{
+    run.value == Value::One
+}

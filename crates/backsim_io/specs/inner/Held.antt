@@ -1,0 +1,13 @@
+-- What only the proofs and the private functions of this crate speak of, beside `Held`.
+use Rattle.std.specs.Prelude.{ℕ, ◌<◌, ◌≤◌, ◌≡◌, List, Option, Some, None, [], ◌∷◌, ◌++◌, map, ◌==◌, slice_get, option_map, unwrap_or, Vec, ⊤}
+use Rattle.std.specs.Global.{Global}
+use Rattle.backsim_io.specs.Held.{Made}
+
+-- the bytes of the file at this place, and none where no file is there
+abbrev pub bytes_at : List (List ℕ × Vec ℕ Global) → Option ℕ → List ℕ
+bytes_at files None = []
+bytes_at files (Some place) = unwrap_or (option_map (λ file. file.1.items) (slice_get files place)) []
+
+-- files by name, as created files
+abbrev pub files_of : List (List ℕ × Vec ℕ Global) → List Made
+files_of files = map (λ file. record { name = file.0; bytes = file.1.items }) files

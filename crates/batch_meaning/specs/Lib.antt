@@ -1,0 +1,4 @@
+pub mod Batches
+pub mod Lawful
+pub mod Pieces
+pub mod inner

@@ -1,0 +1,2 @@
+pub mod KeptNetlists
+pub mod Reading

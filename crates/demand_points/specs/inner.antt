@@ -1,0 +1,4 @@
+pub mod Demands
+pub mod Frames
+pub mod Names
+pub mod Stacks

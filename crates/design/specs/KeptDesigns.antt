@@ -1,0 +1,11 @@
+-- What is kept of a signal, and the driver that it stands for.
+use Rattle.std.specs.Prelude.{◌≡◌, ℕ, ◌<◌, List, [], ◌∷◌}
+use Rattle.circuit_meaning.specs.declared.Pin.{Pin}
+use Rattle.design.specs.declared.rows.Row.TheVariants as row
+use Rattle.design.specs.declared.rows.SignalView.TheVariants as view
+
+-- the pins that read these signals after these delays
+abbrev pub pins_with : List ℕ → List ℕ → List Pin
+pins_with [] delays = []
+pins_with (s ∷ signals) [] = []
+pins_with (s ∷ signals) (d ∷ delays) = record { signal = s; delay = d } ∷ pins_with signals delays

@@ -1,0 +1,5 @@
+pub mod Given
+pub mod KeptDesigns
+pub mod Lists
+pub mod Said
+pub mod Walk

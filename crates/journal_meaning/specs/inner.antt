@@ -1,0 +1,4 @@
+pub mod Counts
+pub mod Grown
+pub mod Index
+pub mod Trims

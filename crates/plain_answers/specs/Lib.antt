@@ -1,4 +1,0 @@
-pub mod Alone
-pub mod Filled
-pub mod Replies
-pub mod Progress

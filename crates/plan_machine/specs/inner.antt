@@ -1,0 +1,3 @@
+pub mod KeptPlans
+pub mod Parts
+pub mod Settle

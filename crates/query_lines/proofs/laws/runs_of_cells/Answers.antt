@@ -1,5 +1,0 @@
-use Rattle.query_lines.proofs.Maximal.{runs_of-points}
-use Rattle.query_lines.proofs.laws.runs_of_cells.Goals as goal
-
-pub returns : goal.returns
-returns c = λ t cells. runs_of-points t cells

@@ -1,7 +1,0 @@
-use Rattle.std.proofs.Common.{◌≡◌, ◌++◌, take}
-use Rattle.std.specs.List.{flat_map}
-use Rattle.query_lines.specs.Replies.{run_line}
-use Rattle.query_lines.proofs.text.put_runs.Given as goal
-
-abbrev pub invariant-loop-run : goal.invariant-loop-run
-invariant-loop-run l = l.text.items ≡ l.fn.text.items ++ flat_map run_line (take l.run-index l.runs)

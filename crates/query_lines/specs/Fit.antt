@@ -1,0 +1,40 @@
+-- What whoever serves the units of a script may count on.
+use Rattle.std.specs.Prelude.{◌≡◌, ◌≢◌, ⊤, ℕ, ◌≤◌, List, All, AllPairs}
+use Rattle.query_lines.specs.declared.unit.Item.{Item}
+use Rattle.query_lines.specs.declared.unit.Unit.{Unit as ScriptUnit}
+use Rattle.query_lines.specs.declared.unit.Unit.TheVariants.{Batch, Trim, Stats}
+use Rattle.query_lines.specs.Reading.{Reader, HasRead, script_units}
+use Rattle.query_lines.specs.Laws.{IsWithinLimits}
+
+-- no two items have one line
+abbrev pub HaveOwnLines : List Item → Type 0
+HaveOwnLines items = AllPairs (λ a b. a.line ≢ b.line) items
+
+-- the items of a unit, if it has any, have lines of their own
+abbrev pub HasOwnLines : ScriptUnit → Type 0
+HasOwnLines (Batch items) = HaveOwnLines items
+HasOwnLines (Trim cells) = ⊤
+HasOwnLines Stats = ⊤
+
+-- No two items of a unit have one line.
+abbrev pub UnitsHaveOwnLines : Type 0
+UnitsHaveOwnLines = (horizon : ℕ) (script : List ℕ) → All HasOwnLines (script_units horizon script)
+
+-- a unit within its limits, whose items have lines of their own
+pub record IsFit (horizon : ℕ) (unit : ScriptUnit) : Type 0 where
+  pub within : IsWithinLimits horizon unit
+  pub own : HasOwnLines unit
+
+-- The units that a reader has given are fit to be served.
+abbrev pub ReadUnitsAreFit : Type 0
+ReadUnitsAreFit = (horizon : ℕ) (script : List ℕ) (given : List ScriptUnit) (reader : Reader)
+    → HasRead horizon script given reader → horizon ≤ 1000000 → All (IsFit horizon) given
+
+-- So are all units of a script.
+abbrev pub ScriptUnitsAreFit : Type 0
+ScriptUnitsAreFit = (horizon : ℕ) (script : List ℕ) → horizon ≤ 1000000 → All (IsFit horizon) (script_units horizon script)
+
+-- The bytes that a reader has taken determine the units that it has given.
+abbrev pub ReadUnitsAreDetermined : Type 0
+ReadUnitsAreDetermined = (horizon : ℕ) (script : List ℕ) (given other : List ScriptUnit) (reader another : Reader)
+    → HasRead horizon script given reader → HasRead horizon script other another → horizon ≤ 1000000 → given ≡ other

@@ -1,0 +1,79 @@
+-- The replies to items, and their texts.
+use Rattle.std.specs.Prelude.{◌≡◌, ⊤, ℕ, ◌+◌, List, [], ◌∷◌, ◌++◌, flat_map, length, codes}
+use Rattle.std.specs.Fmt.{decimal}
+use Rattle.gate_values.specs.Spelling.{byte_of_value}
+use Rattle.circuit_meaning.specs.declared.Run.{Run}
+use Rattle.query_lines.specs.declared.line.What.{What}
+use Rattle.query_lines.specs.declared.line.What.TheVariants as whats
+use Rattle.query_lines.specs.declared.unit.Item.{Item}
+use Rattle.reply_lines.specs.declared.reply.Reply.{Reply}
+use Rattle.reply_lines.specs.declared.reply.Reply.TheVariants.{Wave, Unknown, Past, Budget, BadLine}
+
+-- A reply that an item may get: a bad line, and it alone, gets BadLine, and a wave of one instant has one run.
+abbrev pub Suits : What → Reply → Type 0
+Suits whats.Bad BadLine = ⊤
+Suits whats.Bad reply = ⊥
+Suits (whats.Wave name from to budget) BadLine = ⊥
+Suits (whats.Wave name from to budget) reply = ⊤
+Suits (whats.At name time budget) BadLine = ⊥
+Suits (whats.At name time budget) (Wave runs) = length runs ≡ 1
+Suits (whats.At name time budget) reply = ⊤
+
+-- words with a blank between each two, and a line feed
+abbrev pub text_line : List (List ℕ) → List ℕ
+text_line [] = 10 ∷ []
+text_line (word ∷ []) = word ++ 10 ∷ []
+text_line (word ∷ next ∷ words) = word ++ 32 ∷ text_line (next ∷ words)
+
+-- the letter of a value as a word
+abbrev pub value_word : Run → List ℕ
+value_word run = byte_of_value run.value ∷ []
+
+abbrev pub run_line : Run → List ℕ
+run_line run = text_line (decimal run.time ∷ value_word run ∷ [])
+
+-- the signal that an item names, and its window: that of one instant ends with the next
+abbrev pub name_of : What → List ℕ
+name_of (whats.Wave name from to budget) = name
+name_of (whats.At name time budget) = name
+name_of whats.Bad = []
+
+abbrev pub start_of : What → ℕ
+start_of (whats.Wave name from to budget) = from
+start_of (whats.At name time budget) = time
+start_of whats.Bad = 0
+
+abbrev pub stop_of : What → ℕ
+stop_of (whats.Wave name from to budget) = to
+stop_of (whats.At name time budget) = time + 1
+stop_of whats.Bad = 0
+
+abbrev pub wave_text : What → List Run → List ℕ
+wave_text (whats.Wave name from to budget) runs =
+    text_line (codes "wave" ∷ name ∷ decimal from ∷ decimal to ∷ [])
+    ++ flat_map run_line runs
+    ++ text_line (codes "end" ∷ [])
+wave_text (whats.At name time budget) (run ∷ runs) =
+    text_line (codes "at" ∷ name ∷ decimal time ∷ value_word run ∷ [])
+wave_text (whats.At name time budget) [] = []
+wave_text whats.Bad runs = []
+
+-- the text of a reply to an item
+abbrev pub text_of : Item → Reply → List ℕ
+text_of item (Wave runs) = wave_text item.what runs
+text_of item Unknown = text_line (codes "unknown" ∷ name_of item.what ∷ [])
+text_of item Past =
+    text_line (codes "past" ∷ name_of item.what ∷ decimal (start_of item.what) ∷ decimal (stop_of item.what) ∷ [])
+text_of item (Budget budget) = text_line (codes "budget" ∷ name_of item.what ∷ decimal budget ∷ [])
+text_of item BadLine = text_line (codes "error" ∷ codes "line" ∷ decimal item.line ∷ [])
+
+-- the text of the reply to a trim that removed so many cells
+abbrev pub trimmed_line : ℕ → List ℕ
+trimmed_line cells = text_line (codes "trimmed" ∷ decimal cells ∷ [])
+
+-- the text of the reply to a request for the counts
+abbrev pub stats_line : ℕ → ℕ → ℕ → ℕ → List ℕ
+stats_line batches fills evictions cells =
+    text_line (codes "stats"
+    ∷ codes "batches" ∷ decimal batches ∷ codes "fills" ∷ decimal fills
+    ∷ codes "evictions" ∷ decimal evictions ∷ codes "cells" ∷ decimal cells ∷ [])

@@ -1,0 +1,20 @@
+//! The replies to the items of a script, and their texts.
+//!
+//! A [`Reply`] is a waveform, as its maximal runs, or says why there is none. [`reply_text`] writes it as its format says
+//! (`specs/Replies`); [`trimmed_text`] and [`stats_text`] write the replies to a trim and to a request for the counts.
+//!
+//! ```text
+//! let text = reply_text(alloc, &item, &reply)?;
+//! ```
+//!
+//! A text is written from front to back, in time and memory in proportion to its length.
+#![tactic(auto)]
+
+mod reply;
+mod text;
+
+pub use reply::Reply;
+pub use text::{reply_text, stats_text, trimmed_text};
+
+#[cfg(test)]
+mod tests;

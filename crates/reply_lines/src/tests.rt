@@ -1,0 +1,88 @@
+//! The texts of replies.
+
+use super::*;
+use backsim_io::Text;
+use gate_values::Value;
+use query_lines::{Item, What};
+use std::test::Fail;
+use window_walks::{Run, Runs};
+
+#[test]
+fn waves_have_their_texts(rt: HostRuntime) -> Result<(), Fail> {
+    let alloc = rt.alloc();
+    let item = Item {
+        line: 1,
+        what: What::Wave {
+            name: Text::from_bytes(alloc, b"y")?,
+            from: 0,
+            to: 12,
+            budget: 7,
+        },
+    };
+    let mut runs = Runs::new(alloc);
+    runs.push(0, Value::X)?;
+    runs.push(1, Value::X)?;
+    runs.push(3, Value::One)?;
+    runs.push(8, Value::Zero)?;
+    runs.push(9, Value::Zero)?;
+    runs.push(10, Value::Z)?;
+    let text = reply_text(alloc, &item, &Reply::Wave(runs))?;
+    assert_eq!(rt;
+        text.as_slice(),
+        b"wave y 0 12\n0 x\n3 1\n8 0\n10 z\nend\n".as_slice()
+    );
+    let text = reply_text(alloc, &item, &Reply::Wave(Runs::new(alloc)))?;
+    assert_eq!(rt; text.as_slice(), b"wave y 0 12\nend\n".as_slice());
+    let text = reply_text(alloc, &item, &Reply::Past)?;
+    assert_eq!(rt; text.as_slice(), b"past y 0 12\n".as_slice());
+    Ok(())
+}
+
+#[test]
+fn values_have_their_texts(rt: HostRuntime) -> Result<(), Fail> {
+    let alloc = rt.alloc();
+    let item = Item {
+        line: 3,
+        what: What::At {
+            name: Text::from_bytes(alloc, b"n3")?,
+            time: 4_294_967_294,
+            budget: 2,
+        },
+    };
+    let mut runs = Vec::new(alloc);
+    runs.push(Run {
+        time: 4_294_967_294,
+        value: Value::One,
+    })?;
+    let text = reply_text(alloc, &item, &Reply::Wave(Runs::from_vec(runs)))?;
+    assert_eq!(rt; text.as_slice(), b"at n3 4294967294 1\n".as_slice());
+    let text = reply_text(alloc, &item, &Reply::Past)?;
+    assert_eq!(rt;
+        text.as_slice(),
+        b"past n3 4294967294 4294967295\n".as_slice()
+    );
+    let text = reply_text(alloc, &item, &Reply::Unknown)?;
+    assert_eq!(rt; text.as_slice(), b"unknown n3\n".as_slice());
+    let text = reply_text(alloc, &item, &Reply::Budget(2))?;
+    assert_eq!(rt; text.as_slice(), b"budget n3 2\n".as_slice());
+    Ok(())
+}
+
+#[test]
+fn other_replies_have_their_texts(rt: HostRuntime) -> Result<(), Fail> {
+    let alloc = rt.alloc();
+    let bad = Item {
+        line: 10,
+        what: What::Bad,
+    };
+    let text = reply_text(alloc, &bad, &Reply::BadLine)?;
+    assert_eq!(rt; text.as_slice(), b"error line 10\n".as_slice());
+    let text = trimmed_text(alloc, 1)?;
+    assert_eq!(rt; text.as_slice(), b"trimmed 1\n".as_slice());
+    let text = stats_text(alloc, 1, 399_997, 383_613, 16_384)?;
+    assert_eq!(rt;
+        text.as_slice(),
+        b"stats batches 1 fills 399997 evictions 383613 cells 16384\n".as_slice()
+    );
+    Ok(())
+}

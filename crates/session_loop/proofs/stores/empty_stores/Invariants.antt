@@ -1,0 +1,7 @@
+-- The stores so far.
+use Rattle.std.proofs.Common.{◌≡◌, replicate, []}
+use Rattle.cell_store.specs.Recency.{contents}
+use Rattle.session_loop.proofs.stores.empty_stores.Given as goal
+
+abbrev pub invariant-loop : goal.invariant-loop
+invariant-loop l = l.stores.items ≡ replicate l.counter (contents l.sizes.cells [])

@@ -1,0 +1,96 @@
+-- What only the proofs and the private functions of this crate speak of, beside `Serving`.
+use Rattle.std.specs.Prelude.{◌≡◌, ℕ, ◌⊎◌, List, [], ◌++◌, length, Option}
+use Rattle.std.specs.Io.KnownBytes.{Consumes}
+use Rattle.backsim_io.specs.Held.{Made}
+use Rattle.query_lines.specs.declared.unit.Unit.{Unit as ScriptUnit}
+use Rattle.query_lines.specs.Reading.{Reader, HasRead, script_units}
+use Rattle.session_meaning.specs.Session.{Setup, Course, Session, opened}
+use Rattle.session_meaning.specs.Broken.{IsPrefix, journal_of, IsBroken}
+use Rattle.session_loop.specs.declared.desk.Desk.{Desk}
+use Rattle.session_loop.specs.inner.Desks.{Keeps}
+use Rattle.session_loop.specs.inner.Growing.{GoesOn, FileGoesOn}
+
+-- From what the session had come to, it was served to the end of these units.
+pub record ServedTo (setup : Setup) (units : List ScriptUnit) (now : Course) (desk : Desk) (slot : ℕ) (out new_out : List ℕ → Type 0) (made new_made : List Made → Type 0) : Type 0 where
+  pub next : Course
+  pub session : Session setup units next
+  pub keeps : Keeps setup desk next
+  pub replied : GoesOn out new_out now.out next.out
+  pub recorded : FileGoesOn made new_made slot (journal_of setup now) (journal_of setup next)
+
+-- From what the session had come to, it broke off within these units.
+pub record StoppedIn (setup : Setup) (units : List ScriptUnit) (now : Course) (slot : ℕ) (out new_out : List ℕ → Type 0) (made new_made : List Made → Type 0) : Type 0 where
+  pub replies : List ℕ
+  pub journal : List ℕ
+  pub broken : IsBroken setup units replies journal
+  pub replied : GoesOn out new_out now.out replies
+  pub recorded : FileGoesOn made new_made slot (journal_of setup now) journal
+
+-- Whatever was served before, these units were served after it.
+abbrev pub Serves : Setup → Desk → Desk → List ScriptUnit → ℕ → (List ℕ → Type 0) → (List ℕ → Type 0) → (List Made → Type 0) → (List Made → Type 0) → Type 0
+Serves setup desk later more slot out new_out made new_made = (units : List ScriptUnit) (now : Course)
+    → Session setup units now → Keeps setup desk now → ServedTo setup (units ++ more) now later slot out new_out made new_made
+
+-- Whatever was served before, the session broke off within these units after it.
+abbrev pub Stops : Setup → Desk → List ScriptUnit → ℕ → (List ℕ → Type 0) → (List ℕ → Type 0) → (List Made → Type 0) → (List Made → Type 0) → Type 0
+Stops setup desk more slot out new_out made new_made = (units : List ScriptUnit) (now : Course)
+    → Session setup units now → Keeps setup desk now → StoppedIn setup (units ++ more) now slot out new_out made new_made
+
+-- the reader has taken so many bytes of a script, for a simulation up to this horizon
+abbrev pub HasTaken : ℕ → ℕ → Reader → Type 0
+HasTaken horizon taken reader = (script : List ℕ) × (given : List ScriptUnit)
+    × HasRead horizon script given reader × (length script ≡ taken)
+
+-- whatever was read before, the reader takes these bytes after it, and gives these units
+abbrev pub Reads : Reader → Reader → List ℕ → List ScriptUnit → Type 0
+Reads old new bytes units = (horizon : ℕ) (script : List ℕ) (given : List ScriptUnit)
+    → HasRead horizon script given old → HasRead horizon (script ++ bytes) (given ++ units) new
+
+-- whatever was read before, the script ends, and the reader gives these units
+abbrev pub Ends : Reader → List ScriptUnit → Type 0
+Ends reader units = (horizon : ℕ) (script : List ℕ) (given : List ScriptUnit)
+    → HasRead horizon script given reader → script_units horizon script ≡ given ++ units
+
+-- the reader takes these bytes, and the units that it gives are served
+pub record TakesServed (setup : Setup) (reader later : Reader) (bytes : List ℕ) (desk left : Desk) (slot : ℕ) (out new_out : List ℕ → Type 0) (made new_made : List Made → Type 0) : Type 0 where
+  pub units : List ScriptUnit
+  pub reads : Reads reader later bytes units
+  pub served : Serves setup desk left units slot out new_out made new_made
+
+-- the reader takes some of these bytes, and the session breaks off in the units that it gives
+pub record TakesStopped (setup : Setup) (reader : Reader) (bytes : List ℕ) (desk : Desk) (slot : ℕ) (out new_out : List ℕ → Type 0) (made new_made : List Made → Type 0) : Type 0 where
+  pub front : List ℕ
+  pub front_is : IsPrefix front bytes
+  pub later : Reader
+  pub units : List ScriptUnit
+  pub reads : Reads reader later front units
+  pub stopped : Stops setup desk units slot out new_out made new_made
+
+-- the script ends, and the units that are left are served
+pub record EndsServed (setup : Setup) (reader : Reader) (desk left : Desk) (slot : ℕ) (out new_out : List ℕ → Type 0) (made new_made : List Made → Type 0) : Type 0 where
+  pub units : List ScriptUnit
+  pub whole : Ends reader units
+  pub served : Serves setup desk left units slot out new_out made new_made
+
+-- the script ends, and the session breaks off in the units that are left, or before they were given
+pub record EndsStopped (setup : Setup) (reader : Reader) (desk : Desk) (slot : ℕ) (out new_out : List ℕ → Type 0) (made new_made : List Made → Type 0) : Type 0 where
+  pub units : List ScriptUnit
+  pub whole : Ends reader units ⊎ (units ≡ [])
+  pub stopped : Stops setup desk units slot out new_out made new_made
+
+-- So many bytes left the source; their reader gave units, and these were served.
+pub record HasServed (setup : Setup) (taken : ℕ) (first left : Option (List ℕ)) (reader : Reader) (desk later : Desk) (slot : ℕ) (out new_out : List ℕ → Type 0) (made new_made : List Made → Type 0) : Type 0 where
+  pub bytes : List ℕ
+  pub long : length bytes ≡ taken
+  pub took : Consumes first left bytes
+  pub units : List ScriptUnit
+  pub read : HasRead setup.design.circuit.horizon bytes units reader
+  pub served : Serves setup desk later units slot out new_out made new_made
+
+-- such replies and such a journal were written, after the head
+pub record Wrote (setup : Setup) (such : List ℕ → List ℕ → Type 0) (slot : ℕ) (out new_out : List ℕ → Type 0) (made new_made : List Made → Type 0) : Type 0 where
+  pub replies : List ℕ
+  pub journal : List ℕ
+  pub are : such replies journal
+  pub replied : GoesOn out new_out [] replies
+  pub recorded : FileGoesOn made new_made slot (journal_of setup opened) journal

@@ -1,0 +1,21 @@
+//! The stores as a session begins.
+
+ghost use Rattle.std.specs.Prelude.{◌≡◌, ◌<◌, ◌≤◌, replicate, [], IfOk};
+ghost use Rattle.cell_store.specs.Recency.{contents};
+
+use backsim_io::OutOfMemory;
+use cell_store::CellStore;
+use std::alloc::Global;
+use unit_answers::Sizes;
+
+/// An empty store for each shard.
+pub fn empty_stores(alloc: Global, sizes: Sizes) -> Result<Vec<CellStore>, OutOfMemory>
+    requires { (0 < sizes.cells) × (sizes.cells ≤ 65536) }
+    ensures { IfOk result (λ stores. stores.items ≡ replicate sizes.shards (contents sizes.cells [])) }
+{
+    let mut stores = Vec::new(alloc);
+    for _ in 0..sizes.shards {
+        stores.push(CellStore::new(alloc, sizes.cells)?)?;
+    }
+    Ok(stores)
+}

@@ -1,0 +1,56 @@
+//! A session of one batch, without a script.
+
+ghost use Rattle.std.specs.Prelude.{◌≡◌, ◌<◌, ◌≤◌, IsErrOf, IfErr, IfOk, OnOk};
+ghost use Rattle.query_lines.specs.Laws.{IsWithin};
+ghost use Rattle.query_lines.specs.Fit.{HaveOwnLines};
+ghost use Rattle.unit_answers.specs.Stores.{setup_of};
+ghost use Rattle.session_loop.specs.Faults.{WorkExplains};
+ghost use Rattle.session_loop.specs.Halting.{WroteJournal, IsWork, IsWorkHalted};
+
+use crate::halt::Halt;
+use crate::journal::{begin_journal, finish_journal};
+use crate::section::write_section;
+use crate::stores::empty_stores;
+use backsim_io::Files;
+use batch_crew::Crew;
+use design::Design;
+use journal_text::SectionKind;
+use query_lines::Item;
+use reply_lines::Reply;
+use std::alloc::Global;
+use unit_answers::{Sizes, answer_batch};
+
+/// Creates the journal and writes its head, answers the items as one batch over empty stores, writes the section of the batch, and
+/// finishes the journal. The replies are handed back, in the order of the items.
+pub fn serve_work<C: Crew, F: Files>(
+    crew: &C,
+    alloc: Global,
+    design: &Design,
+    items: &[Item],
+    sizes: Sizes,
+    journal: &str,
+    files: &mut F,
+) -> Result<Vec<Reply>, Halt>
+    requires shards { (0 < sizes.shards) × (sizes.shards ≤ 64) }
+    requires cells { (0 < sizes.cells) × (sizes.cells ≤ 65536) }
+    requires within { IsWithin design.now.circuit.horizon items.now }
+    requires lines { HaveOwnLines items.now }
+    requires files { F.files files.old ≡ 0 }
+    ensures worked { IfOk result (λ replies. WroteJournal (IsWork (setup_of design.now sizes) items.now replies.items) journal.now (F.made files.old) (F.made files.new)) }
+    ensures halted { IfErr result (IsWorkHalted (setup_of design.now sizes) items.now journal.now (F.made files.old) (F.made files.new)) }
+    ensures no_file { IsErrOf result Halt.JournalUnmade → F.files files.new ≡ F.files files.old }
+    ensures one { OnOk result (F.files files.new ≡ 1) }
+    ensures unfinished { OnOk result (F.unfinished files.new ≡ F.unfinished files.old) }
+    ensures cause { IfErr result (WorkExplains (F.write_faults files.old) (F.write_faults files.new) (F.file_faults files.old) (F.file_faults files.new)) }
+    ensures calm_journal { OnOk result (F.write_faults files.new ≡ F.write_faults files.old) }
+    ensures calm_file { OnOk result (F.file_faults files.new ≡ F.file_faults files.old) }
+    ensures read_faults { F.read_faults files.new ≡ F.read_faults files.old }
+    ensures started { F.started files.new ≡ F.started files.old }
+{
+    let slot = begin_journal(alloc, sizes, journal, files)?;
+    let stores = empty_stores(alloc, sizes)?;
+    let done = answer_batch(crew, alloc, design, items, sizes, stores)?;
+    write_section(alloc, SectionKind::Batch, 1, &done.lists, slot, files)?;
+    finish_journal(slot, files)?;
+    Ok(done.replies)
+}

@@ -1,0 +1,64 @@
+-- What the reader knows between two lines.
+use Rattle.std.specs.Prelude.{◌≡◌, ℕ, ◌+◌, Bool, ◌||◌, List, [], ◌∷◌, ◌++◌, length, Option, Some, None, Result, Ok, Err, ◌⊎◌}
+use Rattle.std.specs.List.{list_all, list_any}
+use Rattle.timing_file.specs.declared.TimingFault.{TimingFault}
+use Rattle.timing_file.specs.declared.entry.Subject.{Subject}
+use Rattle.timing_file.specs.declared.reader.Reader.{Reader}
+use Rattle.timing_file.specs.Causes.{out_of_memory}
+use Rattle.timing_file.specs.Forms.{Entry, CommonClock, NamedClock, Default, DefaultOf, DelayOf, InitOf, PinOf, ClockedBy, Line, Plain, Versioned}
+use Rattle.timing_file.specs.Subjects.{same_subject, subject_of}
+use Rattle.timing_file.specs.Timing.{Content, clock_row_of, row_of, is_blank, is_version, cause_of, cause_of_entry, first_fault, content_of, statements_from}
+use Rattle.timing_file.specs.inner.Views.{is_alike, subject_seen}
+
+-- the content with one more statement, that of the line with the number n
+abbrev pub with_entry : Content → ℕ → Entry → Content
+with_entry c n (CommonClock clock) = record c { clock = Some clock }
+with_entry c n (NamedClock name clock) = record c { clocks = c.clocks ++ clock_row_of n (NamedClock name clock) }
+with_entry c n (Default delay) = record c { default = Some delay }
+with_entry c n (DefaultOf kind delay) = record c { kinds = c.kinds ++ (kind, delay) ∷ [] }
+with_entry c n (DelayOf name delay) = record c { rows = c.rows ++ row_of n (DelayOf name delay) }
+with_entry c n (InitOf name value) = record c { rows = c.rows ++ row_of n (InitOf name value) }
+with_entry c n (PinOf name place delay) = record c { rows = c.rows ++ row_of n (PinOf name place delay) }
+with_entry c n (ClockedBy flop clock) = record c { rows = c.rows ++ row_of n (ClockedBy flop clock) }
+
+-- whether a subject is among those seen
+abbrev pub was_seen : List Subject → Subject → Bool
+was_seen keys subject = list_any (is_alike subject) keys
+
+-- the subject was seen too, and no other than before
+abbrev pub AddsSubject : List Subject → List Subject → Subject → Type 0
+AddsSubject old new subject = (q : Subject) → was_seen new q ≡ (is_alike q subject || was_seen old q)
+
+-- the reader has read these lines, none of which is at fault
+pub record HasRead (before : List Line) (r : Reader) : Type 0 where
+  pub blank : list_all is_blank before ≡ r.is_empty
+  pub version : list_any is_version before ≡ r.is_version_2
+  pub content : r.stated ≡ content_of before
+  pub seen : (q : Subject) → was_seen r.seen.keys q ≡ list_any (λ s. same_subject (subject_seen q) (subject_of s.entry)) (statements_from 1 before)
+
+-- the line is of a form with this entry
+abbrev pub IsStatement : Line → Option Entry → Type 0
+IsStatement line entry = (line ≡ Plain entry) ⊎ (line ≡ Versioned entry)
+
+-- what the reader answers to the entry of a line that the file may have
+abbrev pub StepsEntry : List Line → Line → Option Entry → ℕ → Reader → Result (Unit {0}) TimingFault → Type 0
+StepsEntry before line entry number r (Ok x) = (cause_of_entry before entry ≡ None) × HasRead (before ++ line ∷ []) r
+StepsEntry before line entry number r (Err fault) = (fault ≡ out_of_memory) ⊎ (cause_of_entry before entry ≡ Some fault.cause) × (fault.line ≡ number)
+
+-- what the reader answers to a line
+abbrev pub Steps : List Line → Line → ℕ → Reader → Result (Unit {0}) TimingFault → Type 0
+Steps before line number r (Ok x) = (cause_of before line ≡ None) × HasRead (before ++ line ∷ []) r
+Steps before line number r (Err fault) = (fault ≡ out_of_memory) ⊎ (cause_of before line ≡ Some fault.cause) × (fault.line ≡ number)
+
+-- a reader that has read the lines before the one with this number answers to its entry so
+abbrev pub ReadsEntry : Reader → Reader → ℕ → Option Entry → Result (Unit {0}) TimingFault → Type 0
+ReadsEntry old new number entry answer = (before : List Line) (line : Line) → HasRead before old → length before + 1 ≡ number → IsStatement line entry → StepsEntry before line entry number new answer
+
+-- and to the line so
+abbrev pub Reads : Reader → Reader → ℕ → Line → Result (Unit {0}) TimingFault → Type 0
+Reads old new number line answer = (before : List Line) → HasRead before old → length before + 1 ≡ number → Steps before line number new answer
+
+-- what the reader answers to all lines
+abbrev pub ReadsAll : List Line → Result Reader TimingFault → Type 0
+ReadsAll all (Ok r) = (first_fault [] all ≡ None) × HasRead all r
+ReadsAll all (Err fault) = (fault ≡ out_of_memory) ⊎ (first_fault [] all ≡ Some fault)

@@ -1,0 +1,145 @@
+-- A batch over the stores: it is lawful, its strands are new, and what settlement leaves.
+use Rattle.std.proofs.Common.{◌≡◌, ◌≢◌, ℕ, zero, suc, ◌+◌, ◌*◌, ◌/◌, ◌%◌, ◌<◌, ◌≤◌, List, [], ◌∷◌, ◌++◌, length, get_or, slice_get, map, flat_map, All, AllPairs, Some, None, refl, sym, ap, subst, ◌∙◌, arith}
+use Rattle.std.specs.List.{AllByRecursion}
+use Rattle.std.proofs.lemmas.List.{get_or-map, length-map}
+use Rattle.std.proofs.lemmas.List.Elements.{recursion_from_All}
+use Rattle.valid_intervals.specs.declared.SignalCell.{SignalCell}
+use Rattle.valid_intervals.specs.Spans.{Span}
+use Rattle.cell_store.specs.Recency.{Contents, contents}
+use Rattle.circuit_meaning.specs.Circuit.{Circuit}
+use Rattle.journal_meaning.specs.declared.Entry.{Entry}
+use Rattle.batch_meaning.specs.declared.Query.{Query}
+use Rattle.batch_meaning.specs.Batches.{Batch}
+use Rattle.journal_meaning.specs.Allowed.{IsRight}
+use Rattle.journal_meaning.proofs.Lists.{Each, each-append}
+use Rattle.batch_meaning.specs.Lawful.{IsLawful}
+use Rattle.strand_meaning.specs.Strands.{Strand, started}
+use Rattle.batch_meaning.specs.Pieces.{Start, spans_of, starts_of, pieces}
+use Rattle.plan_machine.specs.Shards.{Shard}
+use Rattle.plan_machine.specs.Plans.{no_shard}
+use Rattle.plan_machine.specs.Sound.{IsFresh}
+use Rattle.plan_machine.specs.Settle.{journals_of}
+use Rattle.query_lines.specs.declared.unit.Item.{Item}
+use Rattle.reply_lines.specs.declared.reply.Reply.{Reply}
+use Rattle.design.specs.Joined.{IsDesign}
+use Rattle.demand_points.specs.Demands.{Demand}
+use Rattle.memo_shards.specs.KeptShards.{KeptShard}
+use Rattle.plan_core.specs.Parts.{shards_in, strands_in}
+use Rattle.window_answers.specs.Shards.{AreNumbered, IsInOrder}
+use Rattle.window_answers.specs.Settlement.{HasSettled}
+use Rattle.session_meaning.specs.Verdicts.{queries_of}
+use Rattle.session_meaning.specs.Session.{Setup, batch_of}
+use Rattle.batch_crew.specs.Crews.{AreInOrder, IsNew, AreNew}
+use Rattle.unit_answers.specs.Stores.{AreStores, cells_of}
+use Rattle.unit_answers.specs.inner.Runs.{asks, store_of, AreOpened, HasRun}
+use Rattle.session_meaning.proofs.Asked.{queries-signals, queries-within, queries-apart}
+
+-- the batch of items is lawful
+pub lawful-items : (setup : Setup) (items : List Item) → IsDesign setup.design → 0 < setup.shards → 0 < setup.capacity → AllPairs (λ a b. a.line ≢ b.line) items → IsLawful (batch_of setup items)
+lawful-items setup items design some_shard some_cell lines = record {
+  circuit = design.circuit;
+  horizon = design.limits.horizon;
+  numbers = queries-apart setup.design items lines;
+  signals = queries-signals setup.design items design.signals;
+  windows = queries-within setup.design items;
+  some_shard = omega arith;
+  some_cell = omega arith;
+}
+
+-- it begins with the stores
+pub opened-by : (setup : Setup) (queries : List Query) (stores : List Contents) → AreStores setup stores → AreOpened (asks setup queries) (cells_of stores) stores
+opened-by setup queries stores h = record {
+  count = h.count;
+  stored = λ n low.
+      let count = h.count in
+      let x : Contents = get_or stores n (contents 0 []) in
+      ap (λ k. contents k x.cells) (h.capacity n (contents 0 []) (omega arith));
+  right = λ n low.
+      let count = h.count in
+      recursion_from_All (IsRight setup.design.circuit) (cells_of stores n) (h.right n (contents 0 []) (omega arith));
+}
+
+-- a strand that has made no step
+record IsUnused (s : Strand) : Type 0 where
+  charged : s.charged ≡ 0
+  free : s.stack ≡ []
+  filled : s.filled ≡ 0
+
+abbrev IsUncharged : Start → Type 0
+IsUncharged a = a.charged ≡ 0
+
+uncharged-starts : (q : Query) (first each : ℕ) (ws : List Span) → Each IsUncharged (starts_of q first each ws)
+uncharged-starts q first each [] = tt
+uncharged-starts q first each (w ∷ ws) = (refl, uncharged-starts q each each ws)
+
+uncharged-pieces : (qs : List Query) → Each IsUncharged (flat_map pieces qs)
+uncharged-pieces [] = tt
+uncharged-pieces (q ∷ qs) =
+    let m = length (spans_of q) in
+    each-append IsUncharged (pieces q) (flat_map pieces qs) (uncharged-starts q (q.budget / m + q.budget % m) (q.budget / m) (spans_of q)) (uncharged-pieces qs)
+
+unused-at : (c : Circuit) (strands : List Demand) (starts : List Start) → strands_in strands ≡ map (started c) starts → Each IsUncharged starts → (i : ℕ) (s : Demand) → slice_get strands i ≡ Some s → IsUnused s.strand
+unused-at c [] starts same h i s at = absurd (cc)
+unused-at c (x ∷ strands) [] same h i s at = absurd (cc)
+unused-at c (x ∷ strands) (a ∷ starts) same h zero s at =
+    let here : x ≡ s = cc in
+    let is : x.strand ≡ started c a = cc in
+    let begins : s.strand ≡ started c a = ap (λ (y : Demand). y.strand) (sym here) ∙ is in
+    record { charged = ap (λ (y : Strand). y.charged) begins ∙ h.0; free = ap (λ (y : Strand). y.stack) begins; filled = ap (λ (y : Strand). y.filled) begins }
+unused-at c (x ∷ strands) (a ∷ starts) same h (suc i) s at =
+    let more : strands_in strands ≡ map (started c) starts = cc in unused-at c strands starts more h.1 i s at
+
+at-place : {X : Type 0} (xs : List X) (i : ℕ) (x : X) → slice_get xs i ≡ Some x → (i < length xs) × ((d : X) → get_or xs i d ≡ x)
+at-place [] i x at = absurd (cc)
+at-place (y ∷ xs) zero x at = (omega arith, λ d. cc)
+at-place (y ∷ xs) (suc i) x at = let r = at-place xs i x at in (omega (arith, r.0), r.1)
+
+place-at : {X : Type 0} (xs : List X) (i : ℕ) (d : X) → i < length xs → slice_get xs i ≡ Some (get_or xs i d)
+place-at [] i d low = absurd (omega arith)
+place-at (y ∷ xs) zero d low = refl
+place-at (y ∷ xs) (suc i) d low = place-at xs i d (omega arith)
+
+module _ (c : Circuit) (qs : List Query) (strands : List Demand) (order : IsInOrder strands) (same : strands_in strands ≡ map (started c) (flat_map pieces qs)) where
+  -- the strands of the pieces are new
+  pub strands-new : AreNew strands
+  strands-new i s at =
+      let unused = unused-at c strands (flat_map pieces qs) same (uncharged-pieces qs) i s at in
+      let place = at-place strands i s at in
+      record {
+        number = ap (λ (y : Demand). y.number) (sym (place.1 s)) ∙ order i s place.0;
+        charged = unused.charged;
+        free = unused.free;
+        filled = unused.filled;
+      }
+
+  -- and as many as the pieces
+  pub strands-many : length strands ≡ length (flat_map pieces qs)
+  strands-many = sym (length-map strands (λ (s : Demand). s.strand)) ∙ ap length same ∙ length-map (flat_map pieces qs) (started c)
+
+-- shards in order are numbered
+pub order-numbers : (ms : List KeptShard) → AreInOrder ms → AreNumbered ms
+order-numbers ms order n d low = order n (get_or ms n d) (place-at ms n d low)
+
+-- what settlement leaves has no claim
+pub settled-free : (b : Batch) (opening : ℕ → List SignalCell) (handed ms : List KeptShard) (rs : List Reply) → HasSettled b opening handed ms rs → All (λ m. m.shard.state.claims ≡ []) ms
+settled-free b opening handed ms rs h k d low =
+    let fresh : IsFresh b opening (shards_in ms) = h.settled.fresh in
+    let count = fresh.count in
+    let many : length (shards_in ms) ≡ length ms = length-map ms (λ (m : KeptShard). m.shard) in
+    subst (λ (x : Shard). x.state.claims ≡ []) (get_or-map (λ (m : KeptShard). m.shard) ms k d no_shard low) (fresh.free k (omega arith))
+
+map-twice : {A B C : Type 0} (g : B → C) (f : A → B) (xs : List A) → map (λ x. g (f x)) xs ≡ map g (map f xs)
+map-twice g f [] = refl
+map-twice g f (x ∷ xs) = ap (λ l. g (f x) ∷ l) (map-twice g f xs)
+
+-- the batch has run
+pub has-run : (b : Batch) (opening : ℕ → List SignalCell) (handed ms : List KeptShard) (rs : List Reply) (lists : List (List Entry)) (left : List Contents) → HasSettled b opening handed ms rs
+    → lists ≡ map (λ m. m.shard.journal) ms → left ≡ map (λ m. store_of b.capacity m.shard) ms → HasRun b opening rs lists left
+has-run b opening handed ms rs lists left h journals stores = record {
+  handed = shards_in handed;
+  shards = shards_in ms;
+  settled = h.settled;
+  replies_are = h.replies_are;
+  lists_are = journals ∙ map-twice (λ (x : Shard). x.journal) (λ (m : KeptShard). m.shard) ms;
+  stores_are = stores ∙ map-twice (store_of b.capacity) (λ (m : KeptShard). m.shard) ms;
+}

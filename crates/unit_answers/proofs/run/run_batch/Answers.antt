@@ -1,0 +1,32 @@
+use Rattle.std.proofs.Common.{◌≡◌, ◌≤◌, ◌<◌, ℕ, List, length, map, flat_map, sym, ap, subst, ◌∙◌, arith}
+use Rattle.valid_intervals.specs.declared.SignalCell.{SignalCell}
+use Rattle.batch_meaning.specs.Batches.{Batch}
+use Rattle.batch_meaning.specs.Lawful.{IsLawful}
+use Rattle.unit_answers.specs.Stores.{setup_of, cells_of}
+use Rattle.unit_answers.specs.inner.Runs.{asks, AreOpened, HasRun}
+use Rattle.unit_answers.proofs.Running.{opened-by, strands-new, order-numbers, settled-free, has-run}
+use Rattle.unit_answers.proofs.run.run_batch.Goals as goal
+
+pub begin_all-requires-clause-opened : goal.begin_all-requires-clause-opened
+begin_all-requires-clause-opened g c =
+    let stores = c.args.stores.items in
+    let opened = opened-by (setup_of c.args.design.now c.args.sizes) c.args.queries.now stores c.requires.stores in
+    subst (λ (b : Batch). AreOpened b g.B.BatchName.opening stores) (sym c.requires.batch)
+    (subst (λ (o : ℕ → List SignalCell). AreOpened (asks (setup_of c.args.design.now c.args.sizes) c.args.queries.now) o stores) (sym c.requires.opening) opened)
+
+pub run-requires-clause-new : goal.run-requires-clause-new
+run-requires-clause-new g c κs within = strands-new g.B.BatchName.batch.circuit c.args.queries.now c.in_ok-strands.strands.items c.in_ok-strands.ensures.order c.in_ok-strands.ensures.strands
+
+pub settle-requires-clause-numbers : goal.settle-requires-clause-numbers
+settle-requires-clause-numbers g c = order-numbers c.in_ok-handed.handed.items c.in_ok-handed.ensures.order
+
+pub end_all-requires : goal.end_all-requires
+end_all-requires g c = settled-free g.B.BatchName.batch g.B.BatchName.opening c.in_ok-handed.handed.items c.in_ok-replies.field-0.shards.items c.in_ok-replies.field-0.replies.items c.in_ok-replies.ensures
+
+pub returns : goal.returns
+returns g c =
+    let rs = c.in_ok-replies.field-0.replies.items in
+    let lists = c.in_ok-lists.lists.items in
+    let left = c.in_ok-lists.stores.items in
+    let run = has-run g.B.BatchName.batch g.B.BatchName.opening c.in_ok-handed.handed.items c.in_ok-replies.field-0.shards.items rs lists left c.in_ok-replies.ensures c.in_ok-lists.ensures.lists c.in_ok-lists.ensures.stores in
+    subst (λ (b : Batch). HasRun b (cells_of c.args.stores.items) rs lists left) c.requires.batch (subst (λ (o : ℕ → List SignalCell). HasRun g.B.BatchName.batch o rs lists left) c.requires.opening run)

@@ -1,0 +1,64 @@
+use Rattle.std.proofs.Common.{◌≡◌, ◌≢◌, ℕ, ◌+◌, ◌-◌, ◌<◌, ◌≤◌, Bool, ◌&&◌, true, false, cond, nat_lt, nat_le, List, [], ◌∷◌, length, All, refl, sym, subst, arith}
+use Rattle.std.specs.List.{AllPairs}
+use Rattle.std.proofs.lemmas.List.Elements.{All-nil, All-cons}
+use Rattle.std.proofs.lemmas.List.Kept.{AllPairs-cons}
+use Rattle.std.proofs.lemmas.List.Sums.{sum_by-cons}
+use Rattle.valid_intervals.specs.declared.SignalCell.{SignalCell}
+use Rattle.cell_store.specs.Recency.{Contents, contents}
+use Rattle.journal_meaning.specs.Allowed.{IsRight}
+use Rattle.query_lines.specs.declared.line.What.TheVariants as whats
+use Rattle.query_lines.specs.declared.unit.Item.{Item}
+use Rattle.query_lines.specs.Units.{budgets, budget_weight, window_length, length_weight, lengths}
+use Rattle.query_lines.specs.Laws.{IsWithin}
+use Rattle.design.specs.Joined.{Joined}
+use Rattle.unit_answers.specs.Stores.{setup_of, AreStores}
+use Rattle.unit_answers.specs.declared.sizes.Sizes.{Sizes}
+use Rattle.unit_answers.proofs.tests.answered.Goals as goal
+
+abbrev sizes : Sizes
+sizes = record { shards = 2; cells = 4 }
+
+two-empty : (d : Joined) → AreStores (setup_of d sizes) (contents 4 [] ∷ contents 4 [] ∷ [])
+two-empty d =
+    let none : Contents = contents 4 [] in
+    let Roomy : Contents → Type 0 = λ s. s.capacity ≡ 4 in
+    let Right : Contents → Type 0 = λ s. All (IsRight d.circuit) s.cells in
+    let right : Right none = All-nil (IsRight d.circuit) in
+    record {
+      count = refl;
+      capacity = All-cons Roomy none (none ∷ []) refl (All-cons Roomy none [] refl (All-nil Roomy));
+      right = All-cons Right none (none ∷ []) right (All-cons Right none [] right (All-nil Right));
+    }
+
+one-instant : (horizon time : ℕ) → window_length horizon time (time + 1) ≤ 1
+one-instant horizon time = elim (nat_lt time (time + 1) && nat_le (time + 1) (horizon + 1)) as (λ b. cond b ((time + 1) - time) 0 ≤ 1) [ true ↦ omega arith | false ↦ omega arith ]
+
+module _ (name : List ℕ) where
+  abbrev first : Item
+  first = record { line = 1; what = whats.Bad }
+
+  abbrev second : Item
+  second = record { line = 2; what = whats.At name 5 3 }
+
+  two-within : (horizon : ℕ) → IsWithin horizon (first ∷ second ∷ [])
+  two-within horizon =
+      let weight : Item → ℕ = λ item. length_weight horizon item.what in
+      let one = one-instant horizon 5 in
+      let a = sum_by-cons weight first (second ∷ []) in
+      let b = sum_by-cons weight second [] in
+      record { some = omega arith; most = omega arith; budgets_fit = omega arith; lengths_fit = omega (arith, a, b, one) }
+
+  two-lines : AllPairs (λ (x : Item) (y : Item). x.line ≢ y.line) (first ∷ second ∷ [])
+  two-lines =
+      let Apart : Item → Item → Type 0 = λ x y. x.line ≢ y.line in
+      let apart : Apart first second = λ e. omega (arith, e) in
+      AllPairs-cons Apart first (second ∷ []) (All-cons (Apart first) second [] apart (All-nil (Apart first))) (AllPairs-cons Apart second [] (All-nil (Apart second)) (λ i j d l m. absurd (omega arith)))
+
+pub answer_batch-requires-clause-stores : goal.answer_batch-requires-clause-stores
+answer_batch-requires-clause-stores g c κs within = subst (AreStores (setup_of c.args.design.now sizes)) (sym c.in_ok-stores.ensures) (two-empty c.args.design.now)
+
+pub answer_batch-requires-clause-within : goal.answer_batch-requires-clause-within
+answer_batch-requires-clause-within g c κs within = two-within c.in_ok-from_bytes.field-0 c.args.design.now.circuit.horizon
+
+pub answer_batch-requires-clause-lines : goal.answer_batch-requires-clause-lines
+answer_batch-requires-clause-lines g c κs within = two-lines c.in_ok-from_bytes.field-0

@@ -1,0 +1,51 @@
+-- The queries of a batch, run over the stores under the batch's name.
+use Rattle.std.specs.Prelude.{◌≡◌, ℕ, ◌<◌, List, [], length, get_or, map, All, None}
+use Rattle.std.specs.List.{AllByRecursion}
+use Rattle.valid_intervals.specs.declared.SignalCell.{SignalCell}
+use Rattle.cell_store.specs.Recency.{Contents, contents}
+use Rattle.journal_meaning.specs.declared.Entry.{Entry}
+use Rattle.batch_meaning.specs.declared.Query.{Query}
+use Rattle.batch_meaning.specs.Batches.{Batch}
+use Rattle.journal_meaning.specs.Allowed.{IsRight}
+use Rattle.plan_machine.specs.Shards.{Shard}
+use Rattle.plan_machine.specs.Settle.{AreSettled, journals_of}
+use Rattle.reply_lines.specs.declared.reply.Reply.{Reply}
+use Rattle.memo_shards.specs.KeptShards.{KeptShard}
+use Rattle.window_answers.specs.Phases.{AreReplies, refused_of}
+use Rattle.session_meaning.specs.Session.{Setup}
+use Rattle.batch_crew.specs.Crews.{AreInOrder}
+
+-- the batch of these queries
+abbrev pub asks : Setup → List Query → Batch
+asks setup queries = record {
+  circuit = setup.design.circuit;
+  shards = setup.shards;
+  capacity = setup.capacity;
+  queries = queries;
+  site = None;
+}
+
+-- The batch begins with these stores: there is one for each shard, and it has the shard's room and the cells that the shard opens with.
+pub record AreOpened (b : Batch) (opening : ℕ → List SignalCell) (stores : List Contents) : Type 0 where
+  pub count : length stores ≡ b.shards
+  pub stored : (n : ℕ) → n < b.shards → get_or stores n (contents 0 []) ≡ contents b.capacity (opening n)
+  pub right : (n : ℕ) → n < b.shards → AllByRecursion (IsRight b.circuit) (opening n)
+
+-- the shards of so many stores, as a batch begins
+pub record AreBegun (stores : List Contents) (shards : List KeptShard) : Type 0 where
+  pub count : length shards ≡ length stores
+  pub order : AreInOrder shards
+  pub empty : All (λ m. m.shard.journal ≡ []) shards
+
+-- the store that a shard leaves
+abbrev pub store_of : ℕ → Shard → Contents
+store_of capacity h = contents capacity h.state.cells
+
+-- The shards of the batch are settled, each query has its reply, and what is left are the journals and the stores of the shards.
+pub record HasRun (b : Batch) (opening : ℕ → List SignalCell) (replies : List Reply) (lists : List (List Entry)) (left : List Contents) : Type 0 where
+  pub handed : List Shard
+  pub shards : List Shard
+  pub settled : AreSettled b opening handed shards (refused_of replies)
+  pub replies_are : AreReplies b.circuit b.queries replies
+  pub lists_are : lists ≡ journals_of shards
+  pub stores_are : left ≡ map (store_of b.capacity) shards

@@ -1,0 +1,95 @@
+//! The queries of a batch, run under the batch's name.
+
+ghost use Rattle.std.specs.Prelude.{◌≡◌, ◌≤◌, [], length, map, flat_map, All, IfOk};
+ghost use Rattle.cell_store.specs.Recency.{Contents};
+ghost use Rattle.batch_meaning.specs.Lawful.{IsLawful};
+ghost use Rattle.batch_meaning.specs.Pieces.{pieces};
+ghost use Rattle.unit_answers.specs.Stores.{setup_of, cells_of, AreStores};
+ghost use Rattle.unit_answers.specs.inner.Runs.{asks, store_of, AreOpened, AreBegun, HasRun};
+
+use crate::sizes::Sizes;
+use backsim_io::OutOfMemory;
+use batch_crew::Crew;
+use batch_meaning::Query;
+use cell_store::CellStore;
+use demand_points::BatchName;
+use design::Design;
+use journal_text::EntryList;
+use memo_shards::Shard;
+use reply_lines::Reply;
+use std::alloc::Global;
+use window_answers::{Settled, settle, strands_of};
+
+/// What came of the queries of a batch: the reply to each, the journal of each shard, and the stores that are left.
+#[derive(Drop)]
+pub struct BatchRun {
+    pub replies: Vec<Reply>,
+    pub lists: Vec<EntryList>,
+    pub stores: Vec<CellStore>,
+}
+
+/// Opens a shard over each store.
+fn begin_all<B: BatchName>(
+    alloc: Global,
+    stores: Vec<CellStore>,
+) -> Result<Vec<Shard<B>>, OutOfMemory>
+    requires lawful { IsLawful B.batch }
+    requires opened { AreOpened B.batch B.opening stores.items }
+    requires most { length stores.items ≤ 64 }
+    ensures { IfOk result (λ shards. AreBegun stores.items shards.items) }
+{
+    let mut shards = Vec::new(alloc);
+    for store in stores {
+        let number = shards.len() as u32;
+        shards.push(Shard::begin(alloc, number, store))?;
+    }
+    Ok(shards)
+}
+
+/// Closes the shards: the journal and the store of each.
+fn end_all<B: BatchName>(
+    alloc: Global,
+    shards: Vec<Shard<B>>,
+) -> Result<(Vec<EntryList>, Vec<CellStore>), OutOfMemory>
+    requires { All (λ m. m.shard.state.claims ≡ []) shards.items }
+    ensures lists { IfOk result (λ ended. ended.0.items ≡ map (λ m. m.shard.journal) shards.items) }
+    ensures stores { IfOk result (λ ended. ended.1.items ≡ map (λ m. store_of B.batch.capacity m.shard) shards.items) }
+{
+    let mut lists = Vec::new(alloc);
+    let mut stores = Vec::new(alloc);
+    for shard in shards {
+        let (store, journal) = shard.end_batch();
+        lists.push(EntryList::from_vec(journal))?;
+        stores.push(store)?;
+    }
+    Ok((lists, stores))
+}
+
+/// Has the strands of the queries run by the crew, in the batch that B names, and settles it.
+pub fn run_batch<B: BatchName + Send + Sync, C: Crew>(
+    crew: &C,
+    alloc: Global,
+    design: &Design,
+    queries: &[Query],
+    sizes: Sizes,
+    stores: Vec<CellStore>,
+) -> Result<BatchRun, OutOfMemory>
+    requires batch { B.batch ≡ asks (setup_of design.now sizes) queries.now }
+    requires opening { B.opening ≡ cells_of stores.items }
+    requires lawful { IsLawful (asks (setup_of design.now sizes) queries.now) }
+    requires stores { AreStores (setup_of design.now sizes) stores.items }
+    requires most { sizes.shards ≤ 64 }
+    requires few { length (flat_map pieces queries.now) ≤ 256 }
+    ensures { IfOk result (λ run. HasRun (asks (setup_of design.now sizes) queries.now) (cells_of stores.items) run.replies.items run.lists.items run.stores.items) }
+{
+    let begun = begin_all::<B>(alloc, stores)?;
+    let strands = strands_of::<B>(alloc, queries)?;
+    let handed = crew.run(alloc, design, begun, strands)?;
+    let Settled { replies, shards } = settle(alloc, design, handed, queries)?;
+    let (lists, stores) = end_all(alloc, shards)?;
+    Ok(BatchRun {
+        replies,
+        lists,
+        stores,
+    })
+}

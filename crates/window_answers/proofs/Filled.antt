@@ -1,0 +1,37 @@
+-- The points that queries filled.
+use Rattle.std.proofs.Common.{◌≡◌, ℕ, zero, suc, ◌+◌, ◌<◌, ◌++◌, nat_eq, Bool, true, false, cond, List, [], ◌∷◌, length, get_or, take, filter, refl, sym, ap, subst, ◌∙◌, arith, append_assoc, append-nil}
+use Rattle.journal_meaning.specs.declared.Entry.{Entry}
+use Rattle.journal_meaning.specs.declared.Entry.TheVariants.{Told, Claimed, Filled, Evicted, Dropped, Spent}
+use Rattle.journal_meaning.specs.Answers.{is_fill_of, filled}
+use Rattle.journal_meaning.proofs.Lists.{Each, each-left, each-right}
+use Rattle.plan_machine.specs.Settling.{fills_of}
+use Rattle.memo_shards.specs.KeptShards.{KeptShard}
+use Rattle.window_answers.proofs.Lists.{take-item}
+
+-- the points that a query filled, of two lists of entries
+pub fills-append : (xs ys : List Entry) (q : ℕ) → fills_of (xs ++ ys) q ≡ fills_of xs q ++ fills_of ys q
+fills-append [] ys q = refl
+fills-append (Told r p x ∷ xs) ys q = fills-append xs ys q
+fills-append (Claimed r p ∷ xs) ys q = fills-append xs ys q
+fills-append (Filled r p x ∷ xs) ys q = by (nat_eq r q) (fills-append xs ys q)
+  where
+    by : (t : Bool) → fills_of (xs ++ ys) q ≡ fills_of xs q ++ fills_of ys q → cond t (p ∷ fills_of (xs ++ ys) q) (fills_of (xs ++ ys) q) ≡ cond t (p ∷ fills_of xs q) (fills_of xs q) ++ fills_of ys q
+    by true h = ap (λ l. p ∷ l) h
+    by false h = h
+fills-append (Evicted s t ∷ xs) ys q = fills-append xs ys q
+fills-append (Dropped r p ∷ xs) ys q = fills-append xs ys q
+fills-append (Spent r p n ∷ xs) ys q = fills-append xs ys q
+
+-- there are as many as fills
+pub fills-count : (es : List Entry) (q : ℕ) → length (fills_of es q) ≡ filled es q
+fills-count [] q = refl
+fills-count (Told r p x ∷ xs) q = fills-count xs q
+fills-count (Claimed r p ∷ xs) q = fills-count xs q
+fills-count (Filled r p x ∷ xs) q = by (nat_eq r q) (fills-count xs q)
+  where
+    by : (t : Bool) → length (fills_of xs q) ≡ filled xs q → length (cond t (p ∷ fills_of xs q) (fills_of xs q)) ≡ length (cond t (Filled r p x ∷ filter (is_fill_of q) xs) (filter (is_fill_of q) xs))
+    by true h = ap suc h
+    by false h = h
+fills-count (Evicted s t ∷ xs) q = fills-count xs q
+fills-count (Dropped r p ∷ xs) q = fills-count xs q
+fills-count (Spent r p n ∷ xs) q = fills-count xs q

@@ -1,0 +1,2 @@
+pub mod Maximal
+pub mod WalkLemmas

@@ -1,0 +1,62 @@
+//! A workload of fixed size and drawn content: a circuit, its inputs over time, and questions about it.
+//!
+//! A workload has a number, the seed of its draws. Its circuit has 16 inputs and 100 layers of 2,000 gates of two
+//! pins, whose kinds are drawn. Each gate reads two neighbours in the layer below, and every delay is 1. The
+//! inputs are set to drawn values at every tenth instant up to the horizon, 100,000. Sixteen questions ask for
+//! signals of the last layer at drawn times; they are one batch. To simulate all of it forward takes
+//! 20,000,000,000 evaluations; what the questions need is 121,200 at most.
+//!
+//! `specs/Texts` defines a workload as four texts: a netlist, a timing file, a stimulus file and a script, in the
+//! forms of `bench_reader`, `timing_file`, `stimulus_file` and `query_lines`. [`workload`] writes these texts,
+//! reads them by the readers of those crates and joins them. So a session over a workload is the session over
+//! its texts (`specs/Workload`). `specs/Draws` has the generator.
+//!
+//! That the readers accept the texts isn't proved: the tests show it. A refusal would be answered as
+//! `OutOfMemory`, which is the one error.
+//!
+//! The texts have some ten million bytes, and are dropped as soon as they are read.
+//!
+//! ```text
+//! let Work { design, items } = workload(alloc, 7)?;
+//! ```
+#![tactic(auto)]
+
+ghost use Rattle.std.specs.Prelude.{◌≤◌, IfOk};
+ghost use Rattle.workload.specs.Workload.{IsWork};
+
+mod draws;
+mod lines;
+mod read;
+#[cfg(test)]
+mod tests;
+mod texts;
+mod words;
+
+use crate::draws::Draws;
+use crate::read::{items_in, joined, netlist_in, stimulus_in, timing_in};
+use crate::texts::{netlist_text, script_text, stimulus_text};
+use backsim_io::OutOfMemory;
+use design::Design;
+use query_lines::ItemList;
+use std::alloc::Global;
+
+/// A circuit with its inputs, and the items of one batch.
+#[derive(Drop)]
+pub struct Work {
+    pub design: Design,
+    pub items: ItemList,
+}
+
+/// The workload with this number, of 31 bits.
+pub fn workload(alloc: Global, number: u32) -> Result<Work, OutOfMemory>
+    requires { number ≤ 2147483647 }
+    ensures { IfOk result (IsWork number) }
+{
+    let mut draws = Draws::new(number);
+    let netlist = netlist_in(alloc, &netlist_text(alloc, &mut draws)?)?;
+    let timing = timing_in(alloc, b"default 1\n")?;
+    let stimulus = stimulus_in(alloc, &stimulus_text(alloc, &mut draws)?)?;
+    let design = joined(alloc, netlist, &timing, &stimulus)?;
+    let items = items_in(alloc, &script_text(alloc, &mut draws)?)?;
+    Ok(Work { design, items })
+}
