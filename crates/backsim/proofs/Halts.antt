@@ -6,7 +6,10 @@ use Rattle.std.specs.Prelude.{◌<◌, ◌≤◌, IsErrOf}
 use Rattle.backsim_io.specs.Counts.{Grows, GrowsByPrefix, Stays}
 use Rattle.backsim_io.specs.Held.{Made, SameMade, Places}
 use Rattle.design.specs.Joined.{Joined}
+use Rattle.circuit_meaning.specs.Circuit.{IsCircuit}
 use Rattle.session_meaning.specs.Session.{Setup, IsSessionOf}
+use Rattle.session_meaning.specs.Ample.{IsAmpleSession}
+use Rattle.session_meaning.specs.Laws.{EnoughBudgetsAreServed}
 use Rattle.session_meaning.specs.Broken.{IsPrefix, IsCutOff, IsBrokenIn}
 use Rattle.session_loop.specs.Serving.{IsServedUntil}
 use Rattle.session_loop.specs.Halting.{WroteFile, IsUnbegun, IsHalted, IsUntouched}
@@ -18,7 +21,7 @@ use Rattle.backsim.specs.Broken.{IsBroken, BrokeOff, BrokeOffIn, ServedUntil, Le
 use Rattle.backsim.specs.Commands.{Command}
 use Rattle.backsim.specs.Files.{design_of_files}
 use Rattle.backsim.specs.Refused.{Followed, IsScriptRefused, IsRefused, too_long}
-use Rattle.backsim.specs.Session.{Given, setup_of, OfDesign, IsServed}
+use Rattle.backsim.specs.Session.{Given, setup_of, OfDesign, ServedAll, IsServed}
 use Rattle.backsim.specs.inner.Stops.{stop_of, IsTold, EndsWith}
 use Rattle.backsim.specs.declared.status.Place.TheVariants.{Journal, Script, Replies}
 use Rattle.backsim.specs.declared.status.Status.{Status}
@@ -64,14 +67,18 @@ module _ (command : Command) (given : Given) (design : Joined) (accepted : desig
   of-design : (says : Setup → Type 0) → says (setup_of command design) → OfDesign command given says
   of-design says is = record { design = design; accepted = accepted; holds = is }
 
+  -- the session of the script that was written, with bytes that were written before or files that were not created
+  whole : EnoughBudgetsAreServed → IsCircuit design.circuit → (w w' w'' : List ℕ → Type 0) (m m' m'' : List Made → Type 0) → SameMade m m' → Stays w' w''
+      → WroteFile (IsSessionOf (setup_of command design) given.script) command.journal w w' m' m'' → ServedAll command given w w'' m m''
+  whole enough circuit w w' w'' m m' m'' same stays wrote =
+      of-design (λ setup. WroteFile (IsAmpleSession setup given.script) command.journal w w'' m m'')
+      (wrote-as (IsSessionOf (setup_of command design) given.script) (IsAmpleSession (setup_of command design) given.script) command.journal w w'' m m'' (enough (setup_of command design) circuit given.script)
+      (wrote-between (IsSessionOf (setup_of command design) given.script) command.journal w w' w'' m m' m'' same wrote stays))
+
   -- all was served
-  pub served-all : (w w' : List ℕ → Type 0) (m m' m'' : List Made → Type 0) → length given.script ≤ 16777216 → SameMade m m'
+  pub served-all : EnoughBudgetsAreServed → IsCircuit design.circuit → (w w' : List ℕ → Type 0) (m m' m'' : List Made → Type 0) → length given.script ≤ 16777216 → SameMade m m'
       → WroteFile (IsSessionOf (setup_of command design) given.script) command.journal w w' m' m'' → IsServed command given w w' m m''
-  served-all w w' m m' m'' short same wrote = record {
-    short = short;
-    session = of-design (λ setup. WroteFile (IsSessionOf setup given.script) command.journal w w' m m'')
-        (wrote-between (IsSessionOf (setup_of command design) given.script) command.journal w w' w' m m' m'' same wrote (λ before h. h));
-  }
+  served-all enough circuit w w' m m' m'' short same wrote = record { short = short; session = whole enough circuit w w' w' m m' m'' same (λ before h. h) wrote }
 
   -- of the line of a script that is too long such a part was written
   cut-off : (left : Option (List ℕ)) (w w' w'' : List ℕ → Type 0) (m m' m'' : List Made → Type 0) (tail : List ℕ → Type 0) (rest : List ℕ) → SameMade m m'
@@ -147,11 +154,11 @@ module _ (command : Command) (given : Given) (design : Joined) (accepted : desig
   long-leaves left w w' w'' m m' m'' f f' _ same wrote told = absurd told
 
   -- what a halt of the loop leaves
-  pub halt-leaves : (halt : Halt) (left : Option (List ℕ)) (w w' w'' : List ℕ → Type 0) (m m' m'' : List Made → Type 0) (f f' : ℕ) (status : Status) → SameMade m m'
+  pub halt-leaves : EnoughBudgetsAreServed → IsCircuit design.circuit → (halt : Halt) (left : Option (List ℕ)) (w w' w'' : List ℕ → Type 0) (m m' m'' : List Made → Type 0) (f f' : ℕ) (status : Status) → SameMade m m'
       → (halt ≡ JournalUnmade → IsUntouched (Some given.script) left w w' m m'' f f')
       → IsHalted (setup_of command design) command.journal given.script (Some given.script) left w w' m' m'' halt → EndsWith (stop_of halt) w' w'' status
       → Leaves command given left w w'' m m'' f f' status
-  halt-leaves JournalUnmade left w w' w'' m m' m'' f f' status same untouched halted told =
+  halt-leaves enough circuit JournalUnmade left w w' w'' m m' m'' f f' status same untouched halted told =
       let is = untouched refl in
       subst (Leaves command given left w w'' m m'' f f') (sym told.0) (inl (record {
         unread = is.unread;
@@ -159,19 +166,18 @@ module _ (command : Command) (given : Given) (design : Joined) (accepted : desig
         same_files = is.same_files;
         no_file = is.no_file;
       }))
-  halt-leaves JournalUnfinished left w w' w'' m m' m'' f f' status same untouched halted told =
+  halt-leaves enough circuit JournalUnfinished left w w' w'' m m' m'' f f' status same untouched halted told =
       subst (Leaves command given left w w'' m m'' f f') (sym told.0)
-      (inr (of-design (λ setup. WroteFile (IsSessionOf setup given.script) command.journal w w'' m m'')
-      (wrote-between (IsSessionOf (setup_of command design) given.script) command.journal w w' w'' m m' m'' same halted told.1)))
-  halt-leaves (Stopped stops.ScriptUnread) left w w' w'' m m' m'' f f' status same untouched halted told =
+      (inr (whole enough circuit w w' w'' m m' m'' same told.1 halted))
+  halt-leaves enough circuit (Stopped stops.ScriptUnread) left w w' w'' m m' m'' f f' status same untouched halted told =
       subst (Leaves command given left w w'' m m'' f f') (sym told.0) (until-unread left w w' w'' m m' m'' same told.1 halted)
-  halt-leaves (Stopped stops.ScriptTooLong) left w w' w'' m m' m'' f f' status same untouched halted told =
+  halt-leaves enough circuit (Stopped stops.ScriptTooLong) left w w' w'' m m' m'' f f' status same untouched halted told =
       long-leaves left w w' w'' m m' m'' f f' status same (long-wrote left w w' m' m'' halted) told
-  halt-leaves (Stopped stops.RepliesUnwritten) left w w' w'' m m' m'' f f' status same untouched halted told =
+  halt-leaves enough circuit (Stopped stops.RepliesUnwritten) left w w' w'' m m' m'' f f' status same untouched halted told =
       subst (Leaves command given left w w'' m m'' f f') (sym told.0) (inl (broken-in left w w' w'' m m' m'' same told.1 halted))
-  halt-leaves (Stopped stops.JournalUnwritten) left w w' w'' m m' m'' f f' status same untouched halted told =
+  halt-leaves enough circuit (Stopped stops.JournalUnwritten) left w w' w'' m m' m'' f f' status same untouched halted told =
       subst (Leaves command given left w w'' m m'' f f') (sym told.0) (broken-off stops.JournalUnwritten left w w' w'' m m' m'' same told.1 halted)
-  halt-leaves (Stopped stops.OutOfMemory) left w w' w'' m m' m'' f f' status same untouched halted told =
+  halt-leaves enough circuit (Stopped stops.OutOfMemory) left w w' w'' m m' m'' f f' status same untouched halted told =
       subst (Leaves command given left w w'' m m'' f f') (sym told.0) (inr (inl (broken-off stops.OutOfMemory left w w' w'' m m' m'' same told.1 halted)))
 
 -- no halt is a fault of one of the three files

@@ -2,7 +2,8 @@
 use Rattle.std.specs.Prelude.{◌≡◌, ◌≤◌, ℕ, List, length, Option, Some, Ok}
 use Rattle.backsim_io.specs.Held.{Made}
 use Rattle.design.specs.Joined.{Joined}
-use Rattle.session_meaning.specs.Session.{Setup, IsSessionOf}
+use Rattle.session_meaning.specs.Session.{Setup}
+use Rattle.session_meaning.specs.Ample.{IsAmpleSession}
 use Rattle.session_loop.specs.Halting.{WroteFile}
 use Rattle.backsim.specs.Commands.{Command}
 use Rattle.backsim.specs.Files.{design_of_files}
@@ -30,11 +31,11 @@ pub record OfDesign (command : Command) (given : Given) (says : Setup → Type 0
   pub accepted : design_of_files given.netlist given.timing given.stimulus ≡ Ok design
   pub holds : says (setup_of command design)
 
--- The session of the script over the design stands whole: its replies were written, and its journal is the one file that was created,
--- under the journal's name.
+-- The session of the script over the design stands whole, with the wave of every query whose budget is ample: its replies were written,
+-- and its journal is the one file that was created, under the journal's name.
 abbrev pub ServedAll : Command → Given → (List ℕ → Type 0) → (List ℕ → Type 0) → (List Made → Type 0) → (List Made → Type 0) → Type 0
 ServedAll command given out new_out made new_made =
-    OfDesign command given (λ setup. WroteFile (IsSessionOf setup given.script) command.journal out new_out made new_made)
+    OfDesign command given (λ setup. WroteFile (IsAmpleSession setup given.script) command.journal out new_out made new_made)
 
 -- the script has at most 16,777,216 bytes, and its session stands whole
 pub record IsServed (command : Command) (given : Given) (out new_out : List ℕ → Type 0) (made new_made : List Made → Type 0) : Type 0 where

@@ -26,6 +26,7 @@ use backsim_io::{Files, Sink, Source, write_all};
 use batch_crew::Workers;
 use command_words::{Words, read_words};
 use session_loop::serve_session;
+use session_meaning::enough_budgets_are_served;
 use std::alloc::Global;
 use std::sync::Wait;
 use std::thread::Threads;
@@ -86,6 +87,8 @@ fn serve_files<F: Files, Q: Source, S: Sink, G: Gate, R: Threads + Wait + Sync>(
         Ok(design) => design,
         Err(stop) => return end_stopped(alloc, stop, out),
     };
+    design.facts();
+    enough_budgets_are_served();
     let crew = Workers::new(rt, gate, workers);
     match serve_session(&crew, alloc, &design, sizes, journal, files, queries, out) {
         Ok(()) => Status::Ended,

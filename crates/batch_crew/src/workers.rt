@@ -1,6 +1,6 @@
 //! Workers as a crew.
 
-ghost use Rattle.std.specs.Prelude.{◌<◌, ◌≤◌};
+ghost use Rattle.std.specs.Prelude.{◌≡◌, ◌<◌, ◌≤◌};
 
 use crate::crew::Crew;
 use std::sync::Wait;
@@ -23,6 +23,7 @@ impl<'a, G: Gate, R: Threads + Wait + Sync> Workers<'a, G, R> {
     pub fn new(rt: &'a R, gate: &'a G, count: u32) -> Workers<'a, G, R>
         requires some { 0 < count }
         requires most { count ≤ 64 }
+        ensures count { result.count ≡ count }
     {
         Workers { rt, gate, count }
     }

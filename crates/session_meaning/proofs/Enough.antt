@@ -1,6 +1,8 @@
--- A query whose budget is as great as its need is replied to by its wave.
-use Rattle.std.proofs.Common.{◌≡◌, ◌≢◌, ℕ, zero, suc, ◌<◌, List, [], ◌∷◌, length, AllPairs, Option, Some, None, refl, sym, ap, subst, ◌∙◌, arith, ◌⊎◌, inl, inr}
+-- A query whose budget is as great as its need has its wave.
+use Rattle.std.proofs.Common.{◌≡◌, ◌≢◌, ℕ, zero, suc, ◌<◌, List, [], ◌∷◌, ◌++◌, length, All, AllPairs, Option, Some, None, refl, sym, ap, subst, ◌∙◌, arith, ◌⊎◌, inl, inr}
 use Rattle.std.specs.List.{AllZip, slice_index_or}
+use Rattle.std.proofs.lemmas.List.Elements.{All-nil, All-cons, All-head, All-tail}
+use Rattle.circuit_meaning.specs.Circuit.{IsCircuit}
 use Rattle.circuit_meaning.specs.Forward.{wave}
 use Rattle.circuit_meaning.specs.declared.Run.{Run}
 use Rattle.batch_meaning.specs.declared.Query.{Query}
@@ -9,14 +11,19 @@ use Rattle.journal_meaning.specs.Sections.{of_batch, cells_after}
 use Rattle.journal_meaning.specs.Answers.{IsAnswer}
 use Rattle.journal_meaning.proofs.Budgets.{enough-budget}
 use Rattle.query_lines.specs.declared.unit.Item.{Item}
+use Rattle.query_lines.specs.declared.unit.Unit.{Unit as ScriptUnit}
+use Rattle.query_lines.specs.declared.unit.Unit.TheVariants as units
+use Rattle.query_lines.specs.Reading.{script_units}
+use Rattle.query_lines.specs.Fit.{HasOwnLines, UnitsHaveOwnLines}
 use Rattle.reply_lines.specs.declared.reply.Reply.{Reply}
 use Rattle.reply_lines.specs.declared.reply.Reply.TheVariants as replies
 use Rattle.session_meaning.specs.declared.Verdict.TheVariants.{Ask}
 use Rattle.session_meaning.specs.Verdicts.{verdict_of}
 use Rattle.session_meaning.proofs.Asked.{asks-line, asked-in, in-asked}
 use Rattle.session_meaning.specs.Replies.{IsReply}
-use Rattle.session_meaning.specs.Session.{Setup, batch_of}
-use Rattle.session_meaning.specs.Laws.{EnoughBudgetIsServed}
+use Rattle.session_meaning.specs.Session.{Setup, Course, batch_of, IsServed, Session, Opened, Served}
+use Rattle.session_meaning.specs.Ample.{IsAmpleUnit, IsAmple}
+use Rattle.session_meaning.specs.Laws.{EnoughBudgetIsServed, EnoughBudgetsAreServed}
 
 zip-at : {A B : Type 0} (P Q : A → B → Type 0) (xs : List A) (ys : List B)
     → ((k : ℕ) (x : A) (y : B) → k < length xs → ((z : A) → slice_index_or xs k z ≡ x) → P x y → Q x y) → AllZip P xs ys → AllZip Q xs ys
@@ -80,3 +87,31 @@ enough setup circuit now next items apart served room =
     replied q replies.Unknown mine most h = absurd h
     replied q replies.Past mine most h = absurd h
     replied q replies.BadLine mine most h = absurd h
+
+first-part : {X : Type 0} (P : X → Type 0) (part back : List X) → All P (part ++ back) → All P part
+first-part P [] back all = All-nil P
+first-part P (x ∷ part) back all = All-cons P x part (All-head P x (part ++ back) all) (first-part P part back (All-tail P x (part ++ back) all))
+
+last-part : {X : Type 0} (P : X → Type 0) (front part : List X) → All P (front ++ part) → All P part
+last-part P [] part all = all
+last-part P (x ∷ front) part all = last-part P front part (All-tail P x (front ++ part) all)
+
+-- so it is in each unit of a session
+unit-ample : (setup : Setup) → IsCircuit setup.design.circuit → (now next : Course) (unit : ScriptUnit) (served : IsServed setup now unit next) → HasOwnLines unit → IsAmpleUnit setup now next unit served
+unit-ample setup circuit now next (units.Batch items) served own = enough setup circuit now next items own served
+unit-ample setup circuit now next (units.Trim most) served own = tt
+unit-ample setup circuit now next units.Stats served own = tt
+
+session-ample : (setup : Setup) → IsCircuit setup.design.circuit → (us : List ScriptUnit) (course : Course) → All HasOwnLines us → (session : Session setup us course) → IsAmple setup us course session
+session-ample setup circuit us course own Opened = tt
+session-ample setup circuit us course own (Served {units = before} {now = now} {next = next} unit session served) = (
+  session-ample setup circuit before now (first-part HasOwnLines before (unit ∷ []) own) session,
+  unit-ample setup circuit now next unit served (All-head HasOwnLines unit [] (last-part HasOwnLines before (unit ∷ []) own)),
+)
+
+-- and in the session of a script, whose items have lines of their own
+pub script-ample : UnitsHaveOwnLines → EnoughBudgetsAreServed
+script-ample own setup circuit script out journal session = record {
+  session = session;
+  ample = session-ample setup circuit (script_units setup.design.circuit.horizon script) session.course (own setup.design.circuit.horizon script) session.served;
+}

@@ -9,14 +9,16 @@
 //! - `specs/Session` is a session, as the list of the units that were served. Each kind of unit is a case of its own, which says
 //!   what the session comes to by one such unit; the clauses are its fields.
 //! - `specs/Broken` is a session that stopped early: some units whole, and of the next one a beginning of what it writes.
+//! - `specs/Ample` is a session in which every query whose budget is as great as its need has its wave.
 //! - `specs/Laws` holds what follows for every session. The functions below carry these laws as their contracts, and do nothing.
 //!
 //! Nothing here costs anything: no function does anything, and a verdict is a few numbers, which are copied.
 #![tactic(auto)]
 
-ghost use Rattle.session_meaning.specs.Laws.{SessionsAreLegal, EnoughBudgetIsServed};
+ghost use Rattle.session_meaning.specs.Laws.{SessionsAreLegal, EnoughBudgetIsServed, EnoughBudgetsAreServed};
 
 use batch_meaning::Query;
+use query_lines::units_have_own_lines;
 
 /// What becomes of an item: a query is asked, or there is none.
 #[derive(Clone, Copy, Debug, PartialEq, Eq)]
@@ -41,3 +43,10 @@ pub fn sessions_are_legal()
 pub fn enough_budget_is_served()
     ensures { EnoughBudgetIsServed }
 {}
+
+/// So it is in every batch of the session of a script.
+pub fn enough_budgets_are_served()
+    ensures { EnoughBudgetsAreServed }
+{
+    units_have_own_lines();
+}

@@ -69,7 +69,7 @@ returns-in-Ok-serve_session-clause-session g c given are is =
     let W = g.S.Sink.written in
     let M = g.F.Files.made in
     served-all _ given c.in-Ok.design (c.in-Ok.ensures.design given.netlist given.timing given.stimulus are.netlist are.timing are.stimulus)
-    (W c.args.out.now) (W c.serve_session.new.out) (M c.args.files.now) (M c.read_design.new.files) (M c.serve_session.new.files)
+    c.enough_budgets_are_served.ensures c.facts.ensures.circuit (W c.args.out.now) (W c.serve_session.new.out) (M c.args.files.now) (M c.read_design.new.files) (M c.serve_session.new.files)
     (c.in-Ok-serve_session.ensures.short given.script are.script) c.in-Ok.ensures.made (c.in-Ok-serve_session.ensures.served given.script are.script)
 
 pub returns-in-Ok-serve_session-clause-finished : goal.returns-in-Ok-serve_session-clause-finished
@@ -107,7 +107,7 @@ returns-clause-broken g c given are =
     let halt = c.in-Err-serve_session.halt in
     let command = command_of c.args.netlist.now c.args.timing.now c.args.stimulus.now c.args.journal.now c.args.workers c.args.sizes.shards c.args.sizes.cells in
     halt-leaves command given c.in-Ok.design (c.in-Ok.ensures.design given.netlist given.timing given.stimulus are.netlist are.timing are.stimulus)
-    halt (L c.serve_session.new.queries) (W c.args.out.now) (W c.serve_session.new.out) (W c.end_stopped-in-Err-serve_session.new.out) (M c.args.files.now) (M c.read_design.new.files) (M c.serve_session.new.files) (N c.args.files.now) (N c.serve_session.new.files) c.end_stopped-in-Err-serve_session.result
+    c.enough_budgets_are_served.ensures c.facts.ensures.circuit halt (L c.serve_session.new.queries) (W c.args.out.now) (W c.serve_session.new.out) (W c.end_stopped-in-Err-serve_session.new.out) (M c.args.files.now) (M c.read_design.new.files) (M c.serve_session.new.files) (N c.args.files.now) (N c.serve_session.new.files) c.end_stopped-in-Err-serve_session.result
     c.in-Ok.ensures.made
     (λ unmade. untouched-script given.script (L c.args.queries.now) (L c.serve_session.new.queries) (W c.args.out.now) (W c.serve_session.new.out) (M c.args.files.now) (M c.read_design.new.files) (M c.serve_session.new.files) (N c.args.files.now) (N c.read_design.new.files) (N c.serve_session.new.files)
     are.script c.in-Ok.ensures.made c.in-Ok.ensures.files (c.in-Err-serve_session.ensures.untouched (err-of halt JournalUnmade unmade)))
