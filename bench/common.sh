@@ -18,7 +18,7 @@ copy_crates() {
 begin() {
     copy=$(mktemp -d)
     trap 'rm -rf "$copy"' EXIT
-    rustc -O -o "$copy/plain" "$1/plain.rs"
+    rustc --edition 2021 -O -o "$copy/plain" "$1/plain.rs"
 }
 
 # in_turn PLAIN OWN: runs the program in plain Rust and that of this repository three times, one after the other.

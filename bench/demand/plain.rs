@@ -3,26 +3,16 @@
 //! no flip-flops.
 //!
 //!     plain NETLIST STIMULUS < SCRIPT
+#[path = "../plain/gates.rs"]
+mod gates;
+
+use gates::{Kind, Value};
 use std::collections::{BTreeMap, HashMap};
 use std::io::{self, BufRead, Write};
 use std::{env, fs};
 
-const X: u8 = 2;
-
-#[derive(Clone, Copy, PartialEq)]
-enum Kind {
-    And,
-    Nand,
-    Or,
-    Nor,
-    Xor,
-    Xnor,
-    Not,
-    Buff,
-}
-
 enum Driver {
-    Input(Vec<(u32, u8)>),
+    Input(Vec<(u32, Value)>),
     Gate(Kind, Vec<u32>),
 }
 
@@ -30,7 +20,7 @@ enum Driver {
 struct Cell {
     start: u32,
     stop: u32,
-    value: u8,
+    value: Value,
 }
 
 type Cells = BTreeMap<(u32, u32), Cell>;
@@ -42,7 +32,7 @@ struct Frame {
     pin: usize,
     start: u32,
     stop: u32,
-    seen: u8,
+    seen: Value,
 }
 
 struct Circuit {
@@ -50,72 +40,18 @@ struct Circuit {
     drivers: Vec<Driver>,
 }
 
-fn not(value: u8) -> u8 {
-    match value {
-        0 => 1,
-        1 => 0,
-        other => other,
-    }
-}
-
-impl Kind {
-    fn of(word: &str) -> Kind {
-        match word {
-            "AND" => Kind::And,
-            "NAND" => Kind::Nand,
-            "OR" => Kind::Or,
-            "NOR" => Kind::Nor,
-            "XOR" => Kind::Xor,
-            "XNOR" => Kind::Xnor,
-            "NOT" => Kind::Not,
-            "BUFF" => Kind::Buff,
-            other => panic!("{other} is no gate"),
-        }
-    }
-
-    fn before(self) -> u8 {
-        match self {
-            Kind::And | Kind::Nand => 1,
-            _ => 0,
-        }
-    }
-
-    fn join(self, seen: u8, value: u8) -> u8 {
-        let value = if value > 1 { X } else { value };
-        match self {
-            Kind::And | Kind::Nand => match (seen, value) {
-                (0, _) | (_, 0) => 0,
-                (1, 1) => 1,
-                _ => X,
-            },
-            Kind::Or | Kind::Nor => match (seen, value) {
-                (1, _) | (_, 1) => 1,
-                (0, 0) => 0,
-                _ => X,
-            },
-            Kind::Xor | Kind::Xnor => match (seen, value) {
-                (X, _) | (_, X) => X,
-                (a, b) => a ^ b,
-            },
-            Kind::Not | Kind::Buff => value,
-        }
-    }
-
-    /// Whether no later pin can change the value.
-    fn decided(self, seen: u8) -> bool {
-        match self {
-            Kind::And | Kind::Nand => seen == 0,
-            Kind::Or | Kind::Nor => seen == 1,
-            Kind::Xor | Kind::Xnor => seen == X,
-            Kind::Not | Kind::Buff => true,
-        }
-    }
-
-    fn end(self, seen: u8) -> u8 {
-        match self {
-            Kind::Nand | Kind::Nor | Kind::Xnor | Kind::Not => not(seen),
-            _ => seen,
-        }
+/// The gate of a word of the netlist.
+fn kind_of(word: &str) -> Kind {
+    match word {
+        "AND" => Kind::And,
+        "NAND" => Kind::Nand,
+        "OR" => Kind::Or,
+        "NOR" => Kind::Nor,
+        "XOR" => Kind::Xor,
+        "XNOR" => Kind::Xnor,
+        "NOT" => Kind::Not,
+        "BUFF" => Kind::Buff,
+        other => panic!("{other} is no gate"),
     }
 }
 
@@ -127,11 +63,11 @@ impl Circuit {
                 let behind = settings.partition_point(|setting| setting.0 <= time);
                 let stop = settings.get(behind).map_or(self.horizon + 1, |setting| setting.0);
                 Some(match behind {
-                    0 => Cell { start: 0, stop, value: X },
+                    0 => Cell { start: 0, stop, value: Value::Unknown },
                     n => Cell { start: settings[n - 1].0, stop, value: settings[n - 1].1 },
                 })
             }
-            Driver::Gate(..) if time == 0 => Some(Cell { start: 0, stop: 1, value: X }),
+            Driver::Gate(..) if time == 0 => Some(Cell { start: 0, stop: 1, value: Value::Unknown }),
             Driver::Gate(..) => None,
         }
     }
@@ -140,7 +76,7 @@ impl Circuit {
         let Driver::Gate(kind, _) = &self.drivers[signal as usize] else {
             unreachable!()
         };
-        Frame { signal, time, pin: 0, start: 1, stop: self.horizon + 1, seen: kind.before() }
+        Frame { signal, time, pin: 0, start: 1, stop: self.horizon + 1, seen: kind.first() }
     }
 
     /// The cell of a point, or none where it takes more evaluations than are left.
@@ -169,12 +105,12 @@ impl Circuit {
                 frame.stop = frame.stop.min(cell.stop + 1);
                 frame.seen = kind.join(frame.seen, cell.value);
                 frame.pin += 1;
-                if kind.decided(frame.seen) {
+                if kind.decides(cell.value) {
                     break;
                 }
             }
             if asked.is_none() {
-                let cell = Cell { start: frame.start, stop: frame.stop, value: kind.end(frame.seen) };
+                let cell = Cell { start: frame.start, stop: frame.stop, value: kind.shown(frame.seen) };
                 cells.insert((frame.signal, frame.start), cell);
                 stack.pop();
                 if stack.is_empty() {
@@ -185,10 +121,10 @@ impl Circuit {
     }
 
     /// The runs of a window, or none where it takes more evaluations than the budget.
-    fn runs(&self, signal: u32, from: u32, to: u32, budget: u32) -> Option<Vec<(u32, u8)>> {
+    fn runs(&self, signal: u32, from: u32, to: u32, budget: u32) -> Option<Vec<(u32, Value)>> {
         let mut cells = Cells::new();
         let mut left = budget;
-        let mut runs: Vec<(u32, u8)> = Vec::new();
+        let mut runs: Vec<(u32, Value)> = Vec::new();
         let mut time = from;
         while time < to {
             let cell = self.cell(&mut cells, signal, time, &mut left)?;
@@ -229,7 +165,7 @@ fn main() -> io::Result<()> {
             let signal = number(&mut names, &mut drivers, name);
             let (kind, pins) = gate.trim_end_matches(')').split_once('(').unwrap();
             let pins = pins.split(", ").map(|pin| number(&mut names, &mut drivers, pin)).collect();
-            drivers[signal as usize] = Driver::Gate(Kind::of(kind), pins);
+            drivers[signal as usize] = Driver::Gate(kind_of(kind), pins);
         } else if let Some((_, name)) = line.trim_end_matches(')').split_once('(') {
             number(&mut names, &mut drivers, name);
         }
@@ -243,7 +179,7 @@ fn main() -> io::Result<()> {
                 let Driver::Input(settings) = &mut drivers[names[name] as usize] else {
                     unreachable!()
                 };
-                settings.push((parsed(time), parsed(value)));
+                settings.push((parsed(time), Value::of(value == "1")));
             }
             _ => panic!("no line of a stimulus: {line}"),
         }
@@ -258,14 +194,13 @@ fn main() -> io::Result<()> {
             ["wave", name, from, to, budget] => (name, parsed(from), parsed(to), parsed(budget)),
             _ => panic!("no line of a script: {line}"),
         };
-        let letter = |value: u8| b"01xz"[value as usize] as char;
         match circuit.runs(names[name], from, to, budget) {
             None => writeln!(out, "budget {name} {budget}")?,
-            Some(runs) if fields[0] == "at" => writeln!(out, "at {name} {from} {}", letter(runs[0].1))?,
+            Some(runs) if fields[0] == "at" => writeln!(out, "at {name} {from} {}", runs[0].1.letter())?,
             Some(runs) => {
                 writeln!(out, "wave {name} {from} {to}")?;
                 for (time, value) in runs {
-                    writeln!(out, "{time} {}", letter(value))?;
+                    writeln!(out, "{time} {}", value.letter())?;
                 }
                 writeln!(out, "end")?;
             }

@@ -1,108 +1,29 @@
 //! A shard of the memo in plain Rust, and one strand that runs over it: an ordered index of the ends of stored cells beside a list of
 //! them that is linked by recency, an ordered map of claims with those that wait, and a journal. The circuit is a gate that reads
 //! itself, `y = NAND(en, y)`, where `en` is 0 at 0 and 1 from 4 on.
-use std::collections::{BTreeMap, HashMap};
+#[path = "../plain/store.rs"]
+mod store;
+
+use std::collections::BTreeMap;
 use std::time::Instant;
+use store::{Cell, Key, Store};
 
 const HORIZON: u32 = 1_000_000;
 const SETTINGS: [(u32, u8); 2] = [(0, 0), (4, 1)];
 const CAPACITY: usize = 16_384;
 const BUDGET: u32 = 500_000;
 const TIME: u32 = 400_000;
-const NONE: usize = usize::MAX;
 const EN: u32 = 0;
 const Y: u32 = 1;
 const X: u8 = 2;
 
-type Key = (u32, u32);
-type Point = (u32, u32);
-
-#[derive(Clone, Copy)]
-struct Cell {
-    start: u32,
-    end: u32,
-    value: u8,
-}
+type Point = Key;
 
 enum Entry {
     Told { q: u32, p: Point, cell: Cell },
     Claimed { q: u32, p: Point },
     Filled { q: u32, p: Point, cell: Cell },
     Evicted { signal: u32, start: u32 },
-}
-
-struct Node {
-    key: Key,
-    cell: Cell,
-    before: usize,
-    after: usize,
-}
-
-#[derive(Default)]
-struct Store {
-    nodes: Vec<Node>,
-    places: HashMap<Key, usize>,
-    index: BTreeMap<Key, u32>,
-    first: usize,
-    last: usize,
-}
-
-impl Store {
-    fn new() -> Store {
-        Store { first: NONE, last: NONE, ..Store::default() }
-    }
-
-    fn unlink(&mut self, at: usize) {
-        let (before, after) = (self.nodes[at].before, self.nodes[at].after);
-        if before == NONE { self.first = after } else { self.nodes[before].after = after }
-        if after == NONE { self.last = before } else { self.nodes[after].before = before }
-    }
-
-    fn link_first(&mut self, at: usize) {
-        self.nodes[at].before = NONE;
-        self.nodes[at].after = self.first;
-        if self.first == NONE { self.last = at } else { self.nodes[self.first].before = at }
-        self.first = at;
-    }
-
-    fn find(&mut self, p: Point) -> Option<Cell> {
-        let (&key, &end) = self.index.range(..=p).next_back()?;
-        if key.0 != p.0 || p.1 >= end {
-            return None;
-        }
-        let at = self.places[&key];
-        self.unlink(at);
-        self.link_first(at);
-        Some(self.nodes[at].cell)
-    }
-
-    fn put(&mut self, signal: u32, cell: Cell) -> Option<Key> {
-        let key = (signal, cell.start);
-        if let Some(&at) = self.places.get(&key) {
-            self.unlink(at);
-            self.link_first(at);
-            return None;
-        }
-        self.index.insert(key, cell.end);
-        let node = Node { key, cell, before: NONE, after: NONE };
-        let mut evicted = None;
-        let at = if self.nodes.len() == CAPACITY {
-            let at = self.last;
-            let old = self.nodes[at].key;
-            self.unlink(at);
-            self.places.remove(&old);
-            self.index.remove(&old);
-            self.nodes[at] = node;
-            evicted = Some(old);
-            at
-        } else {
-            self.nodes.push(node);
-            self.nodes.len() - 1
-        };
-        self.places.insert(key, at);
-        self.link_first(at);
-        evicted
-    }
 }
 
 struct Claim {
@@ -282,7 +203,7 @@ fn checksum(journal: &[Entry]) -> u64 {
 }
 
 fn main() {
-    let mut shard = Shard { store: Store::new(), claims: BTreeMap::new(), journal: Vec::new() };
+    let mut shard = Shard { store: Store::new(CAPACITY), claims: BTreeMap::new(), journal: Vec::new() };
     let mut strand = Strand { q: 1, root: Some((Y, TIME)), stack: Vec::new(), charged: 0, last: None };
     let start = Instant::now();
     let ended = run(&mut shard, &mut strand);

@@ -2,6 +2,11 @@
 //! the cells of all of them in one of std's ordered maps, and writes the journal that a session with one worker writes.
 //!
 //!     plain N JOURNAL
+#[path = "../plain/gates.rs"]
+#[allow(dead_code)]
+mod gates;
+
+use gates::{Kind, Value};
 use std::collections::BTreeMap;
 use std::fmt::Write;
 use std::{env, fs, io};
@@ -21,23 +26,6 @@ impl Draws {
         self.0 = (1_103_515_245 * self.0 + 12_345) % 2_147_483_648;
         (self.0 / 65_536) as u32
     }
-}
-
-#[derive(Clone, Copy, PartialEq)]
-enum Value {
-    Zero,
-    One,
-    Unknown,
-}
-
-#[derive(Clone, Copy)]
-enum Kind {
-    And,
-    Nand,
-    Or,
-    Nor,
-    Xor,
-    Xnor,
 }
 
 const KINDS: [Kind; 6] = [Kind::And, Kind::Nand, Kind::Or, Kind::Nor, Kind::Xor, Kind::Xnor];
@@ -86,68 +74,6 @@ struct Memo {
     evaluations: u32,
 }
 
-fn letter(value: Value) -> char {
-    match value {
-        Value::Zero => '0',
-        Value::One => '1',
-        Value::Unknown => 'x',
-    }
-}
-
-fn not(value: Value) -> Value {
-    match value {
-        Value::Zero => Value::One,
-        Value::One => Value::Zero,
-        Value::Unknown => Value::Unknown,
-    }
-}
-
-impl Kind {
-    /// What no pin gives.
-    fn first(self) -> Value {
-        match self {
-            Kind::And | Kind::Nand => Value::One,
-            Kind::Or | Kind::Nor | Kind::Xor | Kind::Xnor => Value::Zero,
-        }
-    }
-
-    fn join(self, seen: Value, value: Value) -> Value {
-        match self {
-            Kind::And | Kind::Nand => match (seen, value) {
-                (Value::Zero, _) | (_, Value::Zero) => Value::Zero,
-                (Value::One, Value::One) => Value::One,
-                _ => Value::Unknown,
-            },
-            Kind::Or | Kind::Nor => match (seen, value) {
-                (Value::One, _) | (_, Value::One) => Value::One,
-                (Value::Zero, Value::Zero) => Value::Zero,
-                _ => Value::Unknown,
-            },
-            Kind::Xor | Kind::Xnor => match (seen, value) {
-                (Value::Unknown, _) | (_, Value::Unknown) => Value::Unknown,
-                (a, b) if a == b => Value::Zero,
-                _ => Value::One,
-            },
-        }
-    }
-
-    /// Whether this value of a pin decides the gate's.
-    fn decides(self, value: Value) -> bool {
-        match self {
-            Kind::And | Kind::Nand => value == Value::Zero,
-            Kind::Or | Kind::Nor => value == Value::One,
-            Kind::Xor | Kind::Xnor => value == Value::Unknown,
-        }
-    }
-
-    fn shown(self, seen: Value) -> Value {
-        match self {
-            Kind::And | Kind::Or | Kind::Xor => seen,
-            Kind::Nand | Kind::Nor | Kind::Xnor => not(seen),
-        }
-    }
-}
-
 impl Work {
     fn new(number: u64) -> Work {
         let mut draws = Draws(number);
@@ -164,7 +90,7 @@ impl Work {
         }
         let mut settings = Vec::new();
         for _ in (0..=HORIZON).step_by(10) {
-            settings.push([(); INPUTS as usize].map(|()| if draws.next() % 2 == 1 { Value::One } else { Value::Zero }));
+            settings.push([(); INPUTS as usize].map(|()| Value::of(draws.next() % 2 == 1)));
         }
         let mut queries = Vec::new();
         for i in 0..QUERIES {
@@ -218,7 +144,7 @@ impl Memo {
             return None;
         }
         let Cell { start, end, value } = cell;
-        writeln!(self.journal(signal), "told {query} {signal} {time} {start} {end} {}", letter(value)).unwrap();
+        writeln!(self.journal(signal), "told {query} {signal} {time} {start} {end} {}", value.letter()).unwrap();
         Some(cell)
     }
 
@@ -228,7 +154,7 @@ impl Memo {
 
     fn fill(&mut self, query: u32, signal: u32, time: u32, cell: Cell) {
         let Cell { start, end, value } = cell;
-        writeln!(self.journal(signal), "fill {query} {signal} {time} {start} {end} {}", letter(value)).unwrap();
+        writeln!(self.journal(signal), "fill {query} {signal} {time} {start} {end} {}", value.letter()).unwrap();
         self.cells.insert((signal, start), cell);
         self.evaluations += 1;
     }
