@@ -10,7 +10,7 @@ const CAPACITY: u32 = 65_536;
 const CALLS: u32 = 1_000_000;
 const CELLS: u32 = 200_000;
 
-fn put(store: &mut Store, number: u32) -> bool {
+fn put(store: &mut Store<u8>, number: u32) -> bool {
     let start = number / 1_000 * 10;
     store.put(number % 1_000, Cell { start, end: start + 10, value: 1 }).is_some()
 }
@@ -19,11 +19,11 @@ fn scattered(k: u32) -> u32 {
     k.wrapping_mul(2_654_435_761) % CELLS
 }
 
-fn put_all(store: &mut Store, calls: u32) -> u32 {
+fn put_all(store: &mut Store<u8>, calls: u32) -> u32 {
     (0..calls).filter(|&k| put(store, scattered(k))).count() as u32
 }
 
-fn find_all(store: &mut Store, calls: u32) -> u32 {
+fn find_all(store: &mut Store<u8>, calls: u32) -> u32 {
     let found = |k: &u32| {
         let number = scattered(CALLS - 1 - k % 50_000);
         store.find((number % 1_000, number / 1_000 * 10 + 5)).is_some()

@@ -6,7 +6,7 @@ mod store;
 
 use std::collections::BTreeMap;
 use std::time::Instant;
-use store::{Cell, Key, Store};
+use store::{Key, Store};
 
 const HORIZON: u32 = 1_000_000;
 const SETTINGS: [(u32, u8); 2] = [(0, 0), (4, 1)];
@@ -18,6 +18,7 @@ const Y: u32 = 1;
 const X: u8 = 2;
 
 type Point = Key;
+type Cell = store::Cell<u8>;
 
 enum Entry {
     Told { q: u32, p: Point, cell: Cell },
@@ -32,7 +33,7 @@ struct Claim {
 }
 
 struct Shard {
-    store: Store,
+    store: Store<u8>,
     claims: BTreeMap<Point, Claim>,
     journal: Vec<Entry>,
 }

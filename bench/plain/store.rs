@@ -7,30 +7,30 @@ const NONE: usize = usize::MAX;
 pub type Key = (u32, u32);
 
 #[derive(Clone, Copy)]
-pub struct Cell {
+pub struct Cell<V> {
     pub start: u32,
     pub end: u32,
-    pub value: u8,
+    pub value: V,
 }
 
-struct Node {
+struct Node<V> {
     key: Key,
-    cell: Cell,
+    cell: Cell<V>,
     before: usize,
     after: usize,
 }
 
-pub struct Store {
+pub struct Store<V> {
     capacity: usize,
-    nodes: Vec<Node>,
+    nodes: Vec<Node<V>>,
     places: HashMap<Key, usize>,
     ends: BTreeMap<Key, u32>,
     first: usize,
     last: usize,
 }
 
-impl Store {
-    pub fn new(capacity: usize) -> Store {
+impl<V: Copy> Store<V> {
+    pub fn new(capacity: usize) -> Store<V> {
         Store { capacity, nodes: Vec::new(), places: HashMap::new(), ends: BTreeMap::new(), first: NONE, last: NONE }
     }
 
@@ -53,7 +53,7 @@ impl Store {
     }
 
     /// The cell of the signal that covers the time; it is then the most recent one.
-    pub fn find(&mut self, (signal, time): Key) -> Option<Cell> {
+    pub fn find(&mut self, (signal, time): Key) -> Option<Cell<V>> {
         let (&key, &end) = self.ends.range(..=(signal, time)).next_back()?;
         if key.0 != signal || time >= end {
             return None;
@@ -64,7 +64,7 @@ impl Store {
     }
 
     /// Stores a cell of the signal as the most recent one, and gives the key of the cell that had to go for it.
-    pub fn put(&mut self, signal: u32, cell: Cell) -> Option<Key> {
+    pub fn put(&mut self, signal: u32, cell: Cell<V>) -> Option<Key> {
         let key = (signal, cell.start);
         if let Some(&at) = self.places.get(&key) {
             self.move_first(at);

@@ -1,0 +1,274 @@
+//! Workers over one memo in plain Rust, with the locks of this repository's: one for each shard, one for the board, which is taken
+//! within the shard's for each claim and fill, and one for the queue of strands that are ready. The questions of the script are one
+//! batch. It writes the replies, and on standard error how long the batch took.
+//!
+//!     plain NETLIST STIMULUS JOURNAL WORKERS < SCRIPT
+#[path = "../plain/circuit.rs"]
+mod circuit;
+#[path = "../plain/gates.rs"]
+mod gates;
+#[path = "../plain/store.rs"]
+mod store;
+
+use circuit::{Circuit, Frame, Question, push_run};
+use gates::Value;
+use std::collections::{BTreeMap, VecDeque};
+use std::fmt::Write as _;
+use std::io::{self, BufRead};
+use std::sync::{Condvar, Mutex};
+use std::time::Instant;
+use std::{env, fs, thread};
+use store::Store;
+
+const SHARDS: u32 = 8;
+const CAPACITY: usize = 16_384;
+
+type Point = (u32, u32);
+
+enum Entry {
+    Told { query: usize, point: Point, cell: circuit::Cell },
+    Claimed { query: usize, point: Point },
+    Filled { query: usize, point: Point, cell: circuit::Cell },
+    Evicted { signal: u32, start: u32 },
+}
+
+/// A query being answered: the times of its window that are not heard yet, and the claimed points that it works on.
+struct Strand {
+    query: usize,
+    signal: u32,
+    time: u32,
+    to: u32,
+    left: u32,
+    frames: Vec<Frame>,
+    runs: Vec<(u32, Value)>,
+}
+
+enum Next {
+    Ask(Point),
+    Fill(Point),
+    Done,
+}
+
+struct Claim {
+    waiting: Vec<Strand>,
+}
+
+struct Shard {
+    store: Store<Value>,
+    claims: BTreeMap<Point, Claim>,
+    journal: Vec<Entry>,
+}
+
+struct Board {
+    counts: Vec<u64>,
+    ended: Vec<Option<Strand>>,
+    left: usize,
+    moves: u64,
+}
+
+struct Shared<'a> {
+    circuit: &'a Circuit,
+    shards: Vec<Mutex<Shard>>,
+    board: Mutex<Board>,
+    moved: Condvar,
+    ready: Mutex<VecDeque<Strand>>,
+}
+
+impl Strand {
+    /// Hears what needs no evaluation, and says what is next.
+    fn next_step(&mut self, circuit: &Circuit) -> Next {
+        loop {
+            let point = match self.frames.last() {
+                Some(frame) => match frame.next_pin(circuit) {
+                    Some(pin) => (pin, frame.time - 1),
+                    None => return Next::Fill((frame.signal, frame.time)),
+                },
+                None if self.time < self.to => (self.signal, self.time),
+                None => return Next::Done,
+            };
+            match circuit.base(point.0, point.1) {
+                Some(cell) => self.hear(circuit, cell),
+                None => return Next::Ask(point),
+            }
+        }
+    }
+
+    fn hear(&mut self, circuit: &Circuit, cell: circuit::Cell) {
+        match self.frames.last_mut() {
+            Some(frame) => frame.hear(circuit, cell),
+            None => {
+                push_run(&mut self.runs, self.time, cell.value);
+                self.time = cell.end;
+            }
+        }
+    }
+}
+
+impl Shared<'_> {
+    fn shard(&self, signal: u32) -> &Mutex<Shard> {
+        &self.shards[(signal % SHARDS) as usize]
+    }
+
+    fn book(&self, query: usize) {
+        self.board.lock().unwrap().counts[query] += 1;
+    }
+
+    fn push(&self, strand: Strand) {
+        self.ready.lock().unwrap().push_back(strand);
+        self.board.lock().unwrap().moves += 1;
+        self.moved.notify_all();
+    }
+
+    /// The strand, if it goes on.
+    fn ask(&self, mut strand: Strand, point: Point) -> Option<Strand> {
+        let mut shard = self.shard(point.0).lock().unwrap();
+        if let Some(store::Cell { start, end, value }) = shard.store.find(point) {
+            let cell = circuit::Cell { start, end, value };
+            shard.journal.push(Entry::Told { query: strand.query, point, cell });
+            strand.hear(self.circuit, cell);
+            return Some(strand);
+        }
+        if let Some(claim) = shard.claims.get_mut(&point) {
+            claim.waiting.push(strand);
+            return None;
+        }
+        let Some(left) = strand.left.checked_sub(1) else {
+            panic!("the budget of a question of the measurements is enough");
+        };
+        strand.left = left;
+        shard.claims.insert(point, Claim { waiting: Vec::new() });
+        shard.journal.push(Entry::Claimed { query: strand.query, point });
+        strand.frames.push(self.circuit.frame(point.0, point.1));
+        self.book(strand.query);
+        Some(strand)
+    }
+
+    fn fill(&self, strand: &mut Strand, point: Point) {
+        let cell = strand.frames.pop().unwrap().cell(self.circuit);
+        let mut shard = self.shard(point.0).lock().unwrap();
+        let stored = store::Cell { start: cell.start, end: cell.end, value: cell.value };
+        if let Some((signal, start)) = shard.store.put(point.0, stored) {
+            shard.journal.push(Entry::Evicted { signal, start });
+        }
+        shard.journal.push(Entry::Filled { query: strand.query, point, cell });
+        let woken = shard.claims.remove(&point).unwrap().waiting;
+        self.book(strand.query);
+        drop(shard);
+        strand.hear(self.circuit, cell);
+        for mut other in woken {
+            other.hear(self.circuit, cell);
+            self.push(other);
+        }
+    }
+
+    fn end(&self, strand: Strand) {
+        let mut board = self.board.lock().unwrap();
+        let query = strand.query;
+        board.ended[query] = Some(strand);
+        board.left -= 1;
+        board.moves += 1;
+        self.moved.notify_all();
+    }
+
+    fn run(&self, strand: Strand) {
+        let mut hand = Some(strand);
+        while let Some(mut strand) = hand.take() {
+            hand = match strand.next_step(self.circuit) {
+                Next::Ask(point) => self.ask(strand, point),
+                Next::Fill(point) => {
+                    self.fill(&mut strand, point);
+                    Some(strand)
+                }
+                Next::Done => {
+                    self.end(strand);
+                    None
+                }
+            };
+        }
+    }
+
+    fn work(&self) {
+        loop {
+            let seen = self.board.lock().unwrap().moves;
+            let strand = self.ready.lock().unwrap().pop_front();
+            if let Some(strand) = strand {
+                self.run(strand);
+                continue;
+            }
+            let board = self.board.lock().unwrap();
+            let board = self.moved.wait_while(board, |board| board.moves == seen && board.left > 0).unwrap();
+            if board.left == 0 {
+                return;
+            }
+        }
+    }
+}
+
+/// The journal of one batch.
+fn journal_text(shards: &[Mutex<Shard>]) -> String {
+    let mut text = format!("journal shards {SHARDS} cells {CAPACITY}\nbatch 1\n");
+    for (number, shard) in shards.iter().enumerate() {
+        writeln!(text, "shard {number}").unwrap();
+        for entry in &shard.lock().unwrap().journal {
+            write_entry(&mut text, entry);
+        }
+    }
+    text.push_str("end\n");
+    text
+}
+
+fn write_entry(text: &mut String, entry: &Entry) {
+    let cell_text = |cell: &circuit::Cell| format!("{} {} {}", cell.start, cell.end, cell.value.letter());
+    match entry {
+        Entry::Told { query, point, cell } => writeln!(text, "told {} {} {} {}", query + 1, point.0, point.1, cell_text(cell)),
+        Entry::Claimed { query, point } => writeln!(text, "claim {} {} {}", query + 1, point.0, point.1),
+        Entry::Filled { query, point, cell } => writeln!(text, "fill {} {} {} {}", query + 1, point.0, point.1, cell_text(cell)),
+        Entry::Evicted { signal, start } => writeln!(text, "evict {signal} {start}"),
+    }
+    .unwrap();
+}
+
+fn main() -> io::Result<()> {
+    let words: Vec<String> = env::args().collect();
+    let circuit = Circuit::read(&words[1], &words[2])?;
+    let workers: usize = words[4].parse().expect("a number of workers");
+    let questions = io::stdin().lock().lines().map(|line| Ok(Question::read(&line?))).collect::<io::Result<Vec<_>>>()?;
+    let begun = Instant::now();
+    let shard = || Mutex::new(Shard { store: Store::new(CAPACITY), claims: BTreeMap::new(), journal: Vec::new() });
+    let strand = |(query, question): (usize, &Question)| Strand {
+        query,
+        signal: circuit.signal(&question.name),
+        time: question.from,
+        to: question.to,
+        left: question.budget,
+        frames: Vec::new(),
+        runs: Vec::new(),
+    };
+    let strands: VecDeque<Strand> = questions.iter().enumerate().map(strand).collect();
+    let shared = Shared {
+        circuit: &circuit,
+        shards: (0..SHARDS).map(|_| shard()).collect(),
+        board: Mutex::new(Board {
+            counts: vec![0; strands.len()],
+            ended: strands.iter().map(|_| None).collect(),
+            left: strands.len(),
+            moves: 0,
+        }),
+        moved: Condvar::new(),
+        ready: Mutex::new(strands),
+    };
+    thread::scope(|scope| {
+        for _ in 0..workers {
+            scope.spawn(|| shared.work());
+        }
+    });
+    let ran = begun.elapsed();
+    let board = shared.board.into_inner().unwrap();
+    let mut out = io::BufWriter::new(io::stdout().lock());
+    for (question, strand) in questions.iter().zip(&board.ended) {
+        question.write(&mut out, strand.as_ref().map(|strand| &strand.runs[..]))?;
+    }
+    fs::write(&words[3], journal_text(&shared.shards))?;
+    eprintln!("{} claims and fills, {} ms", board.counts.iter().sum::<u64>(), ran.as_millis());
+    Ok(())
+}
