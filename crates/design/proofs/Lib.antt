@@ -11,3 +11,4 @@ pub mod Joining
 pub mod Rowed
 pub mod Bucketed
 pub mod Finished
+pub mod Held

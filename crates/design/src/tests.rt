@@ -148,6 +148,59 @@ fn points_with_a_cell_at_once(rt: HostRuntime) -> Result<(), Fail> {
     Ok(())
 }
 
+/// The design with the signal of this name held.
+fn held_at(
+    alloc: Global,
+    design: &Design,
+    site: &str,
+    value: Value,
+) -> Result<Option<Design>, Fail> {
+    design.facts();
+    let Some(site) = design.netlist().id_of(site.as_bytes()) else {
+        return Ok(None);
+    };
+    Ok(Some(design.hold(alloc, site, value)?))
+}
+
+#[test]
+fn cells_where_a_signal_is_held(rt: HostRuntime) -> Result<(), Fail> {
+    let rows = [
+        // a flip-flop samples no more, and what it reads stays
+        (CLOCKED, "q", Value::One, "q", 0, Some((0, 31, Value::One))),
+        (CLOCKED, "q", Value::One, "q", 30, Some((0, 31, Value::One))),
+        (
+            CLOCKED,
+            "q",
+            Value::One,
+            "a",
+            10,
+            Some((10, 31, Value::One)),
+        ),
+        // an input has no other setting, and what reads it stays
+        (
+            CLOCKED,
+            "a",
+            Value::Zero,
+            "a",
+            20,
+            Some((0, 31, Value::Zero)),
+        ),
+        (CLOCKED, "a", Value::Zero, "q", 10, Some((0, 11, Value::X))),
+        (CLOCKED, "a", Value::Zero, "q", 11, None),
+        // a gate that reads itself
+        (RING, "y", Value::Zero, "y", 12, Some((0, 13, Value::Zero))),
+    ];
+    for (files, site, value, name, time, cell) in rows {
+        let design = joined(rt.alloc(), &files)??;
+        let found = match held_at(rt.alloc(), &design, site, value)? {
+            None => None,
+            Some(held) => base_of(&held, name, time),
+        };
+        assert_eq!(rt; found, cell, "{name} at {time}, with {site} held");
+    }
+    Ok(())
+}
+
 /// What a pin of an evaluable point reads and when; the times about the point at which it sees what it sees there; and
 /// those of the point's cell, where that has no other pin.
 #[derive(Clone, Copy, Debug, PartialEq, Eq)]
