@@ -12,3 +12,4 @@ pub mod Rowed
 pub mod Bucketed
 pub mod Finished
 pub mod Held
+pub mod Readers

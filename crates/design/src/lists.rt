@@ -1,9 +1,20 @@
 //! Many short lists in one array.
 
-ghost use Rattle.std.specs.Prelude.{◌≡◌, ◌<◌, ◌++◌, [], ◌∷◌, length, slice_get, slice_set, Some, OnOk, IfOk};
+ghost use Rattle.std.specs.Prelude.{◌≡◌, ◌<◌, ◌++◌, [], ◌∷◌, length, slice_get, slice_set, Some, OnOk, IfOk, map, replicate};
 
 use std::alloc::{AllocError, Global};
 use std::marker::Model;
+
+/// So many empty lists.
+pub fn empty_lists<T: Copy>(alloc: Global, count: u32) -> Result<Vec<Vec<T>>, AllocError>
+    ensures { IfOk result (λ lists. map (λ list. list.items) lists.items ≡ replicate count []) }
+{
+    let mut lists = Vec::with_capacity(alloc, count as usize)?;
+    for _list in 0..count {
+        lists.push(Vec::new(alloc))?;
+    }
+    Ok(lists)
+}
 
 /// Where a list stands.
 #[derive(Clone, Copy)]

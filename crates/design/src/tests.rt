@@ -467,3 +467,70 @@ fn cones_of_signals(rt: HostRuntime) -> Result<(), Fail> {
     }
     Ok(())
 }
+
+/// For each signal whether it reads the signal of this name, however far back.
+fn reached_from(alloc: Global, design: &Design, site: &str) -> Result<Option<FlagList>, Fail> {
+    design.facts();
+    let Some(site) = design.netlist().id_of(site.as_bytes()) else {
+        return Ok(None);
+    };
+    Ok(Some(design.reached(alloc, site)?))
+}
+
+/// The flag of the signal of this name.
+fn flag_of(design: &Design, flags: &Option<FlagList>, name: &str) -> Option<bool> {
+    let signal = design.netlist().id_of(name.as_bytes())?;
+    match flags {
+        Some(flags) if (signal as usize) < flags.as_slice().len() => Some(flags.get(signal)),
+        _ => None,
+    }
+}
+
+#[test]
+fn signals_that_are_reached(rt: HostRuntime) -> Result<(), Fail> {
+    let rows = [
+        (C17, "11", "11 16 19 22 23", "1 2 3 6 7 10"),
+        (C17, "1", "1 10 22", "2 3 6 7 11 16 19 23"),
+        (C17, "23", "23", "1 2 3 6 7 10 11 16 19 22"),
+        // a flip-flop in a cycle
+        (
+            S27,
+            "G7",
+            "G5 G6 G7 G8 G9 G10 G11 G12 G13 G15 G16 G17",
+            "G0 G1 G2 G3 G14",
+        ),
+        (
+            S27,
+            "G0",
+            "G0 G5 G6 G8 G9 G10 G11 G14 G15 G16 G17",
+            "G1 G2 G3 G7 G12 G13",
+        ),
+        // a gate that reads itself
+        (RING.netlist, "y", "y", "en"),
+        (RING.netlist, "en", "en y", ""),
+    ];
+    for (netlist, site, reached, free) in rows {
+        let files = Files {
+            netlist,
+            timing: "",
+            stimulus: "horizon 10\n",
+        };
+        let design = joined(rt.alloc(), &files)??;
+        let flags = reached_from(rt.alloc(), &design, site)?;
+        for name in reached.split_whitespace() {
+            assert_eq!(rt;
+                flag_of(&design, &flags, name),
+                Some(true),
+                "{site} and {name}"
+            );
+        }
+        for name in free.split_whitespace() {
+            assert_eq!(rt;
+                flag_of(&design, &flags, name),
+                Some(false),
+                "{site} and {name}"
+            );
+        }
+    }
+    Ok(())
+}
