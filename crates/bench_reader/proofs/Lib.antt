@@ -6,3 +6,4 @@ pub mod Steps
 pub mod End
 pub mod Loop
 pub mod Whole
+pub mod Copies

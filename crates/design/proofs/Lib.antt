@@ -11,3 +11,5 @@ pub mod Joining
 pub mod Rowed
 pub mod Bucketed
 pub mod Finished
+pub mod Held
+pub mod Readers

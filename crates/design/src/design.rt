@@ -1,9 +1,10 @@
 //! A design and what it says of its points.
 
-ghost use Rattle.std.specs.Prelude.{◌≡◌, ◌+◌, ◌<◌, ◌≤◌, length, All, slice_get, Some, IfSome, OnSome, IfNone, option_map};
+ghost use Rattle.std.specs.Prelude.{◌≡◌, ◌+◌, ◌<◌, ◌≤◌, length, All, slice_get, Some, IfSome, OnSome, IfNone, IfOk, option_map};
 ghost use Rattle.circuit_meaning.specs.Circuit.{driver, read_by};
 ghost use Rattle.circuit_meaning.specs.Cells.{span};
 ghost use Rattle.circuit_meaning.specs.Need.{IsEvaluable};
+ghost use Rattle.circuit_meaning.specs.Forced.{forced};
 ghost use Rattle.circuit_meaning.specs.Looks.{kind_of, pin_points, looked_points, pin_interval, met_interval};
 ghost use Rattle.design.specs.Join.{AnswersDesign, design_of};
 ghost use Rattle.design.specs.Joined.{IsDesign};
@@ -17,9 +18,10 @@ use crate::lists::Lists;
 use crate::rows::{Row, SignalView, signals_of};
 use crate::settings;
 use crate::stated::{Rows, Stated};
+use backsim_io::OutOfMemory;
 use bench_reader::Netlist;
 use circuit_meaning::Setting;
-use gate_values::Kind;
+use gate_values::{Kind, Value};
 use std::alloc::Global;
 use std::marker::Model;
 use stimulus_file::Stimulus;
@@ -71,6 +73,28 @@ impl Design {
             horizon: stimulus.horizon(),
             rows,
             delays,
+            settings,
+        })
+    }
+
+    /// The design with one signal held: the signal is an input with this value from time 0 on, whatever drove it, and all else
+    /// is unchanged. The netlist stays as it is, with the names of the signals and what it says of the held one.
+    ///
+    /// It copies the design, in time and memory in proportion to the design.
+    pub fn hold(&self, alloc: Global, site: u32, value: Value) -> Result<Design, OutOfMemory>
+        requires { site < length self.now.circuit.drivers }
+        ensures circuit { IfOk result (λ held. held.circuit ≡ forced self.now.circuit site value) }
+        ensures netlist { IfOk result (λ held. held.netlist ≡ self.now.netlist) }
+    {
+        let mut rows = Vec::from_slice(alloc, &self.rows)?;
+        rows[site as usize] = Row::Input;
+        let mut settings = self.settings.copy(alloc)?;
+        settings.set_one(site, Setting { time: 0, value })?;
+        Ok(Design {
+            netlist: self.netlist.copy(alloc)?,
+            horizon: self.horizon,
+            rows,
+            delays: self.delays.copy(alloc)?,
             settings,
         })
     }

@@ -4,12 +4,15 @@
 //! row has which cause, and what the design is. From then on a signal is a number. Contracts see a design as the netlist's content
 //! and one circuit of `circuit_meaning`; the calls answer what that circuit's definitions say of a signal at a time, so that a
 //! caller needs no word of how delays, clocks and settings are kept. [`Design::facts`] hands out what holds of every design.
+//! [`Design::hold`] makes the design in which one signal is held at a value, and [`Design::reached`] tells which signals read a
+//! signal, however far back, so that all others stay as they are where it is held.
 //!
 //! What a call costs: `base` finds an input's setting by binary search, in O(log n) for its n settings, and takes constant time for
 //! a gate or a flip-flop; `gate_of`, `child_time`, `pin_span`, `span_over`, `netlist` and `horizon` take constant time; none of
-//! these takes memory. `in_cone` walks the cone once, and takes a flag for each signal and a place for each that it comes to. `join`
-//! takes the time of its rows and pins, with a look-up by hashing for each name, and sorts the settings. A design holds the netlist
-//! and, in flat lists, a row for each signal, a delay for each pin and the settings of all inputs.
+//! these takes memory. `in_cone` walks the cone once, and takes a flag for each signal and a place for each that it comes to;
+//! `reached` takes time and memory in proportion to the signals and their pins, and `hold` copies the design. `join` takes the time
+//! of its rows and pins, with a look-up by hashing for each name, and sorts the settings. A design holds the netlist and, in flat
+//! lists, a row for each signal, a delay for each pin and the settings of all inputs.
 //!
 //! ```
 //! let design = Design::join(alloc, netlist, &timing, &stimulus)?;
@@ -22,6 +25,7 @@ mod cells;
 mod cone;
 mod design;
 mod fault;
+mod flags;
 mod lists;
 mod rows;
 mod settings;
@@ -31,3 +35,4 @@ mod tests;
 
 pub use design::Design;
 pub use fault::{JoinCause, JoinFault, JoinFile};
+pub use flags::FlagList;

@@ -1,9 +1,20 @@
 //! Many short lists in one array.
 
-ghost use Rattle.std.specs.Prelude.{◌≡◌, ◌<◌, ◌++◌, [], ◌∷◌, length, slice_get, Some, OnOk};
+ghost use Rattle.std.specs.Prelude.{◌≡◌, ◌<◌, ◌++◌, [], ◌∷◌, length, slice_get, slice_set, Some, OnOk, IfOk, map, replicate};
 
 use std::alloc::{AllocError, Global};
 use std::marker::Model;
+
+/// So many empty lists.
+pub fn empty_lists<T: Copy>(alloc: Global, count: u32) -> Result<Vec<Vec<T>>, AllocError>
+    ensures { IfOk result (λ lists. map (λ list. list.items) lists.items ≡ replicate count []) }
+{
+    let mut lists = Vec::with_capacity(alloc, count as usize)?;
+    for _list in 0..count {
+        lists.push(Vec::new(alloc))?;
+    }
+    Ok(lists)
+}
 
 /// Where a list stands.
 #[derive(Clone, Copy)]
@@ -62,5 +73,29 @@ impl<T: Copy> Lists<T> {
         }
         self.ranges.push(range)?;
         Ok(())
+    }
+
+    /// Puts a list of one item in the place of a list. The old list keeps its memory.
+    pub fn set_one(&mut self, place: u32, item: T) -> Result<(), AllocError>
+        requires { place < length self.old }
+        ensures { OnOk result (self.new ≡ slice_set self.old place (item ∷ [])) }
+    {
+        let range = Range {
+            start: self.items.len(),
+            length: 1,
+        };
+        self.items.push(item)?;
+        self.ranges[place as usize] = range;
+        Ok(())
+    }
+
+    /// The same lists once more, in memory of their own.
+    pub fn copy(&self, alloc: Global) -> Result<Lists<T>, AllocError>
+        ensures { IfOk result (λ copy. copy ≡ self.now) }
+    {
+        Ok(Lists {
+            ranges: Vec::from_slice(alloc, &self.ranges)?,
+            items: Vec::from_slice(alloc, &self.items)?,
+        })
     }
 }

@@ -1,13 +1,13 @@
 //! The settings of a stimulus file, by signal.
 
-ghost use Rattle.std.specs.Prelude.{◌≡◌, List, [], IfOk, map, length, replicate, vec_len};
+ghost use Rattle.std.specs.Prelude.{◌≡◌, List, [], IfOk, map, length, vec_len};
 ghost use Rattle.design.specs.declared.fault.JoinFile.TheVariants as file;
 ghost use Rattle.stimulus_file.specs.declared.SetRow.{SetRow as RowOf};
 ghost use Rattle.design.specs.Join as join;
 ghost use Rattle.design.specs.inner.Said.{HasSets, TakesSet, TakesSets};
 
 use crate::fault::{JoinCause, JoinFault, JoinFile};
-use crate::lists::Lists;
+use crate::lists::{Lists, empty_lists};
 use crate::stated::is_input;
 use bench_reader::Netlist;
 use circuit_meaning::Setting;
@@ -51,17 +51,6 @@ fn take(
     Ok(())
 }
 
-/// An empty list for each signal.
-fn no_settings(alloc: Global, signals: u32) -> Result<Vec<Vec<Setting>>, AllocError>
-    ensures { IfOk result (λ settings. map (λ list. list.items) settings.items ≡ replicate signals []) }
-{
-    let mut settings = Vec::with_capacity(alloc, signals as usize)?;
-    for _signal in 0..signals {
-        settings.push(Vec::new(alloc))?;
-    }
-    Ok(settings)
-}
-
 /// The settings of each signal, in the order of the file.
 pub fn read(
     alloc: Global,
@@ -71,7 +60,7 @@ pub fn read(
 ) -> Result<Vec<Vec<Setting>>, JoinFault>
     ensures { TakesSets netlist.now horizon rows.now result }
 {
-    let mut settings = no_settings(alloc, netlist.signals())?;
+    let mut settings = empty_lists(alloc, netlist.signals())?;
     for row in rows {
         take(netlist, horizon, &mut settings, row)?;
     }

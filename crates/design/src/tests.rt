@@ -148,6 +148,59 @@ fn points_with_a_cell_at_once(rt: HostRuntime) -> Result<(), Fail> {
     Ok(())
 }
 
+/// The design with the signal of this name held.
+fn held_at(
+    alloc: Global,
+    design: &Design,
+    site: &str,
+    value: Value,
+) -> Result<Option<Design>, Fail> {
+    design.facts();
+    let Some(site) = design.netlist().id_of(site.as_bytes()) else {
+        return Ok(None);
+    };
+    Ok(Some(design.hold(alloc, site, value)?))
+}
+
+#[test]
+fn cells_where_a_signal_is_held(rt: HostRuntime) -> Result<(), Fail> {
+    let rows = [
+        // a flip-flop samples no more, and what it reads stays
+        (CLOCKED, "q", Value::One, "q", 0, Some((0, 31, Value::One))),
+        (CLOCKED, "q", Value::One, "q", 30, Some((0, 31, Value::One))),
+        (
+            CLOCKED,
+            "q",
+            Value::One,
+            "a",
+            10,
+            Some((10, 31, Value::One)),
+        ),
+        // an input has no other setting, and what reads it stays
+        (
+            CLOCKED,
+            "a",
+            Value::Zero,
+            "a",
+            20,
+            Some((0, 31, Value::Zero)),
+        ),
+        (CLOCKED, "a", Value::Zero, "q", 10, Some((0, 11, Value::X))),
+        (CLOCKED, "a", Value::Zero, "q", 11, None),
+        // a gate that reads itself
+        (RING, "y", Value::Zero, "y", 12, Some((0, 13, Value::Zero))),
+    ];
+    for (files, site, value, name, time, cell) in rows {
+        let design = joined(rt.alloc(), &files)??;
+        let found = match held_at(rt.alloc(), &design, site, value)? {
+            None => None,
+            Some(held) => base_of(&held, name, time),
+        };
+        assert_eq!(rt; found, cell, "{name} at {time}, with {site} held");
+    }
+    Ok(())
+}
+
 /// What a pin of an evaluable point reads and when; the times about the point at which it sees what it sees there; and
 /// those of the point's cell, where that has no other pin.
 #[derive(Clone, Copy, Debug, PartialEq, Eq)]
@@ -411,6 +464,73 @@ fn cones_of_signals(rt: HostRuntime) -> Result<(), Fail> {
         let design = joined(rt.alloc(), &files)??;
         let reached = reaches(rt.alloc(), &design, root, name)?;
         assert_eq!(rt; reached, Some(inside), "{root} and {name}");
+    }
+    Ok(())
+}
+
+/// For each signal whether it reads the signal of this name, however far back.
+fn reached_from(alloc: Global, design: &Design, site: &str) -> Result<Option<FlagList>, Fail> {
+    design.facts();
+    let Some(site) = design.netlist().id_of(site.as_bytes()) else {
+        return Ok(None);
+    };
+    Ok(Some(design.reached(alloc, site)?))
+}
+
+/// The flag of the signal of this name.
+fn flag_of(design: &Design, flags: &Option<FlagList>, name: &str) -> Option<bool> {
+    let signal = design.netlist().id_of(name.as_bytes())?;
+    match flags {
+        Some(flags) if (signal as usize) < flags.as_slice().len() => Some(flags.get(signal)),
+        _ => None,
+    }
+}
+
+#[test]
+fn signals_that_are_reached(rt: HostRuntime) -> Result<(), Fail> {
+    let rows = [
+        (C17, "11", "11 16 19 22 23", "1 2 3 6 7 10"),
+        (C17, "1", "1 10 22", "2 3 6 7 11 16 19 23"),
+        (C17, "23", "23", "1 2 3 6 7 10 11 16 19 22"),
+        // a flip-flop in a cycle
+        (
+            S27,
+            "G7",
+            "G5 G6 G7 G8 G9 G10 G11 G12 G13 G15 G16 G17",
+            "G0 G1 G2 G3 G14",
+        ),
+        (
+            S27,
+            "G0",
+            "G0 G5 G6 G8 G9 G10 G11 G14 G15 G16 G17",
+            "G1 G2 G3 G7 G12 G13",
+        ),
+        // a gate that reads itself
+        (RING.netlist, "y", "y", "en"),
+        (RING.netlist, "en", "en y", ""),
+    ];
+    for (netlist, site, reached, free) in rows {
+        let files = Files {
+            netlist,
+            timing: "",
+            stimulus: "horizon 10\n",
+        };
+        let design = joined(rt.alloc(), &files)??;
+        let flags = reached_from(rt.alloc(), &design, site)?;
+        for name in reached.split_whitespace() {
+            assert_eq!(rt;
+                flag_of(&design, &flags, name),
+                Some(true),
+                "{site} and {name}"
+            );
+        }
+        for name in free.split_whitespace() {
+            assert_eq!(rt;
+                flag_of(&design, &flags, name),
+                Some(false),
+                "{site} and {name}"
+            );
+        }
     }
     Ok(())
 }

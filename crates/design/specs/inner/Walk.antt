@@ -1,6 +1,8 @@
--- The walk back from a signal through the pins: which signals are marked, and which of them lie ahead.
-use Rattle.std.specs.Prelude.{◌≡◌, ℕ, ◌+◌, Bool, false, not, ◌&&◌, ◌||◌, nat_eq, List, length, get_or, count_by}
+-- A walk from signal to signal: which signals are marked, which of them lie ahead, and which signals read which.
+use Rattle.std.specs.Prelude.{◌≡◌, ℕ, ◌+◌, ◌<◌, Bool, false, not, ◌&&◌, ◌||◌, nat_eq, nat_lt, List, [], length, map, get_or, count_by}
 use Rattle.std.specs.List.{list_any}
+use Rattle.std.specs.Global.{Vec}
+use Rattle.circuit_meaning.specs.Circuit.{Circuit, driver, read_by}
 
 abbrev pub has : List ℕ → ℕ → Bool
 has signals x = list_any (nat_eq x) signals
@@ -14,3 +16,22 @@ pub record Marks (signals : List ℕ) (marks marks' : List Bool) (ahead ahead' :
   pub marked : (x : ℕ) → is_marked marks' x ≡ (is_marked marks x || has signals x)
   pub waits : (x : ℕ) → has ahead' x ≡ (has ahead x || has signals x && not (is_marked marks x))
   pub fewer : count_by not marks' + length ahead' ≡ count_by not marks + length ahead
+
+-- the list that stands at a place
+abbrev pub list_at : List (Vec ℕ) → ℕ → List ℕ
+list_at lists u = get_or (map (λ list. list.items) lists) u []
+
+-- The reader stands also in the lists of these signals.
+pub record AddsReader (reader : ℕ) (reads : List ℕ) (lists lists' : List (Vec ℕ)) : Type 0 where
+  pub long : length lists' ≡ length lists
+  pub each : (u x : ℕ) → u < length lists → has (list_at lists' u) x ≡ (has (list_at lists u) x || nat_eq x reader && has reads u)
+
+-- Each signal has a list of those of the first n signals that read it.
+pub record HaveReaders (c : Circuit) (n : ℕ) (lists : List (Vec ℕ)) : Type 0 where
+  pub long : length lists ≡ length c.drivers
+  pub each : (u x : ℕ) → u < length c.drivers → has (list_at lists u) x ≡ (nat_lt x n && has (read_by (driver c x)) u)
+
+-- and of all signals
+pub record AreReaders (c : Circuit) (lists : List (Vec ℕ)) : Type 0 where
+  pub long : length lists ≡ length c.drivers
+  pub each : (u x : ℕ) → u < length c.drivers → has (list_at lists u) x ≡ has (read_by (driver c x)) u
