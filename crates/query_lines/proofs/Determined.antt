@@ -18,7 +18,8 @@ use Rattle.query_lines.specs.declared.unit.Unit.{Unit as ScriptUnit}
 use Rattle.query_lines.specs.declared.unit.Unit.TheVariants as units
 use Rattle.query_lines.specs.Lines.{by_words, line_of}
 use Rattle.query_lines.specs.Units.{LineStep, budget_weight, length_weight, budgets, lengths, closed, is_over, pending_up_to_64, line_step, units_from}
-use Rattle.query_lines.specs.Reading.{Reader, HasRead, numbered_lines, script_units}
+use Rattle.query_lines.specs.Reading.{numbered_lines, script_units}
+use Rattle.query_lines.specs.Readers.{Reader, HasRead}
 use Rattle.query_lines.specs.Laws.{IsWithin, IsWithinLimits}
 use Rattle.query_lines.proofs.Limits.{units-within}
 use Rattle.query_lines.proofs.OwnLines.{later-part}

@@ -16,7 +16,8 @@ use Rattle.query_lines.specs.Lines.{line_of}
 use Rattle.query_lines.specs.Units.{Pending, closed, line_step, units_from}
 use Rattle.query_lines.specs.Laws.{IsWithinLimits}
 use Rattle.query_lines.proofs.Limits.{units-within}
-use Rattle.query_lines.specs.Reading.{Reader, HasRead, numbered_lines, script_units}
+use Rattle.query_lines.specs.Reading.{numbered_lines, script_units}
+use Rattle.query_lines.specs.Readers.{Reader, HasRead}
 use Rattle.query_lines.specs.inner.Reading.{ReadsLine}
 
 -- nothing was taken

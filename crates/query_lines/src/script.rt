@@ -4,7 +4,8 @@ ghost use Rattle.std.specs.Prelude.{◌≡◌, ◌<◌, ◌≤◌, ◌+◌, ◌+
 ghost use Rattle.query_lines.specs.Laws.{IsWithinLimits};
 ghost use Rattle.query_lines.specs.Cutting.{LineEnds, cut_of, kept_of};
 ghost use Rattle.query_lines.specs.Lines.{line_of};
-ghost use Rattle.query_lines.specs.Reading.{HasRead, script_units};
+ghost use Rattle.query_lines.specs.Reading.{script_units};
+ghost use Rattle.query_lines.specs.Readers.{HasRead};
 ghost use Rattle.query_lines.specs.inner.Reading.{ReadsLine};
 ghost use Rattle.query_lines.specs.Units.{closed};
 ghost use Rattle.query_lines.specs.declared.unit.Unit.{Unit as ScriptUnit};
@@ -28,7 +29,7 @@ pub struct ScriptReader {
 }
 
 impl Model for ScriptReader {
-    ghost use Rattle.query_lines.specs.Reading.{Reader};
+    ghost use Rattle.query_lines.specs.Readers.{Reader};
 
     ghost Value = { Reader };
 

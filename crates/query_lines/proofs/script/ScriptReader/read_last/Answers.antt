@@ -1,5 +1,5 @@
 use Rattle.std.proofs.Common.{refl, subst, sym, ◌∙◌}
-use Rattle.query_lines.specs.Reading.{Reader, HasRead}
+use Rattle.query_lines.specs.Readers.{Reader, HasRead}
 use Rattle.query_lines.proofs.Feeding.{last_none, last_line}
 use Rattle.query_lines.proofs.script.ScriptReader.read_last.Goals as goal
 

@@ -1,5 +1,5 @@
 use Rattle.std.proofs.Common.{◌∙◌, refl, subst, sym}
-use Rattle.query_lines.specs.Reading.{Reader, HasRead}
+use Rattle.query_lines.specs.Readers.{Reader, HasRead}
 use Rattle.query_lines.proofs.Feeding.{taken, taken_line, given_fits}
 use Rattle.query_lines.proofs.script.ScriptReader.take.Goals as goal
 
