@@ -41,7 +41,7 @@ filler-long n = length-replicate n 120
 plain-longer : (line more : List ℕ) → is_plain line ≡ true → is_plain more ≡ true → is_plain (line ++ more) ≡ true
 plain-longer line more a b = list_all-append (λ x. not (is_feed x)) line more ∙ rw (a, b) refl
 
-over-long : (bytes : List ℕ) → 4096 < length bytes → line_of bytes ≡ Bad
+pub over-long : (bytes : List ℕ) → 4096 < length bytes → line_of bytes ≡ Bad
 unfolding line_of
 over-long bytes long = ap (λ (b : Bool). cond b (by_words (words (content bytes))) Bad) (lt-leb (length bytes) 4096 long)
 

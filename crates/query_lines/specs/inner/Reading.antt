@@ -1,5 +1,5 @@
 -- What only the proofs and the private functions of this crate speak of, beside `Readers`.
-use Rattle.std.specs.Prelude.{◌≡◌, ℕ, ◌+◌, ◌≤◌, List, ◌++◌}
+use Rattle.std.specs.Prelude.{◌≡◌, ℕ, ◌+◌, List}
 use Rattle.query_lines.specs.declared.unit.Unit.{Unit as ScriptUnit}
 use Rattle.query_lines.specs.Lines.{line_of}
 use Rattle.query_lines.specs.Units.{given_by, left_by}
