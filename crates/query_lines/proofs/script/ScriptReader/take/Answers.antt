@@ -1,8 +1,16 @@
-use Rattle.std.proofs.Common.{ℕ, refl, subst, sym, Ok}
-use Rattle.query_lines.specs.Readers.{Reader}
+use Rattle.std.proofs.Common.{ℕ, refl, subst, sym, ◌∙◌, Ok}
+use Rattle.query_lines.specs.Readers.{Reader, HasRead}
 use Rattle.query_lines.specs.inner.Reading.{ReadsLine}
-use Rattle.query_lines.proofs.Feeding.{taken_line, given_fits}
+use Rattle.query_lines.proofs.Feeding.{taken, taken_line, given_fits}
 use Rattle.query_lines.proofs.script.ScriptReader.take.Goals as goal
+
+-- a byte that is no line feed was taken
+pub returns-then-byte-ne10-clause-read : goal.returns-then-byte-ne10-clause-read
+returns-then-byte-ne10-clause-read c horizon script given read =
+    let old : Reader = record { cutter = c.self.inside.cutter; pending = c.self.inside.batcher; lines = c.self.inside.lines } in
+    let new : Reader = record old { cutter = c.take.new.self } in
+    taken horizon script given c.from_vec.result old new c.args.byte (subst (λ (r : Reader). HasRead horizon script given r) (sym c.self.view_is) read) c.if-byte-ne10.true refl refl
+    (λ line holds. (c.take.ensures.more line holds c.if-byte-ne10.true).1) (c.from_vec.ensures ∙ c.new.ensures.items)
 
 -- a line was read, and its line feed taken
 pub returns-clause-read : goal.returns-clause-read
