@@ -18,7 +18,8 @@ use Rattle.query_lines.specs.declared.unit.Unit.{Unit as ScriptUnit}
 use Rattle.query_lines.specs.declared.unit.Unit.TheVariants as units
 use Rattle.query_lines.specs.Lines.{by_words, line_of}
 use Rattle.query_lines.specs.Units.{LineStep, budget_weight, length_weight, budgets, lengths, closed, is_over, pending_up_to_64, line_step, units_from}
-use Rattle.query_lines.specs.Reading.{Reader, HasRead, numbered_lines, script_units}
+use Rattle.query_lines.specs.Reading.{numbered_lines, script_units}
+use Rattle.query_lines.specs.Readers.{Reader, HasRead}
 use Rattle.query_lines.specs.Laws.{IsWithin, IsWithinLimits}
 use Rattle.query_lines.proofs.Limits.{units-within}
 use Rattle.query_lines.proofs.OwnLines.{later-part}
@@ -40,7 +41,7 @@ filler-long n = length-replicate n 120
 plain-longer : (line more : List ℕ) → is_plain line ≡ true → is_plain more ≡ true → is_plain (line ++ more) ≡ true
 plain-longer line more a b = list_all-append (λ x. not (is_feed x)) line more ∙ rw (a, b) refl
 
-over-long : (bytes : List ℕ) → 4096 < length bytes → line_of bytes ≡ Bad
+pub over-long : (bytes : List ℕ) → 4096 < length bytes → line_of bytes ≡ Bad
 unfolding line_of
 over-long bytes long = ap (λ (b : Bool). cond b (by_words (words (content bytes))) Bad) (lt-leb (length bytes) 4096 long)
 

@@ -1,22 +1,21 @@
 -- A script read byte by byte.
-use Rattle.std.proofs.Common.{◌≡◌, ◌≢◌, ℕ, ◌+◌, ◌<◌, ◌≤◌, Bool, true, false, cond, leb, eqb, List, [], ◌∷◌, ◌++◌, length, map, refl, sym, ap, subst, ◌∙◌, append_assoc, inl, inr, ◌⊎◌, arith, Result, Ok, Err}
+use Rattle.std.proofs.Common.{◌≡◌, ◌≢◌, ℕ, ◌+◌, ◌<◌, ◌≤◌, Bool, true, false, List, [], ◌∷◌, ◌++◌, length, map, refl, sym, ap, subst, ◌∙◌, append_assoc, arith, Result, Ok, Err}
 use Rattle.std.specs.Prelude.{IfOk, All}
 use Rattle.std.specs.List.{enumerate_from}
 use Rattle.std.proofs.lemmas.List.{append-nil, length-append}
 use Rattle.std.proofs.lemmas.List.Elements.{All-nil, All-cons, All-head, All-tail, All-same}
-use Rattle.std.proofs.lemmas.Bool.{eqb-true, eqb-false}
 use Rattle.text_rules.specs.Text.{lines}
 use Rattle.text_rules.proofs.Stream.{is_plain, line_front, line_last, no_line, plain_push, not_feed}
 use Rattle.query_lines.specs.declared.cutter.Cut.{Cut}
-use Rattle.query_lines.specs.declared.cutter.Cut.TheVariants.{More, Whole, Long}
 use Rattle.query_lines.specs.declared.unit.Item.{Item}
 use Rattle.query_lines.specs.declared.unit.Unit.{Unit as ScriptUnit}
-use Rattle.query_lines.specs.Cutting.{Cutter, IsUnderWay, LineEnds, cut_of}
+use Rattle.query_lines.specs.Cutting.{Cutter, IsUnderWay, LineEnds}
 use Rattle.query_lines.specs.Lines.{line_of}
 use Rattle.query_lines.specs.Units.{Pending, closed, line_step, units_from}
 use Rattle.query_lines.specs.Laws.{IsWithinLimits}
 use Rattle.query_lines.proofs.Limits.{units-within}
-use Rattle.query_lines.specs.Reading.{Reader, HasRead, numbered_lines, script_units}
+use Rattle.query_lines.specs.Reading.{numbered_lines, script_units}
+use Rattle.query_lines.specs.Readers.{Reader, HasRead}
 use Rattle.query_lines.specs.inner.Reading.{ReadsLine}
 
 -- nothing was taken
@@ -30,22 +29,6 @@ opened horizon reader holds pending lines = record {
   lines_end = omega (arith, lines);
   goes_on = λ rest. rw (pending, lines) refl;
 }
-
-not_more : (line : List ℕ) → cut_of line ≡ More → ⊥
-not_more line h = cases (leb (length line) 4096) h
-  where
-    cases : (b : Bool) → cond b Whole Long ≡ More → ⊥
-    cases true h = cc
-    cases false h = cc
-
--- what a byte did
-pub fed : (byte : ℕ) (line : List ℕ) (cut : Cut) (new : Cutter) → (byte ≢ 10 → (cut ≡ More) × IsUnderWay (line ++ byte ∷ []) new) → (byte ≡ 10 → LineEnds line cut new)
-    → ((byte ≢ 10) × (cut ≡ More) × IsUnderWay (line ++ byte ∷ []) new) ⊎ ((cut ≢ More) × (byte ≡ 10) × LineEnds line cut new)
-fed byte line cut new more ends = cases (eqb byte 10) refl
-  where
-    cases : (b : Bool) → eqb byte 10 ≡ b → ((byte ≢ 10) × (cut ≡ More) × IsUnderWay (line ++ byte ∷ []) new) ⊎ ((cut ≢ More) × (byte ≡ 10) × LineEnds line cut new)
-    cases true h = let feed = eqb-true byte 10 h in inr (λ e. not_more line (sym (ends feed).cut ∙ e), feed, ends feed)
-    cases false h = let other = eqb-false byte 10 h in inl (other, (more other).0, (more other).1)
 
 -- a byte that ends no line
 pub more_read : (horizon : ℕ) (script : List ℕ) (given : List ScriptUnit) (old new : Reader) (byte : ℕ) → (p : HasRead horizon script given old) → byte ≢ 10 → IsUnderWay (p.line ++ byte ∷ []) new.cutter → new.pending ≡ old.pending → new.lines ≡ old.lines
@@ -65,22 +48,19 @@ line_gives : (horizon first : ℕ) (pending : List Item) (line rest : List ℕ) 
     ≡ (line_step horizon pending first (line_of line)).units ++ units_from horizon (line_step horizon pending first (line_of line)).pending (numbered_lines (first + 1) rest)
 line_gives horizon first pending line rest plain = ap (λ (l : List (List ℕ)). units_from horizon pending (enumerate_from first (map line_of l))) (line_front line rest plain)
 
--- a byte that ends a line
-pub line_read : (horizon : ℕ) (script : List ℕ) (given units : List ScriptUnit) (old ended new : Reader) (byte : ℕ) → (p : HasRead horizon script given old) → byte ≡ 10 → IsUnderWay [] ended.cutter → ended.pending ≡ old.pending → ended.lines ≡ old.lines
-    → ReadsLine p.line ended new units → HasRead horizon (script ++ byte ∷ []) (given ++ units) new
-line_read horizon script given units old ended new byte p feed holds pending lines reads =
-    let horizon_is : ended.pending.horizon ≡ horizon = ap (λ (q : Pending). q.horizon) pending ∙ p.horizon_is in
-    let items_are : ended.pending.items ≡ old.pending.items = ap (λ (q : Pending). q.items) pending in
-    record {
-      line = [];
-      under_way = refl;
-      holds = subst (λ (c : Cutter). IsUnderWay [] c) (sym reads.cutter_stays) holds;
-      horizon_is = ap (λ (q : Pending). q.horizon) reads.pending_are ∙ horizon_is;
-      lines_end = omega (arith, lines, reads.lines_end, p.lines_end, length-append script (byte ∷ []));
-      goes_on = λ rest.
-          rw (append_assoc script (byte ∷ []) rest, reads.units_are, reads.pending_are, reads.lines_end, horizon_is, items_are, lines, feed, append_assoc given)
-          (p.goes_on (10 ∷ rest) ∙ ap (λ (l : List ScriptUnit). given ++ l) (line_gives horizon (old.lines + 1) old.pending.items p.line rest p.under_way));
-    }
+-- a byte that ends a line, which was read before the cutter took the byte
+pub line_read : (horizon : ℕ) (script : List ℕ) (given units : List ScriptUnit) (old mid new : Reader) (byte : ℕ) → (p : HasRead horizon script given old) → byte ≡ 10 → ReadsLine p.line old mid units
+    → IsUnderWay [] new.cutter → new.pending ≡ mid.pending → new.lines ≡ mid.lines → HasRead horizon (script ++ byte ∷ []) (given ++ units) new
+line_read horizon script given units old mid new byte p feed reads holds pending lines = record {
+  line = [];
+  under_way = refl;
+  holds = holds;
+  horizon_is = ap (λ (q : Pending). q.horizon) (pending ∙ reads.pending_are) ∙ p.horizon_is;
+  lines_end = omega (arith, lines, reads.lines_end, p.lines_end, length-append script (byte ∷ []));
+  goes_on = λ rest.
+      rw (append_assoc script (byte ∷ []) rest, reads.units_are, pending, reads.pending_are, lines, reads.lines_end, p.horizon_is, feed, append_assoc given)
+      (p.goes_on (10 ∷ rest) ∙ ap (λ (l : List ScriptUnit). given ++ l) (line_gives horizon (old.lines + 1) old.pending.items p.line rest p.under_way));
+}
 
 -- the end of a script behind a line feed, or of an empty script
 pub none_left : (horizon : ℕ) (script : List ℕ) (given : List ScriptUnit) (old : Reader) (p : HasRead horizon script given old) → p.line ≡ [] → script_units horizon script ≡ given ++ closed old.pending.items
@@ -95,64 +75,50 @@ line_left horizon script given old p some =
     ap (script_units horizon) (sym (append-nil script)) ∙ p.goes_on []
     ∙ ap (λ (l : List (List ℕ)). given ++ units_from horizon old.pending.items (enumerate_from (old.lines + 1) (map line_of l))) (ap lines (append-nil p.line) ∙ line_last p.line p.under_way some)
 
--- a byte behind which the cutter gave no line
-pub taken : (horizon : ℕ) (script : List ℕ) (given : List ScriptUnit) (old new : Reader) (byte : ℕ) (cut : Cut) (units : List ScriptUnit) → HasRead horizon script given old → new.pending ≡ old.pending → new.lines ≡ old.lines
-    → ((line : List ℕ) → IsUnderWay line old.cutter → byte ≢ 10 → (cut ≡ More) × IsUnderWay (line ++ byte ∷ []) new.cutter)
-    → ((line : List ℕ) → IsUnderWay line old.cutter → byte ≡ 10 → LineEnds line cut new.cutter)
-    → cut ≡ More → units ≡ [] → HasRead horizon (script ++ byte ∷ []) (given ++ units) new
-taken horizon script given old new byte cut units p pending lines more ends is none = cases (fed byte p.line cut new.cutter (more p.line p.holds) (ends p.line p.holds))
-  where
-    cases : ((byte ≢ 10) × (cut ≡ More) × IsUnderWay (p.line ++ byte ∷ []) new.cutter) ⊎ ((cut ≢ More) × (byte ≡ 10) × LineEnds p.line cut new.cutter) → HasRead horizon (script ++ byte ∷ []) (given ++ units) new
-    cases (inl plain) = subst (λ (l : List ScriptUnit). HasRead horizon (script ++ byte ∷ []) (given ++ l) new) (sym none) (more_read horizon script given old new byte p plain.0 plain.2 pending lines)
-    cases (inr feed) = absurd (feed.0 is)
+-- a byte that is no line feed was taken
+pub taken : (horizon : ℕ) (script : List ℕ) (given units : List ScriptUnit) (old new : Reader) (byte : ℕ) → HasRead horizon script given old → byte ≢ 10 → new.pending ≡ old.pending → new.lines ≡ old.lines
+    → ((line : List ℕ) → IsUnderWay line old.cutter → IsUnderWay (line ++ byte ∷ []) new.cutter) → units ≡ [] → HasRead horizon (script ++ byte ∷ []) (given ++ units) new
+taken horizon script given units old new byte p other pending lines more none =
+    subst (λ (l : List ScriptUnit). HasRead horizon (script ++ byte ∷ []) (given ++ l) new) (sym none) (more_read horizon script given old new byte p other (more p.line p.holds) pending lines)
 
--- a byte behind which the cutter gave a line that was read
-pub taken_line : {E : Type 0} (horizon : ℕ) (script : List ℕ) (given : List ScriptUnit) (old ended new : Reader) (byte : ℕ) (cut : Cut) (result : Result (List ScriptUnit) E) → HasRead horizon script given old → ended.pending ≡ old.pending → ended.lines ≡ old.lines
-    → ((line : List ℕ) → IsUnderWay line old.cutter → byte ≢ 10 → (cut ≡ More) × IsUnderWay (line ++ byte ∷ []) ended.cutter)
-    → ((line : List ℕ) → IsUnderWay line old.cutter → byte ≡ 10 → LineEnds line cut ended.cutter)
-    → cut ≢ More → ((line : List ℕ) → LineEnds line cut ended.cutter → IfOk result (ReadsLine line ended new))
-    → IfOk result (λ units. HasRead horizon (script ++ byte ∷ []) (given ++ units) new)
-taken_line {E} horizon script given old ended new byte cut result p pending lines more ends other reads = cases (fed byte p.line cut ended.cutter (more p.line p.holds) (ends p.line p.holds))
-  where
-    of_line : (r : Result (List ScriptUnit) E) → byte ≡ 10 → LineEnds p.line cut ended.cutter → IfOk r (ReadsLine p.line ended new) → IfOk r (λ units. HasRead horizon (script ++ byte ∷ []) (given ++ units) new)
-    of_line (Ok units) feed end read = line_read horizon script given units old ended new byte p feed end.next pending lines read
-    of_line (Err e) feed end read = read
+-- a line was read, and the line feed behind it was taken
+pub taken_line : (horizon : ℕ) (script : List ℕ) (given units : List ScriptUnit) (old mid new : Reader) (byte : ℕ) (cut : Cut) → HasRead horizon script given old → byte ≡ 10
+    → ((line : List ℕ) → IsUnderWay line old.cutter → ReadsLine line old mid units) → ((line : List ℕ) → IsUnderWay line mid.cutter → LineEnds line cut new.cutter)
+    → new.pending ≡ mid.pending → new.lines ≡ mid.lines → HasRead horizon (script ++ byte ∷ []) (given ++ units) new
+taken_line horizon script given units old mid new byte cut p feed reads ends pending lines =
+    let read = reads p.line p.holds in
+    let ended = ends p.line (subst (IsUnderWay p.line) (sym read.cutter_stays) p.holds) in
+    line_read horizon script given units old mid new byte p feed read ended.next pending lines
 
-    cases : ((byte ≢ 10) × (cut ≡ More) × IsUnderWay (p.line ++ byte ∷ []) ended.cutter) ⊎ ((cut ≢ More) × (byte ≡ 10) × LineEnds p.line cut ended.cutter) → IfOk result (λ units. HasRead horizon (script ++ byte ∷ []) (given ++ units) new)
-    cases (inl plain) = absurd (other plain.1)
-    cases (inr feed) = of_line result feed.1 feed.2 (reads p.line feed.2)
+no_byte : (line : List ℕ) (c : Cutter) → IsUnderWay line c → c.kept ≡ [] → line ≡ []
+no_byte line c holds none = cases c.is_long refl
+  where
+    cases : (b : Bool) → c.is_long ≡ b → line ≡ []
+    cases false short = sym (holds.whole short) ∙ none
+    cases true long = absurd (omega (arith, (holds.long long).1, ap length none))
+
+some_byte : (line : List ℕ) (c : Cutter) → IsUnderWay line c → c.kept ≢ [] → 0 < length line
+some_byte [] c holds some = absurd (some (cases c.is_long refl))
+  where
+    cases : (b : Bool) → c.is_long ≡ b → c.kept ≡ []
+    cases false short = holds.whole short
+    cases true long = absurd (omega (arith, (holds.long long).0))
+some_byte (b ∷ line) c holds some = omega arith
 
 -- at the end of a script, where no line is under way
-pub last_none : (horizon : ℕ) (script : List ℕ) (given : List ScriptUnit) (old new : Reader) (cut : Cut) (units : List ScriptUnit) → HasRead horizon script given old → new.pending ≡ old.pending
-    → ((line : List ℕ) → IsUnderWay line old.cutter → 0 < length line → LineEnds line cut new.cutter) → cut ≡ More → units ≡ []
-    → script_units horizon script ≡ given ++ (units ++ closed new.pending.items)
-last_none horizon script given old new cut units p pending ends is none =
-    none_left horizon script given old p (no_byte p.line p.holds) ∙ ap (λ (l : List ScriptUnit). given ++ (l ++ closed old.pending.items)) (sym none) ∙ ap (λ (q : Pending). given ++ (units ++ closed q.items)) (sym pending)
-  where
-    no_byte : (line : List ℕ) → IsUnderWay line old.cutter → line ≡ []
-    no_byte [] holds = refl
-    no_byte (b ∷ line) holds = absurd (not_more (b ∷ line) (sym (ends (b ∷ line) holds (omega arith)).cut ∙ is))
+pub last_none : (horizon : ℕ) (script : List ℕ) (given units : List ScriptUnit) (old : Reader) → HasRead horizon script given old → old.cutter.kept ≡ [] → units ≡ []
+    → script_units horizon script ≡ given ++ (units ++ closed old.pending.items)
+last_none horizon script given units old p empty none =
+    none_left horizon script given old p (no_byte p.line old.cutter p.holds empty) ∙ ap (λ (l : List ScriptUnit). given ++ (l ++ closed old.pending.items)) (sym none)
 
 -- at the end of a script, where a line is under way that is then read
-pub last_line : {E : Type 0} (horizon : ℕ) (script : List ℕ) (given : List ScriptUnit) (old ended new : Reader) (cut : Cut) (result : Result (List ScriptUnit) E) → HasRead horizon script given old → ended.pending ≡ old.pending → ended.lines ≡ old.lines
-    → (IsUnderWay [] old.cutter → cut ≡ More) → ((line : List ℕ) → IsUnderWay line old.cutter → 0 < length line → LineEnds line cut ended.cutter)
-    → cut ≢ More → ((line : List ℕ) → LineEnds line cut ended.cutter → IfOk result (ReadsLine line ended new))
-    → IfOk result (λ units. script_units horizon script ≡ given ++ (units ++ closed new.pending.items))
-last_line {E} horizon script given old ended new cut result p pending lines none ends other reads = of_line result (reads p.line (ends p.line p.holds some))
+pub last_line : {E : Type 0} (horizon : ℕ) (script : List ℕ) (given : List ScriptUnit) (old new : Reader) (result : Result (List ScriptUnit) E) → HasRead horizon script given old → old.cutter.kept ≢ []
+    → ((line : List ℕ) → IsUnderWay line old.cutter → IfOk result (ReadsLine line old new)) → IfOk result (λ units. script_units horizon script ≡ given ++ (units ++ closed new.pending.items))
+last_line {E} horizon script given old new result p some reads = of_line result (reads p.line p.holds)
   where
-    has_byte : (line : List ℕ) → IsUnderWay line old.cutter → 0 < length line
-    has_byte [] holds = absurd (other (none holds))
-    has_byte (b ∷ line) holds = omega arith
-
-    some : 0 < length p.line
-    some = has_byte p.line p.holds
-
-    of_line : (r : Result (List ScriptUnit) E) → IfOk r (ReadsLine p.line ended new) → IfOk r (λ units. script_units horizon script ≡ given ++ (units ++ closed new.pending.items))
+    of_line : (r : Result (List ScriptUnit) E) → IfOk r (ReadsLine p.line old new) → IfOk r (λ units. script_units horizon script ≡ given ++ (units ++ closed new.pending.items))
     of_line (Err e) read = read
-    of_line (Ok units) read =
-        let horizon_is : ended.pending.horizon ≡ horizon = ap (λ (q : Pending). q.horizon) pending ∙ p.horizon_is in
-        let items_are : ended.pending.items ≡ old.pending.items = ap (λ (q : Pending). q.items) pending in
-        rw (read.units_are, read.pending_are, horizon_is, items_are, lines) (line_left horizon script given old p some)
+    of_line (Ok units) read = rw (read.units_are, read.pending_are, p.horizon_is) (line_left horizon script given old p (some_byte p.line old.cutter p.holds some))
 
 -- the last batch behind the units of the last line
 pub all_given : {E : Type 0} (whole given units last : List ScriptUnit) (result : Result (List ScriptUnit) E) → whole ≡ given ++ (units ++ last) → IfOk result (λ all. all ≡ units ++ last) → IfOk result (λ all. whole ≡ given ++ all)

@@ -3,3 +3,4 @@ pub mod Requests
 pub mod Limits
 pub mod OwnLines
 pub mod Determined
+pub mod Completed

@@ -14,7 +14,8 @@ use Rattle.query_lines.specs.declared.unit.Unit.{Unit as ScriptUnit}
 use Rattle.query_lines.specs.declared.unit.Unit.TheVariants as units
 use Rattle.query_lines.specs.Lines.{line_of}
 use Rattle.query_lines.specs.Units.{LineStep, closed, is_over, pending_up_to_64, with_item, line_step, units_from}
-use Rattle.query_lines.specs.Reading.{Reader, HasRead, numbered_lines, script_units}
+use Rattle.query_lines.specs.Reading.{numbered_lines, script_units}
+use Rattle.query_lines.specs.Readers.{Reader, HasRead}
 use Rattle.query_lines.specs.Fit.{HaveOwnLines, HasOwnLines, IsFit}
 use Rattle.query_lines.proofs.Limits.{units-within}
 

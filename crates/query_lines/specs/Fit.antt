@@ -3,7 +3,8 @@ use Rattle.std.specs.Prelude.{◌≡◌, ◌≢◌, ⊤, ℕ, ◌≤◌, List, A
 use Rattle.query_lines.specs.declared.unit.Item.{Item}
 use Rattle.query_lines.specs.declared.unit.Unit.{Unit as ScriptUnit}
 use Rattle.query_lines.specs.declared.unit.Unit.TheVariants.{Batch, Trim, Stats}
-use Rattle.query_lines.specs.Reading.{Reader, HasRead, script_units}
+use Rattle.query_lines.specs.Reading.{script_units, completed_units}
+use Rattle.query_lines.specs.Readers.{Reader, HasRead}
 use Rattle.query_lines.specs.Laws.{IsWithinLimits}
 
 -- no two items have one line
@@ -38,3 +39,8 @@ ScriptUnitsAreFit = (horizon : ℕ) (script : List ℕ) → horizon ≤ 1000000 
 abbrev pub ReadUnitsAreDetermined : Type 0
 ReadUnitsAreDetermined = (horizon : ℕ) (script : List ℕ) (given other : List ScriptUnit) (reader another : Reader)
     → HasRead horizon script given reader → HasRead horizon script other another → horizon ≤ 1000000 → given ≡ other
+
+-- These are the units that the lines which have ended in the bytes complete.
+abbrev pub ReadUnitsAreCompleted : Type 0
+ReadUnitsAreCompleted = (horizon : ℕ) (script : List ℕ) (given : List ScriptUnit) (reader : Reader)
+    → HasRead horizon script given reader → horizon ≤ 1000000 → given ≡ completed_units horizon script

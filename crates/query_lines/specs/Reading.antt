@@ -1,12 +1,11 @@
--- The units of a script, read byte by byte.
-use Rattle.std.specs.Prelude.{◌≡◌, ℕ, ◌+◌, ◌≤◌, true, not, List, ◌++◌, length, map}
-use Rattle.std.specs.List.{enumerate_from, list_all}
+-- The units of a script, and those of the lines that have ended in its first bytes.
+use Rattle.std.specs.Prelude.{ℕ, List, [], ◌∷◌, map}
+use Rattle.std.specs.List.{enumerate_from, slice_split}
 use Rattle.text_rules.specs.Text.{is_feed, lines}
 use Rattle.query_lines.specs.declared.line.Line.{Line}
 use Rattle.query_lines.specs.declared.unit.Unit.{Unit as ScriptUnit}
-use Rattle.query_lines.specs.Cutting.{Cutter, IsUnderWay}
 use Rattle.query_lines.specs.Lines.{line_of}
-use Rattle.query_lines.specs.Units.{Pending, units_from, units_of}
+use Rattle.query_lines.specs.Units.{completed_from, units_of}
 
 -- the lines of a text with their numbers, of which the first is this one
 abbrev pub numbered_lines : ℕ → List ℕ → List (ℕ × Line)
@@ -16,19 +15,16 @@ numbered_lines first text = enumerate_from first (map line_of (lines text))
 unfoldable pub script_units : ℕ → List ℕ → List ScriptUnit
 script_units horizon script = units_of horizon (numbered_lines 1 script)
 
--- what a reader of a script shows: the line under way, the pending items, and how many lines have ended
-pub record Reader : Type 0 where
-  pub cutter : Cutter
-  pub pending : Pending
-  pub lines : ℕ
+-- all parts but the last
+abbrev pub less_last : List (List ℕ) → List (List ℕ)
+less_last [] = []
+less_last (part ∷ []) = []
+less_last (part ∷ next ∷ parts) = part ∷ less_last (next ∷ parts)
 
--- The reader has taken these bytes and given these units: whatever bytes follow, the units of the whole are
--- those given, and behind them what the line under way and all that follows make of the pending items.
-pub record HasRead (horizon : ℕ) (script : List ℕ) (given : List ScriptUnit) (reader : Reader) : Type 0 where
-  pub line : List ℕ
-  pub under_way : list_all (λ byte. not (is_feed byte)) line ≡ true
-  pub holds : IsUnderWay line reader.cutter
-  pub horizon_is : reader.pending.horizon ≡ horizon
-  pub lines_end : reader.lines ≤ length script
-  pub goes_on : (rest : List ℕ) → script_units horizon (script ++ rest)
-      ≡ given ++ units_from horizon reader.pending.items (numbered_lines (reader.lines + 1) (line ++ rest))
+-- the lines that have ended in a text: what stands before each of its line feeds, and nothing of what stands behind the last
+unfoldable pub ended_lines : List ℕ → List (List ℕ)
+ended_lines text = less_last (slice_split is_feed text)
+
+-- the units that the lines which have ended in these first bytes of a script complete
+unfoldable pub completed_units : ℕ → List ℕ → List ScriptUnit
+completed_units horizon bytes = completed_from horizon [] (enumerate_from 1 (map line_of (ended_lines bytes)))

@@ -92,5 +92,12 @@ units_from horizon pending (line ∷ lines) =
     let done = line_step horizon pending line.0 line.1 in
     done.units ++ units_from horizon done.pending lines
 
+-- the units that lines with their numbers complete, after these pending items; the script goes on behind them
+abbrev pub completed_from : ℕ → List Item → List (ℕ × Line) → List ScriptUnit
+completed_from horizon pending [] = []
+completed_from horizon pending (line ∷ lines) =
+    let done = line_step horizon pending line.0 line.1 in
+    done.units ++ completed_from horizon done.pending lines
+
 abbrev pub units_of : ℕ → List (ℕ × Line) → List ScriptUnit
 units_of horizon lines = units_from horizon [] lines

@@ -1,6 +1,6 @@
 //! A stream of bytes, cut into its lines.
 
-ghost use Rattle.std.specs.Prelude.{◌≡◌, ◌≢◌, ◌<◌, ◌≤◌, length, ℕ, List, [], ◌∷◌, ◌++◌, take, true};
+ghost use Rattle.std.specs.Prelude.{◌≡◌, ◌≢◌, ◌<◌, ◌≤◌, ◌↔◌, length, ℕ, List, [], ◌∷◌, ◌++◌, take, true, IsTrue, IsNone, IfSome};
 ghost use Rattle.query_lines.specs.Cutting.{Cutter, IsUnderWay, LineEnds};
 
 use crate::line::LONGEST_LINE;
@@ -108,6 +108,25 @@ impl LineCutter {
             return Cut::More;
         }
         self.finish()
+    }
+
+    /// Whether no byte came after the last line feed.
+    pub fn is_empty(&self) -> bool
+        ensures { IsTrue result ↔ (self.now.kept ≡ []) }
+    {
+        self.len == 0
+    }
+
+    /// The line under way, which a line feed would end here; `None` for one that
+    /// is too long.
+    pub fn line(&self) -> Option<&[u8]>
+        ensures long { IsNone result ↔ (self.now.is_long ≡ true) }
+        ensures whole { IfSome result (λ line. line.now ≡ self.now.kept) }
+    {
+        if self.is_long {
+            return None;
+        }
+        Some(self.buffer.as_slice().split_at(self.len).0)
     }
 
     /// The line just ended; empty for a line that is too long.

@@ -2,7 +2,7 @@
 //! nothing.
 
 ghost use Rattle.query_lines.specs.Laws.{UnitsKeepRequests, UnitsAreWithinLimits};
-ghost use Rattle.query_lines.specs.Fit.{UnitsHaveOwnLines, ReadUnitsAreFit, ScriptUnitsAreFit, ReadUnitsAreDetermined};
+ghost use Rattle.query_lines.specs.Fit.{UnitsHaveOwnLines, ReadUnitsAreFit, ScriptUnitsAreFit, ReadUnitsAreDetermined, ReadUnitsAreCompleted};
 
 /// The units are the lines' requests in their order: none is lost, and none is
 /// told twice.
@@ -36,4 +36,10 @@ pub fn script_units_are_fit()
 /// Two readers that have taken the same bytes have given the same units.
 pub fn read_units_are_determined()
     ensures { ReadUnitsAreDetermined }
+{}
+
+/// A reader has given exactly the units that the lines which have ended in the
+/// bytes it has taken complete.
+pub fn read_units_are_completed()
+    ensures { ReadUnitsAreCompleted }
 {}

@@ -8,14 +8,15 @@
 //! a batch ends, and `specs/Laws` what holds of all units: they are the lines'
 //! requests in their order, and each batch is within its limits. `specs/Fit` is
 //! what whoever serves them may count on besides: the items of a batch stand on
-//! different lines, and the bytes read so far determine the units given so far.
+//! different lines, and the units given so far are those that the lines which have
+//! ended in the bytes read so far complete (`completed_units` in `specs/Reading`).
 //!
 //! The script comes byte by byte, and may stop at any byte. `ScriptReader` takes
 //! one byte after another and gives each unit as soon as the line that completes
 //! it has ended. Its parts serve alone too: `LineCutter` cuts a stream into
 //! lines, `read_line` reads one of them, and `Batcher` gathers items into units.
 //! Whatever bytes follow, the units given so far are the first of the whole
-//! script's (`HasRead` in `specs/Reading`).
+//! script's (`HasRead` in `specs/Readers`).
 //!
 //! ```text
 //! let mut reader = ScriptReader::new(alloc, horizon);
@@ -45,8 +46,8 @@ mod unit;
 pub use batcher::Batcher;
 pub use cutter::{Cut, LineCutter};
 pub use laws::{
-    read_units_are_determined, read_units_are_fit, script_units_are_fit, units_are_within_limits,
-    units_have_own_lines, units_keep_requests,
+    read_units_are_completed, read_units_are_determined, read_units_are_fit, script_units_are_fit,
+    units_are_within_limits, units_have_own_lines, units_keep_requests,
 };
 pub use line::{Line, What, read_line};
 pub use script::{ScriptReader, read_script};

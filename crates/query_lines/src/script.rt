@@ -2,15 +2,16 @@
 
 ghost use Rattle.std.specs.Prelude.{◌≡◌, ◌<◌, ◌≤◌, ◌+◌, ◌++◌, ◌∷◌, [], ℕ, List, length, All, IfOk, OnErr};
 ghost use Rattle.query_lines.specs.Laws.{IsWithinLimits};
-ghost use Rattle.query_lines.specs.Cutting.{LineEnds, cut_of, kept_of};
+ghost use Rattle.query_lines.specs.Cutting.{IsUnderWay};
 ghost use Rattle.query_lines.specs.Lines.{line_of};
-ghost use Rattle.query_lines.specs.Reading.{HasRead, script_units};
+ghost use Rattle.query_lines.specs.Reading.{script_units};
+ghost use Rattle.query_lines.specs.Readers.{HasRead};
 ghost use Rattle.query_lines.specs.inner.Reading.{ReadsLine};
 ghost use Rattle.query_lines.specs.Units.{closed};
 ghost use Rattle.query_lines.specs.declared.unit.Unit.{Unit as ScriptUnit};
 
 use crate::batcher::Batcher;
-use crate::cutter::{Cut, LineCutter};
+use crate::cutter::LineCutter;
 use crate::line::{Line, read_line};
 use crate::unit::UnitList;
 use backsim_io::OutOfMemory;
@@ -28,7 +29,7 @@ pub struct ScriptReader {
 }
 
 impl Model for ScriptReader {
-    ghost use Rattle.query_lines.specs.Reading.{Reader};
+    ghost use Rattle.query_lines.specs.Readers.{Reader};
 
     ghost Value = { Reader };
 
@@ -49,7 +50,7 @@ impl ScriptReader {
     }
 
     /// Takes the next byte, and gives the units that it completes. Where memory
-    /// runs out, the line that the byte ended is lost, and what is pending stays.
+    /// runs out, the byte is not taken, and the reader is as it was.
     pub fn take(&mut self, byte: u8) -> Result<UnitList, OutOfMemory>
         requires { self.old.lines < 4294967295 }
         ensures read { (horizon : ℕ) (script : List ℕ) (given : List ScriptUnit)
@@ -58,13 +59,16 @@ impl ScriptReader {
         ensures within { (horizon : ℕ) (script : List ℕ) (given : List ScriptUnit)
             → HasRead horizon script given self.old
             → horizon ≤ 1000000 → IfOk result (All (IsWithinLimits horizon)) }
-        ensures err { OnErr result
-            ((self.new.pending ≡ self.old.pending) × (self.new.lines ≡ self.old.lines)) }
+        ensures err { OnErr result (self.new ≡ self.old) }
     {
-        match self.cutter.take(byte) {
-            Cut::More => Ok(UnitList::from_vec(Vec::new(self.alloc))),
-            cut => self.read_ended(cut),
+        if byte != b'\n' {
+            self.cutter.take(byte);
+            return Ok(UnitList::from_vec(Vec::new(self.alloc)));
         }
+        // The line is read before its end is told, so that it is not lost.
+        let units = self.read_under_way()?;
+        self.cutter.take(byte);
+        Ok(units)
     }
 
     /// Ends the script, and gives the units that are left.
@@ -90,10 +94,10 @@ impl ScriptReader {
             → IfOk result (λ units. script_units horizon script
             ≡ given ++ (units ++ closed self.new.pending.items)) }
     {
-        match self.cutter.end() {
-            Cut::More => Ok(UnitList::from_vec(Vec::new(self.alloc))),
-            cut => self.read_ended(cut),
+        if self.cutter.is_empty() {
+            return Ok(UnitList::from_vec(Vec::new(self.alloc)));
         }
+        self.read_under_way()
     }
 
     // Puts the pending batch behind these units.
@@ -107,30 +111,28 @@ impl ScriptReader {
         Ok(UnitList::from_vec(units))
     }
 
-    // Reads the line that the cutter has just ended.
-    fn read_ended(&mut self, cut: Cut) -> Result<UnitList, OutOfMemory>
+    // Reads the line under way as one that ends here. The cutter still has it.
+    fn read_under_way(&mut self) -> Result<UnitList, OutOfMemory>
         requires { self.old.lines < 4294967295 }
-        ensures read { (line : List ℕ) → LineEnds line cut self.old.cutter
+        ensures read { (line : List ℕ) → IsUnderWay line self.old.cutter
             → IfOk result (ReadsLine line self.old self.new) }
-        ensures err { OnErr result
-            ((self.new.pending ≡ self.old.pending) × (self.new.lines ≡ self.old.lines)) }
+        ensures err { OnErr result (self.new ≡ self.old) }
     {
-        let line = ended_line(self.alloc, cut, self.cutter.text())?;
+        let line = line_under_way(self.alloc, &self.cutter)?;
         let units = self.batcher.take(self.lines + 1, line)?;
         self.lines += 1;
         Ok(units)
     }
 }
 
-// The line that a cutter has ended.
-#[tactic(auto, unfolding(crate::specs::Lines::line_of))]
-fn ended_line(alloc: Global, cut: Cut, text: &[u8]) -> Result<Line, OutOfMemory>
-    ensures { (bytes : List ℕ) → cut ≡ cut_of bytes → text.now ≡ kept_of bytes
+// What the line under way says.
+fn line_under_way(alloc: Global, cutter: &LineCutter) -> Result<Line, OutOfMemory>
+    ensures { (bytes : List ℕ) → IsUnderWay bytes cutter.now
         → IfOk result (λ line. line ≡ line_of bytes) }
 {
-    match cut {
-        Cut::Long => Ok(Line::Bad),
-        Cut::Whole | Cut::More => read_line(alloc, text),
+    match cutter.line() {
+        Some(text) => read_line(alloc, text),
+        None => Ok(Line::Bad),
     }
 }
 

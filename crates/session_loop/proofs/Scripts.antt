@@ -5,7 +5,9 @@ use Rattle.std.specs.Io.KnownBytes.{Consumes, IsAtEnd, Keeps}
 use Rattle.std.proofs.KnownBytes.{Consumes-trans}
 use Rattle.backsim_io.specs.Held.{Made, ConsumesUpTo}
 use Rattle.query_lines.specs.declared.unit.Unit.{Unit as ScriptUnit}
-use Rattle.query_lines.specs.Reading.{Reader, HasRead, script_units}
+use Rattle.query_lines.specs.Reading.{script_units, completed_units}
+use Rattle.query_lines.specs.Readers.{Reader, HasRead}
+use Rattle.query_lines.proofs.Completed.{given-completed}
 use Rattle.session_meaning.specs.Session.{Setup, Opened, opened, IsSession, IsSessionOf}
 use Rattle.session_meaning.specs.Broken.{journal_of, IsBroken, IsBrokenIn, IsCutOff}
 use Rattle.session_loop.specs.declared.desk.Desk.{Desk}
@@ -139,9 +141,9 @@ module _ (setup : Setup) (slot : ℕ) (desk : Desk) (fresh : KeepsDesk setup des
 
     -- the script ended, and the session broke off in what was left of it
     pub end-stopped : (taken : ℕ) (left next after : Option (List ℕ)) (n : ℕ) (into : List ℕ) (reader : Reader) (x : Desk) (r r' w w' : ℕ) (stop : Stop) (out mid new_out : List ℕ → Type 0) (made mid_made new_made : List Made → Type 0)
-        → HasServed setup taken first left reader desk x slot out mid made mid_made → Consumes left next (take n into) → n ≡ 0 → IsAtEnd next → UnitExplains r r' w w' stop
+        → setup.design.circuit.horizon ≤ 1000000 → HasServed setup taken first left reader desk x slot out mid made mid_made → Consumes left next (take n into) → n ≡ 0 → IsAtEnd next → UnitExplains r r' w w' stop
         → EndsStopped setup reader x slot mid new_out mid_made new_made → Wrote setup (IsStopped setup script after stop) slot out new_out made new_made
-    end-stopped taken left next after n into reader x r r' w w' stop out mid new_out made mid_made new_made so_far took none end cause ends =
+    end-stopped taken left next after n into reader x r r' w w' stop out mid new_out made mid_made new_made bound so_far took none end cause ends =
         let all = all-taken script first left next so_far.bytes into n is so_far.took took none end in
         let horizon = setup.design.circuit.horizon in
         wrote-map (IsBroken setup (so_far.units ++ ends.units)) (IsStopped setup script after stop) out new_out made new_made
@@ -151,7 +153,7 @@ module _ (setup : Setup) (slot : ℕ) (desk : Desk) (fresh : KeepsDesk setup des
           units = so_far.units ++ ends.units;
           completed = elim ends.whole [
             | inl whole ↦ inr (sym all, sym (ap (script_units horizon) all ∙ whole horizon so_far.bytes so_far.units so_far.read))
-            | inr empty ↦ inl (record { reader = reader; read = subst (λ us. HasRead horizon so_far.bytes us reader) (sym (ap (λ us. so_far.units ++ us) empty ∙ append-nil so_far.units)) so_far.read })
+            | inr empty ↦ inl (ap (λ us. so_far.units ++ us) empty ∙ append-nil so_far.units ∙ given-completed horizon so_far.bytes so_far.units reader so_far.read bound)
           ];
           broken = broken;
         }))
@@ -159,11 +161,12 @@ module _ (setup : Setup) (slot : ℕ) (desk : Desk) (fresh : KeepsDesk setup des
 
     -- the session broke off in a block
     pub block-stopped : (taken : ℕ) (left next after : Option (List ℕ)) (reader : Reader) (x : Desk) (n m : ℕ) (into rest : List ℕ) (r r' w w' : ℕ) (stop : Stop) (out mid new_out : List ℕ → Type 0) (made mid_made new_made : List Made → Type 0)
-        → HasServed setup taken first left reader desk x slot out mid made mid_made → Consumes left next (take n into) → m ≤ n → n ≤ length into → UnitExplains r r' w w' stop
+        → setup.design.circuit.horizon ≤ 1000000 → HasServed setup taken first left reader desk x slot out mid made mid_made → Consumes left next (take n into) → m ≤ n → n ≤ length into → UnitExplains r r' w w' stop
         → TakesStopped setup reader (take m (into ++ rest)) x slot mid new_out mid_made new_made → Wrote setup (IsStopped setup script after stop) slot out new_out made new_made
-    block-stopped taken left next after reader x n m into rest r r' w w' stop out mid new_out made mid_made new_made so_far took small within cause stops =
+    block-stopped taken left next after reader x n m into rest r r' w w' stop out mid new_out made mid_made new_made bound so_far took small within cause stops =
         let split = split-script script first left next so_far.bytes (take n into) is so_far.took took in
         let tail = stops.front_is.0 ++ (drop m (take n into) ++ split.0) in
+        let horizon = setup.design.circuit.horizon in
         let script-is : script ≡ (so_far.bytes ++ stops.front) ++ tail =
         split.1
         ∙ ap (λ (l : List ℕ). (so_far.bytes ++ l) ++ split.0) (block-front n m into rest small within ∙ ap (λ (l : List ℕ). l ++ drop m (take n into)) stops.front_is.1)
@@ -173,7 +176,7 @@ module _ (setup : Setup) (slot : ℕ) (desk : Desk) (fresh : KeepsDesk setup des
           taken = so_far.bytes ++ stops.front;
           taken_are = (tail, script-is);
           units = so_far.units ++ stops.units;
-          completed = inl (record { reader = stops.later; read = stops.reads setup.design.circuit.horizon so_far.bytes so_far.units so_far.read });
+          completed = inl (given-completed horizon (so_far.bytes ++ stops.front) (so_far.units ++ stops.units) stops.later (stops.reads horizon so_far.bytes so_far.units so_far.read) bound);
           broken = broken;
         }))
         (wrote-broken (so_far.units ++ stops.units) out new_out made new_made (stops-more setup desk x so_far.units stops.units slot out mid new_out made mid_made new_made so_far.served stops.stopped))
@@ -183,21 +186,21 @@ module _ (setup : Setup) (slot : ℕ) (desk : Desk) (fresh : KeepsDesk setup des
 
     -- the next block was not read
     pub unread : (taken : ℕ) (left next : Option (List ℕ)) (reader : Reader) (x : Desk) (out mid : List ℕ → Type 0) (made mid_made : List Made → Type 0)
-        → HasServed setup taken first left reader desk x slot out mid made mid_made → Keeps left next → Wrote setup (IsServedUntil setup script next) slot out mid made mid_made
-    unread taken left next reader x out mid made mid_made so_far same =
+        → setup.design.circuit.horizon ≤ 1000000 → HasServed setup taken first left reader desk x slot out mid made mid_made → Keeps left next → Wrote setup (IsServedUntil setup script next) slot out mid made mid_made
+    unread taken left next reader x out mid made mid_made bound so_far same =
         wrote-map (IsSession setup so_far.units) (IsServedUntil setup script next) out mid made mid_made
         (λ replies journal session. record {
           taken = so_far.bytes;
           took = kept (Some script) left next so_far.bytes (subst (λ f. Consumes f left so_far.bytes) is so_far.took) same;
-          served = record { units = so_far.units; completed = record { reader = reader; read = so_far.read }; session = session };
+          served = subst (λ us. IsSession setup us replies journal) (given-completed setup.design.circuit.horizon so_far.bytes so_far.units reader so_far.read bound) session;
         })
         (wrote-session so_far.units x out mid made mid_made so_far.served)
 
     -- more bytes were read than a script may have
     pub cut-off : (taken : ℕ) (left next : Option (List ℕ)) (a b : Reader) (x y : Desk) (n m : ℕ) (into rest : List ℕ) (out mid new_out : List ℕ → Type 0) (made mid_made new_made : List Made → Type 0)
-        → HasServed setup taken first left a desk x slot out mid made mid_made → Consumes left next (take n into) → m < n → n ≤ length into → taken + m ≡ 16777216
+        → setup.design.circuit.horizon ≤ 1000000 → HasServed setup taken first left a desk x slot out mid made mid_made → Consumes left next (take n into) → m < n → n ≤ length into → taken + m ≡ 16777216
         → TakesServed setup a b (take m (into ++ rest)) x y slot mid new_out mid_made new_made → Wrote setup (IsCutOff setup script) slot out new_out made new_made
-    cut-off taken left next a b x y n m into rest out mid new_out made mid_made new_made so_far took more within limit takes =
+    cut-off taken left next a b x y n m into rest out mid new_out made mid_made new_made bound so_far took more within limit takes =
         let split = split-script script first left next so_far.bytes (take n into) is so_far.took took in
         let cut = take m (into ++ rest) in
         let script-is : script ≡ (so_far.bytes ++ cut) ++ (drop m (take n into) ++ split.0) =
@@ -208,14 +211,13 @@ module _ (setup : Setup) (slot : ℕ) (desk : Desk) (fresh : KeepsDesk setup des
         let front : take 16777216 script ≡ so_far.bytes ++ cut =
         ap (take 16777216) script-is ∙ take-append-le 16777216 (so_far.bytes ++ cut) (drop m (take n into) ++ split.0) (omega (arith, whole)) ∙ take-whole (so_far.bytes ++ cut) 16777216 whole in
         let units = so_far.units ++ takes.units in
+        let horizon = setup.design.circuit.horizon in
+        let completed : units ≡ completed_units horizon (take 16777216 script) =
+        given-completed horizon (so_far.bytes ++ cut) units b (takes.reads horizon so_far.bytes so_far.units so_far.read) bound ∙ ap (completed_units horizon) (sym front) in
         wrote-map (IsSession setup units) (IsCutOff setup script) out new_out made new_made
         (λ replies journal session. record {
           long = longer split.0 split.1;
-          served = record {
-            units = units;
-            completed = record { reader = b; read = subst (λ (l : List ℕ). HasRead setup.design.circuit.horizon l units b) (sym front) (takes.reads setup.design.circuit.horizon so_far.bytes so_far.units so_far.read) };
-            session = session;
-          };
+          served = subst (λ us. IsSession setup us replies journal) completed session;
         })
         (wrote-session units y out new_out made new_made (serves-more setup desk x y so_far.units takes.units slot out mid new_out made mid_made new_made so_far.served takes.served))
       where

@@ -5,7 +5,7 @@ use Rattle.std.proofs.lemmas.List.Elements.{All-same}
 use Rattle.std.proofs.lemmas.List.{take_more, take-append-drop}
 use Rattle.backsim_io.specs.Held.{Made}
 use Rattle.query_lines.specs.declared.unit.Unit.{Unit as ScriptUnit}
-use Rattle.query_lines.specs.Reading.{Reader, HasRead}
+use Rattle.query_lines.specs.Readers.{Reader, HasRead}
 use Rattle.query_lines.specs.Fit.{IsFit}
 use Rattle.query_lines.proofs.OwnLines.{units-fit, given-fit, last-fit}
 use Rattle.session_meaning.specs.Session.{Setup}

@@ -1,7 +1,7 @@
 -- A session that stopped before its script's end: some units stand whole, and of the next one a beginning of what it writes.
 use Rattle.std.specs.Prelude.{◌≡◌, ℕ, ◌+◌, ◌<◌, ◌⊎◌, List, [], ◌∷◌, ◌++◌, length, take}
 use Rattle.query_lines.specs.declared.unit.Unit.{Unit as ScriptUnit}
-use Rattle.query_lines.specs.Reading.{Reader, HasRead, script_units}
+use Rattle.query_lines.specs.Reading.{script_units, completed_units}
 use Rattle.journal_text.specs.Spelling.{head_line}
 use Rattle.session_meaning.specs.Session.{Setup, Course, IsServed, Session, IsSession}
 use Rattle.session_meaning.specs.Written.{journal_text}
@@ -43,30 +43,23 @@ pub record IsBroken (setup : Setup) (units : List ScriptUnit) (out journal : Lis
   pub recorded : IsPrefix (journal_of setup now) journal
   pub begun : IsFirstBegun setup now later out journal
 
--- the units that the lines which have ended in these bytes complete
-pub record AreCompleted (horizon : ℕ) (bytes : List ℕ) (units : List ScriptUnit) : Type 0 where
-  pub reader : Reader
-  pub read : HasRead horizon bytes units reader
-
 -- Before the head of the journal is whole: the source is unread, and nothing was replied.
 pub record IsHeadBegun (setup : Setup) (out journal : List ℕ) : Type 0 where
   pub out_is : out ≡ []
   pub head : IsPrefix journal (head_line setup.shards setup.capacity)
 
--- Behind the head: of the units of some first bytes of the script, or of all its units.
+-- Behind the head: of the units that the lines which have ended in some first bytes of the script complete, or of all its units.
 pub record IsBrokenIn (setup : Setup) (script out journal : List ℕ) : Type 0 where
   pub taken : List ℕ
   pub taken_are : IsPrefix taken script
   pub units : List ScriptUnit
-  pub completed : AreCompleted setup.design.circuit.horizon taken units
+  pub completed : (units ≡ completed_units setup.design.circuit.horizon taken)
       ⊎ ((taken ≡ script) × (units ≡ script_units setup.design.circuit.horizon script))
   pub broken : IsBroken setup units out journal
 
--- Every unit that these bytes complete was served, the script's end not being met.
-pub record IsServedUpTo (setup : Setup) (bytes out journal : List ℕ) : Type 0 where
-  pub units : List ScriptUnit
-  pub completed : AreCompleted setup.design.circuit.horizon bytes units
-  pub session : IsSession setup units out journal
+-- Every unit that the lines which have ended in these bytes complete was served, the script's end not being met.
+abbrev pub IsServedUpTo : Setup → List ℕ → List ℕ → List ℕ → Type 0
+IsServedUpTo setup bytes out journal = IsSession setup (completed_units setup.design.circuit.horizon bytes) out journal
 
 -- A script of more than 16,777,216 bytes: every unit that these bytes complete was served.
 pub record IsCutOff (setup : Setup) (script out journal : List ℕ) : Type 0 where

@@ -1,9 +1,9 @@
--- What only the proofs and the private functions of this crate speak of, beside `Reading`.
-use Rattle.std.specs.Prelude.{◌≡◌, ℕ, ◌+◌, ◌≤◌, List, ◌++◌}
+-- What only the proofs and the private functions of this crate speak of, beside `Readers`.
+use Rattle.std.specs.Prelude.{◌≡◌, ℕ, ◌+◌, List}
 use Rattle.query_lines.specs.declared.unit.Unit.{Unit as ScriptUnit}
 use Rattle.query_lines.specs.Lines.{line_of}
 use Rattle.query_lines.specs.Units.{given_by, left_by}
-use Rattle.query_lines.specs.Reading.{Reader}
+use Rattle.query_lines.specs.Readers.{Reader}
 
 -- The reader reads one more line, and gives these units.
 pub record ReadsLine (line : List ℕ) (old new : Reader) (units : List ScriptUnit) : Type 0 where

@@ -3,7 +3,8 @@ use Rattle.std.specs.Prelude.{◌≡◌, ℕ, ◌⊎◌, List, [], ◌++◌, len
 use Rattle.std.specs.Io.KnownBytes.{Consumes}
 use Rattle.backsim_io.specs.Held.{Made}
 use Rattle.query_lines.specs.declared.unit.Unit.{Unit as ScriptUnit}
-use Rattle.query_lines.specs.Reading.{Reader, HasRead, script_units}
+use Rattle.query_lines.specs.Reading.{script_units}
+use Rattle.query_lines.specs.Readers.{Reader, HasRead}
 use Rattle.session_meaning.specs.Session.{Setup, Course, Session, opened}
 use Rattle.session_meaning.specs.Broken.{IsPrefix, journal_of, IsBroken}
 use Rattle.session_loop.specs.declared.desk.Desk.{Desk}

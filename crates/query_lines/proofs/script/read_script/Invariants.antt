@@ -1,5 +1,5 @@
 use Rattle.std.proofs.Common.{take}
-use Rattle.query_lines.specs.Reading.{HasRead}
+use Rattle.query_lines.specs.Readers.{HasRead}
 use Rattle.query_lines.proofs.script.read_script.Given as goal
 
 abbrev pub invariant-loop-byte : goal.invariant-loop-byte

@@ -1,6 +1,6 @@
-use Rattle.std.proofs.Common.{ℕ, refl, subst, ◌∙◌, [], take, drop, arith, length-append, length-drop, length-take}
+use Rattle.std.proofs.Common.{ℕ, ◌≤◌, refl, subst, ◌∙◌, [], take, drop, arith, length-append, length-drop, length-take}
 use Rattle.std.proofs.lemmas.Result.{err_from_is_err_and}
-use Rattle.query_lines.specs.Reading.{HasRead}
+use Rattle.query_lines.specs.Readers.{HasRead}
 use Rattle.unit_answers.specs.Stores.{setup_of}
 use Rattle.session_loop.specs.inner.Desks.{no_counts}
 use Rattle.session_loop.specs.declared.desk.Desk.{Desk}
@@ -65,7 +65,10 @@ returns-in_default-clause-stopped g c script is =
     let setup = setup_of c.args.design.now c.args.sizes in
     let desk : Desk = record { stores = c.args.stores; counts = no_counts } in
     unread setup c.args.slot desk (fresh-desk setup desk c.requires.empty refl) script (g.Q.Source.left c.args.queries.now) is c.loop-n.script.taken (g.Q.Source.left c.loop-n.queries) (g.Q.Source.left c.read.new.self) c.loop-n.script.reader c.loop-n.desk
-    (g.S.Sink.written c.args.out.now) (g.S.Sink.written c.loop-n.out) (g.F.Files.made c.args.files.now) (g.F.Files.made c.loop-n.files) c.loop-n.invariant.served c.in_default.ensures.bytes
+    (g.S.Sink.written c.args.out.now) (g.S.Sink.written c.loop-n.out) (g.F.Files.made c.args.files.now) (g.F.Files.made c.loop-n.files) small c.loop-n.invariant.served c.in_default.ensures.bytes
+  where
+    small : c.args.design.now.circuit.horizon ≤ 1000000
+    small = subst (λ h. h ≤ 1000000) c.horizon.ensures.horizon c.horizon.ensures.limit
 
 -- the script ended, and the session broke off in what was left of it
 pub returns-in_err-serve_end-clause-stopped : goal.returns-in_err-serve_end-clause-stopped
@@ -80,7 +83,10 @@ returns-in_err-serve_end-clause-stopped g c script is =
     (end-stopped setup c.args.slot desk (fresh-desk setup desk c.requires.empty refl) script (g.Q.Source.left c.args.queries.now) is c.loop-n.script.taken (g.Q.Source.left c.loop-n.queries) (g.Q.Source.left c.read.new.self) (g.Q.Source.left c.read.new.self) c.in-Ok.n c.read.new.into c.loop-n.script.reader c.loop-n.desk
     _ _ _ _ c.in_err-serve_end.field-0.0
     (W c.args.out.now) (W c.loop-n.out) (W c.serve_end.new.out) (M c.args.files.now) (M c.loop-n.files) (M c.serve_end.new.files)
-    c.loop-n.invariant.served read.bytes.0 c.if-n-eq0.true (read.bytes.1 c.if-n-eq0.true (omega (arith, c.min-room.ensures, c.loop-n.invariant.block, length-take {A = ℕ}))) c.in_err-serve_end.ensures.cause c.in_err-serve_end.ensures.stopped)
+    small c.loop-n.invariant.served read.bytes.0 c.if-n-eq0.true (read.bytes.1 c.if-n-eq0.true (omega (arith, c.min-room.ensures, c.loop-n.invariant.block, length-take {A = ℕ}))) c.in_err-serve_end.ensures.cause c.in_err-serve_end.ensures.stopped)
+  where
+    small : c.args.design.now.circuit.horizon ≤ 1000000
+    small = subst (λ h. h ≤ 1000000) c.horizon.ensures.horizon c.horizon.ensures.limit
 
 -- the script ended, and what was left of it was served
 pub returns-then-n-eq0-clause-served : goal.returns-then-n-eq0-clause-served
@@ -107,7 +113,10 @@ returns-in_err-desk-clause-stopped g c script is =
     (block-stopped setup c.args.slot desk (fresh-desk setup desk c.requires.empty refl) script (g.Q.Source.left c.args.queries.now) is c.loop-n.script.taken (g.Q.Source.left c.loop-n.queries) (g.Q.Source.left c.read.new.self) (g.Q.Source.left c.read.new.self) c.loop-n.script.reader c.loop-n.desk c.in-Ok.n c.min.result c.read.new.into (drop c.min-room.result c.loop-n.block)
     _ _ _ _ c.in_err-desk.field-0.0
     (W c.args.out.now) (W c.loop-n.out) (W c.serve_bytes.new.out) (M c.args.files.now) (M c.loop-n.files) (M c.serve_bytes.new.files)
-    c.loop-n.invariant.served read.bytes.0 (omega (arith, c.min.ensures)) read.bound.0 c.in_err-desk.ensures.cause c.in_err-desk.ensures.stopped)
+    small c.loop-n.invariant.served read.bytes.0 (omega (arith, c.min.ensures)) read.bound.0 c.in_err-desk.ensures.cause c.in_err-desk.ensures.stopped)
+  where
+    small : c.args.design.now.circuit.horizon ≤ 1000000
+    small = subst (λ h. h ≤ 1000000) c.horizon.ensures.horizon c.horizon.ensures.limit
 
 pub returns-in_err-desk-clause-at_most : goal.returns-in_err-desk-clause-at_most
 returns-in_err-desk-clause-at_most g c script is =
@@ -128,7 +137,10 @@ returns-then-n-left-clause-stopped g c script is =
     let read = c.in-Ok.ensures in
     cut-off setup c.args.slot desk (fresh-desk setup desk c.requires.empty refl) script (g.Q.Source.left c.args.queries.now) is c.loop-n.script.taken (g.Q.Source.left c.loop-n.queries) (g.Q.Source.left c.read.new.self) c.loop-n.script.reader c.serve_bytes.new.self.reader c.loop-n.desk c.in_ok-desk.desk c.in-Ok.n c.min.result c.read.new.into (drop c.min-room.result c.loop-n.block)
     (W c.args.out.now) (W c.loop-n.out) (W c.serve_bytes.new.out) (M c.args.files.now) (M c.loop-n.files) (M c.serve_bytes.new.files)
-    c.loop-n.invariant.served read.bytes.0 (omega (arith, c.min.ensures, c.if-n-left.true)) read.bound.0 (omega (arith, c.min.ensures, c.if-n-left.true, c.loop-n.invariant.most)) c.in_ok-desk.ensures.served
+    small c.loop-n.invariant.served read.bytes.0 (omega (arith, c.min.ensures, c.if-n-left.true)) read.bound.0 (omega (arith, c.min.ensures, c.if-n-left.true, c.loop-n.invariant.most)) c.in_ok-desk.ensures.served
+  where
+    small : c.args.design.now.circuit.horizon ≤ 1000000
+    small = subst (λ h. h ≤ 1000000) c.horizon.ensures.horizon c.horizon.ensures.limit
 
 pub returns-then-n-left-clause-at_most : goal.returns-then-n-left-clause-at_most
 returns-then-n-left-clause-at_most g c script is =

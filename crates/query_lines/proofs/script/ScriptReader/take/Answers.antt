@@ -1,21 +1,25 @@
-use Rattle.std.proofs.Common.{◌∙◌, refl, subst, sym}
-use Rattle.query_lines.specs.Reading.{Reader, HasRead}
+use Rattle.std.proofs.Common.{ℕ, refl, subst, sym, ◌∙◌, Ok}
+use Rattle.query_lines.specs.Readers.{Reader, HasRead}
+use Rattle.query_lines.specs.inner.Reading.{ReadsLine}
 use Rattle.query_lines.proofs.Feeding.{taken, taken_line, given_fits}
 use Rattle.query_lines.proofs.script.ScriptReader.take.Goals as goal
 
-pub returns-in-More-clause-read : goal.returns-in-More-clause-read
-returns-in-More-clause-read c horizon script given read =
+-- a byte that is no line feed was taken
+pub returns-then-byte-ne10-clause-read : goal.returns-then-byte-ne10-clause-read
+returns-then-byte-ne10-clause-read c horizon script given read =
     let old : Reader = record { cutter = c.self.inside.cutter; pending = c.self.inside.batcher; lines = c.self.inside.lines } in
     let new : Reader = record old { cutter = c.take.new.self } in
-    taken horizon script given old new c.args.byte c.take.result c.from_vec.result (subst (λ (r : Reader). HasRead horizon script given r) (sym c.self.view_is) read)
-    refl refl c.take.ensures.more c.take.ensures.end c.in-More.is (c.from_vec.ensures ∙ c.new.ensures.items)
+    taken horizon script given c.from_vec.result old new c.args.byte (subst (λ (r : Reader). HasRead horizon script given r) (sym c.self.view_is) read) c.if-byte-ne10.true refl refl
+    (λ line holds. (c.take.ensures.more line holds c.if-byte-ne10.true).1) (c.from_vec.ensures ∙ c.new.ensures.items)
 
-pub returns-in_default-clause-read : goal.returns-in_default-clause-read
-returns-in_default-clause-read c horizon script given read =
-    let old : Reader = record { cutter = c.self.inside.cutter; pending = c.self.inside.batcher; lines = c.self.inside.lines } in
-    let ended : Reader = record old { cutter = c.take.new.self } in
-    taken_line horizon script given old ended c.read_ended.new.self c.args.byte c.take.result c.read_ended.result (subst (λ (r : Reader). HasRead horizon script given r) (sym c.self.view_is) read)
-    refl refl c.take.ensures.more c.take.ensures.end c.in_default.not-More c.read_ended.ensures.read
+-- a line was read, and its line feed taken
+pub returns-clause-read : goal.returns-clause-read
+returns-clause-read c horizon script given read =
+    let mid : Reader = record { cutter = c.self-2.inside.cutter; pending = c.self-2.inside.batcher; lines = c.self-2.inside.lines } in
+    let new : Reader = record mid { cutter = c.take-2.new.self } in
+    taken_line horizon script given c.in_ok-units.units c.args.self.now mid new c.args.byte c.take-2.result read c.if-byte-ne10.false
+    (λ line holds. subst (λ (r : Reader). ReadsLine line c.args.self.now r c.in_ok-units.units) (sym c.self-2.view_is) (c.in_ok-units.ensures.read line holds))
+    (λ line holds. c.take-2.ensures.end line holds c.if-byte-ne10.false) refl refl
 
-pub returns-in_default-clause-within : goal.returns-in_default-clause-within
-returns-in_default-clause-within c horizon script given read bound = given_fits horizon _ given c.read_ended.new.self c.read_ended.result bound (returns-in_default-clause-read c horizon script given read)
+pub returns-clause-within : goal.returns-clause-within
+returns-clause-within c horizon script given read bound = given_fits {E = ℕ} horizon _ given _ (Ok c.in_ok-units.units) bound (returns-clause-read c horizon script given read)
