@@ -1,4 +1,4 @@
--- The numbers of the causes.
+-- The numbers of the causes why a netlist is refused.
 use Rattle.std.specs.Prelude.{ℕ}
 use Rattle.bench_reader.specs.declared.fault.BenchCause.{BenchCause}
 use Rattle.bench_reader.specs.declared.fault.BenchCause.TheVariants.{Syntax, UnknownKind, PinCount, Twice, Undefined, NameLong, TooMany, OutOfMemory}

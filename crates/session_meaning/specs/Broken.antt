@@ -32,7 +32,7 @@ abbrev pub IsFirstBegun : Setup → Course → List ScriptUnit → List ℕ → 
 IsFirstBegun setup now [] out journal = IsUntouched setup now out journal
 IsFirstBegun setup now (unit ∷ later) out journal = IsUntouched setup now out journal ⊎ IsBegun setup now unit out journal
 
--- The first of the units stand whole, as many as do, and the one behind them was begun at most.
+-- Some first units stand whole, and of the next one a beginning at most.
 pub record IsBroken (setup : Setup) (units : List ScriptUnit) (out journal : List ℕ) : Type 0 where
   pub done : List ScriptUnit
   pub later : List ScriptUnit
@@ -53,7 +53,7 @@ pub record IsHeadBegun (setup : Setup) (out journal : List ℕ) : Type 0 where
   pub out_is : out ≡ []
   pub head : IsPrefix journal (head_line setup.shards setup.capacity)
 
--- Behind the head: of the units of some first bytes of the script, or of all its units.
+-- After the head: of the units of some first bytes of the script, or of all its units.
 pub record IsBrokenIn (setup : Setup) (script out journal : List ℕ) : Type 0 where
   pub taken : List ℕ
   pub taken_are : IsPrefix taken script

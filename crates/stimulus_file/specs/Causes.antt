@@ -1,4 +1,4 @@
--- The causes of a refusal.
+-- The numbers of the causes why a stimulus file is refused.
 use Rattle.std.specs.Prelude.{ℕ}
 use Rattle.stimulus_file.specs.declared.StimulusCause.{StimulusCause}
 use Rattle.stimulus_file.specs.declared.StimulusCause.TheVariants.{Syntax, NoHorizon, Range, Twice, OutOfMemory}

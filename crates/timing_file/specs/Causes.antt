@@ -1,4 +1,4 @@
--- The causes of a refusal.
+-- The numbers of the causes why a timing file is refused.
 use Rattle.std.specs.Prelude.{ℕ}
 use Rattle.timing_file.specs.declared.TimingCause.{TimingCause}
 use Rattle.timing_file.specs.declared.TimingCause.TheVariants.{Syntax, Range, Twice, OutOfMemory}
