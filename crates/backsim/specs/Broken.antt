@@ -33,7 +33,7 @@ abbrev pub ToldInPart : Command → Given → Option (List ℕ) → (List ℕ �
 ToldInPart command given left out new_out made new_made =
     AreRefused given GrowsByPrefix left out new_out made new_made ⊎ IsScriptRefused command given (λ rest. IsPrefix rest too_long) out new_out made new_made
 
--- every unit that the bytes which were read complete was served
+-- every unit completed by the bytes read was served
 abbrev pub ServedUntil : Command → Given → Option (List ℕ) → (List ℕ → Type 0) → (List ℕ → Type 0) → (List Made → Type 0) → (List Made → Type 0) → Type 0
 ServedUntil command given left out new_out made new_made =
     OfDesign command given (λ setup. WroteFile (IsServedUntil setup given.script left) command.journal out new_out made new_made)

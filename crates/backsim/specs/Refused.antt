@@ -23,7 +23,7 @@ pub record AreRefused (given : Given) (told : (List ℕ → Type 0) → (List �
   pub unread : left ≡ Some given.script
   pub same_files : SameMade made new_made
 
--- such replies and such a journal, with such bytes behind the replies
+-- replies and a journal of which `such` holds, and after the replies bytes of which `tail` holds
 pub record Followed (such : List ℕ → List ℕ → Type 0) (tail : List ℕ → Type 0) (replies journal : List ℕ) : Type 0 where
   pub before : List ℕ
   pub rest : List ℕ
@@ -39,7 +39,7 @@ IsScriptRefused command given tail out new_out made new_made =
 abbrev pub too_long : List ℕ
 too_long = refusal_text (TooLong Script)
 
--- the files are refused, or the script: the line that tells of it stands behind all else
+-- the files are refused, or the script: the line that tells of it stands after all else
 abbrev pub IsRefused : Command → Given → Option (List ℕ) → (List ℕ → Type 0) → (List ℕ → Type 0) → (List Made → Type 0) → (List Made → Type 0) → Type 0
 IsRefused command given left out new_out made new_made =
     AreRefused given Grows left out new_out made new_made ⊎ IsScriptRefused command given (λ rest. rest ≡ too_long) out new_out made new_made

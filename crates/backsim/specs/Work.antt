@@ -61,8 +61,8 @@ pub record OfWork (number : ℕ) (says : Work → Type 0) : Type 0 where
   pub is_work : IsWork number work
   pub holds : says work
 
--- The batch of these items was answered: its journal is the one file that was created, and such bytes came of the line that counts
--- its replies.
+-- The batch of these items was answered: its journal is the one file that was created, and of the line that counts
+-- its replies `told` says what was written.
 pub record Answered (told : (List ℕ → Type 0) → (List ℕ → Type 0) → List ℕ → Type 0) (number : ℕ) (journal : Text) (out new_out : List ℕ → Type 0) (made new_made : List Made → Type 0) (work : Work) : Type 0 where
   pub replies : List Reply
   pub recorded : WroteJournal (session.IsWork (setup_of_work work) work.items replies) journal made new_made

@@ -10,7 +10,7 @@
 //! - `serve` is all of it over any files, source and sink. Its contract says which status comes only where
 //!   which count of faults rose, and what was written of the files' design and the script where a session
 //!   ends or refuses something (`specs/Session`, `specs/Refused`). Where a fault or a lack of memory ends it,
-//!   what was written is a front of the same (`specs/Broken`).
+//!   what was written is a prefix of the same (`specs/Broken`).
 //! - `work` is a run of the crate `workload`'s workload: one batch without a script, in place of whose replies one line counts
 //!   them (`specs/Work`).
 //! - `refusal` writes what is wrong with a file, and `status` numbers the ways in which a session ends.

@@ -8,13 +8,13 @@ use Rattle.circuit_meaning.specs.Need.{IsNeeded}
 use Rattle.circuit_meaning.specs.Forced.{forced, IsFree}
 use Rattle.batch_meaning.specs.declared.Query.{Query}
 
--- a signal that is held at a value
+-- a site: a signal, and the value that it is forced to
 pub record Site : Type 0 where
   pub signal : ℕ
   pub value : Value
 
 -- The queries that the shards of a memo of this circuit are asked together, each shard with room for as many cells as the capacity.
--- With a site they are queries of the circuit in which it is held.
+-- With a site they are queries of the circuit in which its signal is forced to its value.
 pub record Batch : Type 0 where
   pub circuit : Circuit
   pub shards : ℕ
@@ -25,7 +25,7 @@ pub record Batch : Type 0 where
 abbrev pub window_of : Query → Window
 window_of q = record { signal = q.signal; start = q.from; stop = q.to }
 
--- the points that a query needs of this circuit; where a signal is held, those of free signals
+-- the points that a query needs of this circuit; where a signal is forced, those of free signals
 abbrev pub NeedOf : Circuit → Option Site → Query → Point → Type 0
 NeedOf c None q p = IsNeeded c (window_of q) p.signal p.time
 NeedOf c (Some site) q p = IsNeeded (forced c site.signal site.value) (window_of q) p.signal p.time × IsFree c site.signal p.signal

@@ -29,6 +29,6 @@ pub record IsSubQuery (b : Batch) (q : Query) : Type 0 where
   pub within : q.to ≤ b.circuit.horizon + 1
   pub needed : IsNeededBy b of (start_of q)
 
--- What strands of the batch serve: its queries, and queries for one point that these need. Where a signal is held, only the latter.
+-- What strands of the batch serve: its queries, and queries for one point that these need. Where a signal is forced, only the latter.
 abbrev pub IsQueryOf : Batch → Query → Type 0
 IsQueryOf b q = ((b.site ≡ None) × Contains b.queries q) ⊎ IsSubQuery b q

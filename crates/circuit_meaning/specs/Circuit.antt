@@ -29,8 +29,7 @@ read_by (Input settings) = []
 read_by (Gate kind pins) = map (λ p. p.signal) pins
 read_by (Flop f) = f.pin ∷ []
 
--- A driver of a circuit with this many signals and this horizon.
--- The settings of an input may stand in any order; no two have one time.
+-- The settings of an input may stand in any order, none of them after the horizon; no two have one time.
 pub record AreSettings (horizon : ℕ) (settings : List Setting) : Type 0 where
   pub within : All (λ s. s.time ≤ horizon) settings
   pub different : AllPairs (λ a b. a.time ≢ b.time) settings
@@ -50,6 +49,7 @@ pub record IsFlipFlop (signals : ℕ) (f : FlipFlop) : Type 0 where
   pub period : IfSome f.clock (λ clock. 1 ≤ clock.period)
   pub initial : f.initial ≢ Z
 
+-- a driver of a circuit with this many signals and this horizon
 abbrev pub IsDriver : ℕ → ℕ → Driver → Type 0
 IsDriver signals horizon (Input settings) = AreSettings horizon settings
 IsDriver signals horizon (Gate kind pins) = ArePins signals kind pins
@@ -59,10 +59,11 @@ IsDriver signals horizon (Flop f) = IsFlipFlop signals f
 abbrev pub IsCircuit : Circuit → Type 0
 IsCircuit c = All (IsDriver (length c.drivers) c.horizon) c.drivers
 
--- The numbers of a driver are those that the files may state.
+-- the delay and the clock of a flip-flop are those that the files may state
 abbrev pub AreFlopLimits : FlipFlop → Type 0
 AreFlopLimits f = (f.delay ≤ 1000000) × IfSome f.clock IsClock
 
+-- the numbers of a driver are those that the files may state
 abbrev pub AreDriverLimits : Driver → Type 0
 AreDriverLimits (Input settings) = Unit {0}
 AreDriverLimits (Gate kind pins) = All (λ p. p.delay ≤ 1000000) pins

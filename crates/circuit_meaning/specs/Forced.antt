@@ -1,4 +1,4 @@
--- A circuit with one signal held at a value.
+-- A circuit with one signal forced to a value.
 use Rattle.std.specs.Prelude.{◌≡◌, ℕ, ◌≤◌, ◌<◌, [], ◌∷◌, slice_set, ◌≢◌}
 use Rattle.gate_values.specs.declared.Value.{Value}
 use Rattle.circuit_meaning.specs.Circuit.{Input, Circuit, driver, IsCircuit}
@@ -29,10 +29,10 @@ pub record IsAlike (c d : Circuit) (x t : ℕ) : Type 0 where
 abbrev pub FreeAreAlike : Type 0
 FreeAreAlike = (c : Circuit) (s : ℕ) (w : Value) → IsCircuit c → (x t : ℕ) → IsFree c s x → IsAlike c (forced c s w) x t
 
--- what a query for one point of a free signal needs is needed by the same query of the held circuit, and is free
+-- what a query for one point of a free signal needs is needed by the same query of the forced circuit, and is free
 abbrev pub FreeNeedIsNeeded : Type 0
 FreeNeedIsNeeded = (c : Circuit) (s : ℕ) (w : Value) → IsCircuit c → (q : Window) → IsFree c s q.signal → (u x : ℕ) → IsNeeded c q u x → IsNeeded (forced c s w) q u x × IsFree c s u
 
--- The free points of what a query needs in the held circuit are a set of points of the circuit itself that is closed under children.
+-- The free points of what a query needs in the forced circuit are a set of points of the circuit itself that is closed under children.
 abbrev pub ForcedNeedIsClosed : Type 0
 ForcedNeedIsClosed = (c : Circuit) (s : ℕ) (w : Value) → IsCircuit c → (q : Window) → IsClosedUnderChildren c (λ u t. IsNeeded (forced c s w) q u t × IsFree c s u)

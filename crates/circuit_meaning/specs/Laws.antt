@@ -132,7 +132,7 @@ runs_along before t (x ∷ rest) = (if is_value before x.value then [] else reco
 abbrev pub CellsFixWaves : Type 0
 CellsFixWaves = (c : Circuit) → IsCircuit c → (s a b : ℕ) (cells : List Cell) → b ≤ c.horizon + 1 → AreCells c s b a cells → wave c s a b ≡ runs_along None a cells
 
--- What a query needs has the evaluable ones among its children; so do the free ones of what the query needs where a signal is held.
+-- What a query needs has the evaluable ones among its children; so do the free ones of what the query needs where a signal is forced.
 abbrev pub NeedIsClosed : Type 0
 NeedIsClosed = (c : Circuit) (q : Window) → IsClosedUnderChildren c (IsNeeded c q)
 

@@ -58,7 +58,7 @@ abbrev pub or_else : {A : Type 0} → Option A → Option A → Option A
 or_else None later = later
 or_else (Some a) later = Some a
 
--- what the last row says that says something
+-- what is said by the last of the rows that say anything
 abbrev pub last_said : {R A : Type 0} → (R → Option A) → List R → Option A
 last_said says [] = None
 last_said says (row ∷ later) = or_else (last_said says later) (says row)
@@ -70,23 +70,24 @@ clock_of_row name row = if bytes_eq name row.name then Some row.clock else None
 abbrev pub clock_named : timings.Content → List ℕ → Option Clock
 clock_named timing name = last_said (clock_of_row name) timing.clocks
 
--- The cause of a row is the first of these that holds of it.
+-- this cause, unless the condition holds; then the later ones decide
 abbrev pub unless : Bool → JoinCause → Option JoinCause → Option JoinCause
 unless true cause later = later
 unless false cause later = Some cause
 
--- of what a timing row says of a signal with this driver
+-- the cause of a timing row that says this of a signal with this driver, if it is at fault
 abbrev pub cause_of_what : timings.Content → NetlistDriver → TimingWhat → Option JoinCause
 cause_of_what timing driver (Delay delay) = unless (not (is_input driver)) NotGate None
 cause_of_what timing driver (Init value) = unless (is_flop driver) NotFlop None
 cause_of_what timing driver (Pin place delay) = unless (has_pin driver place) NotPin None
 cause_of_what timing driver (Clocked clock) = unless (is_flop driver) NotFlop (unless (is_some (clock_named timing clock)) NoClock None)
 
+-- the cause of a timing row, if it is at fault; the number is that of the signal with its name
 abbrev pub cause_of_timing : netlists.Content → timings.Content → Option ℕ → TimingWhat → Option JoinCause
 cause_of_timing netlist timing None what = Some UnknownName
 cause_of_timing netlist timing (Some s) what = cause_of_what timing (driver_at netlist s) what
 
--- of a setting at this time
+-- the cause of a setting at this time, if it is at fault
 abbrev pub cause_of_set : netlists.Content → ℕ → Option ℕ → ℕ → Option JoinCause
 cause_of_set netlist horizon None time = Some UnknownName
 cause_of_set netlist horizon (Some s) time = unless (is_input (driver_at netlist s)) NotInput (unless (nat_le time horizon) PastHorizon None)
@@ -173,7 +174,7 @@ setting_of row = record { time = row.time; value = row.value }
 abbrev pub is_at_one_time : Setting → Setting → Bool
 is_at_one_time a b = nat_eq a.time b.time
 
--- in the order of time; of several at one time, which no stimulus file has, the first counts
+-- in the order of time; of several at one time, which no accepted stimulus file has, the first counts
 abbrev pub scheduled : List Setting → List Setting
 scheduled settings = dedup is_at_one_time (in_time_order settings)
 

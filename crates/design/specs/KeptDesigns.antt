@@ -1,4 +1,4 @@
--- What is kept of a signal, and the driver that it stands for.
+-- The pins of a gate, from its signals and delays.
 use Rattle.std.specs.Prelude.{◌≡◌, ℕ, ◌<◌, List, [], ◌∷◌}
 use Rattle.circuit_meaning.specs.declared.Pin.{Pin}
 use Rattle.design.specs.declared.rows.Row.TheVariants as row

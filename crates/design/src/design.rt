@@ -77,8 +77,8 @@ impl Design {
         })
     }
 
-    /// The design with one signal held: the signal is an input with this value from time 0 on, whatever drove it, and all else
-    /// is unchanged. The netlist stays as it is, with the names of the signals and what it says of the held one.
+    /// The design with one signal forced: the signal is an input with this value from time 0 on, whatever drove it, and all else
+    /// is unchanged. The netlist stays as it is, with the names of the signals and what it says of the forced one.
     ///
     /// It copies the design, in time and memory in proportion to the design.
     pub fn hold(&self, alloc: Global, site: u32, value: Value) -> Result<Design, OutOfMemory>

@@ -4,8 +4,8 @@
 //! row has which cause, and what the design is. From then on a signal is a number. Contracts see a design as the netlist's content
 //! and one circuit of `circuit_meaning`; the calls answer what that circuit's definitions say of a signal at a time, so that a
 //! caller needs no word of how delays, clocks and settings are kept. [`Design::facts`] hands out what holds of every design.
-//! [`Design::hold`] makes the design in which one signal is held at a value, and [`Design::reached`] tells which signals read a
-//! signal, however far back, so that all others stay as they are where it is held.
+//! [`Design::hold`] makes the design in which one signal is forced to a value, and [`Design::reached`] tells which signals read a
+//! signal, however far back, so that all others stay as they are where it is forced.
 //!
 //! What a call costs: `base` finds an input's setting by binary search, in O(log n) for its n settings, and takes constant time for
 //! a gate or a flip-flop; `gate_of`, `child_time`, `pin_span`, `span_over`, `netlist` and `horizon` take constant time; none of

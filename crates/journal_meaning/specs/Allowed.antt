@@ -1,5 +1,5 @@
 -- What the entries of a shard may name.
-use Rattle.std.specs.Prelude.{◌≡◌, ℕ, ◌≤◌, ◌%◌}
+use Rattle.std.specs.Prelude.{◌≡◌, ⊤, ℕ, ◌≤◌, ◌%◌}
 use Rattle.valid_intervals.specs.declared.Point.{Point}
 use Rattle.valid_intervals.specs.declared.SignalCell.{SignalCell}
 use Rattle.circuit_meaning.specs.Circuit.{Circuit}
@@ -8,7 +8,7 @@ use Rattle.batch_meaning.specs.Batches.{Batch, IsNeededBy, OfQuery}
 use Rattle.journal_meaning.specs.declared.Entry.{Entry}
 use Rattle.journal_meaning.specs.declared.Entry.TheVariants.{Told, Claimed, Filled, Evicted, Dropped, Spent}
 
--- the point is one of the shard with this number
+-- the point is one of the shard with this number, and its time is at most the horizon
 abbrev pub IsAt : Batch → ℕ → Point → Type 0
 IsAt b shard p = (p.signal % b.shards ≡ shard) × (p.time ≤ b.circuit.horizon)
 
@@ -22,7 +22,7 @@ pub record IsRight (c : Circuit) (x : SignalCell) : Type 0 where
 abbrev pub IsAllowed : Batch → ℕ → Entry → Type 0
 IsAllowed b shard (Told q p x) = IsAt b shard p × OfQuery b q (λ y. IsNeededBy b y p) × (x ≡ cell_at b.circuit p)
 IsAllowed b shard (Claimed q p) = IsAt b shard p × OfQuery b q (λ y. IsNeededBy b y p)
-IsAllowed b shard (Filled q p x) = IsAt b shard p × OfQuery b q (λ y. Unit {0}) × (x ≡ cell_at b.circuit p)
-IsAllowed b shard (Evicted signal start) = Unit {0}
-IsAllowed b shard (Dropped q p) = IsAt b shard p × OfQuery b q (λ y. Unit {0})
+IsAllowed b shard (Filled q p x) = IsAt b shard p × OfQuery b q (λ y. ⊤) × (x ≡ cell_at b.circuit p)
+IsAllowed b shard (Evicted signal start) = ⊤
+IsAllowed b shard (Dropped q p) = IsAt b shard p × OfQuery b q (λ y. ⊤)
 IsAllowed b shard (Spent q p held) = IsAt b shard p × OfQuery b q (λ y. IsNeededBy b y p)

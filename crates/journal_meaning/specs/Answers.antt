@@ -1,6 +1,7 @@
 -- When a query is closed, when its budget is spent, and what it is answered.
 use Rattle.std.specs.Prelude.{◌≡◌, ℕ, ◌+◌, ◌≤◌, Bool, ◌&&◌, true, false, nat_eq, List, [], ◌∷◌, length, filter, Contains, All, AllPairs, ◌≢◌, ◌⊎◌, Option, Some, None, if◌then◌else◌}
 use Rattle.std.specs.Option.{option_or}
+use Rattle.valid_intervals.specs.declared.Cell.{Cell}
 use Rattle.valid_intervals.specs.declared.Point.{Point}
 use Rattle.circuit_meaning.specs.Circuit.{Circuit}
 use Rattle.circuit_meaning.specs.Forward.{wave}
@@ -24,7 +25,7 @@ IsCovered c es p = (IsEvaluable c p.signal p.time → ⊥) ⊎ ((e : Entry) × C
 
 -- the children of each point that the query evaluated are covered
 abbrev pub ChildrenCovered : Circuit → List Entry → ℕ → Type 0
-ChildrenCovered c es q = (p : Point) (x : _) → Contains es (Filled q p x) → All (IsCovered c es) (children c p.signal p.time)
+ChildrenCovered c es q = (p : Point) (x : Cell) → Contains es (Filled q p x) → All (IsCovered c es) (children c p.signal p.time)
 
 pub record IsClosed (c : Circuit) (es : List Entry) (q : Query) : Type 0 where
   pub roots : (t : ℕ) → IsRoot c (window_of q) t → IsCovered c es (record { signal = q.signal; time = t })
@@ -52,6 +53,7 @@ abbrev pub filled : List Entry → ℕ → ℕ
 filled es q = length (filter (is_fill_of q) es)
 
 -- Why a query is refused: it was refused a point, and the points that it evaluated and those that it gave up then come to its budget.
+-- The claims that it held when it was refused (`held`) are at most as many as the points that it gave up (`enough`).
 pub record IsSpent (es : List Entry) (q : Query) : Type 0 where
   pub point : Point
   pub held : ℕ

@@ -37,27 +37,30 @@ distinct es = length (different (points_of es))
 abbrev pub again : List Entry → ℕ
 again es = repeated [] (points_of es)
 
--- how often the entries fill the point
+-- whether the entry fills the point
 abbrev pub is_fill_at : Point → Entry → Bool
 is_fill_at p (Filled q r x) = same_point p r
 is_fill_at p e = false
 
+-- how often the entries fill the point
 abbrev pub fills_at : List Entry → Point → ℕ
 fills_at es p = length (filter (is_fill_at p) es)
 
--- how often they evict the cell with this signal and start
+-- whether the entry evicts the cell with this signal and start
 abbrev pub is_eviction_of : ℕ → ℕ → Entry → Bool
 is_eviction_of signal start (Evicted s t) = nat_eq signal s && nat_eq start t
 is_eviction_of signal start e = false
 
+-- how often the entries evict the cell with this signal and start
 abbrev pub evictions_of : List Entry → ℕ → ℕ → ℕ
 evictions_of es signal start = length (filter (is_eviction_of signal start) es)
 
--- how many entries are of a claim that begins, or of a point that is filled
+-- whether the entry is of a claim that begins, or of a point that is filled
 abbrev pub is_booked : Entry → Bool
 is_booked (Claimed q p) = true
 is_booked (Filled q p x) = true
 is_booked e = false
 
+-- how many entries are of a claim that begins, or of a point that is filled
 abbrev pub booked : List Entry → ℕ
 booked es = length (filter is_booked es)

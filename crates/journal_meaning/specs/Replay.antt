@@ -1,5 +1,5 @@
 -- The replay of a journal, and which journals are legal.
-use Rattle.std.specs.Prelude.{◌≡◌, ℕ, false, List, [], ◌∷◌}
+use Rattle.std.specs.Prelude.{◌≡◌, ⊤, ℕ, false, List, [], ◌∷◌}
 use Rattle.valid_intervals.specs.declared.SignalCell.{SignalCell}
 use Rattle.journal_meaning.specs.declared.Entry.{Entry}
 use Rattle.journal_meaning.specs.declared.Entry.TheVariants.{Evicted}
@@ -15,7 +15,7 @@ replay s (e ∷ es) = replay (after s e) es
 
 -- each entry has what it needs where it stands, and names what it may
 abbrev pub IsLegal : Batch → ℕ → State → List Entry → Type 0
-IsLegal b shard s [] = Unit {0}
+IsLegal b shard s [] = ⊤
 IsLegal b shard s (e ∷ es) = Needs b.capacity s e × IsAllowed b shard e × IsLegal b shard (after s e) es
 
 -- no claim is left, and no place was just made
@@ -34,5 +34,5 @@ EvictsLast s (Evicted signal start) = IsLeastRecent s.cells signal start
 EvictsLast s e = ⊥
 
 abbrev pub IsLegalTrim : State → List Entry → Type 0
-IsLegalTrim s [] = Unit {0}
+IsLegalTrim s [] = ⊤
 IsLegalTrim s (e ∷ es) = EvictsLast s e × IsLegalTrim (after s e) es

@@ -1,12 +1,12 @@
--- The sections of a journal: one for each batch and each trim, and one for each memo of a circuit with a held signal.
-use Rattle.std.specs.Prelude.{ℕ, List, [], ◌∷◌, get_or, flat_map, fold}
+-- The sections of a journal: one for each batch and each trim, and one for each memo of a circuit with a forced signal.
+use Rattle.std.specs.Prelude.{ℕ, ⊤, List, [], ◌∷◌, get_or, flat_map, fold}
 use Rattle.valid_intervals.specs.declared.SignalCell.{SignalCell}
 use Rattle.journal_meaning.specs.declared.Entry.{Entry}
 use Rattle.journal_meaning.specs.States.{fresh}
 use Rattle.batch_meaning.specs.Batches.{Batch}
 use Rattle.journal_meaning.specs.Replay.{replay, IsLegalBatch, IsLegalTrim}
 
--- What a section is for. A held section is that of a memo of its own, which begins and ends with it.
+-- What a section is for. The section of a forced signal is that of a memo of its own, which begins and ends with it.
 pub data Purpose : Type 0 where
   Asks : Batch → Purpose
   Trims : Purpose
@@ -41,7 +41,7 @@ cells_left shard cells section = (replay (fresh cells) (own section.purpose (lis
 
 -- each section is legal from the cells that those before it leave
 abbrev pub AreLegal : ℕ → List SignalCell → List SectionEntries → Type 0
-AreLegal shard cells [] = Unit {0}
+AreLegal shard cells [] = ⊤
 AreLegal shard cells (section ∷ rest) = IsLegalIn section.purpose shard cells (list_of section shard) × AreLegal shard (cells_left shard cells section) rest
 
 -- the entries of a shard in all sections of the session's own memo

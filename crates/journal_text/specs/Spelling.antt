@@ -1,4 +1,4 @@
--- The text of a journal. Words are divided by one blank, and every line ends with a line feed.
+-- The text of a journal. Words are divided by one space, and every line ends with a line feed.
 use Rattle.std.specs.Prelude.{ℕ, ◌+◌, List, [], ◌∷◌, ◌++◌, flat_map, codes, decimal}
 use Rattle.gate_values.specs.Spelling.{byte_of_value}
 use Rattle.valid_intervals.specs.declared.Cell.{Cell}
@@ -9,7 +9,7 @@ use Rattle.journal_text.specs.declared.sections.SectionKind.{SectionKind}
 use Rattle.journal_text.specs.declared.sections.SectionKind.TheVariants.{Batch, Trim, Held}
 use Rattle.journal_text.specs.declared.sections.Section.{Section}
 
--- a number after a blank, with no leading zero
+-- a number after a space, with no leading zero
 abbrev pub field : ℕ → List ℕ
 field n = 32 ∷ decimal n
 

@@ -34,7 +34,7 @@ wave_of_parts name (Some from) (Some to) None = Bad
 wave_of_parts name (Some from) None budget = Bad
 wave_of_parts name None to budget = Bad
 
--- behind `wave`: NAME FROM TO or NAME FROM TO BUDGET
+-- after `wave`: NAME FROM TO or NAME FROM TO BUDGET
 abbrev pub wave_of : List (List ℕ) → Line
 wave_of [] = Bad
 wave_of (name ∷ []) = Bad
@@ -47,7 +47,7 @@ at_of_parts name (Some time) (Some budget) = if is_name name then Ask (At name t
 at_of_parts name (Some time) None = Bad
 at_of_parts name None budget = Bad
 
--- behind `at`: NAME T or NAME T BUDGET
+-- after `at`: NAME T or NAME T BUDGET
 abbrev pub at_of : List (List ℕ) → Line
 at_of [] = Bad
 at_of (name ∷ []) = Bad
@@ -57,13 +57,13 @@ abbrev pub trim_of_part : Option ℕ → Line
 trim_of_part (Some n) = Trim n
 trim_of_part None = Bad
 
--- behind `trim`: N
+-- after `trim`: N
 abbrev pub trim_of : List (List ℕ) → Line
 trim_of [] = Bad
 trim_of (n ∷ []) = trim_of_part (number_up_to 65536 n)
 trim_of (n ∷ word ∷ words) = Bad
 
--- behind a keyword that stands alone: nothing
+-- after a keyword that stands alone: nothing
 abbrev pub alone : Line → List (List ℕ) → Line
 alone line [] = line
 alone line (word ∷ words) = Bad

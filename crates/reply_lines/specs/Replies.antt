@@ -19,7 +19,7 @@ Suits (whats.At name time budget) BadLine = ⊥
 Suits (whats.At name time budget) (Wave runs) = length runs ≡ 1
 Suits (whats.At name time budget) reply = ⊤
 
--- words with a blank between each two, and a line feed
+-- words with a space between each two, and a line feed
 abbrev pub text_line : List (List ℕ) → List ℕ
 text_line [] = 10 ∷ []
 text_line (word ∷ []) = word ++ 10 ∷ []
@@ -32,12 +32,13 @@ value_word run = byte_of_value run.value ∷ []
 abbrev pub run_line : Run → List ℕ
 run_line run = text_line (decimal run.time ∷ value_word run ∷ [])
 
--- the signal that an item names, and its window: that of one instant ends with the next
+-- the name of the signal that an item asks for
 abbrev pub name_of : What → List ℕ
 name_of (whats.Wave name from to budget) = name
 name_of (whats.At name time budget) = name
 name_of whats.Bad = []
 
+-- where the window of an item starts and stops; an instant t is the window from t to t + 1
 abbrev pub start_of : What → ℕ
 start_of (whats.Wave name from to budget) = from
 start_of (whats.At name time budget) = time

@@ -18,7 +18,7 @@ use Rattle.session_loop.specs.Serving.{IsStopped}
 abbrev pub Stands : List ℕ → List ℕ → (List Made → Type 0) → (List Made → Type 0) → Type 0
 Stands name bytes made new_made = made [] → new_made (record { name = name; bytes = bytes } ∷ [])
 
--- Such replies were written, and such a journal.
+-- Replies and a journal of which `such` holds were written.
 pub record WroteFile (such : List ℕ → List ℕ → Type 0) (name : List ℕ) (out new_out : List ℕ → Type 0) (made new_made : List Made → Type 0) : Type 0 where
   pub replies : List ℕ
   pub journal : List ℕ
@@ -56,7 +56,7 @@ pub record IsUntouched (old_left left : Option (List ℕ)) (out new_out : List �
 
 -- A session without a script.
 
--- Such a journal was written.
+-- A journal of which `such` holds was written.
 pub record WroteJournal (such : List ℕ → Type 0) (name : List ℕ) (made new_made : List Made → Type 0) : Type 0 where
   pub journal : List ℕ
   pub are : such journal

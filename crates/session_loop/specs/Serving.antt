@@ -8,7 +8,7 @@ use Rattle.session_loop.specs.declared.stop.Stop.TheVariants.{ScriptUnread, Scri
 
 -- The script.
 
--- every unit that the bytes which left the script complete was served
+-- every unit completed by the bytes read was served
 pub record IsServedUntil (setup : Setup) (script : List ℕ) (left : Option (List ℕ)) (replies journal : List ℕ) : Type 0 where
   pub taken : List ℕ
   pub took : Consumes (Some script) left taken

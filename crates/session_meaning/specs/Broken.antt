@@ -32,7 +32,7 @@ abbrev pub IsFirstBegun : Setup → Course → List ScriptUnit → List ℕ → 
 IsFirstBegun setup now [] out journal = IsUntouched setup now out journal
 IsFirstBegun setup now (unit ∷ later) out journal = IsUntouched setup now out journal ⊎ IsBegun setup now unit out journal
 
--- The first of the units stand whole, as many as do, and the one behind them was begun at most.
+-- Some first units stand whole, and of the next one a beginning at most.
 pub record IsBroken (setup : Setup) (units : List ScriptUnit) (out journal : List ℕ) : Type 0 where
   pub done : List ScriptUnit
   pub later : List ScriptUnit
@@ -48,7 +48,7 @@ pub record IsHeadBegun (setup : Setup) (out journal : List ℕ) : Type 0 where
   pub out_is : out ≡ []
   pub head : IsPrefix journal (head_line setup.shards setup.capacity)
 
--- Behind the head: of the units that the lines which have ended in some first bytes of the script complete, or of all its units.
+-- After the head: of the units that the ended lines of some first bytes of the script complete, or of all its units.
 pub record IsBrokenIn (setup : Setup) (script out journal : List ℕ) : Type 0 where
   pub taken : List ℕ
   pub taken_are : IsPrefix taken script
@@ -57,11 +57,11 @@ pub record IsBrokenIn (setup : Setup) (script out journal : List ℕ) : Type 0 w
       ⊎ ((taken ≡ script) × (units ≡ script_units setup.design.circuit.horizon script))
   pub broken : IsBroken setup units out journal
 
--- Every unit that the lines which have ended in these bytes complete was served, the script's end not being met.
+-- Every unit that the ended lines of these bytes complete was served, the script's end not being met.
 abbrev pub IsServedUpTo : Setup → List ℕ → List ℕ → List ℕ → Type 0
 IsServedUpTo setup bytes out journal = IsSession setup (completed_units setup.design.circuit.horizon bytes) out journal
 
--- A script of more than 16,777,216 bytes: every unit that these bytes complete was served.
+-- A script of more than 16,777,216 bytes: every unit that the first so many bytes complete was served.
 pub record IsCutOff (setup : Setup) (script out journal : List ℕ) : Type 0 where
   pub long : 16777216 < length script
   pub served : IsServedUpTo setup (take 16777216 script) out journal

@@ -9,7 +9,7 @@ use Rattle.design.specs.Join.{number}
 use Rattle.session_meaning.specs.declared.Verdict.{Verdict}
 use Rattle.session_meaning.specs.declared.Verdict.TheVariants.{Ask, Unknown, Past, Bad}
 
--- of a window of the signal, if there is one: it ends by the horizon, or it is past
+-- the verdict on a window of the signal, if there is one: it is asked if it ends with the horizon at the latest, and is past if not
 abbrev pub window_verdict : ℕ → ℕ → ℕ → ℕ → ℕ → Option ℕ → Verdict
 window_verdict horizon line from to budget None = Unknown
 window_verdict horizon line from to budget (Some signal) =
@@ -17,7 +17,7 @@ window_verdict horizon line from to budget (Some signal) =
     then Ask (record { number = line; signal = signal; from = from; to = to; budget = budget })
     else Past
 
--- of what a line asks; one instant ends with the next
+-- the verdict on what a line asks; an instant t is the window from t to t + 1
 abbrev pub what_verdict : Joined → ℕ → What → Verdict
 what_verdict d line (whats.Wave name from to budget) = window_verdict d.circuit.horizon line from to budget (number d.netlist name)
 what_verdict d line (whats.At name time budget) = window_verdict d.circuit.horizon line time (time + 1) budget (number d.netlist name)
