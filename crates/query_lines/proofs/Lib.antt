@@ -4,3 +4,4 @@ pub mod Limits
 pub mod OwnLines
 pub mod Determined
 pub mod Completed
+mod Rows
