@@ -1,0 +1,63 @@
+-- The text of a dump, in this profile of VCD (IEEE 1364-2005, section 18).
+use Rattle.std.specs.Prelude.{ℕ, ◌+◌, ◌==◌, ◌||◌, Bool, List, [], ◌∷◌, ◌++◌, map, filter, flat_map, codes}
+use Rattle.std.specs.List.{range_with_len, list_any}
+use Rattle.std.specs.Fmt.{decimal}
+use Rattle.gate_values.specs.Spelling.{byte_of_value}
+use Rattle.circuit_meaning.specs.declared.Run.{Run}
+use Rattle.vcd_answers.specs.Wires.{Wire, last_time}
+
+-- the code of the wire at this place
+abbrev pub code : ℕ → ℕ
+code place = 33 + place
+
+-- `$var wire 1 CODE NAME $end`
+abbrev pub var_line : ℕ → List ℕ → List ℕ
+var_line place name = codes "$var wire 1 " ++ code place ∷ 32 ∷ (name ++ codes " $end")
+
+-- the lines of wires of which the first has this place
+abbrev pub var_lines : ℕ → List Wire → List (List ℕ)
+var_lines place [] = []
+var_lines place (wire ∷ wires) = var_line place wire.name ∷ var_lines (place + 1) wires
+
+-- `#TIME`
+abbrev pub time_line : ℕ → List ℕ
+time_line t = 35 ∷ decimal t
+
+-- a value, and directly after it the code
+abbrev pub change_line : ℕ → Run → List ℕ
+change_line place run = byte_of_value run.value ∷ code place ∷ []
+
+abbrev pub is_at : ℕ → Run → Bool
+is_at t run = run.time == t
+
+-- the lines of the changes at the time t, in the order of the wires, of which the first has this place
+abbrev pub change_lines : ℕ → ℕ → List Wire → List (List ℕ)
+change_lines t place [] = []
+change_lines t place (wire ∷ wires) = map (change_line place) (filter (is_at t) wire.changes) ++ change_lines t (place + 1) wires
+
+-- a time with lines: time 0, and each later time at which a wire changes
+abbrev pub changes_at : ℕ → Wire → Bool
+changes_at t wire = list_any (is_at t) wire.changes
+
+abbrev pub is_instant : List Wire → ℕ → Bool
+is_instant wires t = (t == 0) || list_any (changes_at t) wires
+
+abbrev pub instant_lines : List Wire → ℕ → List (List ℕ)
+instant_lines wires t = time_line t ∷ change_lines t 0 wires
+
+-- the lines of all instants, in the order of time
+abbrev pub body_lines : List Wire → List (List ℕ)
+body_lines wires = flat_map (instant_lines wires) (filter (is_instant wires) (range_with_len 0 (last_time + 1)))
+
+-- all lines
+abbrev pub vcd_lines : List Wire → List (List ℕ)
+vcd_lines wires =
+    codes "$timescale 1 ns $end" ∷ codes "$scope module top $end" ∷ (
+    var_lines 0 wires ++ codes "$upscope $end" ∷ codes "$enddefinitions $end" ∷ body_lines wires)
+
+-- every line ends with a line feed
+abbrev pub ended : List ℕ → List ℕ
+ended line = line ++ 10 ∷ []
+
+unfoldable pub vcd_of : List Wire → List ℕ
+vcd_of wires = flat_map ended (vcd_lines wires)
