@@ -6,18 +6,18 @@ use Rattle.gate_values.specs.Spelling.{byte_of_value}
 use Rattle.circuit_meaning.specs.declared.Run.{Run}
 use Rattle.vcd_answers.specs.Wires.{Wire, last_time}
 
--- the code of the wire at this place
-abbrev pub code : ℕ → ℕ
-code place = 33 + place
+-- the wires have the codes from this one on: bytes
+abbrev pub first_code : ℕ
+first_code = 33
 
 -- `$var wire 1 CODE NAME $end`
 abbrev pub var_line : ℕ → List ℕ → List ℕ
-var_line place name = codes "$var wire 1 " ++ code place ∷ 32 ∷ (name ++ codes " $end")
+var_line code name = codes "$var wire 1 " ++ code ∷ 32 ∷ (name ++ codes " $end")
 
--- the lines of wires of which the first has this place
+-- the lines of wires of which the first has this code
 abbrev pub var_lines : ℕ → List Wire → List (List ℕ)
-var_lines place [] = []
-var_lines place (wire ∷ wires) = var_line place wire.name ∷ var_lines (place + 1) wires
+var_lines code [] = []
+var_lines code (wire ∷ wires) = var_line code wire.name ∷ var_lines (code + 1) wires
 
 -- `#TIME`
 abbrev pub time_line : ℕ → List ℕ
@@ -25,15 +25,15 @@ time_line t = 35 ∷ decimal t
 
 -- a value, and directly after it the code
 abbrev pub change_line : ℕ → Run → List ℕ
-change_line place run = byte_of_value run.value ∷ code place ∷ []
+change_line code run = byte_of_value run.value ∷ code ∷ []
 
 abbrev pub is_at : ℕ → Run → Bool
 is_at t run = run.time == t
 
--- the lines of the changes at the time t, in the order of the wires, of which the first has this place
+-- the lines of the changes at the time t, in the order of the wires, of which the first has this code
 abbrev pub change_lines : ℕ → ℕ → List Wire → List (List ℕ)
-change_lines t place [] = []
-change_lines t place (wire ∷ wires) = map (change_line place) (filter (is_at t) wire.changes) ++ change_lines t (place + 1) wires
+change_lines t code [] = []
+change_lines t code (wire ∷ wires) = map (change_line code) (filter (is_at t) wire.changes) ++ change_lines t (code + 1) wires
 
 -- a time with lines: time 0, and each later time at which a wire changes
 abbrev pub changes_at : ℕ → Wire → Bool
@@ -43,7 +43,7 @@ abbrev pub is_instant : List Wire → ℕ → Bool
 is_instant wires t = (t == 0) || list_any (changes_at t) wires
 
 abbrev pub instant_lines : List Wire → ℕ → List (List ℕ)
-instant_lines wires t = time_line t ∷ change_lines t 0 wires
+instant_lines wires t = time_line t ∷ change_lines t first_code wires
 
 -- the lines of all instants, in the order of time
 abbrev pub body_lines : List Wire → List (List ℕ)
@@ -53,7 +53,7 @@ body_lines wires = flat_map (instant_lines wires) (filter (is_instant wires) (ra
 abbrev pub vcd_lines : List Wire → List (List ℕ)
 vcd_lines wires =
     codes "$timescale 1 ns $end" ∷ codes "$scope module top $end" ∷ (
-    var_lines 0 wires ++ codes "$upscope $end" ∷ codes "$enddefinitions $end" ∷ body_lines wires)
+    var_lines first_code wires ++ codes "$upscope $end" ∷ codes "$enddefinitions $end" ∷ body_lines wires)
 
 -- every line ends with a line feed
 abbrev pub ended : List ℕ → List ℕ

@@ -67,7 +67,7 @@ fn names_in(alloc: Global, text: &[u8]) -> Result<(WireList, &[u8]), OutOfMemory
 {
     let mut wires = Vec::new(alloc);
     let mut rest = text;
-    while !rest.is_empty() {
+    'names: while !rest.is_empty() {
         let (line, later) = next_line(rest);
         if !is_var(line) {
             break;
@@ -99,7 +99,7 @@ fn changes_in(wires: WireList, text: &[u8]) -> Result<Option<WireList>, OutOfMem
     let mut wires = wires;
     let mut time = 0;
     let mut rest = text;
-    while !rest.is_empty() {
+    'lines: while !rest.is_empty() {
         let (line, later) = next_line(rest);
         match line_of(line) {
             None => return Ok(None),

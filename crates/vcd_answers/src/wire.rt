@@ -1,5 +1,5 @@
 //! The wires of a dump.
-ghost use Rattle.std.specs.Prelude.{◌≡◌, ℕ, ◌+◌, ◌≤◌, ◌<◌, ◌++◌, ◌∷◌, [], List, length, IsTrue, OnOk, IfOk};
+ghost use Rattle.std.specs.Prelude.{◌≡◌, ℕ, ◌+◌, ◌≤◌, ◌<◌, ◌++◌, ◌∷◌, [], List, length, IsTrue, OnOk, IfOk, ◌↔◌};
 ghost use Rattle.std.specs.List.{list_all};
 ghost use Rattle.gate_values.specs.Gates.{same_value};
 ghost use Rattle.circuit_meaning.specs.Circuit.{Circuit};
@@ -148,7 +148,7 @@ impl WireList {
 
     // Whether a dump can hold them.
     pub fn are_wires(&self) -> bool
-        ensures { IsTrue result → AreWires self.now }
+        ensures { IsTrue result ↔ AreWires self.now }
     {
         self.wires.len() <= 64 && each_is_wire(&self.wires)
     }

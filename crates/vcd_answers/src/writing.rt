@@ -2,9 +2,9 @@
 ghost use Rattle.std.specs.Prelude.{◌≡◌, ℕ, ◌+◌, ◌≤◌, ◌++◌, ◌∷◌, [], List, length, map, flat_map, IsTrue, OnOk, IfOk};
 ghost use Rattle.std.specs.List.{list_all};
 ghost use Rattle.std.specs.Fmt.{decimal};
-ghost use Rattle.vcd_answers.specs.Dumps.{var_line, var_lines, time_line, change_line, ended, vcd_of};
+ghost use Rattle.vcd_answers.specs.Dumps.{first_code, var_line, var_lines, time_line, change_line, ended, vcd_of};
 ghost use Rattle.vcd_answers.specs.Wires.{AreWires, is_wire};
-ghost use Rattle.vcd_answers.specs.inner.Events.{event, run_of, by_wire, by_time, event_text};
+ghost use Rattle.vcd_answers.specs.inner.Events.{event, run_of, by_wire, by_time, event_line, event_text};
 
 use crate::wire::{Wire, WireList};
 use backsim_io::OutOfMemory;
@@ -13,11 +13,11 @@ use gate_values::Value;
 use itoa::Buffer;
 use std::alloc::Global;
 
-/// A change of the wire at a place.
+/// A change of the wire that has this code.
 #[derive(Clone, Copy)]
 struct Event {
     time: u32,
-    place: u8,
+    code: u8,
     value: Value,
 }
 
@@ -48,56 +48,47 @@ fn events_by_time(alloc: Global, wires: &[Wire]) -> Result<Vec<Event>, OutOfMemo
 
 fn events_by_wire(alloc: Global, wires: &[Wire]) -> Result<Vec<Event>, OutOfMemory>
     requires { length wires.now ≤ 64 }
-    ensures { IfOk result (λ events. events.items ≡ by_wire 0 wires.now) }
+    ensures { IfOk result (λ events. events.items ≡ by_wire first_code wires.now) }
 {
     let mut events = Vec::new(alloc);
-    let mut place = 0u8;
+    let mut code = b'!';
     for wire in wires {
-        push_changes(&mut events, place, wire.changes())?;
-        place += 1;
+        push_changes(&mut events, code, wire.changes())?;
+        code += 1;
     }
     Ok(events)
 }
 
-fn push_changes(events: &mut Vec<Event>, place: u8, changes: &[Run]) -> Result<(), OutOfMemory>
-    ensures { OnOk result (events.new.items ≡ events.old.items ++ map (event place) changes.now) }
+fn push_changes(events: &mut Vec<Event>, code: u8, changes: &[Run]) -> Result<(), OutOfMemory>
+    ensures { OnOk result (events.new.items ≡ events.old.items ++ map (event code) changes.now) }
 {
     for run in changes {
         events.push(Event {
             time: run.time,
-            place,
+            code,
             value: run.value,
         })?;
     }
     Ok(())
 }
 
-/// The code of the wire at this place.
-fn code_of(place: u8) -> u8
-    requires { place ≤ 64 }
-    ensures { result ≡ 33 + place }
-{
-    33 + place
-}
-
 fn push_vars(text: &mut Vec<u8>, wires: &[Wire]) -> Result<(), OutOfMemory>
     requires { length wires.now ≤ 64 }
-    ensures { OnOk result (text.new.items ≡ text.old.items ++ flat_map ended (var_lines 0 wires.now)) }
+    ensures { OnOk result (text.new.items ≡ text.old.items ++ flat_map ended (var_lines first_code wires.now)) }
 {
-    let mut place = 0u8;
+    let mut code = b'!';
     for wire in wires {
-        push_var(text, place, wire.name())?;
-        place += 1;
+        push_var(text, code, wire.name())?;
+        code += 1;
     }
     Ok(())
 }
 
-fn push_var(text: &mut Vec<u8>, place: u8, name: &[u8]) -> Result<(), OutOfMemory>
-    requires { place ≤ 64 }
-    ensures { OnOk result (text.new.items ≡ text.old.items ++ ended (var_line place name.now)) }
+fn push_var(text: &mut Vec<u8>, code: u8, name: &[u8]) -> Result<(), OutOfMemory>
+    ensures { OnOk result (text.new.items ≡ text.old.items ++ ended (var_line code name.now)) }
 {
     text.extend_from_slice(b"$var wire 1 ")?;
-    text.push(code_of(place))?;
+    text.push(code)?;
     text.push(b' ')?;
     text.extend_from_slice(name)?;
     text.extend_from_slice(b" $end\n")?;
@@ -116,13 +107,13 @@ fn push_events(text: &mut Vec<u8>, events: &[Event]) -> Result<(), OutOfMemory>
 }
 
 fn push_event(text: &mut Vec<u8>, last: u32, event: Event) -> Result<(), OutOfMemory>
-    ensures { OnOk result (text.new.items ≡ text.old.items ++ event_text last (event ∷ [])) }
+    ensures { OnOk result (text.new.items ≡ text.old.items ++ event_line last event) }
 {
     if event.time != last {
         push_time(text, event.time)?;
     }
     text.push(event.value.byte())?;
-    text.push(code_of(event.place))?;
+    text.push(event.code)?;
     text.push(b'\n')?;
     Ok(())
 }
