@@ -199,7 +199,7 @@ instant_text wires a rest =
     ap (λ (l : List ℕ). ended (time_line a) ++ l) (flat_map-append ended (change_lines a first_code wires) rest
     ∙ ap (λ (l : List (List ℕ)). text l ++ text rest) (sym (lines_are a first_code wires)))
 
-empty_is : (es : List Event) → some es ≡ false → es ≡ []
+pub empty_is : (es : List Event) → some es ≡ false → es ≡ []
 empty_is [] h = refl
 empty_is (e ∷ es) h = absurd cc
 
