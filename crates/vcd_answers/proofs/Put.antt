@@ -161,14 +161,16 @@ all_match code (wire ∷ wires) before each are =
     let mine : ℕ → List Event = λ t. map (event code) (filter (is_at t) wire.changes) in
     let whole : ℕ → List Event = λ t. before t ++ (mine t ++ events_at (code + 1) wires t) in
     let first : runs_of code (flat_map whole times) ≡ wire.changes =
-        runs_flat code whole times
-        ∙ flat_same (λ t. runs_of code (whole t)) (λ t. filter (is_at t) wire.changes) times (λ t. at_once code t (before t) wire wires (are t))
-        ∙ changes_whole wire.changes parts.1 in
+    runs_flat code whole times
+    ∙ flat_same (λ t. runs_of code (whole t)) (λ t. filter (is_at t) wire.changes) times (λ t. at_once code t (before t) wire wires (are t))
+    ∙ changes_whole wire.changes parts.1 in
     let others : Match (code + 1) wires (flat_map (λ t. (before t ++ mine t) ++ events_at (code + 1) wires t) times) =
-        all_match (code + 1) wires (λ t. before t ++ mine t) parts.2 (λ t. codes_append 0 (code + 1) (before t) (mine t)
-        (codes_wide 0 code 0 (code + 1) (before t) (omega arith) (omega arith) (are t)) (codes_wide code (code + 1) 0 (code + 1) (mine t) (omega arith) (omega arith) (codes_wire code t wire.changes))) in
-    (first, match_same (code + 1) wires (flat_map (λ t. (before t ++ mine t) ++ events_at (code + 1) wires t) times) (flat_map whole times)
-    (flat_same (λ t. (before t ++ mine t) ++ events_at (code + 1) wires t) whole times (λ t. append_assoc (before t) (mine t) (events_at (code + 1) wires t))) others)
+    all_match (code + 1) wires (λ t. before t ++ mine t) parts.2 (λ t. codes_append 0 (code + 1) (before t) (mine t)
+    (codes_wide 0 code 0 (code + 1) (before t) (omega arith) (omega arith) (are t)) (codes_wide code (code + 1) 0 (code + 1) (mine t) (omega arith) (omega arith) (codes_wire code t wire.changes))) in (
+      first,
+      match_same (code + 1) wires (flat_map (λ t. (before t ++ mine t) ++ events_at (code + 1) wires t) times) (flat_map whole times)
+          (flat_same (λ t. (before t ++ mine t) ++ events_at (code + 1) wires t) whole times (λ t. append_assoc (before t) (mine t) (events_at (code + 1) wires t))) others,
+    )
 
 pub length_blanks : (wires : List Wire) → length (blanks wires) ≡ length wires
 length_blanks [] = refl

@@ -207,12 +207,12 @@ from_later f a b n order within =
     let tail : changes_from X (points g (suc a) m ++ rest) ≡ changes_from X (points g (suc a) m ++ last b X) = settles X (points g (suc a) m) g X b (n - b) (λ t low high. shown_behind f (suc a) b t low) in
     let front : changes_from X (points g 1 a ++ (points g (suc a) m ++ rest)) ≡ changes_from X (points g (suc a) m ++ rest) = steady g X 1 a (points g (suc a) m ++ rest) (λ t low high. shown_before f (suc a) b t (omega arith)) in
     let parts : points g 1 n ≡ points g 1 a ++ (points g (suc a) m ++ rest) =
-        points_split g 1 a (n - a) n (suc a) (omega arith) (omega arith)
-        ∙ ap (λ (l : List Run). points g 1 a ++ l) (points_split g (suc a) m (suc (n - b)) (n - a) b (omega arith) (omega arith)) in
+    points_split g 1 a (n - a) n (suc a) (omega arith) (omega arith)
+    ∙ ap (λ (l : List Run). points g 1 a ++ l) (points_split g (suc a) m (suc (n - b)) (n - a) b (omega arith) (omega arith)) in
     let mine : changes_from X (window f (suc a) b ++ last b X) ≡ changes_from X (points g 1 n) =
-        join_behind X (points f (suc a) m) (last b X)
-        ∙ ap (λ (l : List Run). changes_from X (l ++ last b X)) inside
-        ∙ sym tail ∙ sym front ∙ ap (changes_from X) (sym parts) in
+    join_behind X (points f (suc a) m) (last b X)
+    ∙ ap (λ (l : List Run). changes_from X (l ++ last b X)) inside
+    ∙ sym tail ∙ sym front ∙ ap (changes_from X) (sym parts) in
     rw later (ap (λ (l : List Run). record { time = 0; value = X } ∷ l) mine
     ∙ ap (λ (v : Value). record { time = 0; value = v } ∷ changes_from v (points g 1 n)) (sym first))
 

@@ -20,7 +20,7 @@ enum Line {
     Change(u8, Value),
 }
 
-/// The wires of which the text is the dump; none where it is no dump.
+/// The wires of which the text is the dump; `None` where it is the dump of none. The whole text counts.
 pub fn read_vcd(alloc: Global, text: &[u8]) -> Result<Option<WireList>, OutOfMemory>
     // What is read are wires, and the text is their dump.
     ensures wires { IfOk result (λ read. IfSome read (λ wires. AreWires wires)) }

@@ -19,7 +19,7 @@ use text_rules::is_name;
 use window_walks::Runs;
 
 /// A wire of a dump: its name, and the times from which on it has a value.
-#[derive(Drop)]
+#[derive(Debug, Drop)]
 pub struct Wire {
     name: Vec<u8>,
     changes: Vec<Run>,
@@ -34,13 +34,15 @@ impl Model for Wire {
 }
 
 impl Wire {
+    /// The bytes of the name.
     pub fn name(&self) -> &[u8]
         ensures { result.now ≡ self.now.name }
     {
         &self.name
     }
 
-    /// The first is at time 0, times ascend, and neighbours differ.
+    /// The changes, in order. Of a wire that a dump can hold, the first is at time 0, times ascend up to 1,000,001 at most,
+    /// and neighbours differ.
     pub fn changes(&self) -> &[Run]
         ensures { result.now ≡ self.now.changes }
     {
@@ -48,7 +50,7 @@ impl Wire {
     }
 
     // A wire of which no change is read yet.
-    pub fn blank(alloc: Global, name: &[u8]) -> Result<Wire, OutOfMemory>
+    pub(crate) fn blank(alloc: Global, name: &[u8]) -> Result<Wire, OutOfMemory>
         ensures { IfOk result (λ wire. wire ≡ blank name.now) }
     {
         let name = name.to_vec(alloc)?;
@@ -58,14 +60,15 @@ impl Wire {
         })
     }
 
-    pub fn push(&mut self, run: Run) -> Result<(), OutOfMemory>
+    // One change more.
+    pub(crate) fn push(&mut self, run: Run) -> Result<(), OutOfMemory>
         ensures { OnOk result (self.new ≡ record self.old { changes = self.old.changes ++ run ∷ [] }) }
     {
         self.changes.push(run)?;
         Ok(())
     }
 
-    /// Whether the name is one, and the changes are those of a wire.
+    /// Whether a dump can hold it: its name is a name by the rules of the text files, and its changes are those of a wire.
     pub fn is_wire(&self) -> bool
         ensures { result ≡ wires.is_wire self.now }
     {
@@ -101,8 +104,8 @@ fn goes_on(first: Run, rest: &[Run]) -> bool
     last.time <= 1_000_001
 }
 
-/// The wires of a dump, in order.
-#[derive(Drop)]
+/// The wires of a dump, in the order of their codes.
+#[derive(Debug, Drop)]
 pub struct WireList {
     wires: Vec<Wire>,
 }
@@ -139,14 +142,15 @@ impl WireList {
     }
 
     // One change more of the wire at this place.
-    pub fn push_change(&mut self, place: usize, run: Run) -> Result<(), OutOfMemory>
+    pub(crate) fn push_change(&mut self, place: usize, run: Run) -> Result<(), OutOfMemory>
         requires { place < length self.old }
         ensures { OnOk result (self.new ≡ put_at place run self.old) }
     {
         self.wires[place].push(run)
     }
 
-    // Whether a dump can hold them.
+    /// Whether a dump can hold them: at most 64, and each a wire by [`Wire::is_wire`]. Takes time in proportion to the
+    /// changes.
     pub fn are_wires(&self) -> bool
         ensures { IsTrue result ↔ AreWires self.now }
     {
@@ -160,8 +164,8 @@ fn each_is_wire(list: &[Wire]) -> bool
     list.iter().all(|wire| wire.is_wire())
 }
 
-/// The wire of an answered query: its runs inside the window, and x at the other times from 0 to the horizon
-/// and just after it.
+/// The wire of an answered query, whose window is from `start` on and below `stop`: its runs inside the window, and x at
+/// the other times from 0 to just after the horizon. A window that ends with the simulation ends just after the horizon.
 pub fn wire_of(
     alloc: Global,
     name: &[u8],
@@ -176,10 +180,11 @@ pub fn wire_of(
     // Where the runs are the waveform of the window, this is the wire of the query.
     ensures answered { (c : Circuit) (s : ℕ) → c.horizon ≡ horizon → runs.now ≡ wave c s start stop
         → IfOk result (λ wire. wire ≡ answered name.now c s start stop) }
-    // A dump can hold it.
+    // Such a wire can stand in a dump.
     ensures sound { (c : Circuit) (s : ℕ) → runs.now ≡ wave c s start stop → IsTrue (text.is_name name.now)
         → IfOk result (λ wire. IsTrue (wires.is_wire wire)) }
-    // Whatever the runs are: those of them at which the value changes, with x before the window and behind it.
+    // Whatever the runs are, this is the wire: x before the window, the runs, and x from the window's end on, each at its
+    // time, where neighbours of one value are one change.
     ensures runs { IfOk result (λ wire. wire ≡ record { name = name.now; changes = maximal_runs (framed start stop runs.now) }) }
 {
     let name = name.to_vec(alloc)?;

@@ -21,7 +21,7 @@ struct Event {
     value: Value,
 }
 
-/// The text of a dump of these wires.
+/// The text of the dump of these wires. With no wire it is the head and the line of time 0.
 pub fn vcd_text(alloc: Global, wires: &WireList) -> Result<Vec<u8>, OutOfMemory>
     requires { AreWires wires.now }
     ensures { IfOk result (λ text. text.items ≡ vcd_of wires.now) }
