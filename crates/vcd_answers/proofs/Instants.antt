@@ -1,5 +1,5 @@
 -- Changes of all wires in the order of time, and their lines.
-use Rattle.std.proofs.Common.{◌≡◌, ℕ, zero, suc, ◌+◌, ◌<◌, ◌≤◌, Bool, true, false, cond, not, ◌&&◌, ◌||◌, eqb, leb, List, [], ◌∷◌, ◌++◌, length, refl, sym, ap, subst, ◌∙◌, append_assoc, arith, eq-eqb, drop, drop-cons, get_or}
+use Rattle.std.proofs.Common.{◌≡◌, ℕ, zero, suc, ◌+◌, ◌<◌, Bool, true, false, cond, ◌&&◌, ◌||◌, eqb, List, [], ◌∷◌, ◌++◌, length, refl, sym, ap, subst, ◌∙◌, append_assoc, arith, eq-eqb, drop, drop-cons, get_or}
 use Rattle.std.proofs.lemmas.Bool.{ne_eqb, eqb-true, leb-true, ltb-true}
 use Rattle.std.proofs.lemmas.Grind.{flat_map-append}
 use Rattle.std.proofs.lemmas.List.{map-append}
@@ -9,16 +9,14 @@ use Rattle.std.specs.Prelude.{map, filter, flat_map, codes}
 use Rattle.std.specs.List.{range_with_len, list_any, list_all, All}
 use Rattle.std.specs.List.Sorted.{IsNonDecreasingBy, IsStableByKey, IsPermutation}
 use Rattle.std.specs.Ordering.{nat_cmp}
-use Rattle.std.specs.Fmt.{decimal}
 use Rattle.std.proofs.lemmas.Fmt.{decimal_digit}
 use Rattle.gate_values.specs.declared.Value.TheVariants.{X}
 use Rattle.circuit_meaning.specs.declared.Run.{Run}
 use Rattle.text_rules.specs.Text.{is_name}
 use Rattle.vcd_answers.specs.declared.writing.Event.{Event}
 use Rattle.vcd_answers.specs.Wires.{Wire, last_time, goes_on, are_changes, is_wire}
-use Rattle.vcd_answers.specs.Dumps.{first_code, is_at, change_line, time_line, change_lines, changes_at, is_instant, instant_lines, body_lines, var_line, var_lines, vcd_lines, ended, vcd_of}
-use Rattle.vcd_answers.specs.inner.Events.{event, run_of, by_wire, events_at, by_time, event_line, event_text}
-use Rattle.vcd_answers.proofs.Sound.{last_is}
+use Rattle.vcd_answers.specs.Dumps.{first_code, is_at, change_line, time_line, change_lines, changes_at, is_instant, instant_lines, body_lines, var_line, var_lines, ended, vcd_of}
+use Rattle.vcd_answers.specs.inner.Events.{event, run_of, by_wire, events_at, by_time, event_text}
 use Rattle.vcd_answers.proofs.Grouped.{flat_same, of, Rises, Below, rises-from, below-from, grouped, stays}
 
 pub and_both : (a b : Bool) → (a && b) ≡ true → (a ≡ true) × (b ≡ true)

@@ -1,5 +1,5 @@
 -- A change that is put to a wire; the runs behind the last; no line.
-use Rattle.std.proofs.Common.{◌≡◌, ℕ, zero, suc, ◌+◌, ◌<◌, ◌≤◌, leb, List, [], ◌∷◌, ◌++◌, length, get_or, set, drop, Result, Ok, Err, OnOk, refl, sym, ap, ◌∙◌, arith}
+use Rattle.std.proofs.Common.{◌≡◌, ℕ, zero, suc, ◌<◌, ◌≤◌, leb, List, [], ◌∷◌, ◌++◌, length, get_or, set, drop, Result, Ok, Err, OnOk, sym, ap, ◌∙◌, arith}
 use Rattle.circuit_meaning.specs.declared.Run.{Run}
 use Rattle.text_rules.specs.Text.{lines}
 use Rattle.text_rules.proofs.Stream.{no_line}

@@ -1,5 +1,5 @@
 -- What is written is read again.
-use Rattle.std.proofs.Common.{◌≡◌, ℕ, zero, suc, ◌+◌, ◌-◌, ◌<◌, ◌≤◌, Bool, true, false, cond, ◌&&◌, ◌||◌, eqb, leb, ltb, List, [], ◌∷◌, ◌++◌, length, take, drop, Option, Some, None, refl, sym, ap, ◌∙◌, append_assoc, append-nil, length-append, arith, lt-ltb}
+use Rattle.std.proofs.Common.{◌≡◌, ℕ, zero, suc, ◌+◌, ◌-◌, ◌≤◌, Bool, true, false, cond, ◌||◌, eqb, ltb, List, [], ◌∷◌, ◌++◌, length, take, drop, Option, Some, None, refl, sym, ap, ◌∙◌, append_assoc, append-nil, length-append, arith, lt-ltb}
 use Rattle.std.proofs.lemmas.Bool.{le-leb}
 use Rattle.std.proofs.Math.Seq.{take-append_seam}
 use Rattle.std.specs.Prelude.{map, filter, flat_map, codes}
@@ -10,15 +10,14 @@ use Rattle.gate_values.specs.Spelling.{byte_of_value}
 use Rattle.circuit_meaning.specs.declared.Run.{Run}
 use Rattle.text_rules.specs.Text.{lines}
 use Rattle.vcd_answers.specs.declared.writing.Event.{Event}
-use Rattle.vcd_answers.specs.declared.reading.Line.{Line}
 use Rattle.vcd_answers.specs.declared.reading.Line.TheVariants.{Time, Change}
 use Rattle.vcd_answers.specs.Wires.{Wire, last_time, is_wire, AreWires}
 use Rattle.vcd_answers.specs.Dumps.{first_code, changes_at, is_instant, time_line, change_lines, instant_lines, body_lines, var_line, var_lines, vcd_lines, vcd_of}
-use Rattle.vcd_answers.specs.inner.Events.{run_of, events_at, by_time}
+use Rattle.vcd_answers.specs.inner.Events.{run_of, events_at}
 use Rattle.vcd_answers.specs.inner.Reading.{line_at, blank, is_var, name_in, with_names, put_at, step, with_changes, read_of}
 use Rattle.vcd_answers.proofs.Places.{lines_end}
 use Rattle.vcd_answers.proofs.Sound.{last_is}
-use Rattle.vcd_answers.proofs.Instants.{AllAt, all_at, line_of, lines_are, some, some_at, empty_is}
+use Rattle.vcd_answers.proofs.Instants.{AllAt, all_at, line_of, lines_are, some_at, empty_is}
 use Rattle.vcd_answers.proofs.Plain.{amount_is, lines_of_dump}
 use Rattle.vcd_answers.proofs.Put.{put_events, put_append, length-put_at, length-put_events, Codes, codes_wide, codes_at, blanks, length_blanks, put_all}
 

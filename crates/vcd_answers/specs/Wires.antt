@@ -1,5 +1,5 @@
 -- The wires of a dump: what is shown of a signal.
-use Rattle.std.specs.Prelude.{◌≡◌, ℕ, ◌+◌, ◌-◌, ◌≤◌, ◌==◌, ◌||◌, ◌&&◌, Bool, false, not, nat_le, nat_lt, IsTrue, List, [], ◌∷◌, ◌++◌, length, map, filter, if◌then◌else◌}
+use Rattle.std.specs.Prelude.{ℕ, ◌+◌, ◌-◌, ◌≤◌, ◌==◌, ◌||◌, ◌&&◌, Bool, false, not, nat_le, nat_lt, IsTrue, List, [], ◌∷◌, ◌++◌, length, map, filter, if◌then◌else◌}
 use Rattle.std.specs.List.{range_with_len, list_all}
 use Rattle.gate_values.specs.declared.Value.{Value}
 use Rattle.gate_values.specs.declared.Value.TheVariants.{X}
@@ -26,18 +26,19 @@ changes_of f last = map (λ t. record { time = t; value = f t }) (filter (λ t. 
 abbrev pub shown : (ℕ → Value) → ℕ → ℕ → ℕ → Value
 shown f start stop t = if nat_le start t && nat_lt t stop then f t else X
 
--- the wire of an answered query: of the signal s in the window from start to stop
+-- the wire of an answered query: of the signal s in the window from start to stop, up to just after the horizon
 abbrev pub answered : List ℕ → Circuit → ℕ → ℕ → ℕ → Wire
 answered name c s start stop = record { name = name; changes = changes_of (shown (value c s) start stop) (c.horizon + 1) }
 
--- the runs of a window with x before the window and x behind it
+-- x from time 0 on, where the window begins later
 abbrev pub before_window : ℕ → List Run
 before_window start = if start == 0 then [] else record { time = 0; value = X } ∷ []
 
+-- the runs of a window with x before it, and x from its end on; neighbours may have one value
 abbrev pub framed : ℕ → ℕ → List Run → List Run
 framed start stop runs = before_window start ++ runs ++ record { time = stop; value = X } ∷ []
 
--- runs behind this one: times ascend, neighbours differ, and the last time is that of a dump
+-- runs behind this one: times ascend, neighbours differ, and no time is past the last of a dump
 abbrev pub goes_on : Run → List Run → Bool
 goes_on run [] = nat_le run.time last_time
 goes_on run (next ∷ runs) = nat_lt run.time next.time && not (same_value run.value next.value) && goes_on next runs
@@ -47,6 +48,7 @@ abbrev pub are_changes : List Run → Bool
 are_changes [] = false
 are_changes (run ∷ runs) = (run.time == 0) && goes_on run runs
 
+-- a wire that a dump can hold
 abbrev pub is_wire : Wire → Bool
 is_wire wire = is_name wire.name && are_changes wire.changes
 

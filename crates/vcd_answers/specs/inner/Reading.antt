@@ -1,11 +1,10 @@
 -- How a text is read, line by line. It may accept more than the dumps; what was read is written again and compared.
-use Rattle.std.specs.Prelude.{ℕ, zero, suc, ◌+◌, ◌-◌, ◌==◌, ◌&&◌, Bool, nat_le, nat_lt, List, [], ◌∷◌, ◌++◌, length, take, drop, slice_index_or, Option, Some, None, if◌then◌else◌}
+use Rattle.std.specs.Prelude.{ℕ, zero, suc, ◌-◌, ◌==◌, ◌&&◌, Bool, nat_le, nat_lt, List, [], ◌∷◌, ◌++◌, length, take, drop, slice_index_or, Option, Some, None, if◌then◌else◌}
 use Rattle.std.specs.Option.{option_map}
-use Rattle.gate_values.specs.declared.Value.{Value}
 use Rattle.gate_values.specs.Spelling.{value_of_byte}
 use Rattle.circuit_meaning.specs.declared.Run.{Run}
 use Rattle.text_rules.specs.declared.Amount.{Amount}
-use Rattle.text_rules.specs.declared.Amount.TheVariants.{NoNumber, Above, Within}
+use Rattle.text_rules.specs.declared.Amount.TheVariants.{Within}
 use Rattle.text_rules.specs.Text.{amount}
 use Rattle.vcd_answers.specs.declared.reading.Line.{Line}
 use Rattle.vcd_answers.specs.declared.reading.Line.TheVariants.{Time, Change}
@@ -29,9 +28,11 @@ line_at (byte ∷ rest) = if byte == 35 then time_in (amount 1000001 rest) else 
 abbrev pub blank : List ℕ → Wire
 blank name = record { name = name; changes = [] }
 
+-- a line that is long enough to declare a wire, and begins with any byte and a `v`
 abbrev pub is_var : List ℕ → Bool
 is_var line = nat_le 19 (length line) && (slice_index_or line 1 0 == 118)
 
+-- what stands between `$var wire 1 C ` and ` $end`
 abbrev pub name_in : List ℕ → List ℕ
 name_in line = take (length line - 19) (drop 14 line)
 
@@ -46,6 +47,7 @@ put_at place run [] = []
 put_at zero run (wire ∷ wires) = record wire { changes = wire.changes ++ run ∷ [] } ∷ wires
 put_at (suc place) run (wire ∷ wires) = wire ∷ put_at place run wires
 
+-- what a line does: it sets the time, or is a change of the wire at a place
 abbrev pub step : (List Wire → ℕ → Option (List Wire)) → List Wire → ℕ → Option Line → Option (List Wire)
 step next wires t None = None
 step next wires t (Some (Time later)) = next wires later
@@ -56,5 +58,6 @@ abbrev pub with_changes : List Wire → ℕ → List (List ℕ) → Option (List
 with_changes wires t [] = Some wires
 with_changes wires t (line ∷ lines) = step (λ wires t. with_changes wires t lines) wires t (line_at line)
 
+-- what the lines of a text tell: two lines, the names, two lines, the changes
 unfoldable pub read_of : List (List ℕ) → Option (List Wire)
 read_of lines = let read = with_names [] (drop 1 (drop 1 lines)) in with_changes read.0 0 (drop 1 (drop 1 read.1))

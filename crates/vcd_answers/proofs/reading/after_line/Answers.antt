@@ -1,4 +1,4 @@
-use Rattle.std.proofs.Common.{rules, ◌≡◌, length}
+use Rattle.std.proofs.Common.{rules}
 use Rattle.vcd_answers.proofs.Places.{lines_none}
 use Rattle.vcd_answers.proofs.reading.after_line.Goals as goal
 

@@ -1,4 +1,4 @@
-use Rattle.std.proofs.Common.{rules, ◌≡◌, ◌∙◌, sym, length}
+use Rattle.std.proofs.Common.{rules, ◌∙◌, sym}
 use Rattle.vcd_answers.proofs.ReadBack.{changes_end}
 use Rattle.vcd_answers.proofs.reading.changes_in.Goals as goal
 

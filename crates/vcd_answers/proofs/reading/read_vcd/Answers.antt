@@ -1,6 +1,6 @@
-use Rattle.std.proofs.Common.{rules, ◌≡◌, ◌∙◌, sym, ap, subst, List, ℕ, None, Some}
+use Rattle.std.proofs.Common.{rules, ◌≡◌, ◌∙◌, sym, ap, subst, Some}
 use Rattle.text_rules.specs.Text.{lines}
-use Rattle.vcd_answers.specs.Wires.{Wire, AreWires}
+use Rattle.vcd_answers.specs.Wires.{AreWires}
 use Rattle.vcd_answers.specs.Dumps.{vcd_of}
 use Rattle.vcd_answers.specs.inner.Reading.{read_of}
 use Rattle.vcd_answers.proofs.ReadBack.{some_wires, read_none, read_some}

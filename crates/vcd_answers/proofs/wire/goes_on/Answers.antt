@@ -1,4 +1,4 @@
-use Rattle.std.proofs.Common.{◌≡◌, ◌∙◌, arith}
+use Rattle.std.proofs.Common.{◌∙◌, arith}
 use Rattle.vcd_answers.proofs.Places.{goes_end}
 use Rattle.vcd_answers.proofs.wire.goes_on.Goals as goal
 

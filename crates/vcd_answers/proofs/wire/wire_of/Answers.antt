@@ -1,6 +1,4 @@
-use Rattle.std.proofs.Common.{rules, ◌≡◌, ◌∙◌, ◌++◌}
-use Rattle.window_walks.specs.Runs.{maximal_runs}
-use Rattle.vcd_answers.specs.Wires.{framed}
+use Rattle.std.proofs.Common.{rules}
 use Rattle.vcd_answers.proofs.Sound.{made_is, made_sound}
 use Rattle.vcd_answers.proofs.wire.wire_of.Goals as goal
 

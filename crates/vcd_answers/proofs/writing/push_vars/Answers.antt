@@ -1,4 +1,4 @@
-use Rattle.std.proofs.Common.{rules, ◌≡◌, arith}
+use Rattle.std.proofs.Common.{arith}
 use Rattle.vcd_answers.proofs.Instants.{vars_more}
 use Rattle.vcd_answers.proofs.writing.push_vars.Goals as goal
 

@@ -1,4 +1,4 @@
-use Rattle.std.proofs.Common.{◌≡◌, ◌∙◌, refl}
+use Rattle.std.proofs.Common.{◌∙◌, refl}
 use Rattle.vcd_answers.proofs.Instants.{written_is}
 use Rattle.vcd_answers.proofs.writing.vcd_text.Goals as goal
 

@@ -1,4 +1,4 @@
-use Rattle.std.proofs.Common.{rules, ◌≡◌, ◌∙◌, sym, ap, set, List, length, get_or}
+use Rattle.std.proofs.Common.{rules, ◌∙◌, ap, set, List}
 use Rattle.vcd_answers.specs.Wires.{Wire}
 use Rattle.vcd_answers.proofs.Places.{on_ok, with_run, put_set}
 use Rattle.vcd_answers.proofs.wire.WireList.push_change.Goals as goal
