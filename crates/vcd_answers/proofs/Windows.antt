@@ -1,6 +1,6 @@
 -- The runs of a window with x on both sides are the changes of the function that the window shows.
 use Rattle.std.proofs.Common.{◌≡◌, ℕ, zero, suc, ◌+◌, ◌-◌, ◌<◌, ◌≤◌, Bool, true, false, cond, not, ◌&&◌, ◌||◌, leb, eqb, List, [], ◌∷◌, ◌++◌, refl, sym, ap, ◌∙◌, append-nil, arith, lt-ltb, eq-eqb}
-use Rattle.std.proofs.lemmas.Bool.{ne_eqb, le-leb, lt-leb, le-ltb}
+use Rattle.std.proofs.lemmas.Bool.{ne_eqb, le-leb, lt-leb, le-ltb, leb-true, leb-false}
 use Rattle.std.specs.Prelude.{map, filter}
 use Rattle.std.specs.List.{range_with_len}
 use Rattle.gate_values.specs.declared.Value.{Value}
@@ -216,12 +216,30 @@ from_later f a b n order within =
     rw later (ap (λ (l : List Run). record { time = 0; value = X } ∷ l) mine
     ∙ ap (λ (v : Value). record { time = 0; value = v } ∷ changes_from v (points g 1 n)) (sym first))
 
-pub shown_changes : (f : ℕ → Value) (a b n : ℕ) → a ≤ b → b ≤ n → maximal_runs (framed a b (window f a b)) ≡ changes_of (shown f a b) n
-shown_changes f zero b n order within = from_zero f b n within ∙ sym (changes_points (shown f 0 b) n)
-shown_changes f (suc a) b n order within = from_later f a b n order within ∙ sym (changes_points (shown f (suc a) b) n)
+-- a window that ends where it begins or before shows nothing
+shown_never : (f : ℕ → Value) (a b t : ℕ) → b ≤ a → shown f a b t ≡ X
+shown_never f a b t empty = cases (leb a t) refl
+  where
+    cases : (x : Bool) → leb a t ≡ x → shown f a b t ≡ X
+    cases true e = shown_behind f a b t (omega (arith, leb-true a t e))
+    cases false e = rw e refl
+
+from_none : (f : ℕ → Value) (a b n : ℕ) → b ≤ suc a → maximal_runs (framed (suc a) b (window f (suc a) b)) ≡ maximal_runs (points (shown f (suc a) b) 0 (suc n))
+from_none f a b n empty =
+    let later : eqb (suc a) 0 ≡ false = ne_eqb (suc a) 0 (λ e. omega arith) in
+    let none : b - suc a ≡ 0 = omega arith in
+    rw (later, none) (sym (settles_all [] (shown f (suc a) b) X 0 n (λ t low high. shown_never f (suc a) b t empty)))
+
+pub shown_changes : (f : ℕ → Value) (a b n : ℕ) → b ≤ n → maximal_runs (framed a b (window f a b)) ≡ changes_of (shown f a b) n
+shown_changes f zero b n within = from_zero f b n within ∙ sym (changes_points (shown f 0 b) n)
+shown_changes f (suc a) b n within = cases (leb (suc a) b) refl ∙ sym (changes_points (shown f (suc a) b) n)
+  where
+    cases : (x : Bool) → leb (suc a) b ≡ x → maximal_runs (framed (suc a) b (window f (suc a) b)) ≡ maximal_runs (points (shown f (suc a) b) 0 (suc n))
+    cases true e = from_later f a b n (leb-true (suc a) b e) within
+    cases false e = from_none f a b n (omega (arith, leb-false (suc a) b e))
 
 -- the wire of a query
-pub wave_changes : (c : Circuit) (s a b : ℕ) (runs : List Run) (horizon : ℕ) → a ≤ b → b ≤ horizon + 1 → runs ≡ wave c s a b
+pub wave_changes : (c : Circuit) (s a b : ℕ) (runs : List Run) (horizon : ℕ) → b ≤ horizon + 1 → runs ≡ wave c s a b
     → maximal_runs (framed a b runs) ≡ changes_of (shown (value c s) a b) (horizon + 1)
-wave_changes c s a b runs horizon order within are =
-    ap (λ (l : List Run). maximal_runs (framed a b l)) (are ∙ wave_points c s a b) ∙ shown_changes (value c s) a b (horizon + 1) order within
+wave_changes c s a b runs horizon within are =
+    ap (λ (l : List Run). maximal_runs (framed a b l)) (are ∙ wave_points c s a b) ∙ shown_changes (value c s) a b (horizon + 1) within

@@ -26,7 +26,7 @@ fn asked(
     horizon: u32,
     rows: &[(u32, Value)],
 ) -> Result<Wire, Fail> {
-    if horizon > 1_000_000 || start > stop || stop > horizon + 1 {
+    if horizon > 1_000_000 || stop > horizon + 1 {
         return Err("no window".into());
     }
     let runs = Runs::from_vec(runs_of(alloc, rows)?);
@@ -36,7 +36,7 @@ fn asked(
 #[test]
 fn windows_show_their_runs(rt: HostRuntime) -> Result<(), Fail> {
     // start, stop, horizon, the runs of the window, the changes of the wire
-    let rows: [(u32, u32, u32, &[(u32, Value)], &[(u32, Value)]); 9] = [
+    let rows: [(u32, u32, u32, &[(u32, Value)], &[(u32, Value)]); 10] = [
         // the whole time
         (
             0,
@@ -63,6 +63,7 @@ fn windows_show_their_runs(rt: HostRuntime) -> Result<(), Fail> {
         (4, 5, 10, &[(4, One)], &[(0, X), (4, One), (5, X)]),
         // none
         (4, 4, 10, &[], &[(0, X)]),
+        (6, 4, 10, &[], &[(0, X)]),
         (0, 0, 0, &[], &[(0, X)]),
         // the longest horizon
         (

@@ -166,6 +166,7 @@ fn each_is_wire(list: &[Wire]) -> bool
 
 /// The wire of an answered query, whose window is from `start` on and below `stop`: its runs inside the window, and x at
 /// the other times from 0 to just after the horizon. A window that ends with the simulation ends just after the horizon.
+/// A window that does not end after its start is empty. Takes time and memory in proportion to the runs.
 pub fn wire_of(
     alloc: Global,
     name: &[u8],
@@ -175,7 +176,6 @@ pub fn wire_of(
     horizon: u32,
 ) -> Result<Wire, OutOfMemory>
     requires horizon { horizon ≤ 1000000 }
-    requires window { start ≤ stop }
     requires stop { stop ≤ horizon + 1 }
     // Where the runs are the waveform of the window, this is the wire of the query.
     ensures answered { (c : Circuit) (s : ℕ) → c.horizon ≡ horizon → runs.now ≡ wave c s start stop
