@@ -49,25 +49,6 @@ impl Wire {
         &self.changes
     }
 
-    // A wire of which no change is read yet.
-    pub(crate) fn blank(alloc: Global, name: &[u8]) -> Result<Wire, OutOfMemory>
-        ensures { IfOk result (λ wire. wire ≡ blank name.now) }
-    {
-        let name = name.to_vec(alloc)?;
-        Ok(Wire {
-            name,
-            changes: Vec::new(alloc),
-        })
-    }
-
-    // One change more.
-    pub(crate) fn push(&mut self, run: Run) -> Result<(), OutOfMemory>
-        ensures { OnOk result (self.new ≡ record self.old { changes = self.old.changes ++ run ∷ [] }) }
-    {
-        self.changes.push(run)?;
-        Ok(())
-    }
-
     /// Whether a dump can hold it: its name is a name by the rules of the text files, and its changes are those of a wire.
     pub fn is_wire(&self) -> bool
         ensures { result ≡ wires.is_wire self.now }
@@ -141,14 +122,6 @@ impl WireList {
         self.wires
     }
 
-    // One change more of the wire at this place.
-    pub(crate) fn push_change(&mut self, place: usize, run: Run) -> Result<(), OutOfMemory>
-        requires { place < length self.old }
-        ensures { OnOk result (self.new ≡ put_at place run self.old) }
-    {
-        self.wires[place].push(run)
-    }
-
     /// Whether a dump can hold them: at most 64, and each a wire by [`Wire::is_wire`]. Takes time in proportion to the
     /// changes.
     pub fn are_wires(&self) -> bool
@@ -162,6 +135,38 @@ fn each_is_wire(list: &[Wire]) -> bool
     ensures { result ≡ list_all wires.is_wire list.now }
 {
     list.iter().all(|wire| wire.is_wire())
+}
+
+// What the reader makes wires with.
+impl Wire {
+    // A wire of which no change is read yet.
+    pub(crate) fn blank(alloc: Global, name: &[u8]) -> Result<Wire, OutOfMemory>
+        ensures { IfOk result (λ wire. wire ≡ blank name.now) }
+    {
+        let name = name.to_vec(alloc)?;
+        Ok(Wire {
+            name,
+            changes: Vec::new(alloc),
+        })
+    }
+
+    // One change more.
+    pub(crate) fn push(&mut self, run: Run) -> Result<(), OutOfMemory>
+        ensures { OnOk result (self.new ≡ record self.old { changes = self.old.changes ++ run ∷ [] }) }
+    {
+        self.changes.push(run)?;
+        Ok(())
+    }
+}
+
+impl WireList {
+    // One change more of the wire at this place.
+    pub(crate) fn push_change(&mut self, place: usize, run: Run) -> Result<(), OutOfMemory>
+        requires { place < length self.old }
+        ensures { OnOk result (self.new ≡ put_at place run self.old) }
+    {
+        self.wires[place].push(run)
+    }
 }
 
 /// The wire of an answered query, whose window is from `start` on and below `stop`: its runs inside the window, and x at
