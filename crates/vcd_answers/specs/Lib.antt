@@ -1,0 +1,4 @@
+pub mod Dumps
+pub mod Laws
+pub mod Wires
+pub mod inner
