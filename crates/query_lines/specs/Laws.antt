@@ -5,8 +5,9 @@ use Rattle.query_lines.specs.declared.line.Line.TheVariants.{Blank, Ask, Go, Bad
 use Rattle.query_lines.specs.declared.line.Line.TheVariants as lines
 use Rattle.query_lines.specs.declared.line.What.TheVariants as whats
 use Rattle.query_lines.specs.declared.unit.Item.{Item}
+use Rattle.query_lines.specs.declared.unit.FirstItem.{FirstItem}
 use Rattle.query_lines.specs.declared.unit.Unit.{Unit as ScriptUnit}
-use Rattle.query_lines.specs.declared.unit.Unit.TheVariants.{Batch, Trim, Stats}
+use Rattle.query_lines.specs.declared.unit.Unit.TheVariants.{Batch, Trim, Stats, First}
 use Rattle.query_lines.specs.Units.{budgets, lengths, units_of}
 use Rattle.query_lines.specs.Reading.{script_units}
 
@@ -15,11 +16,13 @@ pub data Request : Type 0 where
   Answer : Item → Request
   Leave : ℕ → Request
   Counts : Request
+  Seek : FirstItem → Request
 
 abbrev pub requests_in : ScriptUnit → List Request
 requests_in (Batch items) = map Answer items
 requests_in (Trim cells) = Leave cells ∷ []
 requests_in Stats = Counts ∷ []
+requests_in (First item) = Seek item ∷ []
 
 abbrev pub requests_on : ℕ → Line → List Request
 requests_on number Blank = []
@@ -28,6 +31,7 @@ requests_on number Bad = Answer (record { line = number; what = whats.Bad }) ∷
 requests_on number Go = []
 requests_on number (lines.Trim cells) = Leave cells ∷ []
 requests_on number lines.Stats = Counts ∷ []
+requests_on number (lines.First first) = Seek (record { line = number; first = first }) ∷ []
 
 -- The units are the lines' requests in their order: none is lost, none is told twice.
 abbrev pub UnitsKeepRequests : Type 0
@@ -45,6 +49,7 @@ abbrev pub IsWithinLimits : ℕ → ScriptUnit → Type 0
 IsWithinLimits horizon (Batch items) = IsWithin horizon items
 IsWithinLimits horizon (Trim cells) = cells ≤ 65536
 IsWithinLimits horizon Stats = ⊤
+IsWithinLimits horizon (First item) = item.first.budget ≤ 500000
 
 -- The units of a script are within their limits.
 abbrev pub UnitsAreWithinLimits : Type 0

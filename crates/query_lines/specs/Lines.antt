@@ -1,11 +1,13 @@
 -- The forms of a script's lines.
 use Rattle.std.specs.Prelude.{ℕ, nat_le, List, [], ◌∷◌, length, Option, Some, None, if◌then◌else◌, codes}
 use Rattle.std.specs.Str.{bytes_eq}
+use Rattle.gate_values.specs.declared.Value.{Value}
+use Rattle.gate_values.specs.Spelling.{value_of_word}
 use Rattle.text_rules.specs.declared.Amount.{Amount}
 use Rattle.text_rules.specs.declared.Amount.TheVariants as amounts
 use Rattle.text_rules.specs.Text.{amount, content, is_name, words}
 use Rattle.query_lines.specs.declared.line.Line.{Line}
-use Rattle.query_lines.specs.declared.line.Line.TheVariants.{Blank, Ask, Go, Trim, Stats, Bad}
+use Rattle.query_lines.specs.declared.line.Line.TheVariants.{Blank, Ask, Go, Trim, Stats, First, Bad}
 use Rattle.query_lines.specs.declared.line.What.TheVariants.{Wave, At}
 
 abbrev pub within : Amount → Option ℕ
@@ -53,6 +55,23 @@ at_of [] = Bad
 at_of (name ∷ []) = Bad
 at_of (name ∷ time ∷ budget) = at_of_parts name (instant time) (budget_of budget)
 
+-- NAME VALUE FROM TO BUDGET
+abbrev pub first_of_parts : List ℕ → Option Value → Option ℕ → Option ℕ → Option ℕ → Line
+first_of_parts name (Some value) (Some from) (Some to) (Some budget) =
+    if is_name name then First (record { name = name; value = value; from = from; to = to; budget = budget }) else Bad
+first_of_parts name (Some value) (Some from) (Some to) None = Bad
+first_of_parts name (Some value) (Some from) None budget = Bad
+first_of_parts name (Some value) None to budget = Bad
+first_of_parts name None from to budget = Bad
+
+-- after `first`: NAME VALUE FROM TO or NAME VALUE FROM TO BUDGET
+abbrev pub first_of : List (List ℕ) → Line
+first_of [] = Bad
+first_of (name ∷ []) = Bad
+first_of (name ∷ value ∷ []) = Bad
+first_of (name ∷ value ∷ from ∷ []) = Bad
+first_of (name ∷ value ∷ from ∷ to ∷ budget) = first_of_parts name (value_of_word value) (instant from) (instant to) (budget_of budget)
+
 abbrev pub trim_of_part : Option ℕ → Line
 trim_of_part (Some n) = Trim n
 trim_of_part None = Bad
@@ -75,7 +94,8 @@ command_of keyword words =
     if bytes_eq keyword (codes "at") then at_of words else (
     if bytes_eq keyword (codes "go") then alone Go words else (
     if bytes_eq keyword (codes "trim") then trim_of words else (
-    if bytes_eq keyword (codes "stats") then alone Stats words else Bad))))
+    if bytes_eq keyword (codes "stats") then alone Stats words else (
+    if bytes_eq keyword (codes "first") then first_of words else Bad)))))
 
 abbrev pub by_words : List (List ℕ) → Line
 by_words [] = Blank

@@ -5,7 +5,7 @@ ghost use Rattle.query_lines.specs.Units as units;
 ghost use Rattle.query_lines.specs.Units.{closed, given_by, left_by, with_item};
 
 use crate::line::{Line, What};
-use crate::unit::{Item, ItemList, Unit, UnitList};
+use crate::unit::{FirstItem, Item, ItemList, Unit, UnitList};
 use backsim_io::OutOfMemory;
 use std::alloc::Global;
 use std::marker::Model;
@@ -110,6 +110,10 @@ impl Batcher {
             Line::Go => self.close(None),
             Line::Trim(cells) => self.close(Some(Unit::Trim(cells))),
             Line::Stats => self.close(Some(Unit::Stats)),
+            Line::First(first) => self.close(Some(Unit::First(FirstItem {
+                line: number,
+                first,
+            }))),
         }
     }
 

@@ -49,9 +49,9 @@ pub use laws::{
     read_units_are_completed, read_units_are_determined, read_units_are_fit, script_units_are_fit,
     units_are_within_limits, units_have_own_lines, units_keep_requests,
 };
-pub use line::{Line, What, read_line};
+pub use line::{First, Line, What, read_line};
 pub use script::{ScriptReader, read_script};
-pub use unit::{Item, ItemList, Unit, UnitList};
+pub use unit::{FirstItem, Item, ItemList, Unit, UnitList};
 
 #[cfg(test)]
 mod tests;

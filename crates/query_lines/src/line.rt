@@ -6,6 +6,7 @@ ghost use Rattle.query_lines.specs.Lines as lines;
 ghost use Rattle.query_lines.specs.Lines.{line_of};
 
 use backsim_io::{OutOfMemory, Text};
+use gate_values::Value;
 use std::alloc::Global;
 use text_rules::{Amount, content, is_name, next_word, read_amount};
 
@@ -41,6 +42,17 @@ pub enum What {
     Bad,
 }
 
+/// What `first` asks: when a signal first has a value, from one time on and
+/// below another.
+#[derive(Drop)]
+pub struct First {
+    pub name: Text,
+    pub value: Value,
+    pub from: u32,
+    pub to: u32,
+    pub budget: u32,
+}
+
 /// What a line of a script says.
 #[derive(Drop)]
 pub enum Line {
@@ -54,6 +66,8 @@ pub enum Line {
     Trim(u32),
     /// `stats`: tell the session's counts.
     Stats,
+    /// `first NAME VALUE FROM TO [BUDGET]`: tell when a signal first has a value.
+    First(First),
     /// None of these, a number above its limit, or more than 4,096 bytes.
     Bad,
 }
@@ -157,6 +171,60 @@ fn at_of(alloc: Global, rest: &[u8]) -> Result<Line, OutOfMemory>
     at_of_parts(alloc, name, instant(time), budget_of(rest))
 }
 
+fn first_of_parts(
+    alloc: Global,
+    name: &[u8],
+    value: Option<Value>,
+    from: Option<u32>,
+    to: Option<u32>,
+    budget: Option<u32>,
+) -> Result<Line, OutOfMemory>
+    ensures { IfOk result (λ line. line ≡ lines.first_of_parts name.now value from to budget) }
+{
+    match (value, from, to, budget) {
+        (Some(value), Some(from), Some(to), Some(budget)) if is_name(name) => {
+            let name = Text::from_bytes(alloc, name)?;
+            Ok(Line::First(First {
+                name,
+                value,
+                from,
+                to,
+                budget,
+            }))
+        }
+        _ => Ok(Line::Bad),
+    }
+}
+
+fn first_of(alloc: Global, rest: &[u8]) -> Result<Line, OutOfMemory>
+    ensures { IfOk result (λ line. line ≡ lines.first_of (words rest.now)) }
+{
+    let (name, rest) = match next_word(rest) {
+        None => return Ok(Line::Bad),
+        Some(found) => found,
+    };
+    let (value, rest) = match next_word(rest) {
+        None => return Ok(Line::Bad),
+        Some(found) => found,
+    };
+    let (from, rest) = match next_word(rest) {
+        None => return Ok(Line::Bad),
+        Some(found) => found,
+    };
+    let (to, rest) = match next_word(rest) {
+        None => return Ok(Line::Bad),
+        Some(found) => found,
+    };
+    first_of_parts(
+        alloc,
+        name,
+        Value::from_word(value),
+        instant(from),
+        instant(to),
+        budget_of(rest),
+    )
+}
+
 fn trim_of(rest: &[u8]) -> Line
     ensures { result ≡ lines.trim_of (words rest.now) }
 {
@@ -194,6 +262,8 @@ fn command_of(alloc: Global, keyword: &[u8], rest: &[u8]) -> Result<Line, OutOfM
         Ok(trim_of(rest))
     } else if keyword == b"stats".as_slice() {
         Ok(alone(Line::Stats, rest))
+    } else if keyword == b"first".as_slice() {
+        first_of(alloc, rest)
     } else {
         Ok(Line::Bad)
     }

@@ -2,7 +2,7 @@
 
 ghost use Rattle.std.specs.Prelude.{◌≡◌};
 
-use crate::line::What;
+use crate::line::{First, What};
 use std::marker::Model;
 
 /// An item of a batch: the number of its line, counted from 1, and what the
@@ -51,6 +51,13 @@ impl ItemList {
     }
 }
 
+/// A question that is a unit of its own: the number of its line, counted from 1, and what the line asks.
+#[derive(Drop)]
+pub struct FirstItem {
+    pub line: u32,
+    pub first: First,
+}
+
 /// What is served as a whole.
 #[derive(Drop)]
 pub enum Unit {
@@ -60,6 +67,8 @@ pub enum Unit {
     Trim(u32),
     /// Tell the session's counts.
     Stats,
+    /// Tell when a signal first has a value.
+    First(FirstItem),
 }
 
 /// A list of units.

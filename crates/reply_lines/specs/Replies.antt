@@ -5,9 +5,13 @@ use Rattle.gate_values.specs.Spelling.{byte_of_value}
 use Rattle.circuit_meaning.specs.declared.Run.{Run}
 use Rattle.query_lines.specs.declared.line.What.{What}
 use Rattle.query_lines.specs.declared.line.What.TheVariants as whats
+use Rattle.query_lines.specs.declared.line.First.{First}
 use Rattle.query_lines.specs.declared.unit.Item.{Item}
 use Rattle.reply_lines.specs.declared.reply.Reply.{Reply}
 use Rattle.reply_lines.specs.declared.reply.Reply.TheVariants.{Wave, Unknown, Past, Budget, BadLine}
+use Rattle.reply_lines.specs.declared.reply.FirstAnswer.TheVariants as answers
+use Rattle.reply_lines.specs.declared.reply.FirstReply.{FirstReply}
+use Rattle.reply_lines.specs.declared.reply.FirstReply.TheVariants as firsts
 
 -- A reply that an item may get: a bad line, and it alone, gets BadLine, and a wave of one instant has one run.
 abbrev pub Suits : What → Reply → Type 0
@@ -67,6 +71,19 @@ text_of item Past =
     text_line (codes "past" ∷ name_of item.what ∷ decimal (start_of item.what) ∷ decimal (stop_of item.what) ∷ [])
 text_of item (Budget budget) = text_line (codes "budget" ∷ name_of item.what ∷ decimal budget ∷ [])
 text_of item BadLine = text_line (codes "error" ∷ codes "line" ∷ decimal item.line ∷ [])
+
+-- the line that tells of a first time: the time, or `none`
+abbrev pub first_found : First → List ℕ → List ℕ
+first_found first found =
+    text_line (codes "first" ∷ first.name ∷ (byte_of_value first.value ∷ []) ∷ decimal first.from ∷ decimal first.to ∷ found ∷ [])
+
+-- the text of the reply to a question for a first time
+abbrev pub first_line : First → FirstReply → List ℕ
+first_line first firsts.Unknown = text_line (codes "unknown" ∷ first.name ∷ [])
+first_line first firsts.Past = text_line (codes "past" ∷ first.name ∷ decimal first.from ∷ decimal first.to ∷ [])
+first_line first (firsts.Answer (answers.At time)) = first_found first (decimal time)
+first_line first (firsts.Answer answers.Never) = first_found first (codes "none")
+first_line first (firsts.Answer (answers.Budget budget)) = text_line (codes "budget" ∷ first.name ∷ decimal budget ∷ [])
 
 -- the text of the reply to a trim that removed so many cells
 abbrev pub trimmed_line : ℕ → List ℕ

@@ -1,7 +1,8 @@
 //! The replies to the items of a script, and their texts.
 //!
 //! A [`Reply`] is a waveform, as its maximal runs, or says why there is none. [`reply_text`] writes it as its format says
-//! (`specs/Replies`); [`trimmed_text`] and [`stats_text`] write the replies to a trim and to a request for the counts.
+//! (`specs/Replies`); [`trimmed_text`] and [`stats_text`] write the replies to a trim and to a request for the counts, and [`first_text`]
+//! that to a question for a first time ([`FirstReply`]).
 //!
 //! ```text
 //! let text = reply_text(alloc, &item, &reply)?;
@@ -13,8 +14,8 @@
 mod reply;
 mod text;
 
-pub use reply::Reply;
-pub use text::{reply_text, stats_text, trimmed_text};
+pub use reply::{FirstAnswer, FirstReply, Reply};
+pub use text::{first_text, reply_text, stats_text, trimmed_text};
 
 #[cfg(test)]
 mod tests;

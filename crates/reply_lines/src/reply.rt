@@ -16,3 +16,25 @@ pub enum Reply {
     /// The line is of none of the forms.
     BadLine,
 }
+
+/// When a signal first has a value.
+#[derive(Clone, Copy, Debug, PartialEq, Eq)]
+pub enum FirstAnswer {
+    /// At this time of the window.
+    At(u32),
+    /// At no time of the window.
+    Never,
+    /// The query needs more evaluations than this budget.
+    Budget(u32),
+}
+
+/// What is replied to the question for a first time.
+#[derive(Clone, Copy, Debug, PartialEq, Eq)]
+pub enum FirstReply {
+    /// The name is no signal.
+    Unknown,
+    /// The window ends behind the horizon.
+    Past,
+    /// The question was answered.
+    Answer(FirstAnswer),
+}

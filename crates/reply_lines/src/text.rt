@@ -4,14 +4,14 @@ ghost use Rattle.std.specs.Prelude.{◌≡◌, ◌++◌, ◌∷◌, [], flat_map
 ghost use Rattle.std.specs.Fmt.{decimal};
 ghost use Rattle.gate_values.specs.Spelling.{byte_of_value};
 ghost use Rattle.reply_lines.specs.Replies as replies;
-ghost use Rattle.reply_lines.specs.Replies.{Suits, text_of, text_line, run_line, trimmed_line, stats_line};
+ghost use Rattle.reply_lines.specs.Replies.{Suits, text_of, text_line, run_line, first_line, first_found, trimmed_line, stats_line};
 
-use crate::reply::Reply;
+use crate::reply::{FirstAnswer, FirstReply, Reply};
 use backsim_io::OutOfMemory;
 use circuit_meaning::Run;
 use gate_values::Value;
 use itoa::Buffer;
-use query_lines::{Item, What};
+use query_lines::{First, Item, What};
 use std::alloc::Global;
 
 // Appends a word and the byte behind it.
@@ -156,6 +156,54 @@ pub fn reply_text(alloc: Global, item: &Item, reply: &Reply) -> Result<Vec<u8>, 
 {
     let mut text = Vec::new(alloc);
     put_reply(&mut text, item, reply)?;
+    Ok(text)
+}
+
+// Appends the line that tells this of a first time.
+fn put_found(text: &mut Vec<u8>, first: &First, found: &[u8]) -> Result<(), OutOfMemory>
+    ensures { OnOk result (text.new.items ≡ text.old.items ++ first_found first.now found.now) }
+{
+    put(text, b"first", b' ')?;
+    put(text, first.name.bytes(), b' ')?;
+    put(text, &[first.value.byte()], b' ')?;
+    put_number(text, first.from as u64, b' ')?;
+    put_number(text, first.to as u64, b' ')?;
+    put(text, found, b'\n')
+}
+
+fn put_first(text: &mut Vec<u8>, first: &First, reply: FirstReply) -> Result<(), OutOfMemory>
+    ensures { OnOk result (text.new.items ≡ text.old.items ++ first_line first.now reply) }
+{
+    match reply {
+        FirstReply::Unknown => put_unknown(text, first.name.bytes()),
+        FirstReply::Past => put_window(
+            text,
+            b"past",
+            first.name.bytes(),
+            first.from as u64,
+            first.to as u64,
+        ),
+        FirstReply::Answer(FirstAnswer::At(time)) => {
+            let mut buffer = Buffer::new();
+            put_found(text, first, buffer.format(time as u64).as_bytes())
+        }
+        FirstReply::Answer(FirstAnswer::Never) => put_found(text, first, b"none"),
+        FirstReply::Answer(FirstAnswer::Budget(budget)) => {
+            put_budget(text, first.name.bytes(), budget)
+        }
+    }
+}
+
+/// The text of the reply to a question for a first time: one line.
+pub fn first_text(
+    alloc: Global,
+    first: &First,
+    reply: FirstReply,
+) -> Result<Vec<u8>, OutOfMemory>
+    ensures { IfOk result (λ text. text.items ≡ first_line first.now reply) }
+{
+    let mut text = Vec::new(alloc);
+    put_first(&mut text, first, reply)?;
     Ok(text)
 }
 

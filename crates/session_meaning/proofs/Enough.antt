@@ -1,28 +1,34 @@
 -- A query whose budget is as great as its need has its wave.
-use Rattle.std.proofs.Common.{◌≡◌, ◌≢◌, ℕ, zero, suc, ◌<◌, List, [], ◌∷◌, ◌++◌, length, All, AllPairs, Option, Some, None, refl, sym, ap, subst, ◌∙◌, arith, ◌⊎◌, inl, inr}
+use Rattle.std.proofs.Common.{◌≡◌, ◌≢◌, ℕ, zero, suc, ◌<◌, List, [], ◌∷◌, ◌++◌, length, map, Contains, All, AllPairs, Option, Some, None, refl, sym, ap, subst, ◌∙◌, arith, ◌⊎◌, inl, inr}
 use Rattle.std.specs.List.{AllZip, slice_index_or}
 use Rattle.std.proofs.lemmas.List.Elements.{All-nil, All-cons, All-head, All-tail}
 use Rattle.circuit_meaning.specs.Circuit.{IsCircuit}
 use Rattle.circuit_meaning.specs.Forward.{wave}
 use Rattle.circuit_meaning.specs.declared.Run.{Run}
 use Rattle.batch_meaning.specs.declared.Query.{Query}
-use Rattle.journal_meaning.specs.Laws.{IsOwnQuery, NeedsAtMost}
+use Rattle.journal_meaning.specs.Laws.{IsOwnQuery, IsRoomy, NeedsAtMost}
 use Rattle.journal_meaning.specs.Sections.{of_batch, cells_after}
-use Rattle.journal_meaning.specs.Answers.{IsAnswer}
+use Rattle.journal_meaning.specs.Answers.{IsAnswer, IsSpent}
 use Rattle.journal_meaning.proofs.Budgets.{enough-budget}
+use Rattle.query_lines.specs.declared.unit.FirstItem.{FirstItem}
 use Rattle.query_lines.specs.declared.unit.Item.{Item}
 use Rattle.query_lines.specs.declared.unit.Unit.{Unit as ScriptUnit}
 use Rattle.query_lines.specs.declared.unit.Unit.TheVariants as units
 use Rattle.query_lines.specs.Reading.{script_units}
 use Rattle.query_lines.specs.Fit.{HasOwnLines, UnitsHaveOwnLines}
+use Rattle.reply_lines.specs.declared.reply.FirstAnswer.TheVariants as answers
+use Rattle.reply_lines.specs.declared.reply.FirstReply.{FirstReply}
+use Rattle.reply_lines.specs.declared.reply.FirstReply.TheVariants as firsts
 use Rattle.reply_lines.specs.declared.reply.Reply.{Reply}
 use Rattle.reply_lines.specs.declared.reply.Reply.TheVariants as replies
-use Rattle.session_meaning.specs.declared.Verdict.TheVariants.{Ask}
-use Rattle.session_meaning.specs.Verdicts.{verdict_of}
+use Rattle.session_meaning.specs.declared.Verdict.{Verdict}
+use Rattle.session_meaning.specs.declared.Verdict.TheVariants.{Ask, Unknown, Past, Bad}
+use Rattle.session_meaning.specs.Verdicts.{verdict_of, first_verdict, asked}
+use Rattle.session_meaning.specs.FirstTimes.{first_time, up_to_first, IsFirstReply}
 use Rattle.session_meaning.proofs.Asked.{asks-line, asked-in, in-asked}
 use Rattle.session_meaning.specs.Replies.{IsReply}
-use Rattle.session_meaning.specs.Session.{Setup, Course, batch_of, IsServed, Session, Opened, Served}
-use Rattle.session_meaning.specs.Ample.{IsAmpleUnit, IsAmple}
+use Rattle.session_meaning.specs.Session.{Setup, Course, batch_of, first_batch, IsServed, IsFirstServed, Session, Opened, Served}
+use Rattle.session_meaning.specs.Ample.{answer_of, IsAmpleFirst, IsAmpleUnit, IsAmple}
 use Rattle.session_meaning.specs.Laws.{EnoughBudgetIsServed, EnoughBudgetsAreServed}
 
 zip-at : {A B : Type 0} (P Q : A → B → Type 0) (xs : List A) (ys : List B)
@@ -96,11 +102,49 @@ last-part : {X : Type 0} (P : X → Type 0) (front part : List X) → All P (fro
 last-part P [] part all = all
 last-part P (x ∷ front) part all = last-part P front part (All-tail P x (front ++ part) all)
 
+-- Of a question for a first time.
+module _ (setup : Setup) (circuit : IsCircuit setup.design.circuit) (now next : Course) (item : FirstItem) (served : IsFirstServed setup now next item) (room : IsRoomy (first_batch setup item) served.lists) where
+  one-query : (query : Query) → first_verdict setup.design item ≡ Ask query
+      → (first_batch setup item).queries ≡ up_to_first setup.design.circuit query item.first.value ∷ []
+  one-query query is = ap (λ v. map (λ q. up_to_first setup.design.circuit q item.first.value) (asked v)) is
+
+  own-query : (query : Query) → first_verdict setup.design item ≡ Ask query → IsOwnQuery (first_batch setup item) (up_to_first setup.design.circuit query item.first.value)
+  own-query query is =
+      let q = up_to_first setup.design.circuit query item.first.value in
+      record {
+        known = subst (λ qs. Contains qs q) (sym (one-query query is)) (0, omega arith, refl);
+        single = λ r has same. only r (subst (λ qs. Contains qs r) (one-query query is) has);
+      }
+    where
+      only : (r : Query) → Contains (up_to_first setup.design.circuit query item.first.value ∷ []) r → r ≡ up_to_first setup.design.circuit query item.first.value
+      only r (zero, l, is) = sym is
+      only r (suc k, l, is) = absurd (omega (arith, l))
+
+  told : (query : Query) (verdict : Verdict) (reply : FirstReply) → first_verdict setup.design item ≡ Ask query → verdict ≡ Ask query
+      → NeedsAtMost (first_batch setup item) (up_to_first setup.design.circuit query item.first.value) query.budget
+      → IsFirstReply setup.design.circuit (of_batch served.lists) verdict item.first.value reply
+      → reply ≡ firsts.Answer (answer_of (first_time setup.design.circuit query.signal item.first.value query.from query.to))
+  told query (Ask q) (firsts.Answer (answers.At t)) is same most right = let e : q ≡ query = cc in cc
+  told query (Ask q) (firsts.Answer answers.Never) is same most right = let e : q ≡ query = cc in cc
+  told query (Ask q) (firsts.Answer (answers.Budget b)) is same most right = let e : q ≡ query = cc in
+      none-some None _ refl (enough-budget (first_batch setup item) circuit (λ shard. cells_after shard now.sections) served.lists (record { count = served.count; legal = served.legal }) room
+      (up_to_first setup.design.circuit query item.first.value) (own-query query is) most None (subst (λ x. IsSpent (of_batch served.lists) (up_to_first setup.design.circuit x item.first.value)) e right.1))
+  told query (Ask q) firsts.Unknown is same most right = absurd right
+  told query (Ask q) firsts.Past is same most right = absurd right
+  told query Unknown reply is same most right = absurd cc
+  told query Past reply is same most right = absurd cc
+  told query Bad reply is same most right = absurd cc
+
+enough-first : (setup : Setup) → IsCircuit setup.design.circuit → (now next : Course) (item : FirstItem) (served : IsFirstServed setup now next item) → IsAmpleFirst setup item served.lists served.reply
+enough-first setup circuit now next item served room query is most =
+    told setup circuit now next item served room query (first_verdict setup.design item) served.reply is is most served.right
+
 -- so it is in each unit of a session
 unit-ample : (setup : Setup) → IsCircuit setup.design.circuit → (now next : Course) (unit : ScriptUnit) (served : IsServed setup now unit next) → HasOwnLines unit → IsAmpleUnit setup now next unit served
 unit-ample setup circuit now next (units.Batch items) served own = enough setup circuit now next items own served
 unit-ample setup circuit now next (units.Trim most) served own = tt
 unit-ample setup circuit now next units.Stats served own = tt
+unit-ample setup circuit now next (units.First item) served own = enough-first setup circuit now next item served
 
 session-ample : (setup : Setup) → IsCircuit setup.design.circuit → (us : List ScriptUnit) (course : Course) → All HasOwnLines us → (session : Session setup us course) → IsAmple setup us course session
 session-ample setup circuit us course own Opened = tt

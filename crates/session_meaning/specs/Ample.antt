@@ -1,19 +1,25 @@
 -- Who pays enough is served: where a query's budget is as great as its need, the reply is its wave.
-use Rattle.std.specs.Prelude.{◌≡◌, ⊤, ℕ, List}
+use Rattle.std.specs.Prelude.{◌≡◌, ⊤, ℕ, List, Option, Some, None}
 use Rattle.std.specs.List.{AllZip}
 use Rattle.circuit_meaning.specs.Forward.{wave}
 use Rattle.batch_meaning.specs.declared.Query.{Query}
 use Rattle.journal_meaning.specs.declared.Entry.{Entry}
 use Rattle.journal_meaning.specs.Laws.{IsRoomy, NeedsAtMost}
+use Rattle.query_lines.specs.declared.unit.FirstItem.{FirstItem}
 use Rattle.query_lines.specs.declared.unit.Item.{Item}
 use Rattle.query_lines.specs.declared.unit.Unit.{Unit as ScriptUnit}
 use Rattle.query_lines.specs.declared.unit.Unit.TheVariants as units
 use Rattle.query_lines.specs.Reading.{script_units}
+use Rattle.reply_lines.specs.declared.reply.FirstAnswer.{FirstAnswer}
+use Rattle.reply_lines.specs.declared.reply.FirstAnswer.TheVariants as answers
+use Rattle.reply_lines.specs.declared.reply.FirstReply.{FirstReply}
+use Rattle.reply_lines.specs.declared.reply.FirstReply.TheVariants as firsts
 use Rattle.reply_lines.specs.declared.reply.Reply.{Reply}
 use Rattle.reply_lines.specs.declared.reply.Reply.TheVariants.{Wave}
 use Rattle.session_meaning.specs.declared.Verdict.TheVariants.{Ask}
-use Rattle.session_meaning.specs.Verdicts.{verdict_of}
-use Rattle.session_meaning.specs.Session.{Setup, Course, batch_of, IsServed, Session, Opened, Served, IsSessionOf}
+use Rattle.session_meaning.specs.Verdicts.{verdict_of, first_verdict}
+use Rattle.session_meaning.specs.FirstTimes.{first_time, up_to_first}
+use Rattle.session_meaning.specs.Session.{Setup, Course, batch_of, first_batch, IsServed, Session, Opened, Served, IsSessionOf}
 
 -- In a batch in which nothing is evicted, or whose needed cells fit, every query whose budget is as great as its need has its wave.
 abbrev pub IsAmpleBatch : Setup → List Item → List (List Entry) → List Reply → Type 0
@@ -22,11 +28,24 @@ IsAmpleBatch setup items lists replies = IsRoomy (batch_of setup items) lists
     → NeedsAtMost (batch_of setup items) query query.budget
     → reply ≡ Wave (wave setup.design.circuit query.signal query.from query.to)) items replies
 
--- so it is in a unit, if it is a batch
+-- what a first time is told as
+abbrev pub answer_of : Option ℕ → FirstAnswer
+answer_of (Some time) = answers.At time
+answer_of None = answers.Never
+
+-- Where a question for a first time has a budget as great as the need up to that time, it has its answer.
+abbrev pub IsAmpleFirst : Setup → FirstItem → List (List Entry) → FirstReply → Type 0
+IsAmpleFirst setup item lists reply = IsRoomy (first_batch setup item) lists
+    → (query : Query) → first_verdict setup.design item ≡ Ask query
+    → NeedsAtMost (first_batch setup item) (up_to_first setup.design.circuit query item.first.value) query.budget
+    → reply ≡ firsts.Answer (answer_of (first_time setup.design.circuit query.signal item.first.value query.from query.to))
+
+-- so it is in a unit, if it asks
 abbrev pub IsAmpleUnit : (setup : Setup) (now next : Course) (unit : ScriptUnit) → IsServed setup now unit next → Type 0
 IsAmpleUnit setup now next (units.Batch items) served = IsAmpleBatch setup items served.lists served.replies
 IsAmpleUnit setup now next (units.Trim most) served = ⊤
 IsAmpleUnit setup now next units.Stats served = ⊤
+IsAmpleUnit setup now next (units.First item) served = IsAmpleFirst setup item served.lists served.reply
 
 -- and in every unit of a session
 abbrev pub IsAmple : (setup : Setup) (all : List ScriptUnit) (course : Course) → Session setup all course → Type 0

@@ -1,6 +1,7 @@
 pub mod Verdicts
 pub mod Replies
 pub mod Written
+pub mod FirstTimes
 pub mod Session
 pub mod Broken
 pub mod Ample

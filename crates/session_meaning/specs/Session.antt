@@ -9,15 +9,18 @@ use Rattle.batch_meaning.specs.Batches.{Batch}
 use Rattle.journal_meaning.specs.Replay.{IsLegalBatch, IsLegalTrim}
 use Rattle.journal_meaning.specs.Sections.{Purpose, Asks, Trims, SectionEntries, own, cells_after, of_batch}
 use Rattle.journal_meaning.specs.Counts.{count}
+use Rattle.query_lines.specs.declared.unit.FirstItem.{FirstItem}
 use Rattle.query_lines.specs.declared.unit.Item.{Item}
 use Rattle.query_lines.specs.declared.unit.Unit.{Unit as ScriptUnit}
 use Rattle.query_lines.specs.declared.unit.Unit.TheVariants as units
+use Rattle.reply_lines.specs.declared.reply.FirstReply.{FirstReply}
 use Rattle.reply_lines.specs.declared.reply.Reply.{Reply}
 use Rattle.query_lines.specs.Reading.{script_units}
-use Rattle.reply_lines.specs.Replies.{trimmed_line, stats_line}
+use Rattle.reply_lines.specs.Replies.{first_line, trimmed_line, stats_line}
 use Rattle.design.specs.Joined.{Joined}
-use Rattle.session_meaning.specs.Verdicts.{verdict_of, queries_of}
+use Rattle.session_meaning.specs.Verdicts.{verdict_of, queries_of, first_verdict, asked}
 use Rattle.session_meaning.specs.Replies.{IsReply, replies_text}
+use Rattle.session_meaning.specs.FirstTimes.{up_to_first, IsFirstReply}
 use Rattle.session_meaning.specs.Written.{journal_text}
 
 -- what is the same throughout a session: the design, how many shards the memo has, and for how many cells each has room
@@ -64,6 +67,28 @@ pub record IsBatchServed (setup : Setup) (now next : Course) (items : List Item)
       → IsLegalBatch (batch_of setup items) shard (cells_after shard now.sections) (get_or lists shard [])
   pub right : AllZip (λ item reply. IsReply setup.design.circuit (of_batch lists) (verdict_of setup.design item) reply) items replies
   pub leads : next ≡ with_section now (Asks (batch_of setup items)) lists (replies_text items replies)
+
+-- A question for a first time.
+
+-- a batch of its own, which asks only up to that time
+abbrev pub first_batch : Setup → FirstItem → Batch
+first_batch setup item = record {
+  circuit = setup.design.circuit;
+  shards = setup.shards;
+  capacity = setup.capacity;
+  queries = map (λ query. up_to_first setup.design.circuit query item.first.value) (asked (first_verdict setup.design item));
+  site = None;
+}
+
+-- Each shard has a list of entries, legal from the cells that the sections before leave, and the reply is right.
+pub record IsFirstServed (setup : Setup) (now next : Course) (item : FirstItem) : Type 0 where
+  pub lists : List (List Entry)
+  pub reply : FirstReply
+  pub count : length lists ≡ setup.shards
+  pub legal : (shard : ℕ) → shard < setup.shards
+      → IsLegalBatch (first_batch setup item) shard (cells_after shard now.sections) (get_or lists shard [])
+  pub right : IsFirstReply setup.design.circuit (of_batch lists) (first_verdict setup.design item) item.first.value reply
+  pub leads : next ≡ with_section now (Asks (first_batch setup item)) lists (first_line item.first reply)
 
 -- A trim.
 
@@ -113,6 +138,7 @@ abbrev pub IsServed : Setup → Course → ScriptUnit → Course → Type 0
 IsServed setup now (units.Batch items) next = IsBatchServed setup now next items
 IsServed setup now (units.Trim most) next = IsTrimServed setup now next most
 IsServed setup now units.Stats next = next ≡ with_reply now (counts_line setup now.sections)
+IsServed setup now (units.First item) next = IsFirstServed setup now next item
 
 -- What a session comes to by these units, one after another.
 pub data Session (setup : Setup) : List ScriptUnit → Course → Type 0 where

@@ -3,6 +3,7 @@ use Rattle.std.specs.Prelude.{ℕ, ◌+◌, nat_le, List, [], ◌∷◌, flat_ma
 use Rattle.batch_meaning.specs.declared.Query.{Query}
 use Rattle.query_lines.specs.declared.line.What.{What}
 use Rattle.query_lines.specs.declared.line.What.TheVariants as whats
+use Rattle.query_lines.specs.declared.unit.FirstItem.{FirstItem}
 use Rattle.query_lines.specs.declared.unit.Item.{Item}
 use Rattle.design.specs.Joined.{Joined}
 use Rattle.design.specs.Join.{number}
@@ -25,6 +26,10 @@ what_verdict d line whats.Bad = Bad
 
 abbrev pub verdict_of : Joined → Item → Verdict
 verdict_of d item = what_verdict d item.line item.what
+
+-- of a question for a first time
+abbrev pub first_verdict : Joined → FirstItem → Verdict
+first_verdict d item = window_verdict d.circuit.horizon item.line item.first.from item.first.to item.first.budget (number d.netlist item.first.name)
 
 -- the query that is asked, if one is
 abbrev pub asked : Verdict → List Query
