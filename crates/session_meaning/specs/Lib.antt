@@ -4,5 +4,6 @@ pub mod Written
 pub mod Session
 pub mod Broken
 pub mod Ample
+pub mod FirstTimes
 pub mod Laws
 pub mod inner

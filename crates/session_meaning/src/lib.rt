@@ -33,6 +33,17 @@ pub enum Verdict {
     Bad,
 }
 
+/// The answer to the question when a signal first has a value.
+#[derive(Clone, Copy, Debug, PartialEq, Eq)]
+pub enum FirstAnswer {
+    /// At this time of the window.
+    At(u32),
+    /// At no time of the window.
+    Never,
+    /// The query needs more evaluations than this budget.
+    Budget(u32),
+}
+
 /// In a session each shard's lists are legal, each from the cells that those before it leave.
 pub fn sessions_are_legal()
     ensures { SessionsAreLegal }
