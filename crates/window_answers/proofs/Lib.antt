@@ -1,5 +1,5 @@
 pub mod Filled
 pub mod Pins
 pub mod Phases
-pub mod Settled
+pub mod Finished
 pub mod Pieces

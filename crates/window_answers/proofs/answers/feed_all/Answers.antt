@@ -27,7 +27,7 @@ feed_one-requires-clause-needed g c =
     let qs = c.args.queries.now in
     let i = c.loop-q.q-index in
     let q = get_or qs i no_query in
-    let points : c.of.result.now ≡ fills_of (entries_of first) q.number = c.of.ensures ∙ c.in_ok-gathered.ensures q.number ∙ ap (λ l. fills_of (entries_of l) q.number) c.deref.ensures.value in
+    let points : c.of.result.now ≡ fills_of (entries_of first) q.number = c.of.ensures ∙ c.in_ok-gathered.ensures q.number ∙ ap (λ l. fills_of (entries_of l) q.number) c.shards.ensures in
     fed-needed b c.requires.lawful (entries_of first) (shards_in first) qs c.requires.queries i c.loop-q-test.true no_query c.of.result.now points g.B.BatchName.opening c.requires.kept.fresh refl
 
 pub feed_one-requires-clause-counts : goal.feed_one-requires-clause-counts
@@ -37,7 +37,7 @@ feed_one-requires-clause-counts g c =
     let qs = c.args.queries.now in
     let i = c.loop-q.q-index in
     let q = get_or qs i no_query in
-    let points : c.of.result.now ≡ fills_of (entries_of first) q.number = c.of.ensures ∙ c.in_ok-gathered.ensures q.number ∙ ap (λ l. fills_of (entries_of l) q.number) c.deref.ensures.value in
+    let points : c.of.result.now ≡ fills_of (entries_of first) q.number = c.of.ensures ∙ c.in_ok-gathered.ensures q.number ∙ ap (λ l. fills_of (entries_of l) q.number) c.shards.ensures in
     fed-count b c.requires.lawful (entries_of first) (shards_in first) qs c.requires.queries i c.loop-q-test.true no_query c.of.result.now points (shards_in c.loop-q.memo) c.loop-q.fed.items c.loop-q.invariant.fed
 
 pub loop-q-preserved : goal.loop-q-preserved
@@ -50,7 +50,7 @@ loop-q-preserved g c =
     let i = c.loop-q.q-index in
     let q = get_or qs i no_query in
     let f = c.in_ok-one.one in
-    let points : c.of.result.now ≡ fills_of (entries_of first) q.number = c.of.ensures ∙ c.in_ok-gathered.ensures q.number ∙ ap (λ l. fills_of (entries_of l) q.number) c.deref.ensures.value in
+    let points : c.of.result.now ≡ fills_of (entries_of first) q.number = c.of.ensures ∙ c.in_ok-gathered.ensures q.number ∙ ap (λ l. fills_of (entries_of l) q.number) c.shards.ensures in
     let o = fed-open b c.requires.lawful (entries_of first) (shards_in first) qs c.requires.queries i c.loop-q-test.true no_query (shards_in now) c.loop-q.fed.items c.loop-q.invariant.fed in
     let k = c.in_ok-one.ensures.feeds (entries_of first) o points in
     record {

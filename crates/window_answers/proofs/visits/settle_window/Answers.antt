@@ -9,6 +9,7 @@ use Rattle.plan_machine.specs.inner.Settle.{Advances, Reaches, IsCoveredTo}
 use Rattle.plan_machine.proofs.Settle.{stays, then, within, window-step}
 use Rattle.asked_cells.specs.Memos.{entries_of, is_missing, at_time}
 use Rattle.asked_cells.specs.inner.Standings.{live, standing}
+use Rattle.asked_cells.proofs.Asked.{reaches}
 use Rattle.window_answers.proofs.Pins.{root-asks}
 use Rattle.asked_cells.proofs.Alone.{some-of}
 use Rattle.window_answers.proofs.visits.settle_window.Goals as goal
@@ -35,7 +36,7 @@ returns-in_default-2-clause-advances g c = λ start first s.
     let old = live c.args.memo.now in
     let ms = c.roots.memo in
     let a = c.roots.invariant.advances start first s in
-    let r = c.in_ok-cell.ensures.reaches q start first a.stands (root-asks q (entries_of ms) c.in-Some.time c.roots.charge c.roots.invariant.asking.counts) in
+    let r = reaches b c.requires.lawful g.B.BatchName.opening q start first ms c.reach.new.memo q c.in-Some.time c.roots.charge (is_missing c.in_ok-cell.field-0) a.stands (root-asks q (entries_of ms) c.in-Some.time c.roots.charge c.roots.invariant.asking.counts) c.in_ok-cell.ensures.asked in
     then b g.B.BatchName.opening q start first old (live ms) (standing c.reach.new.memo true) a (subst (λ o. Advances b g.B.BatchName.opening q start first (live ms) (standing c.reach.new.memo (is_missing o))) c.in_default-2.is r.0)
 
 pub roots-smaller : goal.roots-smaller
@@ -75,11 +76,11 @@ roots-preserved g c =
       root = λ h. subst (IsRoot b.circuit (window_of q)) (sym end) (Next root (omega (arith, h, end)));
       advances = λ start first s.
           let a = i.advances start first s in
-          let r = c.in_ok-cell.ensures.reaches q start first a.stands (root-asks q (entries_of ms) t c.roots.charge i.asking.counts) in
+          let r = reaches b c.requires.lawful g.B.BatchName.opening q start first ms c.reach.new.memo q t c.roots.charge (is_missing c.in_ok-cell.field-0) a.stands (root-asks q (entries_of ms) t c.roots.charge i.asking.counts) c.in_ok-cell.ensures.asked in
           then b g.B.BatchName.opening q start first old (live ms) (standing new false) a (subst (λ o. Advances b g.B.BatchName.opening q start first (live ms) (standing new (is_missing o))) c.in-Some-2.is r.0);
       covered = λ start first s.
           let a = i.advances start first s in
-          let r = c.in_ok-cell.ensures.reaches q start first a.stands (root-asks q (entries_of ms) t c.roots.charge i.asking.counts) in
+          let r = reaches b c.requires.lawful g.B.BatchName.opening q start first ms c.reach.new.memo q t c.roots.charge (is_missing c.in_ok-cell.field-0) a.stands (root-asks q (entries_of ms) t c.roots.charge i.asking.counts) c.in_ok-cell.ensures.asked in
           let one : Reaches b g.B.BatchName.opening q start first (live ms) (at_time q t) (standing new false) = subst (λ o. Reaches b g.B.BatchName.opening q start first (live ms) (at_time q t) (standing new (is_missing o))) c.in-Some-2.is r in
           let before : IsCoveredTo b.circuit q (live ms) t = subst (IsCoveredTo b.circuit q (live ms)) (sym next.0) (i.covered start first s) in
           let w = window-step b c.requires.lawful g.B.BatchName.opening q c.requires.known start first (live ms) (standing new false) t low root before one in
