@@ -71,7 +71,7 @@ module _ (b : Batch) (lawful : IsLawful b) (opening : ℕ → List SignalCell) (
   in-time t none before = let k = goes-on b.circuit q w t none before in let l = within in omega arith
 
   -- a time that is asked for by its cell alone
-  pub instant : ℕ → Query
+  abbrev pub instant : ℕ → Query
   instant t = sub_query until (record { signal = q.signal; time = t })
 
   -- a strand may start with a root
