@@ -25,7 +25,8 @@ use Rattle.design.specs.Joined.{IsDesign}
 use Rattle.demand_points.specs.Demands.{Demand}
 use Rattle.memo_shards.specs.KeptShards.{KeptShard}
 use Rattle.plan_core.specs.Parts.{shards_in, strands_in}
-use Rattle.window_answers.specs.Shards.{AreNumbered, IsInOrder}
+use Rattle.asked_cells.specs.Shards.{AreNumbered}
+use Rattle.window_answers.specs.Strands.{IsInOrder}
 use Rattle.window_answers.specs.Settlement.{HasSettled}
 use Rattle.session_meaning.specs.Verdicts.{queries_of}
 use Rattle.session_meaning.specs.Session.{Setup, batch_of}

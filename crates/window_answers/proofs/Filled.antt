@@ -6,7 +6,7 @@ use Rattle.journal_meaning.specs.Answers.{is_fill_of, filled}
 use Rattle.journal_meaning.proofs.Lists.{Each, each-left, each-right}
 use Rattle.plan_machine.specs.Settling.{fills_of}
 use Rattle.memo_shards.specs.KeptShards.{KeptShard}
-use Rattle.window_answers.proofs.Lists.{take-item}
+use Rattle.asked_cells.proofs.Lists.{take-item}
 
 -- the points that a query filled, of two lists of entries
 pub fills-append : (xs ys : List Entry) (q : ℕ) → fills_of (xs ++ ys) q ≡ fills_of xs q ++ fills_of ys q

@@ -1,9 +1,5 @@
-pub mod Lists
-pub mod Index
-pub mod Entries
 pub mod Filled
-pub mod Alone
 pub mod Pins
 pub mod Phases
-pub mod Freeing
+pub mod Finished
 pub mod Pieces

@@ -29,10 +29,11 @@ use Rattle.reply_lines.specs.declared.reply.Reply.{Reply}
 use Rattle.memo_shards.specs.KeptShards.{KeptShard}
 use Rattle.plan_core.specs.Parts.{shards_in}
 use Rattle.window_answers.specs.declared.answers.Fed.{Fed}
-use Rattle.window_answers.specs.inner.Memos.{entries_of, live, standing}
+use Rattle.asked_cells.specs.Memos.{entries_of}
+use Rattle.asked_cells.specs.inner.Standings.{live, standing}
 use Rattle.window_answers.specs.inner.Phases.{IsFed, IsFedWith, AreAllFed, FeedsQuery, IsFeeding, IsWalking}
 use Rattle.window_answers.specs.Phases.{IsReplyTo, AreReplies, is_budget, refused_of}
-use Rattle.window_answers.proofs.Lists.{take-all}
+use Rattle.asked_cells.proofs.Lists.{take-all}
 use Rattle.window_answers.proofs.Filled.{fills-count}
 
 -- two queries have numbers of their own

@@ -10,9 +10,9 @@ use Rattle.strand_meaning.proofs.Started.{started-right}
 use Rattle.journal_meaning.proofs.Lists.{Each, each-append}
 use Rattle.demand_points.specs.Demands.{Demand}
 use Rattle.plan_core.specs.Parts.{AreFreshStrands, strands_in}
-use Rattle.window_answers.specs.Shards.{IsInOrder}
+use Rattle.window_answers.specs.Strands.{IsInOrder}
 use Rattle.window_answers.specs.inner.Starts.{piece_start}
-use Rattle.window_answers.proofs.Lists.{low-at, or-at}
+use Rattle.asked_cells.proofs.Lists.{low-at, or-at}
 use Rattle.batch_meaning.specs.declared.Query.{Query}
 use Rattle.batch_meaning.specs.Batches.{Batch}
 use Rattle.strand_meaning.specs.Strands as strands

@@ -19,7 +19,7 @@ use Rattle.plan_machine.specs.Settle.{child_start, root_start, charge_of}
 use Rattle.plan_machine.proofs.Steps.{wanted-time}
 use Rattle.plan_machine.proofs.Settle.{child-start, child-needed, child-asked, root-asked}
 use Rattle.demand_points.specs.Frames.{IsPoint, looked_at}
-use Rattle.window_answers.specs.inner.Memos.{IsSourceCovered}
+use Rattle.window_answers.specs.inner.Sources.{IsSourceCovered}
 
 somes-has : (os : List (Option Point)) (n : ℕ) (x : Point) → get_or os n None ≡ Some x → Contains (somes os) x
 somes-has [] n x e = absurd (cc e)

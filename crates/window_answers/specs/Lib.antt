@@ -1,4 +1,4 @@
 pub mod Phases
 pub mod Settlement
-pub mod Shards
+pub mod Strands
 pub mod inner

@@ -6,7 +6,7 @@ use Rattle.plan_machine.specs.Settle.{AreSettled}
 use Rattle.reply_lines.specs.declared.reply.Reply.{Reply}
 use Rattle.memo_shards.specs.KeptShards.{KeptShard}
 use Rattle.plan_core.specs.Parts.{shards_in}
-use Rattle.window_answers.specs.Shards.{AreNumbered}
+use Rattle.asked_cells.specs.Shards.{AreNumbered}
 use Rattle.window_answers.specs.Phases.{AreReplies, refused_of}
 
 -- The shards stand in order, each journal that was handed in is a prefix of its new one, and no claim is left. Each query is replied its

@@ -1,4 +1,4 @@
 pub mod Fills
-pub mod Memos
 pub mod Phases
+pub mod Sources
 pub mod Starts

@@ -1,24 +1,23 @@
 //! The queries of a batch, one after another.
 
 ghost use Rattle.std.specs.Prelude.{◌≡◌, min, List, [], All, Contains, None, length, IfOk, OnOk};
-ghost use Rattle.std.specs.BTreeMap.{get};
 ghost use Rattle.journal_meaning.specs.declared.Entry.{Entry as EntryRecord};
 ghost use Rattle.journal_meaning.specs.Answers.{filled};
 ghost use Rattle.batch_meaning.specs.Batches.{IsNeededBy};
-ghost use Rattle.valid_intervals.specs.Cells.{point_cmp};
 ghost use Rattle.batch_meaning.specs.Lawful.{IsLawful};
 ghost use Rattle.plan_machine.specs.Shards.{Shard as ShardRecord};
 ghost use Rattle.plan_machine.specs.inner.Settle.{IsOpen, SettlesQuery};
 ghost use Rattle.plan_machine.specs.Settle.{charge_of};
 ghost use Rattle.plan_machine.specs.Settling.{fills_of};
 ghost use Rattle.plan_core.specs.Parts.{shards_in};
-ghost use Rattle.window_answers.specs.inner.Memos.{IsIndexedMemo, entries_of, standing};
+ghost use Rattle.asked_cells.specs.Memos.{AreFreeShards, entries_of};
+ghost use Rattle.asked_cells.specs.inner.Standings.{standing};
 ghost use Rattle.window_answers.specs.inner.Phases.{IsFedWith, FeedsQuery, IsFeeding, IsWalking};
 ghost use Rattle.window_answers.specs.Phases.{IsReplyTo, is_budget};
 
 use crate::fills::FilledPoints;
-use crate::memo::Memo;
 use crate::visits::{settle_fills, settle_window};
+use asked_cells::Memo;
 use backsim_io::OutOfMemory;
 use batch_meaning::Query;
 use demand_points::BatchName;
@@ -56,11 +55,11 @@ fn feed_one<B: BatchName>(
     requires design { design.now.circuit ≡ B.batch.circuit }
     requires known { Contains B.batch.queries q }
     requires needed { All (IsNeededBy B.batch q) points.now }
-    requires counts { length points.now ≡ filled (entries_of memo.old.shards.items) q.number }
-    requires kept { IsIndexedMemo B.batch B.opening memo.old.shards.items (get point_cmp memo.old.cells.cells) }
-    ensures kept { OnOk result (IsIndexedMemo B.batch B.opening memo.new.shards.items (get point_cmp memo.new.cells.cells)) }
-    ensures feeds { (start : List EntryRecord) → IsOpen B.batch.circuit q start (entries_of memo.old.shards.items) → points.now ≡ fills_of start q.number
-        → IfOk result (λ f. FeedsQuery B.batch q start (shards_in memo.old.shards.items) (shards_in memo.new.shards.items) f) }
+    requires counts { length points.now ≡ filled (entries_of memo.old) q.number }
+    requires kept { AreFreeShards B.batch B.opening memo.old }
+    ensures kept { OnOk result (AreFreeShards B.batch B.opening memo.new) }
+    ensures feeds { (start : List EntryRecord) → IsOpen B.batch.circuit q start (entries_of memo.old) → points.now ≡ fills_of start q.number
+        → IfOk result (λ f. FeedsQuery B.batch q start (shards_in memo.old) (shards_in memo.new) f) }
 {
     let mut charge = charge_at(points.len(), q.budget);
     let refused = settle_fills(memo, design, q, points, &mut charge)?;
@@ -78,12 +77,12 @@ pub fn feed_all<B: BatchName>(
     requires site { B.batch.site ≡ None }
     requires design { design.now.circuit ≡ B.batch.circuit }
     requires queries { queries.now ≡ B.batch.queries }
-    requires kept { IsIndexedMemo B.batch B.opening memo.old.shards.items (get point_cmp memo.old.cells.cells) }
-    ensures kept { OnOk result (IsIndexedMemo B.batch B.opening memo.new.shards.items (get point_cmp memo.new.cells.cells)) }
-    ensures fed { IfOk result (λ fed. IsFeeding B.batch (entries_of memo.old.shards.items) (shards_in memo.old.shards.items) (shards_in memo.new.shards.items) B.batch.queries fed.items []) }
+    requires kept { AreFreeShards B.batch B.opening memo.old }
+    ensures kept { OnOk result (AreFreeShards B.batch B.opening memo.new) }
+    ensures fed { IfOk result (λ fed. IsFeeding B.batch (entries_of memo.old) (shards_in memo.old) (shards_in memo.new) B.batch.queries fed.items []) }
 {
-    let gathered = FilledPoints::gather(memo.alloc, &memo.shards)?;
-    let mut fed = Vec::new(memo.alloc);
+    let gathered = FilledPoints::gather(memo.alloc(), memo.shards())?;
+    let mut fed = Vec::new(memo.alloc());
     for &q in queries {
         let one = feed_one(memo, design, q, gathered.of(q.number))?;
         fed.push(one)?;
@@ -102,12 +101,12 @@ fn answer_one<B: BatchName>(
     requires site { B.batch.site ≡ None }
     requires design { design.now.circuit ≡ B.batch.circuit }
     requires known { Contains B.batch.queries q }
-    requires counts { fed.charge ≡ charge_of (entries_of memo.old.shards.items) q }
-    requires kept { IsIndexedMemo B.batch B.opening memo.old.shards.items (get point_cmp memo.old.cells.cells) }
-    ensures kept { OnOk result (IsIndexedMemo B.batch B.opening memo.new.shards.items (get point_cmp memo.new.cells.cells)) }
+    requires counts { fed.charge ≡ charge_of (entries_of memo.old) q }
+    requires kept { AreFreeShards B.batch B.opening memo.old }
+    ensures kept { OnOk result (AreFreeShards B.batch B.opening memo.new) }
     ensures reply { IfOk result (IsReplyTo B.batch.circuit q) }
-    ensures settles { (start : List EntryRecord) → IsFedWith B.batch.circuit q start (entries_of memo.old.shards.items) fed
-        → IfOk result (λ r. SettlesQuery B.batch B.opening q start (shards_in memo.old.shards.items) (standing memo.new.shards.items (is_budget r))) }
+    ensures settles { (start : List EntryRecord) → IsFedWith B.batch.circuit q start (entries_of memo.old) fed
+        → IfOk result (λ r. SettlesQuery B.batch B.opening q start (shards_in memo.old) (standing memo.new (is_budget r))) }
 {
     if fed.refused {
         return Ok(Reply::Budget(q.budget));
@@ -131,13 +130,13 @@ pub fn answer_all<B: BatchName>(
     requires design { design.now.circuit ≡ B.batch.circuit }
     requires queries { queries.now ≡ B.batch.queries }
     requires count { length fed.now ≡ length queries.now }
-    requires kept { IsIndexedMemo B.batch B.opening memo.old.shards.items (get point_cmp memo.old.cells.cells) }
-    requires fed { (start : List EntryRecord) × ((first : List ShardRecord) × IsWalking B.batch start first (shards_in memo.old.shards.items) [] [] queries.now fed.now) }
-    ensures kept { OnOk result (IsIndexedMemo B.batch B.opening memo.new.shards.items (get point_cmp memo.new.cells.cells)) }
-    ensures settled { (start : List EntryRecord) (first : List ShardRecord) → IsWalking B.batch start first (shards_in memo.old.shards.items) [] [] queries.now fed.now
-        → IfOk result (λ replies. IsWalking B.batch start first (shards_in memo.new.shards.items) B.batch.queries replies.items [] []) }
+    requires kept { AreFreeShards B.batch B.opening memo.old }
+    requires fed { (start : List EntryRecord) × ((first : List ShardRecord) × IsWalking B.batch start first (shards_in memo.old) [] [] queries.now fed.now) }
+    ensures kept { OnOk result (AreFreeShards B.batch B.opening memo.new) }
+    ensures settled { (start : List EntryRecord) (first : List ShardRecord) → IsWalking B.batch start first (shards_in memo.old) [] [] queries.now fed.now
+        → IfOk result (λ replies. IsWalking B.batch start first (shards_in memo.new) B.batch.queries replies.items [] []) }
 {
-    let mut replies = Vec::new(memo.alloc);
+    let mut replies = Vec::new(memo.alloc());
     for k in 0..queries.len() {
         let reply = answer_one(memo, design, queries[k], fed[k])?;
         replies.push(reply)?;

@@ -5,7 +5,7 @@ ghost use Rattle.std.specs.BTreeMap.{get};
 ghost use Rattle.std.specs.Ordering.{nat_cmp};
 ghost use Rattle.plan_machine.specs.Settling.{fills_of};
 ghost use Rattle.window_answers.specs.inner.Fills.{points_in, added_for};
-ghost use Rattle.window_answers.specs.inner.Memos.{entries_of};
+ghost use Rattle.asked_cells.specs.Memos.{entries_of};
 
 use backsim_io::OutOfMemory;
 use demand_points::BatchName;

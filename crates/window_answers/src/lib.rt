@@ -31,10 +31,7 @@
 #![tactic(auto)]
 
 mod answers;
-mod begin;
-mod cells;
 mod fills;
-mod memo;
 mod settlement;
 mod strands;
 #[cfg(test)]

@@ -1,18 +1,12 @@
 //! Settlement of a batch.
 
-ghost use Rattle.std.specs.Prelude.{◌≡◌, None, length, IfOk, OnOk};
-ghost use Rattle.std.specs.BTreeMap.{get};
-ghost use Rattle.valid_intervals.specs.Cells.{point_cmp};
+ghost use Rattle.std.specs.Prelude.{◌≡◌, None, length, IfOk};
 ghost use Rattle.batch_meaning.specs.Lawful.{IsLawful};
-ghost use Rattle.plan_machine.specs.Settle.{AreShards, AreFreed};
-ghost use Rattle.plan_core.specs.Parts.{shards_in};
-ghost use Rattle.window_answers.specs.Shards.{AreNumbered};
-ghost use Rattle.window_answers.specs.inner.Memos.{IsIndexedMemo};
+ghost use Rattle.asked_cells.specs.Shards.{AreNumbered};
 ghost use Rattle.window_answers.specs.Settlement.{HasSettled};
 
 use crate::answers::{answer_all, feed_all};
-use crate::begin::{free_all, know_all, read_all};
-use crate::memo::Memo;
+use asked_cells::begin;
 use backsim_io::OutOfMemory;
 use batch_meaning::Query;
 use demand_points::BatchName;
@@ -26,26 +20,6 @@ use std::alloc::Global;
 pub struct Settled<B: BatchName> {
     pub replies: Vec<Reply>,
     pub shards: Vec<Shard<B>>,
-}
-
-/// Frees the claims that are left, and reads the entries.
-fn begin<B: BatchName>(alloc: Global, shards: Vec<Shard<B>>) -> Result<Memo<B>, OutOfMemory>
-    requires lawful { IsLawful B.batch }
-    requires count { length shards.items ≡ B.batch.shards }
-    requires numbers { AreNumbered shards.items }
-    ensures shards { AreShards B.batch B.opening (shards_in shards.items) }
-    ensures freed { IfOk result (λ memo. AreFreed (shards_in shards.items) (shards_in memo.shards.items)) }
-    ensures kept { IfOk result (λ memo. IsIndexedMemo B.batch B.opening memo.shards.items (get point_cmp memo.cells.cells)) }
-{
-    know_all(&shards);
-    let mut freed = shards;
-    free_all(&mut freed);
-    let cells = read_all(alloc, &freed)?;
-    Ok(Memo {
-        alloc,
-        shards: freed,
-        cells,
-    })
 }
 
 /// Settles a batch. The claims that are left are freed. Then what the queries filled is visited: the children of these points that
@@ -70,6 +44,6 @@ pub fn settle<B: BatchName>(
     let replies = answer_all(&mut memo, design, queries, &fed)?;
     Ok(Settled {
         replies,
-        shards: memo.shards,
+        shards: memo.into_shards(),
     })
 }

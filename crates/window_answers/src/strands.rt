@@ -6,7 +6,7 @@ ghost use Rattle.batch_meaning.specs.Pieces.{IsStart};
 ghost use Rattle.strand_meaning.specs.Strands.{started};
 ghost use Rattle.batch_meaning.specs.Pieces.{next_cut, spans_of, pieces};
 ghost use Rattle.plan_core.specs.Parts.{strands_in};
-ghost use Rattle.window_answers.specs.Shards.{IsInOrder};
+ghost use Rattle.window_answers.specs.Strands.{IsInOrder};
 ghost use Rattle.window_answers.specs.inner.Starts.{piece_start};
 
 use backsim_io::OutOfMemory;

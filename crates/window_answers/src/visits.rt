@@ -1,21 +1,21 @@
 //! Settlement: what is missing of a batch is asked for by one strand after another, each alone.
 
 ghost use Rattle.std.specs.Prelude.{◌≡◌, ◌<◌, ◌≤◌, ◌+◌, ◌++◌, ℕ, List, All, Contains, Option, None, length, true, false, is_some, IfOk, IfSome, OnOk};
-ghost use Rattle.std.specs.BTreeMap.{get};
 ghost use Rattle.circuit_meaning.specs.Forward.{wave};
 ghost use Rattle.journal_meaning.specs.declared.Entry.{Entry as EntryRecord};
 ghost use Rattle.journal_meaning.specs.Answers.{IsCovered};
 ghost use Rattle.batch_meaning.specs.Batches.{IsNeededBy};
-ghost use Rattle.valid_intervals.specs.Cells.{point_cmp};
 ghost use Rattle.batch_meaning.specs.Lawful.{IsLawful};
 ghost use Rattle.plan_machine.specs.Shards.{Shard as ShardRecord};
 ghost use Rattle.plan_machine.specs.inner.Settle.{IsStanding, Advances, IsVisited, IsCoveredTo};
 ghost use Rattle.plan_machine.specs.Settle.{entries_in};
 ghost use Rattle.demand_points.specs.Frames.{IsFrame, IsLooking, LooksOn, next_point};
 ghost use Rattle.plan_core.specs.Parts.{shards_in};
-ghost use Rattle.window_answers.specs.inner.Memos.{IsChargedMemo, IsSourceCovered, entries_of, live, standing, is_missing};
+ghost use Rattle.asked_cells.specs.Memos.{IsChargedMemo, entries_of, is_missing};
+ghost use Rattle.asked_cells.specs.inner.Standings.{live, standing};
+ghost use Rattle.window_answers.specs.inner.Sources.{IsSourceCovered};
 
-use crate::memo::{Memo, reach};
+use asked_cells::{Memo, reach};
 use backsim_io::OutOfMemory;
 use batch_meaning::Query;
 use demand_points::{BatchName, Frame};
@@ -37,13 +37,13 @@ fn look<B: BatchName>(
     requires frame { IsFrame design.now.circuit frame.now }
     requires looking { IsLooking design.now.circuit frame.now }
     requires needed { IsNeededBy B.batch q frame.now.point }
-    requires asking { IsChargedMemo B.batch B.opening memo.old.shards.items (get point_cmp memo.old.cells.cells) q charge.old }
-    ensures asking { OnOk result (IsChargedMemo B.batch B.opening memo.new.shards.items (get point_cmp memo.new.cells.cells) q charge.new) }
+    requires asking { IsChargedMemo B.batch B.opening memo.old q charge.old }
+    ensures asking { OnOk result (IsChargedMemo B.batch B.opening memo.new q charge.new) }
     ensures frame { IfOk result (λ r. IfSome r (LooksOn design.now.circuit frame.now)) }
-    ensures advances { (start : List EntryRecord) (first : List ShardRecord) → IsStanding B.batch B.opening q start first (live memo.old.shards.items)
-        → IfOk result (λ r. Advances B.batch B.opening q start first (live memo.old.shards.items) (standing memo.new.shards.items (is_missing r))) }
-    ensures covered { (start : List EntryRecord) (first : List ShardRecord) → IsStanding B.batch B.opening q start first (live memo.old.shards.items)
-        → IfOk result (λ r. is_missing r ≡ false → IsSourceCovered B.batch.circuit (entries_of memo.new.shards.items) (next_point design.now.circuit frame.now)) }
+    ensures advances { (start : List EntryRecord) (first : List ShardRecord) → IsStanding B.batch B.opening q start first (live memo.old)
+        → IfOk result (λ r. Advances B.batch B.opening q start first (live memo.old) (standing memo.new (is_missing r))) }
+    ensures covered { (start : List EntryRecord) (first : List ShardRecord) → IsStanding B.batch B.opening q start first (live memo.old)
+        → IfOk result (λ r. is_missing r ≡ false → IsSourceCovered B.batch.circuit (entries_of memo.new) (next_point design.now.circuit frame.now)) }
 {
     let Some(x) = frame.next_source(design) else {
         return Ok(Some(frame.see(design, None)));
@@ -74,12 +74,12 @@ fn settle_children<B: BatchName>(
     requires design { design.now.circuit ≡ B.batch.circuit }
     requires known { Contains B.batch.queries q }
     requires needed { IsNeededBy B.batch q p }
-    requires asking { IsChargedMemo B.batch B.opening memo.old.shards.items (get point_cmp memo.old.cells.cells) q charge.old }
-    ensures asking { OnOk result (IsChargedMemo B.batch B.opening memo.new.shards.items (get point_cmp memo.new.cells.cells) q charge.new) }
-    ensures advances { (start : List EntryRecord) (first : List ShardRecord) → IsStanding B.batch B.opening q start first (live memo.old.shards.items)
-        → IfOk result (λ r. Advances B.batch B.opening q start first (live memo.old.shards.items) (standing memo.new.shards.items r)) }
-    ensures visited { (start : List EntryRecord) (first : List ShardRecord) → IsStanding B.batch B.opening q start first (live memo.old.shards.items)
-        → IfOk result (λ r. r ≡ false → IsVisited B.batch.circuit (entries_of memo.new.shards.items) p) }
+    requires asking { IsChargedMemo B.batch B.opening memo.old q charge.old }
+    ensures asking { OnOk result (IsChargedMemo B.batch B.opening memo.new q charge.new) }
+    ensures advances { (start : List EntryRecord) (first : List ShardRecord) → IsStanding B.batch B.opening q start first (live memo.old)
+        → IfOk result (λ r. Advances B.batch B.opening q start first (live memo.old) (standing memo.new r)) }
+    ensures visited { (start : List EntryRecord) (first : List ShardRecord) → IsStanding B.batch B.opening q start first (live memo.old)
+        → IfOk result (λ r. r ≡ false → IsVisited B.batch.circuit (entries_of memo.new) p) }
 {
     let mut frame = Frame::new(design, p);
     'pins: while !frame.is_done(design) {
@@ -104,12 +104,12 @@ pub fn settle_fills<B: BatchName>(
     requires design { design.now.circuit ≡ B.batch.circuit }
     requires known { Contains B.batch.queries q }
     requires needed { All (IsNeededBy B.batch q) fills.now }
-    requires asking { IsChargedMemo B.batch B.opening memo.old.shards.items (get point_cmp memo.old.cells.cells) q charge.old }
-    ensures asking { OnOk result (IsChargedMemo B.batch B.opening memo.new.shards.items (get point_cmp memo.new.cells.cells) q charge.new) }
-    ensures advances { (start : List EntryRecord) (first : List ShardRecord) → IsStanding B.batch B.opening q start first (live memo.old.shards.items)
-        → IfOk result (λ r. Advances B.batch B.opening q start first (live memo.old.shards.items) (standing memo.new.shards.items r)) }
-    ensures visited { (start : List EntryRecord) (first : List ShardRecord) → IsStanding B.batch B.opening q start first (live memo.old.shards.items)
-        → IfOk result (λ r. r ≡ false → All (IsVisited B.batch.circuit (entries_of memo.new.shards.items)) fills.now) }
+    requires asking { IsChargedMemo B.batch B.opening memo.old q charge.old }
+    ensures asking { OnOk result (IsChargedMemo B.batch B.opening memo.new q charge.new) }
+    ensures advances { (start : List EntryRecord) (first : List ShardRecord) → IsStanding B.batch B.opening q start first (live memo.old)
+        → IfOk result (λ r. Advances B.batch B.opening q start first (live memo.old) (standing memo.new r)) }
+    ensures visited { (start : List EntryRecord) (first : List ShardRecord) → IsStanding B.batch B.opening q start first (live memo.old)
+        → IfOk result (λ r. r ≡ false → All (IsVisited B.batch.circuit (entries_of memo.new)) fills.now) }
 {
     for &p in fills {
         if settle_children(memo, design, q, p, charge)? {
@@ -130,15 +130,15 @@ pub fn settle_window<B: BatchName>(
     requires site { B.batch.site ≡ None }
     requires design { design.now.circuit ≡ B.batch.circuit }
     requires known { Contains B.batch.queries q }
-    requires asking { IsChargedMemo B.batch B.opening memo.old.shards.items (get point_cmp memo.old.cells.cells) q charge.old }
-    ensures asking { OnOk result (IsChargedMemo B.batch B.opening memo.new.shards.items (get point_cmp memo.new.cells.cells) q charge.new) }
+    requires asking { IsChargedMemo B.batch B.opening memo.old q charge.old }
+    ensures asking { OnOk result (IsChargedMemo B.batch B.opening memo.new q charge.new) }
     ensures wave { IfOk result (λ r. IfSome r (λ runs. runs ≡ wave B.batch.circuit q.signal q.from q.to)) }
-    ensures advances { (start : List EntryRecord) (first : List ShardRecord) → IsStanding B.batch B.opening q start first (live memo.old.shards.items)
-        → IfOk result (λ r. Advances B.batch B.opening q start first (live memo.old.shards.items) (standing memo.new.shards.items (is_missing r))) }
-    ensures covered { (start : List EntryRecord) (first : List ShardRecord) → IsStanding B.batch B.opening q start first (live memo.old.shards.items)
-        → IfOk result (λ r. IsCoveredTo B.batch.circuit q (standing memo.new.shards.items (is_missing r)) q.to) }
+    ensures advances { (start : List EntryRecord) (first : List ShardRecord) → IsStanding B.batch B.opening q start first (live memo.old)
+        → IfOk result (λ r. Advances B.batch B.opening q start first (live memo.old) (standing memo.new (is_missing r))) }
+    ensures covered { (start : List EntryRecord) (first : List ShardRecord) → IsStanding B.batch B.opening q start first (live memo.old)
+        → IfOk result (λ r. IsCoveredTo B.batch.circuit q (standing memo.new (is_missing r)) q.to) }
 {
-    let mut walk = WindowWalk::new(memo.alloc, q.from, q.to);
+    let mut walk = WindowWalk::new(memo.alloc(), q.from, q.to);
     'roots: while let Some(time) = walk.next() {
         let Some(cell) = reach(memo, design, q, time, charge)? else {
             return Ok(None);

@@ -8,7 +8,7 @@ use Rattle.window_answers.proofs.answers.answer_all.Goals as goal
 pub loop-k-init : goal.loop-k-init
 loop-k-init g c = record {
   kept = c.requires.kept;
-  walked = λ start first h. subst (λ (rs : List Reply). IsWalking g.B.BatchName.batch start first (shards_in c.args.memo.now.shards.items) [] rs c.args.queries.now c.args.fed.now) (sym c.new-replies.ensures.items) h;
+  walked = λ start first h. subst (λ (rs : List Reply). IsWalking g.B.BatchName.batch start first (shards_in c.args.memo.now) [] rs c.args.queries.now c.args.fed.now) (sym c.new-replies.ensures.items) h;
 }
 
 pub answer_one-requires-clause-counts : goal.answer_one-requires-clause-counts
@@ -16,13 +16,13 @@ answer_one-requires-clause-counts g c =
     let w = c.requires.fed in
     let n = c.requires.count in
     let high : c.loop-k.k < length c.args.fed.now = let t = c.loop-k-test.true in omega arith in
-    (walk-fed g.B.BatchName.batch c.requires.lawful w.0 w.1.0 c.args.queries.now c.requires.queries c.loop-k.k c.loop-k-test.true _ c.args.fed.now high _ (shards_in c.loop-k.memo.shards.items) c.loop-k.replies.items (c.loop-k.invariant.walked w.0 w.1.0 w.1.1)).counts
+    (walk-fed g.B.BatchName.batch c.requires.lawful w.0 w.1.0 c.args.queries.now c.requires.queries c.loop-k.k c.loop-k-test.true _ c.args.fed.now high _ (shards_in c.loop-k.memo) c.loop-k.replies.items (c.loop-k.invariant.walked w.0 w.1.0 w.1.1)).counts
 
 pub loop-k-preserved : goal.loop-k-preserved
 loop-k-preserved g c =
     let b = g.B.BatchName.batch in
-    let now = c.loop-k.memo.shards.items in
-    let new = c.answer_one.new.memo.shards.items in
+    let now = c.loop-k.memo in
+    let new = c.answer_one.new.memo in
     let qs = c.args.queries.now in
     let fs = c.args.fed.now in
     let k = c.loop-k.k in
@@ -42,4 +42,4 @@ pub returns-clause-settled : goal.returns-clause-settled
 returns-clause-settled g c = λ start first h.
     let t = c.loop-k-test.false in
     let n = c.requires.count in
-    walk-last g.B.BatchName.batch c.requires.lawful start first c.args.queries.now c.requires.queries (shards_in c.loop-k.memo.shards.items) c.loop-k.k c.loop-k.replies.items c.args.fed.now (omega arith) (omega arith) (c.loop-k.invariant.walked start first h)
+    walk-last g.B.BatchName.batch c.requires.lawful start first c.args.queries.now c.requires.queries (shards_in c.loop-k.memo) c.loop-k.k c.loop-k.replies.items c.args.fed.now (omega arith) (omega arith) (c.loop-k.invariant.walked start first h)

@@ -1,16 +1,14 @@
 use Rattle.std.proofs.Common.{[], List, take, drop}
-use Rattle.std.specs.BTreeMap.{get}
 use Rattle.journal_meaning.specs.declared.Entry.{Entry}
-use Rattle.valid_intervals.specs.Cells.{point_cmp}
 use Rattle.plan_machine.specs.Shards.{Shard}
 use Rattle.plan_core.specs.Parts.{shards_in}
-use Rattle.window_answers.specs.inner.Memos.{IsIndexedMemo}
+use Rattle.asked_cells.specs.Memos.{AreFreeShards}
 use Rattle.window_answers.specs.inner.Phases.{IsWalking}
 use Rattle.window_answers.proofs.answers.answer_all.Given as goal
 
 abbrev pub invariant-loop-k : goal.invariant-loop-k
 invariant-loop-k g l = record {
-  kept : IsIndexedMemo g.B.BatchName.batch g.B.BatchName.opening l.memo.shards.items (get point_cmp l.memo.cells.cells);
-  walked : (start : List Entry) (first : List Shard) → IsWalking g.B.BatchName.batch start first (shards_in l.initial.memo.shards.items) [] [] l.queries l.fed
-      → IsWalking g.B.BatchName.batch start first (shards_in l.memo.shards.items) (take l.k l.queries) l.replies.items (drop l.k l.queries) (drop l.k l.fed);
+  kept : AreFreeShards g.B.BatchName.batch g.B.BatchName.opening l.memo;
+  walked : (start : List Entry) (first : List Shard) → IsWalking g.B.BatchName.batch start first (shards_in l.initial.memo) [] [] l.queries l.fed
+      → IsWalking g.B.BatchName.batch start first (shards_in l.memo) (take l.k l.queries) l.replies.items (drop l.k l.queries) (drop l.k l.fed);
 }

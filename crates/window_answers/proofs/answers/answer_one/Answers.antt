@@ -1,20 +1,21 @@
 use Rattle.std.proofs.Common.{false, true, ap, subst}
 use Rattle.plan_machine.specs.inner.Settle.{Advances, IsCoveredTo}
 use Rattle.plan_core.specs.Parts.{shards_in}
-use Rattle.window_answers.specs.inner.Memos.{live, standing, is_missing}
+use Rattle.asked_cells.specs.Memos.{is_missing}
+use Rattle.asked_cells.specs.inner.Standings.{live, standing}
 use Rattle.window_answers.proofs.Phases.{walks-refused, walk-begins, walks}
 use Rattle.window_answers.proofs.answers.answer_one.Goals as goal
 
 pub returns-then-fed-clause-settles : goal.returns-then-fed-clause-settles
-returns-then-fed-clause-settles g c = λ start k. walks-refused g.B.BatchName.batch c.requires.lawful g.B.BatchName.opening c.args.q c.requires.known start c.args.memo.now.shards.items c.args.fed c.requires.kept.fresh c.if-fed.true k
+returns-then-fed-clause-settles g c = λ start k. walks-refused g.B.BatchName.batch c.requires.lawful g.B.BatchName.opening c.args.q c.requires.known start c.args.memo.now c.args.fed c.requires.kept.fresh c.if-fed.true k
 
 pub returns-in-Some-clause-settles : goal.returns-in-Some-clause-settles
 returns-in-Some-clause-settles g c = λ start k.
     let b = g.B.BatchName.batch in
     let opening = g.B.BatchName.opening in
     let q = c.args.q in
-    let ms = c.args.memo.now.shards.items in
-    let new = c.settle_window.new.memo.shards.items in
+    let ms = c.args.memo.now in
+    let new = c.settle_window.new.memo in
     let s = walk-begins b c.requires.lawful opening q c.requires.known start ms c.args.fed c.requires.kept.fresh c.if-fed.false k in
     let e = ap is_missing c.in-Some.is in
     walks b c.requires.lawful opening q c.requires.known start ms c.args.fed c.requires.kept.fresh c.if-fed.false k new false
@@ -26,8 +27,8 @@ returns-in-None-clause-settles g c = λ start k.
     let b = g.B.BatchName.batch in
     let opening = g.B.BatchName.opening in
     let q = c.args.q in
-    let ms = c.args.memo.now.shards.items in
-    let new = c.settle_window.new.memo.shards.items in
+    let ms = c.args.memo.now in
+    let new = c.settle_window.new.memo in
     let s = walk-begins b c.requires.lawful opening q c.requires.known start ms c.args.fed c.requires.kept.fresh c.if-fed.false k in
     let e = ap is_missing c.in-None.is in
     walks b c.requires.lawful opening q c.requires.known start ms c.args.fed c.requires.kept.fresh c.if-fed.false k new true

@@ -3,7 +3,7 @@ use Rattle.valid_intervals.specs.declared.Point.{Point}
 use Rattle.plan_machine.specs.inner.Settle.{IsVisited}
 use Rattle.plan_machine.proofs.Settle.{begins-query}
 use Rattle.plan_core.specs.Parts.{shards_in}
-use Rattle.window_answers.specs.inner.Memos.{entries_of}
+use Rattle.asked_cells.specs.Memos.{entries_of}
 use Rattle.window_answers.proofs.Phases.{feeds}
 use Rattle.window_answers.proofs.answers.feed_one.Goals as goal
 
@@ -20,8 +20,8 @@ pub returns-clause-feeds : goal.returns-clause-feeds
 returns-clause-feeds g c = λ start o points.
     let b = g.B.BatchName.batch in
     let opening = g.B.BatchName.opening in
-    let ms = c.args.memo.now.shards.items in
-    let new = c.settle_fills.new.memo.shards.items in
+    let ms = c.args.memo.now in
+    let new = c.settle_fills.new.memo in
     let q = c.args.q in
     let s = begins-query b opening q start (shards_in ms) c.requires.kept.fresh o in
     let k = c.in_ok-refused.ensures in

@@ -1,27 +1,27 @@
 use Rattle.std.proofs.Common.{[], List, length, sym, ap, subst, ◌∙◌}
-use Rattle.std.specs.BTreeMap.{get}
 use Rattle.batch_meaning.specs.declared.Query.{Query}
-use Rattle.valid_intervals.specs.Cells.{point_cmp}
+use Rattle.memo_shards.specs.KeptShards.{KeptShard}
 use Rattle.plan_core.specs.Parts.{shards_in}
 use Rattle.window_answers.specs.declared.answers.Fed.{Fed}
-use Rattle.window_answers.specs.inner.Memos.{entries_of}
+use Rattle.asked_cells.specs.Memos.{entries_of}
 use Rattle.window_answers.specs.inner.Phases.{IsWalking}
+use Rattle.window_answers.specs.Settlement.{HasSettled}
 use Rattle.window_answers.proofs.Phases.{fed-walks, all-fed-count}
-use Rattle.window_answers.proofs.Freeing.{has-settled}
+use Rattle.window_answers.proofs.Finished.{has-settled}
 use Rattle.window_answers.proofs.settlement.settle.Goals as goal
 
 pub answer_all-requires-clause-count : goal.answer_all-requires-clause-count
 answer_all-requires-clause-count g c =
     let b = g.B.BatchName.batch in
-    let begun = entries_of c.in_ok-memo.memo.shards.items in
-    let now = entries_of c.feed_all.new.memo.shards.items in
+    let begun = entries_of c.in_ok-memo.memo in
+    let now = entries_of c.feed_all.new.memo in
     ap length c.deref.ensures.value ∙ all-fed-count b.circuit begun now b.queries c.in_ok-fed.fed.items c.in_ok-fed.ensures.fed.all ∙ sym (ap length c.requires.queries)
 
 pub answer_all-requires-clause-fed : goal.answer_all-requires-clause-fed
 answer_all-requires-clause-fed g c =
     let b = g.B.BatchName.batch in
-    let begun = c.in_ok-memo.memo.shards.items in
-    let now = shards_in c.feed_all.new.memo.shards.items in
+    let begun = c.in_ok-memo.memo in
+    let now = shards_in c.feed_all.new.memo in
     let w = fed-walks b (entries_of begun) (shards_in begun) now c.in_ok-fed.fed.items c.in_ok-fed.ensures.fed in (
       entries_of begun,
       (
@@ -34,10 +34,11 @@ answer_all-requires-clause-fed g c =
 pub returns : goal.returns
 returns g c =
     let b = g.B.BatchName.batch in
-    let begun = c.in_ok-memo.memo.shards.items in
-    let now = shards_in c.feed_all.new.memo.shards.items in
+    let begun = c.in_ok-memo.memo in
+    let now = shards_in c.feed_all.new.memo in
     let new = c.answer_all.new.memo in
     let w = fed-walks b (entries_of begun) (shards_in begun) now c.in_ok-fed.fed.items c.in_ok-fed.ensures.fed in
     let v : IsWalking b (entries_of begun) (shards_in begun) now [] [] c.args.queries.now c.deref.result.now = subst (λ (fs : List Fed). IsWalking b (entries_of begun) (shards_in begun) now [] [] c.args.queries.now fs) (sym c.deref.ensures.value)
     (subst (λ (qs : List Query). IsWalking b (entries_of begun) (shards_in begun) now [] [] qs c.in_ok-fed.fed.items) (sym c.requires.queries) w) in
-    has-settled b c.requires.lawful g.B.BatchName.opening c.args.shards.items begun c.in_ok-memo.ensures.shards c.in_ok-memo.ensures.freed new.shards.items c.in_ok-replies.replies.items (get point_cmp new.cells.cells) c.in_ok-replies.ensures.kept (c.in_ok-replies.ensures.settled (entries_of begun) (shards_in begun) v)
+    subst (λ (ms : List KeptShard). HasSettled b g.B.BatchName.opening c.args.shards.items ms c.in_ok-replies.replies.items) (sym c.into_shards.ensures)
+    (has-settled b c.requires.lawful g.B.BatchName.opening c.args.shards.items begun c.in_ok-memo.ensures.shards c.in_ok-memo.ensures.freed new c.in_ok-replies.replies.items c.in_ok-replies.ensures.kept (c.in_ok-replies.ensures.settled (entries_of begun) (shards_in begun) v))

@@ -5,7 +5,7 @@ use Rattle.strand_meaning.specs.Strands.{started}
 use Rattle.batch_meaning.proofs.Pieces.{pieces-lawful}
 use Rattle.plan_core.specs.Parts.{strands_in}
 use Rattle.window_answers.specs.inner.Starts.{piece_start}
-use Rattle.window_answers.proofs.Lists.{on-ok}
+use Rattle.asked_cells.proofs.Lists.{on-ok}
 use Rattle.window_answers.proofs.Pieces.{pieces-by, last-start, last-left, next-start, next-left}
 use Rattle.window_answers.proofs.strands.push_pieces.Goals as goal
 

@@ -3,7 +3,7 @@ use Rattle.std.specs.List.{AllByRecursion}
 use Rattle.batch_meaning.specs.Pieces.{IsStart, cuts, next_cut, starts_of, pieces}
 use Rattle.strand_meaning.specs.Strands.{started}
 use Rattle.plan_core.specs.Parts.{strands_in}
-use Rattle.window_answers.specs.Shards.{IsInOrder}
+use Rattle.window_answers.specs.Strands.{IsInOrder}
 use Rattle.window_answers.proofs.strands.push_pieces.Given as goal
 
 abbrev pub invariant-cuts : goal.invariant-cuts

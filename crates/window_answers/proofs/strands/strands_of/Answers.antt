@@ -2,7 +2,7 @@ use Rattle.std.proofs.Common.{map, flat_map, ap, ◌∙◌, arith}
 use Rattle.strand_meaning.specs.Strands.{started}
 use Rattle.batch_meaning.specs.Pieces.{pieces}
 use Rattle.plan_core.specs.Parts.{strands_in}
-use Rattle.window_answers.proofs.Lists.{take-all}
+use Rattle.asked_cells.proofs.Lists.{take-all}
 use Rattle.window_answers.proofs.Pieces.{strands-next}
 use Rattle.window_answers.proofs.strands.strands_of.Goals as goal
 

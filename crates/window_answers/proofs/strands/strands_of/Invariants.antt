@@ -2,7 +2,7 @@ use Rattle.std.proofs.Common.{◌≡◌, map, flat_map, take}
 use Rattle.strand_meaning.specs.Strands.{started}
 use Rattle.batch_meaning.specs.Pieces.{pieces}
 use Rattle.plan_core.specs.Parts.{strands_in}
-use Rattle.window_answers.specs.Shards.{IsInOrder}
+use Rattle.window_answers.specs.Strands.{IsInOrder}
 use Rattle.window_answers.proofs.strands.strands_of.Given as goal
 
 abbrev pub invariant-loop-q : goal.invariant-loop-q

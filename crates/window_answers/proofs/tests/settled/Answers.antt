@@ -1,7 +1,7 @@
 use Rattle.std.proofs.Common.{length, sym, ap, ◌∙◌}
 use Rattle.std.proofs.Math.ListN.{length-map}
 use Rattle.memo_shards.specs.KeptShards.{KeptShard}
-use Rattle.window_answers.proofs.Alone.{numbered}
+use Rattle.asked_cells.proofs.Alone.{numbered}
 use Rattle.window_answers.proofs.tests.settled.Goals as goal
 
 pub settle-requires-clause-count : goal.settle-requires-clause-count

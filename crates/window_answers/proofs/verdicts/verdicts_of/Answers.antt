@@ -2,7 +2,7 @@ use Rattle.std.proofs.Common.{◌++◌, ◌∷◌, [], List, map, ap, ap₂, sym
 use Rattle.query_lines.specs.declared.unit.Item.{Item}
 use Rattle.session_meaning.specs.declared.Verdict.{Verdict}
 use Rattle.session_meaning.specs.Verdicts.{verdict_of}
-use Rattle.window_answers.proofs.Lists.{map-item, take-all}
+use Rattle.asked_cells.proofs.Lists.{map-item, take-all}
 use Rattle.window_answers.proofs.verdicts.verdicts_of.Goals as goal
 
 pub loop-item-preserved : goal.loop-item-preserved

@@ -2,7 +2,11 @@ use Rattle.std.proofs.Common.{◌≡◌, Some, None, sym, ap, subst, ◌∙◌, 
 use Rattle.circuit_meaning.specs.Circuit.{Circuit}
 use Rattle.plan_machine.specs.inner.Settle.{Advances}
 use Rattle.demand_points.specs.Frames.{looked_at}
-use Rattle.window_answers.specs.inner.Memos.{IsSourceCovered, entries_of, live, standing, is_missing}
+use Rattle.asked_cells.specs.Memos.{entries_of, is_missing}
+use Rattle.asked_cells.specs.inner.Standings.{live, standing}
+use Rattle.window_answers.specs.inner.Sources.{IsSourceCovered}
+use Rattle.plan_machine.specs.Settle.{sub_query}
+use Rattle.asked_cells.proofs.Asked.{reaches}
 use Rattle.window_answers.proofs.Pins.{source-start, child-asks}
 use Rattle.window_answers.proofs.visits.look.Goals as goal
 
@@ -19,20 +23,20 @@ reach-requires-clause-start g c =
 pub returns-in-None-clause-advances : goal.returns-in-None-clause-advances
 returns-in-None-clause-advances g c = λ start first s.
     let b = g.B.BatchName.batch in
-    let ms = c.args.memo.now.shards.items in
-    let r = c.in_ok-reach.ensures.reaches c.args.q start first s (child-asks c.args.q (entries_of ms) c.in-Some.x c.args.charge.now c.requires.asking.counts) in
-    subst (λ o. Advances b g.B.BatchName.opening c.args.q start first (live ms) (standing c.reach.new.memo.shards.items (is_missing o))) c.in-None.is r.0
+    let ms = c.args.memo.now in
+    let r = reaches b c.requires.lawful g.B.BatchName.opening c.args.q start first ms c.reach.new.memo (sub_query c.args.q c.in-Some.x) c.in-Some.x.time c.args.charge.now (is_missing c.in_ok-reach.field-0) s (child-asks c.args.q (entries_of ms) c.in-Some.x c.args.charge.now c.requires.asking.counts) c.in_ok-reach.ensures.asked in
+    subst (λ o. Advances b g.B.BatchName.opening c.args.q start first (live ms) (standing c.reach.new.memo (is_missing o))) c.in-None.is r.0
 
 pub returns-in-Some-2-clause-advances : goal.returns-in-Some-2-clause-advances
 returns-in-Some-2-clause-advances g c = λ start first s.
     let b = g.B.BatchName.batch in
-    let ms = c.args.memo.now.shards.items in
-    let r = c.in_ok-reach.ensures.reaches c.args.q start first s (child-asks c.args.q (entries_of ms) c.in-Some.x c.args.charge.now c.requires.asking.counts) in
-    subst (λ o. Advances b g.B.BatchName.opening c.args.q start first (live ms) (standing c.reach.new.memo.shards.items (is_missing o))) c.in-Some-2.is r.0
+    let ms = c.args.memo.now in
+    let r = reaches b c.requires.lawful g.B.BatchName.opening c.args.q start first ms c.reach.new.memo (sub_query c.args.q c.in-Some.x) c.in-Some.x.time c.args.charge.now (is_missing c.in_ok-reach.field-0) s (child-asks c.args.q (entries_of ms) c.in-Some.x c.args.charge.now c.requires.asking.counts) c.in_ok-reach.ensures.asked in
+    subst (λ o. Advances b g.B.BatchName.opening c.args.q start first (live ms) (standing c.reach.new.memo (is_missing o))) c.in-Some-2.is r.0
 
 pub returns-in-Some-2-clause-covered : goal.returns-in-Some-2-clause-covered
 returns-in-Some-2-clause-covered g c = λ start first s e.
     let b = g.B.BatchName.batch in
-    let ms = c.args.memo.now.shards.items in
-    let r = c.in_ok-reach.ensures.reaches c.args.q start first s (child-asks c.args.q (entries_of ms) c.in-Some.x c.args.charge.now c.requires.asking.counts) in
-    subst (IsSourceCovered b.circuit (entries_of c.reach.new.memo.shards.items)) (sym (sym c.next_source.ensures.source ∙ c.in-Some.is)) (r.1 (ap is_missing c.in-Some-2.is))
+    let ms = c.args.memo.now in
+    let r = reaches b c.requires.lawful g.B.BatchName.opening c.args.q start first ms c.reach.new.memo (sub_query c.args.q c.in-Some.x) c.in-Some.x.time c.args.charge.now (is_missing c.in_ok-reach.field-0) s (child-asks c.args.q (entries_of ms) c.in-Some.x c.args.charge.now c.requires.asking.counts) c.in_ok-reach.ensures.asked in
+    subst (IsSourceCovered b.circuit (entries_of c.reach.new.memo)) (sym (sym c.next_source.ensures.source ∙ c.in-Some.is)) (r.1 (ap is_missing c.in-Some-2.is))

@@ -7,8 +7,10 @@ use Rattle.batch_meaning.specs.Batches.{IsNeededBy}
 use Rattle.plan_machine.specs.inner.Settle.{Advances}
 use Rattle.plan_machine.proofs.Settle.{stays, then}
 use Rattle.demand_points.specs.Frames.{IsPoint, LooksOn, looked_at}
-use Rattle.window_answers.specs.inner.Memos.{IsSourceCovered, entries_of, live, standing, is_missing}
-use Rattle.window_answers.proofs.Alone.{some-of}
+use Rattle.asked_cells.specs.Memos.{entries_of, is_missing}
+use Rattle.asked_cells.specs.inner.Standings.{live, standing}
+use Rattle.window_answers.specs.inner.Sources.{IsSourceCovered}
+use Rattle.asked_cells.proofs.Alone.{some-of}
 use Rattle.window_answers.proofs.Pins.{needed-has, needed-point, pins-visited, source-kept}
 use Rattle.window_answers.proofs.visits.settle_children.Goals as goal
 
@@ -23,7 +25,7 @@ pins-init g c = record {
   frame = c.new-frame.ensures.frame;
   point = c.new-frame.ensures.point;
   asking = c.requires.asking;
-  advances = λ start first s. stays g.B.BatchName.batch g.B.BatchName.opening c.args.q start first (live c.args.memo.now.shards.items) s;
+  advances = λ start first s. stays g.B.BatchName.batch g.B.BatchName.opening c.args.q start first (live c.args.memo.now) s;
   covered = λ start first s i low. let z = c.new-frame.ensures.looked in absurd (omega arith);
 }
 
@@ -34,19 +36,19 @@ pub returns-in-None-clause-advances : goal.returns-in-None-clause-advances
 returns-in-None-clause-advances g c = λ start first s.
     let b = g.B.BatchName.batch in
     let q = c.args.q in
-    let old = live c.args.memo.now.shards.items in
-    let mid = live c.pins.memo.shards.items in
+    let old = live c.args.memo.now in
+    let mid = live c.pins.memo in
     let a = c.pins.invariant.advances start first s in
     let k = c.in_ok-look.ensures.advances start first a.stands in
-    then b g.B.BatchName.opening q start first old mid (standing c.look.new.memo.shards.items true) a (subst (λ o. Advances b g.B.BatchName.opening q start first mid (standing c.look.new.memo.shards.items (is_missing o))) c.in-None.is k)
+    then b g.B.BatchName.opening q start first old mid (standing c.look.new.memo true) a (subst (λ o. Advances b g.B.BatchName.opening q start first mid (standing c.look.new.memo (is_missing o))) c.in-None.is k)
 
 pub pins-preserved : goal.pins-preserved
 pins-preserved g c =
     let b = g.B.BatchName.batch in
     let q = c.args.q in
-    let old = live c.args.memo.now.shards.items in
-    let mid = live c.pins.memo.shards.items in
-    let new = c.look.new.memo.shards.items in
+    let old = live c.args.memo.now in
+    let mid = live c.pins.memo in
+    let new = c.look.new.memo in
     let on = some-of (LooksOn c.args.design.now.circuit c.pins.frame) c.in_ok-look.field-0 c.in-Some.next c.in_ok-look.ensures.frame c.in-Some.is in
     let d = c.args.design.now.circuit in
     record {
@@ -62,7 +64,7 @@ pins-preserved g c =
           let k = c.in_ok-look.ensures.advances start first a.stands in
           let e = on.looked in
           elim (cases_lt i c.pins.frame.looked) [
-            | inl l ↦ source-kept b.circuit (entries_of c.pins.memo.shards.items) (entries_of new) k.kept (get_or (looked_at d c.args.p) i None) (c.pins.invariant.covered start first s i l)
+            | inl l ↦ source-kept b.circuit (entries_of c.pins.memo) (entries_of new) k.kept (get_or (looked_at d c.args.p) i None) (c.pins.invariant.covered start first s i l)
             | inr l ↦
                 let here = c.in_ok-look.ensures.covered start first a.stands (ap is_missing c.in-Some.is) in
                 let same : i ≡ c.pins.frame.looked = omega arith in
@@ -75,7 +77,7 @@ pub returns-clause-visited : goal.returns-clause-visited
 returns-clause-visited g c = λ start first s e.
     let b = g.B.BatchName.batch in
     let p = c.args.p in
-    let es = entries_of c.pins.memo.shards.items in
+    let es = entries_of c.pins.memo in
     let d = c.args.design.now.circuit in
     let all = c.pins.invariant.covered start first s in
     let done : c.pins.frame.looked ≡ length (looked_at d c.pins.frame.point) = eqb-true c.pins.frame.looked (length (looked_at d c.pins.frame.point)) (sym c.is_done.ensures ∙ c.pins-test.false) in

@@ -1,22 +1,22 @@
 use Rattle.std.proofs.Common.{◌≡◌, ◌<◌, ◌-◌, ℕ, List, None, get_or, length}
-use Rattle.std.specs.BTreeMap.{get}
 use Rattle.journal_meaning.specs.declared.Entry.{Entry}
-use Rattle.valid_intervals.specs.Cells.{point_cmp}
 use Rattle.plan_machine.specs.Shards.{Shard}
 use Rattle.plan_machine.specs.inner.Settle.{IsStanding, Advances}
 use Rattle.demand_points.specs.Frames.{IsFrame, looked_at}
-use Rattle.window_answers.specs.inner.Memos.{IsChargedMemo, IsSourceCovered, entries_of, live}
+use Rattle.asked_cells.specs.Memos.{IsChargedMemo, entries_of}
+use Rattle.asked_cells.specs.inner.Standings.{live}
+use Rattle.window_answers.specs.inner.Sources.{IsSourceCovered}
 use Rattle.window_answers.proofs.visits.settle_children.Given as goal
 
 abbrev pub invariant-pins : goal.invariant-pins
 invariant-pins g l = record {
   frame : IsFrame l.design.circuit l.frame;
   point : l.frame.point ≡ l.fn.p;
-  asking : IsChargedMemo g.B.BatchName.batch g.B.BatchName.opening l.memo.shards.items (get point_cmp l.memo.cells.cells) l.q l.charge;
-  advances : (start : List Entry) (first : List Shard) → IsStanding g.B.BatchName.batch g.B.BatchName.opening l.q start first (live l.initial.memo.shards.items)
-      → Advances g.B.BatchName.batch g.B.BatchName.opening l.q start first (live l.initial.memo.shards.items) (live l.memo.shards.items);
-  covered : (start : List Entry) (first : List Shard) → IsStanding g.B.BatchName.batch g.B.BatchName.opening l.q start first (live l.initial.memo.shards.items)
-      → (i : ℕ) → i < l.frame.looked → IsSourceCovered g.B.BatchName.batch.circuit (entries_of l.memo.shards.items) (get_or (looked_at l.design.circuit l.fn.p) i None);
+  asking : IsChargedMemo g.B.BatchName.batch g.B.BatchName.opening l.memo l.q l.charge;
+  advances : (start : List Entry) (first : List Shard) → IsStanding g.B.BatchName.batch g.B.BatchName.opening l.q start first (live l.initial.memo)
+      → Advances g.B.BatchName.batch g.B.BatchName.opening l.q start first (live l.initial.memo) (live l.memo);
+  covered : (start : List Entry) (first : List Shard) → IsStanding g.B.BatchName.batch g.B.BatchName.opening l.q start first (live l.initial.memo)
+      → (i : ℕ) → i < l.frame.looked → IsSourceCovered g.B.BatchName.batch.circuit (entries_of l.memo) (get_or (looked_at l.design.circuit l.fn.p) i None);
 }
 
 abbrev pub decreases-pins : goal.decreases-pins

@@ -7,16 +7,17 @@ use Rattle.journal_meaning.specs.Answers.{IsCovered}
 use Rattle.plan_machine.specs.Settle.{Standing}
 use Rattle.plan_machine.specs.inner.Settle.{Advances, IsVisited}
 use Rattle.plan_machine.proofs.Settle.{then}
-use Rattle.window_answers.specs.inner.Memos.{live, standing, entries_of}
+use Rattle.asked_cells.specs.Memos.{entries_of}
+use Rattle.asked_cells.specs.inner.Standings.{live, standing}
 use Rattle.window_answers.proofs.visits.settle_fills.Goals as goal
 
 pub returns-then-branch-clause-advances : goal.returns-then-branch-clause-advances
 returns-then-branch-clause-advances g c = λ start first s.
     let b = g.B.BatchName.batch in
     let q = c.args.q in
-    let old = live c.args.memo.now.shards.items in
-    let mid = live c.loop-p.memo.shards.items in
-    let to : Bool → Standing = standing c.settle_children.new.memo.shards.items in
+    let old = live c.args.memo.now in
+    let mid = live c.loop-p.memo in
+    let to : Bool → Standing = standing c.settle_children.new.memo in
     let a = c.loop-p.invariant.advances start first s in
     let k = c.in_ok-settle_children.ensures.advances start first a.stands in
     then b g.B.BatchName.opening q start first old mid (to true) a (subst (λ r. Advances b g.B.BatchName.opening q start first mid (to r)) c.if-branch.true k)
@@ -25,9 +26,9 @@ pub loop-p-preserved : goal.loop-p-preserved
 loop-p-preserved g c =
     let b = g.B.BatchName.batch in
     let q = c.args.q in
-    let old = live c.args.memo.now.shards.items in
-    let mid = live c.loop-p.memo.shards.items in
-    let new = c.settle_children.new.memo.shards.items in
+    let old = live c.args.memo.now in
+    let mid = live c.loop-p.memo in
+    let new = c.settle_children.new.memo in
     let to : Bool → Standing = standing new in
     record {
       asking = c.in_ok-settle_children.ensures.asking;
@@ -39,7 +40,7 @@ loop-p-preserved g c =
           let a = c.loop-p.invariant.advances start first s in
           let r = c.in_ok-settle_children.ensures.advances start first a.stands in
           elim (cases_lt k c.loop-p.p-index) [
-            | inl l ↦ let p = get_or c.args.fills.now k d in All-weaker (IsCovered b.circuit (entries_of c.loop-p.memo.shards.items)) (IsCovered b.circuit (entries_of new)) r.kept (children b.circuit p.signal p.time) (c.loop-p.invariant.visited start first s k d l)
+            | inl l ↦ let p = get_or c.args.fills.now k d in All-weaker (IsCovered b.circuit (entries_of c.loop-p.memo)) (IsCovered b.circuit (entries_of new)) r.kept (children b.circuit p.signal p.time) (c.loop-p.invariant.visited start first s k d l)
             | inr l ↦
                 let e : k ≡ c.loop-p.p-index = omega arith in
                 subst (λ j. IsVisited b.circuit (entries_of new) (get_or c.args.fills.now j d)) (sym e)

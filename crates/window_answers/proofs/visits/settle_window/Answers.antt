@@ -7,9 +7,11 @@ use Rattle.circuit_meaning.proofs.Cover.{cell-covers}
 use Rattle.batch_meaning.specs.Batches.{window_of}
 use Rattle.plan_machine.specs.inner.Settle.{Advances, Reaches, IsCoveredTo}
 use Rattle.plan_machine.proofs.Settle.{stays, then, within, window-step}
-use Rattle.window_answers.specs.inner.Memos.{entries_of, live, standing, is_missing, at_time}
+use Rattle.asked_cells.specs.Memos.{entries_of, is_missing, at_time}
+use Rattle.asked_cells.specs.inner.Standings.{live, standing}
+use Rattle.asked_cells.proofs.Asked.{reaches}
 use Rattle.window_answers.proofs.Pins.{root-asks}
-use Rattle.window_answers.proofs.Alone.{some-of}
+use Rattle.asked_cells.proofs.Alone.{some-of}
 use Rattle.window_answers.proofs.visits.settle_window.Goals as goal
 
 pub roots-init : goal.roots-init
@@ -23,7 +25,7 @@ roots-init g c =
       stop = made.stop;
       walked = made.walked b.circuit q.signal;
       root = λ h. subst (IsRoot b.circuit (window_of q)) (sym made.time) (First (let t = made.time in omega arith));
-      advances = λ start first s. stays b g.B.BatchName.opening q start first (live c.args.memo.now.shards.items) s;
+      advances = λ start first s. stays b g.B.BatchName.opening q start first (live c.args.memo.now) s;
       covered = λ start first s e t low high. let m = made.time in absurd (omega arith);
     }
 
@@ -31,11 +33,11 @@ pub returns-in_default-2-clause-advances : goal.returns-in_default-2-clause-adva
 returns-in_default-2-clause-advances g c = λ start first s.
     let b = g.B.BatchName.batch in
     let q = c.args.q in
-    let old = live c.args.memo.now.shards.items in
-    let ms = c.roots.memo.shards.items in
+    let old = live c.args.memo.now in
+    let ms = c.roots.memo in
     let a = c.roots.invariant.advances start first s in
-    let r = c.in_ok-cell.ensures.reaches q start first a.stands (root-asks q (entries_of ms) c.in-Some.time c.roots.charge c.roots.invariant.asking.counts) in
-    then b g.B.BatchName.opening q start first old (live ms) (standing c.reach.new.memo.shards.items true) a (subst (λ o. Advances b g.B.BatchName.opening q start first (live ms) (standing c.reach.new.memo.shards.items (is_missing o))) c.in_default-2.is r.0)
+    let r = reaches b c.requires.lawful g.B.BatchName.opening q start first ms c.reach.new.memo q c.in-Some.time c.roots.charge (is_missing c.in_ok-cell.field-0) a.stands (root-asks q (entries_of ms) c.in-Some.time c.roots.charge c.roots.invariant.asking.counts) c.in_ok-cell.ensures.asked in
+    then b g.B.BatchName.opening q start first old (live ms) (standing c.reach.new.memo true) a (subst (λ o. Advances b g.B.BatchName.opening q start first (live ms) (standing c.reach.new.memo (is_missing o))) c.in_default-2.is r.0)
 
 pub roots-smaller : goal.roots-smaller
 roots-smaller g c =
@@ -59,9 +61,9 @@ roots-preserved g c =
     let next = c.in-Some.ensures.some in
     let stop = i.stop in
     let low : t < q.to = omega (arith, next.1, stop) in
-    let old = live c.args.memo.now.shards.items in
-    let ms = c.roots.memo.shards.items in
-    let new = c.reach.new.memo.shards.items in
+    let old = live c.args.memo.now in
+    let ms = c.roots.memo in
+    let new = c.reach.new.memo in
     let pushed = c.in_ok-push.ensures in
     let right : c.in-Some-2.cell ≡ cell_at b.circuit (at_time q t) = some-of (λ (x : Cell). x ≡ cell_at b.circuit (at_time q t)) c.in_ok-cell.field-0 c.in-Some-2.cell c.in_ok-cell.ensures.cell c.in-Some-2.is in
     let end : c.push.new.self.time ≡ (span b.circuit q.signal t).stop = pushed.time ∙ ap (λ (x : Cell). x.span.stop) right in
@@ -74,11 +76,11 @@ roots-preserved g c =
       root = λ h. subst (IsRoot b.circuit (window_of q)) (sym end) (Next root (omega (arith, h, end)));
       advances = λ start first s.
           let a = i.advances start first s in
-          let r = c.in_ok-cell.ensures.reaches q start first a.stands (root-asks q (entries_of ms) t c.roots.charge i.asking.counts) in
+          let r = reaches b c.requires.lawful g.B.BatchName.opening q start first ms c.reach.new.memo q t c.roots.charge (is_missing c.in_ok-cell.field-0) a.stands (root-asks q (entries_of ms) t c.roots.charge i.asking.counts) c.in_ok-cell.ensures.asked in
           then b g.B.BatchName.opening q start first old (live ms) (standing new false) a (subst (λ o. Advances b g.B.BatchName.opening q start first (live ms) (standing new (is_missing o))) c.in-Some-2.is r.0);
       covered = λ start first s.
           let a = i.advances start first s in
-          let r = c.in_ok-cell.ensures.reaches q start first a.stands (root-asks q (entries_of ms) t c.roots.charge i.asking.counts) in
+          let r = reaches b c.requires.lawful g.B.BatchName.opening q start first ms c.reach.new.memo q t c.roots.charge (is_missing c.in_ok-cell.field-0) a.stands (root-asks q (entries_of ms) t c.roots.charge i.asking.counts) c.in_ok-cell.ensures.asked in
           let one : Reaches b g.B.BatchName.opening q start first (live ms) (at_time q t) (standing new false) = subst (λ o. Reaches b g.B.BatchName.opening q start first (live ms) (at_time q t) (standing new (is_missing o))) c.in-Some-2.is r in
           let before : IsCoveredTo b.circuit q (live ms) t = subst (IsCoveredTo b.circuit q (live ms)) (sym next.0) (i.covered start first s) in
           let w = window-step b c.requires.lawful g.B.BatchName.opening q c.requires.known start first (live ms) (standing new false) t low root before one in

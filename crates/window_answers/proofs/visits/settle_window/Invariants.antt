@@ -1,26 +1,25 @@
 use Rattle.std.proofs.Common.{◌≡◌, ◌<◌, ◌-◌, List}
-use Rattle.std.specs.BTreeMap.{get}
 use Rattle.circuit_meaning.specs.Need.{IsRoot}
 use Rattle.journal_meaning.specs.declared.Entry.{Entry}
 use Rattle.batch_meaning.specs.Batches.{window_of}
-use Rattle.valid_intervals.specs.Cells.{point_cmp}
 use Rattle.plan_machine.specs.Shards.{Shard}
 use Rattle.plan_machine.specs.inner.Settle.{IsStanding, Advances, IsCoveredTo}
 use Rattle.window_walks.specs.Walks.{IsWalked}
-use Rattle.window_answers.specs.inner.Memos.{IsChargedMemo, live}
+use Rattle.asked_cells.specs.Memos.{IsChargedMemo}
+use Rattle.asked_cells.specs.inner.Standings.{live}
 use Rattle.window_answers.proofs.visits.settle_window.Given as goal
 
 abbrev pub invariant-roots : goal.invariant-roots
 invariant-roots g l = record {
-  asking : IsChargedMemo g.B.BatchName.batch g.B.BatchName.opening l.memo.shards.items (get point_cmp l.memo.cells.cells) l.q l.charge;
+  asking : IsChargedMemo g.B.BatchName.batch g.B.BatchName.opening l.memo l.q l.charge;
   start : l.walk.start ≡ l.q.from;
   stop : l.walk.stop ≡ l.q.to;
   walked : IsWalked g.B.BatchName.batch.circuit l.q.signal l.walk;
   root : l.walk.time < l.q.to → IsRoot g.B.BatchName.batch.circuit (window_of l.q) l.walk.time;
-  advances : (start : List Entry) (first : List Shard) → IsStanding g.B.BatchName.batch g.B.BatchName.opening l.q start first (live l.initial.memo.shards.items)
-      → Advances g.B.BatchName.batch g.B.BatchName.opening l.q start first (live l.initial.memo.shards.items) (live l.memo.shards.items);
-  covered : (start : List Entry) (first : List Shard) → IsStanding g.B.BatchName.batch g.B.BatchName.opening l.q start first (live l.initial.memo.shards.items)
-      → IsCoveredTo g.B.BatchName.batch.circuit l.q (live l.memo.shards.items) l.walk.time;
+  advances : (start : List Entry) (first : List Shard) → IsStanding g.B.BatchName.batch g.B.BatchName.opening l.q start first (live l.initial.memo)
+      → Advances g.B.BatchName.batch g.B.BatchName.opening l.q start first (live l.initial.memo) (live l.memo);
+  covered : (start : List Entry) (first : List Shard) → IsStanding g.B.BatchName.batch g.B.BatchName.opening l.q start first (live l.initial.memo)
+      → IsCoveredTo g.B.BatchName.batch.circuit l.q (live l.memo) l.walk.time;
 }
 
 abbrev pub decreases-roots : goal.decreases-roots

@@ -3,9 +3,9 @@ use Rattle.valid_intervals.specs.declared.Point.{Point}
 use Rattle.journal_meaning.specs.declared.Entry.{Entry}
 use Rattle.plan_machine.specs.Settling.{fills_of}
 use Rattle.memo_shards.specs.KeptShards.{KeptShard}
-use Rattle.window_answers.specs.inner.Memos.{entries_of}
-use Rattle.window_answers.proofs.Lists.{take-all}
-use Rattle.window_answers.proofs.Entries.{entries-item}
+use Rattle.asked_cells.specs.Memos.{entries_of}
+use Rattle.asked_cells.proofs.Lists.{take-all}
+use Rattle.asked_cells.proofs.Entries.{entries-item}
 use Rattle.window_answers.proofs.Filled.{fills-append}
 use Rattle.window_answers.proofs.fills.FilledPoints.gather.Goals as goal
 

@@ -3,7 +3,7 @@ use Rattle.std.specs.BTreeMap.{get}
 use Rattle.std.specs.Ordering.{nat_cmp}
 use Rattle.plan_machine.specs.Settling.{fills_of}
 use Rattle.window_answers.specs.inner.Fills.{points_in}
-use Rattle.window_answers.specs.inner.Memos.{entries_of}
+use Rattle.asked_cells.specs.Memos.{entries_of}
 use Rattle.window_answers.proofs.fills.FilledPoints.gather.Given as goal
 
 abbrev pub invariant-loop-shard : goal.invariant-loop-shard

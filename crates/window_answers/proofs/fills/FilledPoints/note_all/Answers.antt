@@ -5,7 +5,7 @@ use Rattle.valid_intervals.specs.declared.Point.{Point}
 use Rattle.journal_meaning.specs.declared.Entry.{Entry}
 use Rattle.plan_machine.specs.Settling.{fills_of}
 use Rattle.window_answers.specs.inner.Fills.{points_in}
-use Rattle.window_answers.proofs.Lists.{take-item, take-all}
+use Rattle.asked_cells.proofs.Lists.{take-item, take-all}
 use Rattle.window_answers.proofs.Filled.{fills-append}
 use Rattle.window_answers.proofs.fills.FilledPoints.note_all.Goals as goal
 

@@ -1,0 +1,6 @@
+pub mod Lists
+pub mod Index
+pub mod Entries
+pub mod Alone
+pub mod Asked
+pub mod Freeing

@@ -1,0 +1,15 @@
+use Rattle.std.proofs.Common.{◌++◌, ◌∷◌, [], List, ℕ, length, ap, ap₂, sym, ◌∙◌, arith}
+use Rattle.memo_shards.specs.KeptShards.{KeptShard}
+use Rattle.asked_cells.specs.inner.Tails.{lengths_of}
+use Rattle.asked_cells.proofs.Lists.{map-item, take-all}
+use Rattle.asked_cells.proofs.memo.lengths.Goals as goal
+
+pub loop-shard-preserved : goal.loop-shard-preserved
+loop-shard-preserved g c =
+    let xs = c.args.shards.now in
+    let n = c.loop-shard.shard-index in
+    c.in_ok-push.ensures.items ∙ ap₂ (λ (l : List ℕ) (m : ℕ). l ++ m ∷ []) c.loop-shard.invariant (ap length c.journal.ensures)
+    ∙ sym (map-item (λ (m : KeptShard). length m.shard.journal) xs n c.shard-item.result c.loop-shard-test.true c.shard-item.is)
+
+pub returns : goal.returns
+returns g c = c.loop-shard.invariant ∙ ap lengths_of (take-all c.args.shards.now c.loop-shard.shard-index (let t = c.loop-shard-test.false in omega arith))

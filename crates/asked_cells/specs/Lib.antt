@@ -1,0 +1,4 @@
+pub mod Asked
+pub mod Memos
+pub mod Shards
+pub mod inner

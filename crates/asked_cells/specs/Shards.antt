@@ -1,0 +1,7 @@
+-- Shards in order.
+use Rattle.std.specs.Prelude.{◌≡◌, ℕ, ◌<◌, List, length, get_or}
+use Rattle.memo_shards.specs.KeptShards.{KeptShard}
+
+-- the shard at each place has its number
+abbrev pub AreNumbered : List KeptShard → Type 0
+AreNumbered ms = (n : ℕ) (d : KeptShard) → n < length ms → (get_or ms n d).number ≡ n

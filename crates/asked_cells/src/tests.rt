@@ -1,0 +1,1 @@
+//! One cell, asked for alone.

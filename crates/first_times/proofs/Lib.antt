@@ -1,0 +1,4 @@
+pub mod Finding
+pub mod Lawful
+mod Unused
+mod Walks

@@ -1,0 +1,105 @@
+//! The walk of a window up to the first time.
+
+ghost use Rattle.std.specs.Prelude.{◌≡◌, ◌∷◌, [], List, None, length, IfOk, OnOk};
+ghost use Rattle.gate_values.specs.Gates.{same_value};
+ghost use Rattle.batch_meaning.specs.Lawful.{IsLawful};
+ghost use Rattle.journal_meaning.specs.declared.Entry.{Entry as EntryRecord};
+ghost use Rattle.journal_meaning.specs.Grown.{AreAdded};
+ghost use Rattle.session_meaning.specs.FirstTimes.{IsFirstAnswer, up_to_first};
+ghost use Rattle.plan_machine.specs.Sound.{IsFresh};
+ghost use Rattle.plan_machine.specs.Settle.{entries_in, journals_of};
+ghost use Rattle.plan_core.specs.Parts.{shards_in};
+ghost use Rattle.asked_cells.specs.Shards.{AreNumbered};
+ghost use Rattle.asked_cells.specs.Memos.{AreFreeShards, entries_of};
+ghost use Rattle.first_times.specs.Unused.{AreUnused};
+
+use asked_cells::{Memo, begin, reach};
+use backsim_io::OutOfMemory;
+use batch_meaning::Query;
+use demand_points::BatchName;
+use design::Design;
+use gate_values::Value;
+use memo_shards::Shard;
+use reply_lines::FirstAnswer;
+use std::alloc::Global;
+
+/// The answer, and the shards that are left.
+#[derive(Drop)]
+pub struct FirstDone<B: BatchName> {
+    pub answer: FirstAnswer,
+    pub shards: Vec<Shard<B>>,
+}
+
+/// Whether two values are the same.
+fn is_same(value: Value, other: Value) -> bool
+    ensures { result ≡ same_value value other }
+{
+    value == other
+}
+
+/// Walks a window from cell to cell, up to the first that has the value.
+fn walk<B: BatchName>(
+    memo: &mut Memo<B>,
+    design: &Design,
+    query: Query,
+    value: Value,
+) -> Result<FirstAnswer, OutOfMemory>
+    requires lawful { IsLawful B.batch }
+    requires site { B.batch.site ≡ None }
+    requires design { design.now.circuit ≡ B.batch.circuit }
+    requires queries { B.batch.queries ≡ up_to_first B.batch.circuit query value ∷ [] }
+    requires kept { AreFreeShards B.batch B.opening memo.old }
+    requires unused { entries_of memo.old ≡ [] }
+    ensures kept { OnOk result (AreFreeShards B.batch B.opening memo.new) }
+    ensures journals { OnOk result ((added : List EntryRecord) × AreAdded (journals_of (shards_in memo.old)) added (journals_of (shards_in memo.new))) }
+    ensures answer { IfOk result (IsFirstAnswer B.batch.circuit (entries_of memo.new) query value) }
+{
+    let mut time = query.from;
+    let mut charge = 0;
+    'cells: while time < query.to {
+        let instant = Query {
+            number: query.number,
+            signal: query.signal,
+            from: time,
+            to: time + 1,
+            budget: query.budget,
+        };
+        let Some(cell) = reach(memo, design, instant, time, &mut charge)? else {
+            return Ok(FirstAnswer::Budget(query.budget));
+        };
+        if is_same(cell.value, value) {
+            return Ok(FirstAnswer::At(time));
+        }
+        time = cell.span.end();
+    }
+    Ok(FirstAnswer::Never)
+}
+
+/// The first time in the window of a query at which its signal has a value, by asking for one cell after another up to that time. An
+/// empty window is answered with nothing asked. An `Err` gives up the shards.
+pub fn first_time<B: BatchName>(
+    alloc: Global,
+    design: &Design,
+    shards: Vec<Shard<B>>,
+    query: Query,
+    value: Value,
+) -> Result<FirstDone<B>, OutOfMemory>
+    requires lawful { IsLawful B.batch }
+    requires site { B.batch.site ≡ None }
+    requires design { design.now.circuit ≡ B.batch.circuit }
+    requires queries { B.batch.queries ≡ up_to_first B.batch.circuit query value ∷ [] }
+    requires count { length shards.items ≡ B.batch.shards }
+    requires numbers { AreNumbered shards.items }
+    requires unused { AreUnused shards.items }
+    ensures numbers { IfOk result (λ done. AreNumbered done.shards.items) }
+    ensures fresh { IfOk result (λ done. IsFresh B.batch B.opening (shards_in done.shards.items)) }
+    ensures journals { IfOk result (λ done. (added : List EntryRecord) × AreAdded (journals_of (shards_in shards.items)) added (journals_of (shards_in done.shards.items))) }
+    ensures answer { IfOk result (λ done. IsFirstAnswer B.batch.circuit (entries_in (shards_in done.shards.items)) query value done.answer) }
+{
+    let mut memo = begin(alloc, shards)?;
+    let answer = walk(&mut memo, design, query, value)?;
+    Ok(FirstDone {
+        answer,
+        shards: memo.into_shards(),
+    })
+}
