@@ -1,22 +1,15 @@
 -- What a batch and a trim come to.
-use Rattle.std.proofs.Common.{◌≡◌, ℕ, ◌<◌, ◌≤◌, List, [], ◌∷◌, ◌++◌, length, get_or, map, take, All, None, refl, sym, ap, subst, ◌∙◌, arith}
-use Rattle.std.specs.List.{AllZip, AllByRecursion}
+use Rattle.std.proofs.Common.{◌≡◌, ℕ, ◌<◌, List, [], length, get_or, map, take, All, sym, ap, subst, ◌∙◌, arith}
+use Rattle.std.specs.List.{AllZip}
 use Rattle.std.proofs.lemmas.List.{get_or-map, length-map}
-use Rattle.std.proofs.lemmas.List.Elements.{All-from_recursion, recursion_from_All, All-take}
-use Rattle.valid_intervals.specs.declared.SignalCell.{SignalCell}
-use Rattle.cell_store.specs.Recency.{Contents, contents, with_cells}
-use Rattle.circuit_meaning.specs.Circuit.{Circuit}
+use Rattle.std.proofs.lemmas.List.Elements.{All-take}
+use Rattle.cell_store.specs.Recency.{Contents, contents}
 use Rattle.journal_meaning.specs.declared.Entry.{Entry}
-use Rattle.batch_meaning.specs.declared.Query.{Query}
-use Rattle.journal_meaning.specs.States.{State, fresh}
-use Rattle.batch_meaning.specs.Batches.{Batch}
+use Rattle.journal_meaning.specs.States.{fresh}
 use Rattle.journal_meaning.specs.Allowed.{IsRight}
-use Rattle.journal_meaning.specs.Replay.{replay, IsLegalBatch, IsLegalTrim}
+use Rattle.journal_meaning.specs.Replay.{replay, IsLegalTrim}
 use Rattle.journal_meaning.specs.Sections.{of_batch}
-use Rattle.plan_machine.specs.Shards.{Shard, IsShard}
-use Rattle.plan_machine.specs.Plans.{no_shard}
-use Rattle.plan_machine.specs.Sound.{IsFresh}
-use Rattle.plan_machine.specs.Settle.{IsAnswered, AreSettled, AreAnswered, journals_of}
+use Rattle.plan_machine.specs.Settle.{IsAnswered, AreAnswered, journals_of}
 use Rattle.plan_machine.proofs.Freed.{settled-answered}
 use Rattle.query_lines.specs.declared.unit.Item.{Item}
 use Rattle.reply_lines.specs.declared.reply.Reply.{Reply}
@@ -29,63 +22,31 @@ use Rattle.unit_answers.specs.Stores.{AreStores, cells_of}
 use Rattle.unit_answers.specs.Done.{IsBatchDone, IsTrimDone}
 use Rattle.unit_answers.specs.inner.Placed.{placed}
 use Rattle.unit_answers.specs.inner.Trims.{trimmed, entries_at}
-use Rattle.unit_answers.specs.inner.Runs.{asks, store_of, HasRun}
+use Rattle.unit_answers.specs.inner.Runs.{asks, HasRun}
 use Rattle.unit_answers.proofs.Answering.{items-right, items-suit}
+use Rattle.unit_answers.proofs.Left.{lists-many, lists-legal, stores-left, stores-leave}
 use Rattle.unit_answers.proofs.Trimming.{trims-legal, trims-leave}
 
 module _ (setup : Setup) (items : List Item) (opening : List Contents) (rs : List Reply) (lists : List (List Entry)) (left : List Contents) (run : HasRun (asks setup (queries_of setup.design items)) (cells_of opening) rs lists left) where
-  abbrev b : Batch
-  b = batch_of setup items
-
-  answered : IsAnswered b (cells_of opening) run.shards (refused_of rs)
-  answered = settled-answered b (cells_of opening) run.handed run.shards (refused_of rs) run.settled
-
-  shard-is : (n : ℕ) → n < setup.shards → IsShard b n (cells_of opening n) (get_or run.shards n no_shard)
-  shard-is n low = run.settled.fresh.right n low
-
-  left-at : (n : ℕ) (d : Contents) → n < setup.shards → get_or left n d ≡ store_of setup.capacity (get_or run.shards n no_shard)
-  left-at n d low =
-      let count = run.settled.fresh.count in
-      ap (λ l. get_or l n d) run.stores_are ∙ get_or-map (store_of setup.capacity) run.shards n no_shard d (omega arith)
-
-  list-at : (n : ℕ) → n < setup.shards → get_or lists n [] ≡ (get_or run.shards n no_shard).journal
-  list-at n low =
-      let count = run.settled.fresh.count in
-      ap (λ l. get_or l n []) run.lists_are ∙ get_or-map (λ (h : Shard). h.journal) run.shards n no_shard [] (omega arith)
-
-  left-many : length left ≡ setup.shards
-  left-many = ap length run.stores_are ∙ length-map run.shards (store_of setup.capacity) ∙ run.settled.fresh.count
-
-  stores-left : AreStores setup left
-  stores-left = record {
-    count = left-many;
-    capacity = λ n d low. ap (λ (s : Contents). s.capacity) (left-at n d (omega (arith, left-many)));
-    right = λ n d low.
-        let within : n < setup.shards = omega (arith, left-many) in
-        subst (λ (s : Contents). All (IsRight setup.design.circuit) s.cells) (sym (left-at n d within))
-        (All-from_recursion (IsRight setup.design.circuit) (get_or run.shards n no_shard).state.cells (shard-is n within).right);
-  }
-
-  stores-leave : (n : ℕ) → n < setup.shards → cells_of left n ≡ (replay (fresh (cells_of opening n)) (get_or lists n [])).cells
-  stores-leave n low =
-      ap (λ (s : Contents). s.cells) (left-at n (contents 0 []) low)
-      ∙ ap (λ (s : State). s.cells) (shard-is n low).state
-      ∙ ap (λ es. (replay (fresh (cells_of opening n)) es).cells) (sym (list-at n low))
+  answered : IsAnswered (batch_of setup items) (cells_of opening) run.shards (refused_of rs)
+  answered = settled-answered (batch_of setup items) (cells_of opening) run.handed run.shards (refused_of rs) run.settled
 
   -- the batch is done once the replies stand at the places of the items
   pub batch-done : (replies : List Reply) → replies ≡ placed (map (verdict_of setup.design) items) rs → IsBatchDone setup items opening replies lists left
   batch-done replies at =
       let c = setup.design.circuit in
+      let queries = queries_of setup.design items in
+      let free = run.settled.fresh in
       let lists_are : journals_of run.shards ≡ lists = sym run.lists_are in
       let answers : AreAnswered c (of_batch lists) (queries_of setup.design items) (refused_of rs) =
       subst (λ (l : List (List Entry)). AreAnswered c (of_batch l) (queries_of setup.design items) (refused_of rs)) lists_are answered.answers in
       record {
-        count = ap length run.lists_are ∙ answered.legal.count;
-        legal = λ n low. subst (λ (l : List (List Entry)). IsLegalBatch b n (cells_of opening n) (get_or l n [])) lists_are (answered.legal.legal n low);
+        count = lists-many setup queries opening run.shards lists left free run.lists_are run.stores_are;
+        legal = lists-legal setup queries opening run.shards lists left free run.lists_are run.stores_are;
         right = subst (AllZip (λ item reply. IsReply c (of_batch lists) (verdict_of setup.design item) reply) items) (sym at) (items-right c (of_batch lists) setup.design items rs run.replies_are answers);
         suits = subst (AllZip (λ (item : Item) reply. Suits item.what reply) items) (sym at) (items-suit c (of_batch lists) setup.design items rs run.replies_are answers);
-        stores = stores-left;
-        leaves = stores-leave;
+        stores = stores-left setup queries opening run.shards lists left free run.lists_are run.stores_are;
+        leaves = stores-leave setup queries opening run.shards lists left free run.lists_are run.stores_are;
       }
 
 module _ (setup : Setup) (most : ℕ) (opening : List Contents) (stores : AreStores setup opening) (lists : List (List Entry)) (left : List Contents) (lists_are : lists ≡ map (entries_at most) opening) (left_are : left ≡ map (trimmed most) opening) where

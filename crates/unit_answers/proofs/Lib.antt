@@ -2,6 +2,9 @@ pub mod Few
 pub mod Trimming
 pub mod Suiting
 pub mod Answering
+pub mod Left
 pub mod Done
+pub mod Firsts
+pub mod EmptyStores
 pub mod Opening
 pub mod Running

@@ -121,15 +121,18 @@ module _ (c : Circuit) (qs : List Query) (strands : List Demand) (order : IsInOr
 pub order-numbers : (ms : List KeptShard) → AreInOrder ms → AreNumbered ms
 order-numbers ms order n d low = order n (get_or ms n d) (place-at ms n d low)
 
--- what settlement leaves has no claim
-pub settled-free : (b : Batch) (opening : ℕ → List SignalCell) (handed ms : List KeptShard) (rs : List Reply) → HasSettled b opening handed ms rs → All (λ m. m.shard.state.claims ≡ []) ms
-settled-free b opening handed ms rs h k d low =
-    let fresh : IsFresh b opening (shards_in ms) = h.settled.fresh in
+-- shards as a plan begins have no claim
+pub fresh-free : (b : Batch) (opening : ℕ → List SignalCell) (ms : List KeptShard) → IsFresh b opening (shards_in ms) → All (λ m. m.shard.state.claims ≡ []) ms
+fresh-free b opening ms fresh k d low =
     let count = fresh.count in
     let many : length (shards_in ms) ≡ length ms = length-map ms (λ (m : KeptShard). m.shard) in
     subst (λ (x : Shard). x.state.claims ≡ []) (get_or-map (λ (m : KeptShard). m.shard) ms k d no_shard low) (fresh.free k (omega arith))
 
-map-twice : {A B C : Type 0} (g : B → C) (f : A → B) (xs : List A) → map (λ x. g (f x)) xs ≡ map g (map f xs)
+-- so has what settlement leaves
+pub settled-free : (b : Batch) (opening : ℕ → List SignalCell) (handed ms : List KeptShard) (rs : List Reply) → HasSettled b opening handed ms rs → All (λ m. m.shard.state.claims ≡ []) ms
+settled-free b opening handed ms rs h = fresh-free b opening ms h.settled.fresh
+
+pub map-twice : {A B C : Type 0} (g : B → C) (f : A → B) (xs : List A) → map (λ x. g (f x)) xs ≡ map g (map f xs)
 map-twice g f [] = refl
 map-twice g f (x ∷ xs) = ap (λ l. g (f x) ∷ l) (map-twice g f xs)
 

@@ -6,7 +6,7 @@ ghost use Rattle.unit_answers.specs.Stores.{setup_of, AreStores};
 ghost use Rattle.unit_answers.specs.Done.{IsBatchDone};
 
 use crate::replies::{placed, queries_of};
-use crate::run::run_batch;
+use crate::run::{have_room, run_batch};
 use crate::sizes::Sizes;
 use backsim_io::OutOfMemory;
 use batch_crew::Crew;
@@ -25,15 +25,6 @@ pub struct BatchDone {
     pub replies: Vec<Reply>,
     pub lists: Vec<EntryList>,
     pub stores: Vec<CellStore>,
-}
-
-/// What is known of the stores: each has room for a cell.
-fn have_room(design: &Design, sizes: Sizes, stores: &[CellStore])
-    requires stores { AreStores (setup_of design.now sizes) stores.now }
-    requires some { 0 < sizes.shards }
-    ensures { 0 < sizes.cells }
-{
-    let _capacity = stores[0].capacity();
 }
 
 /// Answers the items of a batch over the stores. The crew runs the strands of the queries; what it leaves undone, settlement does.

@@ -1,23 +1,29 @@
-//! What a unit of a script comes to over the memo: a batch is answered, or the stores are trimmed.
+//! What a unit of a script comes to over the memo: a batch is answered, a first time is found, or the stores are trimmed.
 //!
 //! Between two units the memo is one [`cell_store::CellStore`] for each shard. [`answer_batch`] opens the shards over them under the
 //! batch's name, has the strands run by a crew, settles, and closes the shards: it gives the replies, the journal of each shard, and
-//! the stores that are left. [`trim_stores`] evicts the least recent cells. `specs/Done` says what both come to.
+//! the stores that are left. [`answer_first`] answers when a signal first has a value: it opens and closes the shards in the same way,
+//! and asks for one cell after another (`first_times`), with no crew. [`trim_stores`] evicts the least recent cells. `specs/Done` says
+//! what each comes to.
 //!
-//! A caller may rely on this, whoever the crew is: each journal is legal from the cells that its store held, each item has a right
-//! reply, and the stores hold what the journals lead to. So the next unit is served over them in the same way. Where memory runs out,
-//! the stores are given up.
+//! A caller may rely on this, whoever the crew is: each journal is legal from the cells that its store held, each item and each question
+//! for a first time has a right reply, and the stores hold what the journals lead to. So the next unit is served over them in the same
+//! way. Where a name is no signal or a window ends behind the horizon, nothing is asked and the journals are empty. Where memory runs
+//! out, the stores are given up.
 //!
 //! No cell and no journal is copied. Beside what its strands and its settlement cost, a batch takes one step for each item and each
-//! shard; a trim takes O(log n) steps for each cell that it removes from n.
+//! shard. A question for a first time takes one look-up of its name, a step for each shard, and what its walk costs (`first_times`). A
+//! trim takes O(log n) steps for each cell that it removes from n.
 //!
 //! ```text
 //! let done = answer_batch(&crew, alloc, &design, &items, sizes, stores)?;
-//! let trimmed = trim_stores(alloc, &design, 100, sizes, done.stores)?;
+//! let found = answer_first(alloc, &design, &question, sizes, done.stores)?;
+//! let trimmed = trim_stores(alloc, &design, 100, sizes, found.stores)?;
 //! ```
 #![tactic(auto)]
 
 mod batch;
+mod first;
 mod replies;
 mod run;
 mod sizes;
@@ -26,5 +32,6 @@ mod tests;
 mod trim;
 
 pub use batch::{BatchDone, answer_batch};
+pub use first::{FirstDone, answer_first};
 pub use sizes::Sizes;
 pub use trim::{TrimDone, trim_stores};

@@ -1,6 +1,6 @@
 //! The queries of a batch, run under the batch's name.
 
-ghost use Rattle.std.specs.Prelude.{◌≡◌, ◌≤◌, [], length, map, flat_map, All, IfOk};
+ghost use Rattle.std.specs.Prelude.{◌≡◌, ◌<◌, ◌≤◌, [], length, map, flat_map, All, IfOk};
 ghost use Rattle.cell_store.specs.Recency.{Contents};
 ghost use Rattle.batch_meaning.specs.Lawful.{IsLawful};
 ghost use Rattle.batch_meaning.specs.Pieces.{pieces};
@@ -28,8 +28,17 @@ pub struct BatchRun {
     pub stores: Vec<CellStore>,
 }
 
+/// What is known of the stores: each has room for a cell.
+pub fn have_room(design: &Design, sizes: Sizes, stores: &[CellStore])
+    requires stores { AreStores (setup_of design.now sizes) stores.now }
+    requires some { 0 < sizes.shards }
+    ensures { 0 < sizes.cells }
+{
+    let _capacity = stores[0].capacity();
+}
+
 /// Opens a shard over each store.
-fn begin_all<B: BatchName>(
+pub fn begin_all<B: BatchName>(
     alloc: Global,
     stores: Vec<CellStore>,
 ) -> Result<Vec<Shard<B>>, OutOfMemory>
@@ -47,7 +56,7 @@ fn begin_all<B: BatchName>(
 }
 
 /// Closes the shards: the journal and the store of each.
-fn end_all<B: BatchName>(
+pub fn end_all<B: BatchName>(
     alloc: Global,
     shards: Vec<Shard<B>>,
 ) -> Result<(Vec<EntryList>, Vec<CellStore>), OutOfMemory>

@@ -1,8 +1,8 @@
 //! Answers to the queries of a batch.
 //!
-//! [`verdicts_of`] says what becomes of each item of a batch, and [`strands_of`] makes the strands of its queries, one for each piece
-//! of each window. A caller has these run over the shards (`plan_core`, `batch_crew`), as far as it likes. Then [`settle`] goes over
-//! the batch alone, and answers every query:
+//! [`verdicts_of`] says what becomes of each item of a batch, and [`first_verdict_of`] of a question for a first time. [`strands_of`]
+//! makes the strands of a batch's queries, one for each piece of each window. A caller has these run over the shards (`plan_core`,
+//! `batch_crew`), as far as it likes. Then [`settle`] goes over the batch alone, and answers every query:
 //! - It frees the claims that are left.
 //! - For each query in order it visits the points that the query had filled as settlement began: the cell of each looked pin is
 //!   found among the base answers and the cells that entries of the batch say, or a strand that runs alone asks for it.
@@ -42,4 +42,4 @@ mod visits;
 pub use session_meaning::Verdict;
 pub use settlement::{Settled, settle};
 pub use strands::strands_of;
-pub use verdicts::verdicts_of;
+pub use verdicts::{first_verdict_of, verdicts_of};

@@ -1,13 +1,13 @@
-//! What the items of a batch ask.
+//! What the items of a batch ask, and a question for a first time.
 
 ghost use Rattle.std.specs.Prelude.{◌≡◌, map, IfOk};
 ghost use Rattle.design.specs.Join.{number};
-ghost use Rattle.session_meaning.specs.Verdicts.{window_verdict, verdict_of};
+ghost use Rattle.session_meaning.specs.Verdicts.{window_verdict, verdict_of, first_verdict};
 
 use backsim_io::{OutOfMemory, Text};
 use batch_meaning::Query;
 use design::Design;
-use query_lines::{Item, What};
+use query_lines::{FirstItem, Item, What};
 use session_meaning::Verdict;
 use std::alloc::Global;
 
@@ -68,4 +68,19 @@ pub fn verdicts_of(
         verdicts.push(verdict_of(design, item))?;
     }
     Ok(verdicts)
+}
+
+/// What a question for a first time asks: one look-up of its name by hashing.
+pub fn first_verdict_of(design: &Design, item: &FirstItem) -> Verdict
+    ensures { result ≡ first_verdict design.now item.now }
+{
+    let first = &item.first;
+    window_verdict(
+        design,
+        item.line,
+        &first.name,
+        first.from,
+        first.to as u64,
+        first.budget,
+    )
 }

@@ -3,32 +3,13 @@ use Rattle.std.specs.List.{AllPairs}
 use Rattle.std.proofs.lemmas.List.Elements.{All-nil, All-cons}
 use Rattle.std.proofs.lemmas.List.Kept.{AllPairs-cons}
 use Rattle.std.proofs.lemmas.List.Sums.{sum_by-cons}
-use Rattle.valid_intervals.specs.declared.SignalCell.{SignalCell}
-use Rattle.cell_store.specs.Recency.{Contents, contents}
-use Rattle.journal_meaning.specs.Allowed.{IsRight}
 use Rattle.query_lines.specs.declared.line.What.TheVariants as whats
 use Rattle.query_lines.specs.declared.unit.Item.{Item}
 use Rattle.query_lines.specs.Units.{budgets, budget_weight, window_length, length_weight, lengths}
 use Rattle.query_lines.specs.Laws.{IsWithin}
-use Rattle.design.specs.Joined.{Joined}
 use Rattle.unit_answers.specs.Stores.{setup_of, AreStores}
-use Rattle.unit_answers.specs.declared.sizes.Sizes.{Sizes}
+use Rattle.unit_answers.proofs.EmptyStores.{sizes, two-empty}
 use Rattle.unit_answers.proofs.tests.answered.Goals as goal
-
-abbrev sizes : Sizes
-sizes = record { shards = 2; cells = 4 }
-
-two-empty : (d : Joined) → AreStores (setup_of d sizes) (contents 4 [] ∷ contents 4 [] ∷ [])
-two-empty d =
-    let none : Contents = contents 4 [] in
-    let Roomy : Contents → Type 0 = λ s. s.capacity ≡ 4 in
-    let Right : Contents → Type 0 = λ s. All (IsRight d.circuit) s.cells in
-    let right : Right none = All-nil (IsRight d.circuit) in
-    record {
-      count = refl;
-      capacity = All-cons Roomy none (none ∷ []) refl (All-cons Roomy none [] refl (All-nil Roomy));
-      right = All-cons Right none (none ∷ []) right (All-cons Right none [] right (All-nil Right));
-    }
 
 one-instant : (horizon time : ℕ) → window_length horizon time (time + 1) ≤ 1
 one-instant horizon time = elim (nat_lt time (time + 1) && nat_le (time + 1) (horizon + 1)) as (λ b. cond b ((time + 1) - time) 0 ≤ 1) [ true ↦ omega arith | false ↦ omega arith ]
