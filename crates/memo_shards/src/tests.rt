@@ -264,16 +264,16 @@ fn lines_of(alloc: Global, journal: &[Entry]) -> Result<Vec<Line>, Fail> {
     Ok(lines)
 }
 
-/// What came of a batch, and the store as it left it.
+/// What came of a batch.
 #[derive(Drop)]
 struct Seen {
     came: Vec<Came>,
     lines: Vec<Line>,
+    stored: u32,
     covered: bool,
-    store: CellStore,
 }
 
-/// Makes the turns of a batch over the store.
+/// Makes the turns of a batch over the store, and hands out the store as it is then.
 fn serve<B: BatchName>(
     alloc: Global,
     design: &Design,
@@ -281,7 +281,7 @@ fn serve<B: BatchName>(
     first: Query,
     second: Query,
     turns: &[(usize, Came)],
-) -> Result<Seen, Fail>
+) -> Result<(Seen, CellStore), Fail>
     requires circuit { design.now.circuit ≡ B.batch.circuit }
     requires lawful { IsLawful B.batch }
     requires shards { B.batch.shards ≡ 1 }
@@ -291,7 +291,7 @@ fn serve<B: BatchName>(
     requires second { IsQueryOf B.batch second }
     requires window_first { first.from < first.to }
     requires window_second { second.from < second.to }
-    ensures { IfOk result (λ seen. AllByRecursion (IsRight B.batch.circuit) seen.store.cells) }
+    ensures { IfOk result (λ r. AllByRecursion (IsRight B.batch.circuit) r.1.cells) }
 {
     let mut shard = Shard::<B>::begin(alloc, 0, store);
     let mut places = Vec::new(alloc);
@@ -310,12 +310,32 @@ fn serve<B: BatchName>(
     shard.facts();
     let lines = lines_of(alloc, shard.journal())?;
     let (store, _) = shard.end_batch();
-    Ok(Seen {
+    let seen = Seen {
         came,
         lines,
+        stored: store.len(),
         covered,
-        store,
-    })
+    };
+    Ok((seen, store))
+}
+
+/// Makes the turns of two strands for one query.
+fn serve_one(
+    alloc: Global,
+    design: &Design,
+    store: CellStore,
+    query: Query,
+    turns: &[(usize, Came)],
+) -> Result<(Seen, CellStore), Fail>
+    requires right { AllByRecursion (IsRight design.now.circuit) store.cells }
+    requires signal { query.signal < length design.now.circuit.drivers }
+    requires window { query.from < query.to }
+    requires within { query.to ≤ design.now.circuit.horizon + 1 }
+    ensures { IfOk result (λ r. AllByRecursion (IsRight design.now.circuit) r.1.cells) }
+{
+    design.facts();
+    let _capacity = store.capacity();
+    serve::<Brand>(alloc, design, store, query, query, turns)
 }
 
 /// Makes the turns of a batch over the store, where its queries are of the design, and not of one line.
@@ -324,9 +344,9 @@ fn serve_batch(
     design: &Design,
     store: CellStore,
     batch: &Batch,
-) -> Result<Option<Seen>, Fail>
+) -> Result<Option<(Seen, CellStore)>, Fail>
     requires { AllByRecursion (IsRight design.now.circuit) store.cells }
-    ensures { IfOk result (λ o. IfSome o (λ seen. AllByRecursion (IsRight design.now.circuit) seen.store.cells)) }
+    ensures { IfOk result (λ o. IfSome o (λ r. AllByRecursion (IsRight design.now.circuit) r.1.cells)) }
 {
     design.facts();
     let _capacity = store.capacity();
@@ -334,7 +354,7 @@ fn serve_batch(
         return Ok(None);
     };
     let Some(asks) = &batch.second else {
-        return Ok(Some(serve::<Brand>(alloc, design, store, first, first, batch.turns)?));
+        return Ok(Some(serve_one(alloc, design, store, first, batch.turns)?));
     };
     let Some(second) = query_of(design, asks) else {
         return Ok(None);
@@ -345,27 +365,36 @@ fn serve_batch(
     Ok(Some(serve::<Brand>(alloc, design, store, first, second, batch.turns)?))
 }
 
+/// Makes the turns of the batches, one after another.
+fn serve_row(alloc: Global, design: &Design, row: &Row) -> Result<Option<Vec<Seen>>, Fail> {
+    let Some(mut store) = empty_store(alloc, row.capacity)? else {
+        return Ok(None);
+    };
+    let mut all = Vec::new(alloc);
+    for batch in row.batches {
+        let Some((seen, kept)) = serve_batch(alloc, design, store, batch)? else {
+            return Ok(None);
+        };
+        all.push(seen)?;
+        store = kept;
+    }
+    Ok(Some(all))
+}
+
 #[test]
 fn journals_of_small_batches(rt: HostRuntime) -> Result<(), Fail> {
     for row in &ROWS {
         let design = joined(rt.alloc(), row)??;
-        let mut store = empty_store(rt.alloc(), row.capacity)?.expect(&rt, "a capacity");
-        for batch in row.batches {
-            let seen = serve_batch(rt.alloc(), &design, store, batch)?;
-            let Seen {
-                came,
-                lines,
-                covered,
-                store: kept,
-            } = seen.expect(&rt, "signals and times of the design");
-            assert_eq!(rt; came.len(), batch.turns.len(), "{}", row.name);
-            for (came, (_, wanted)) in came.iter().zip(batch.turns) {
+        let all = serve_row(rt.alloc(), &design, row)?.expect(&rt, "a store, signals and times");
+        assert_eq!(rt; all.len(), row.batches.len(), "{}", row.name);
+        for (seen, batch) in all.iter().zip(row.batches) {
+            assert_eq!(rt; seen.came.len(), batch.turns.len(), "{}", row.name);
+            for (came, (_, wanted)) in seen.came.iter().zip(batch.turns) {
                 assert_eq!(rt; came, wanted, "{}", row.name);
             }
-            assert_eq!(rt; lines.as_slice(), batch.lines, "{}", row.name);
-            assert_eq!(rt; covered, batch.covered, "{}", row.name);
-            assert_eq!(rt; kept.len(), batch.stored, "{}", row.name);
-            store = kept;
+            assert_eq!(rt; seen.lines.as_slice(), batch.lines, "{}", row.name);
+            assert_eq!(rt; seen.stored, batch.stored, "{}", row.name);
+            assert_eq!(rt; seen.covered, batch.covered, "{}", row.name);
         }
     }
     Ok(())

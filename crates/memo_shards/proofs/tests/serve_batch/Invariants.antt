@@ -2,7 +2,4 @@ use Rattle.std.proofs.Common.{[], ◌∷◌, None}
 use Rattle.memo_shards.proofs.tests.serve_batch.Given as goal
 
 abbrev pub ghosts-serve : goal.ghosts-serve
-ghosts-serve a = record { batch = record { circuit = a.design.now.circuit; shards = 1; capacity = a.store.capacity; queries = a.first ∷ []; site = None }; opening = λ _. a.store.cells }
-
-abbrev pub ghosts-serve-2 : goal.ghosts-serve-2
-ghosts-serve-2 a = record { batch = record { circuit = a.design.now.circuit; shards = 1; capacity = a.store.capacity; queries = a.first ∷ a.second ∷ []; site = None }; opening = λ _. a.store.cells }
+ghosts-serve a = record { batch = record { circuit = a.design.now.circuit; shards = 1; capacity = a.store.capacity; queries = a.first ∷ a.second ∷ []; site = None }; opening = λ _. a.store.cells }
