@@ -264,16 +264,16 @@ fn lines_of(alloc: Global, journal: &[Entry]) -> Result<Vec<Line>, Fail> {
     Ok(lines)
 }
 
-/// What came of a batch.
+/// What came of a batch, and the store as it left it.
 #[derive(Drop)]
 struct Seen {
     came: Vec<Came>,
     lines: Vec<Line>,
-    stored: u32,
     covered: bool,
+    store: CellStore,
 }
 
-/// Makes the turns of a batch over the store, and hands out the store as it is then.
+/// Makes the turns of a batch over the store.
 fn serve<B: BatchName>(
     alloc: Global,
     design: &Design,
@@ -281,7 +281,7 @@ fn serve<B: BatchName>(
     first: Query,
     second: Query,
     turns: &[(usize, Came)],
-) -> Result<(Seen, CellStore), Fail>
+) -> Result<Seen, Fail>
     requires circuit { design.now.circuit ≡ B.batch.circuit }
     requires lawful { IsLawful B.batch }
     requires shards { B.batch.shards ≡ 1 }
@@ -291,7 +291,7 @@ fn serve<B: BatchName>(
     requires second { IsQueryOf B.batch second }
     requires window_first { first.from < first.to }
     requires window_second { second.from < second.to }
-    ensures { IfOk result (λ r. AllByRecursion (IsRight B.batch.circuit) r.1.cells) }
+    ensures { IfOk result (λ seen. AllByRecursion (IsRight B.batch.circuit) seen.store.cells) }
 {
     let mut shard = Shard::<B>::begin(alloc, 0, store);
     let mut places = Vec::new(alloc);
@@ -310,13 +310,12 @@ fn serve<B: BatchName>(
     shard.facts();
     let lines = lines_of(alloc, shard.journal())?;
     let (store, _) = shard.end_batch();
-    let seen = Seen {
+    Ok(Seen {
         came,
         lines,
-        stored: store.len(),
         covered,
-    };
-    Ok((seen, store))
+        store,
+    })
 }
 
 /// Makes the turns of two strands for one query.
@@ -326,12 +325,12 @@ fn serve_one(
     store: CellStore,
     query: Query,
     turns: &[(usize, Came)],
-) -> Result<(Seen, CellStore), Fail>
+) -> Result<Seen, Fail>
     requires right { AllByRecursion (IsRight design.now.circuit) store.cells }
     requires signal { query.signal < length design.now.circuit.drivers }
     requires window { query.from < query.to }
     requires within { query.to ≤ design.now.circuit.horizon + 1 }
-    ensures { IfOk result (λ r. AllByRecursion (IsRight design.now.circuit) r.1.cells) }
+    ensures { IfOk result (λ seen. AllByRecursion (IsRight design.now.circuit) seen.store.cells) }
 {
     design.facts();
     let _capacity = store.capacity();
@@ -344,9 +343,9 @@ fn serve_batch(
     design: &Design,
     store: CellStore,
     batch: &Batch,
-) -> Result<Option<(Seen, CellStore)>, Fail>
+) -> Result<Option<Seen>, Fail>
     requires { AllByRecursion (IsRight design.now.circuit) store.cells }
-    ensures { IfOk result (λ o. IfSome o (λ r. AllByRecursion (IsRight design.now.circuit) r.1.cells)) }
+    ensures { IfOk result (λ o. IfSome o (λ seen. AllByRecursion (IsRight design.now.circuit) seen.store.cells)) }
 {
     design.facts();
     let _capacity = store.capacity();
@@ -365,17 +364,38 @@ fn serve_batch(
     Ok(Some(serve::<Brand>(alloc, design, store, first, second, batch.turns)?))
 }
 
+/// What is kept of a batch, once its store is that of the next.
+#[derive(Drop)]
+struct Left {
+    came: Vec<Came>,
+    lines: Vec<Line>,
+    covered: bool,
+    stored: u32,
+}
+
 /// Makes the turns of the batches, one after another.
-fn serve_row(alloc: Global, design: &Design, row: &Row) -> Result<Option<Vec<Seen>>, Fail> {
+fn serve_row(alloc: Global, design: &Design, row: &Row) -> Result<Option<Vec<Left>>, Fail> {
     let Some(mut store) = empty_store(alloc, row.capacity)? else {
         return Ok(None);
     };
     let mut all = Vec::new(alloc);
     for batch in row.batches {
-        let Some((seen, kept)) = serve_batch(alloc, design, store, batch)? else {
+        let Some(seen) = serve_batch(alloc, design, store, batch)? else {
             return Ok(None);
         };
-        all.push(seen)?;
+        let Seen {
+            came,
+            lines,
+            covered,
+            store: kept,
+        } = seen;
+        let left = Left {
+            came,
+            lines,
+            covered,
+            stored: kept.len(),
+        };
+        all.push(left)?;
         store = kept;
     }
     Ok(Some(all))
@@ -387,14 +407,14 @@ fn journals_of_small_batches(rt: HostRuntime) -> Result<(), Fail> {
         let design = joined(rt.alloc(), row)??;
         let all = serve_row(rt.alloc(), &design, row)?.expect(&rt, "a store, signals and times");
         assert_eq!(rt; all.len(), row.batches.len(), "{}", row.name);
-        for (seen, batch) in all.iter().zip(row.batches) {
-            assert_eq!(rt; seen.came.len(), batch.turns.len(), "{}", row.name);
-            for (came, (_, wanted)) in seen.came.iter().zip(batch.turns) {
+        for (left, batch) in all.iter().zip(row.batches) {
+            assert_eq!(rt; left.came.len(), batch.turns.len(), "{}", row.name);
+            for (came, (_, wanted)) in left.came.iter().zip(batch.turns) {
                 assert_eq!(rt; came, wanted, "{}", row.name);
             }
-            assert_eq!(rt; seen.lines.as_slice(), batch.lines, "{}", row.name);
-            assert_eq!(rt; seen.stored, batch.stored, "{}", row.name);
-            assert_eq!(rt; seen.covered, batch.covered, "{}", row.name);
+            assert_eq!(rt; left.lines.as_slice(), batch.lines, "{}", row.name);
+            assert_eq!(rt; left.covered, batch.covered, "{}", row.name);
+            assert_eq!(rt; left.stored, batch.stored, "{}", row.name);
         }
     }
     Ok(())
