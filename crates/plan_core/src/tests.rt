@@ -1,6 +1,9 @@
 //! Turns of two strands, and the journals that they leave.
-ghost use Rattle.std.specs.Prelude.{◌≡◌, ◌<◌, ◌≤◌, ◌+◌, [], length, IfOk, OnOk};
+ghost use Rattle.std.specs.Prelude.{◌≡◌, ◌<◌, ◌≤◌, ◌+◌, [], length, nat_lt, IfOk, IfSome, IsTrue};
+ghost use Rattle.std.specs.List.{AllByRecursion, list_all};
 ghost use Rattle.batch_meaning.specs.Lawful.{IsLawful, IsQueryOf};
+
+mod rows;
 
 use super::*;
 use batch_meaning::Query;
@@ -12,12 +15,55 @@ use gate_values::Value;
 use journal_meaning::Entry;
 use memo_shards::Shard;
 use plan_machine::Turned;
+use rows::{CHAIN, LONE, ROWS};
 use std::alloc::Global;
 use std::marker::Brand;
 use std::test::Fail;
 use stimulus_file::read_stimulus;
 use timing_file::read_timing;
-use valid_intervals::{Cell, Point, Span};
+
+/// A query for one time of a signal, as a script asks it: the number of its line, the signal, the time and the budget.
+struct At(u32, &'static str, u32, u32);
+
+/// An entry, by the word and the numbers of its line in the journal's text.
+#[derive(Clone, Copy, Debug, PartialEq, Eq)]
+enum Line {
+    Told(u32, u32, u32, u32, u32, Value),
+    Claim(u32, u32, u32),
+    Fill(u32, u32, u32, u32, u32, Value),
+    Evict(u32, u32),
+    Drop(u32, u32, u32),
+    Spent(u32, u32, u32, u32),
+}
+
+/// Strand 0 is for the first query, and strand 1 for the second; they ask one shard with room for four cells.
+struct Row {
+    name: &'static str,
+    netlist: &'static str,
+    first: At,
+    second: At,
+    schedule: &'static [u32],
+    /// What the turns of the schedule come to, how many of them count, and how many turns may count in any schedule.
+    turns: &'static [Turned],
+    counted: u64,
+    most: u64,
+    /// Who is ready then, and the value that each strand has heard last of its root.
+    ready: &'static [u32],
+    heard: (Option<Value>, Option<Value>),
+    /// What a further turn of strand 0 comes to.
+    further: Turned,
+    /// The journal before that turn, and how many cells are stored.
+    lines: &'static [Line],
+    stored: u32,
+}
+
+/// A strand that runs alone, what comes of it, the value that it heard of its root, and the journal.
+struct Lone {
+    number: u32,
+    came: Alone,
+    heard: Option<Value>,
+    lines: &'static [Line],
+}
 
 /// The text, where it is short.
 fn short(text: &str) -> &[u8]
@@ -35,13 +81,38 @@ fn circuit(alloc: Global, netlist: &str) -> Result<Result<Design, JoinFault>, Fa
     Ok(Design::join(alloc, netlist, &timing, &stimulus))
 }
 
-/// What came of a list of turns.
-#[derive(Drop)]
-struct Seen {
-    counted: u64,
-    turns: Vec<Turned>,
-    ready: Vec<u32>,
-    journal: Vec<Option<Entry>>,
+/// The query, where the design has its signal and its time.
+fn query_of(design: &Design, at: &At) -> Option<Query>
+    ensures signal { IfSome result (λ q. q.signal < length design.now.circuit.drivers) }
+    ensures window { IfSome result (λ q. q.from < q.to) }
+    ensures within { IfSome result (λ q. q.to ≤ design.now.circuit.horizon + 1) }
+{
+    design.facts();
+    let At(number, name, time, budget) = *at;
+    let signal = design.netlist().id_of(name.as_bytes())?;
+    if time > design.horizon() {
+        return None;
+    }
+    Some(Query {
+        number,
+        signal,
+        from: time,
+        to: time + 1,
+        budget,
+    })
+}
+
+fn is_number(number: u32) -> bool
+    ensures { result ≡ nat_lt number 2 }
+{
+    number < 2
+}
+
+/// Whether the schedule names only the two strands.
+fn are_numbers(schedule: &[u32]) -> bool
+    ensures { result ≡ list_all (λ i. nat_lt i 2) schedule.now }
+{
+    schedule.iter().all(|number| is_number(*number))
 }
 
 /// A plan of two strands.
@@ -74,39 +145,88 @@ fn two<B: BatchName>(
     Ok(Plan::new(alloc, design, strands, shards)?)
 }
 
-/// One turn.
-fn step<B: BatchName>(
-    plan: &mut Plan<B>,
+/// What the turns of the schedule come to, one by one, and a further turn of strand 0.
+fn turns_of<B: BatchName>(
+    alloc: Global,
+    mut plan: Plan<B>,
     design: &Design,
-    number: u32,
-    turns: &mut Vec<Turned>,
-) -> Result<(), Fail>
+    schedule: &[u32],
+) -> Result<(Vec<Turned>, Turned), Fail>
     requires circuit { design.now.circuit ≡ B.batch.circuit }
-    requires number { number < length plan.old.strands }
-    ensures { length plan.new.strands ≡ length plan.old.strands }
+    requires two { length plan.strands ≡ 2 }
 {
-    let turned = plan.turn(design, number)?;
-    turns.push(turned)?;
-    Ok(())
-}
-
-/// What the shards have recorded.
-fn journal_of<B: BatchName>(alloc: Global, plan: Plan<B>) -> Result<Vec<Option<Entry>>, Fail> {
-    let mut entries = Vec::new(alloc);
-    for shard in plan.into_shards().iter() {
-        for entry in shard.journal() {
-            entries.push(Some(*entry))?;
+    let mut turns = Vec::new(alloc);
+    for &number in schedule {
+        if number < 2 {
+            turns.push(plan.turn(design, number)?)?;
         }
     }
-    Ok(entries)
+    let further = plan.turn(design, 0)?;
+    Ok((turns, further))
 }
 
-/// Two strands that evaluate two points of one cell, and a turn after they have ended.
-fn one_cell<B: BatchName>(
+/// The value that the strand with this number has heard last of its root; none where it waits.
+fn heard_by<B: BatchName>(plan: &Plan<B>, number: u32) -> Option<Value> {
+    match plan.strand(number) {
+        None => None,
+        Some(strand) => match strand.last() {
+            None => None,
+            Some(cell) => Some(cell.value),
+        },
+    }
+}
+
+fn line_of(entry: &Entry) -> Line {
+    match *entry {
+        Entry::Told { q, p, cell } => {
+            let span = cell.span;
+            Line::Told(q, p.signal, p.time, span.start(), span.end(), cell.value)
+        }
+        Entry::Claimed { q, p } => Line::Claim(q, p.signal, p.time),
+        Entry::Filled { q, p, cell } => {
+            let span = cell.span;
+            Line::Fill(q, p.signal, p.time, span.start(), span.end(), cell.value)
+        }
+        Entry::Evicted { signal, start } => Line::Evict(signal, start),
+        Entry::Dropped { q, p } => Line::Drop(q, p.signal, p.time),
+        Entry::Spent { q, p, held } => Line::Spent(q, p.signal, p.time, held),
+    }
+}
+
+/// What the shards have recorded, and how many cells they store.
+fn left_in<B: BatchName>(alloc: Global, plan: Plan<B>) -> Result<(Vec<Line>, u32), Fail> {
+    let mut lines = Vec::new(alloc);
+    let mut stored = 0u32;
+    for mut shard in plan.into_shards() {
+        for entry in shard.journal() {
+            lines.push(line_of(entry))?;
+        }
+        shard.free_claims();
+        let (store, _) = shard.end_batch();
+        stored = stored.saturating_add(store.len());
+    }
+    Ok((lines, stored))
+}
+
+/// What came of a schedule.
+#[derive(Drop)]
+struct Seen {
+    turns: Vec<Turned>,
+    counted: u64,
+    ready: Vec<u32>,
+    heard: (Option<Value>, Option<Value>),
+    further: Turned,
+    lines: Vec<Line>,
+    stored: u32,
+}
+
+/// Runs two strands as the schedule says.
+fn serve<B: BatchName>(
     alloc: Global,
     design: &Design,
     first: Query,
     second: Query,
+    schedule: &[u32],
 ) -> Result<Seen, Fail>
     requires circuit { design.now.circuit ≡ B.batch.circuit }
     requires lawful { IsLawful B.batch }
@@ -117,154 +237,112 @@ fn one_cell<B: BatchName>(
     requires second { IsQueryOf B.batch second }
     requires window_first { first.from < first.to }
     requires window_second { second.from < second.to }
+    requires numbers { AllByRecursion (λ i. i < 2) schedule.now }
 {
+    let stepped = two::<B>(alloc, design, first, second)?;
+    let (turns, further) = turns_of(alloc, stepped, design, schedule)?;
     let mut plan = two::<B>(alloc, design, first, second)?;
-    let counted = plan.run(design, &[0, 1, 0, 1])?;
+    let counted = plan.run(design, schedule)?;
     let ready = plan.ready(alloc)?;
-    let mut turns = Vec::new(alloc);
-    step(&mut plan, design, 0, &mut turns)?;
-    let journal = journal_of(alloc, plan)?;
+    let heard = (heard_by(&plan, 0), heard_by(&plan, 1));
+    let (lines, stored) = left_in(alloc, plan)?;
     Ok(Seen {
-        counted,
         turns,
+        counted,
         ready,
-        journal,
+        heard,
+        further,
+        lines,
+        stored,
     })
 }
 
-/// Two strands for one point: the first has a budget of one claim, and the second waits until it gives up.
-fn one_point<B: BatchName>(
-    alloc: Global,
-    design: &Design,
-    first: Query,
-    second: Query,
-) -> Result<Seen, Fail>
-    requires circuit { design.now.circuit ≡ B.batch.circuit }
-    requires lawful { IsLawful B.batch }
-    requires shards { B.batch.shards ≡ 1 }
-    requires capacity { B.batch.capacity ≡ 4 }
-    requires opening { B.opening 0 ≡ [] }
-    requires first { IsQueryOf B.batch first }
-    requires second { IsQueryOf B.batch second }
-    requires window_first { first.from < first.to }
-    requires window_second { second.from < second.to }
-{
-    let mut plan = two::<B>(alloc, design, first, second)?;
-    let mut turns = Vec::new(alloc);
-    step(&mut plan, design, 0, &mut turns)?;
-    step(&mut plan, design, 1, &mut turns)?;
-    let ready = plan.ready(alloc)?;
-    step(&mut plan, design, 0, &mut turns)?;
-    step(&mut plan, design, 0, &mut turns)?;
-    let counted = plan.run(design, &[1, 1, 1, 1, 1, 1])?;
-    let journal = journal_of(alloc, plan)?;
-    Ok(Seen {
-        counted,
-        turns,
-        ready,
-        journal,
-    })
-}
-
-/// A query for the signal at one time.
-fn at(number: u32, signal: u32, time: u32, budget: u32) -> Query
-    requires { time < 100 }
-    ensures { result ≡ record { number = number; signal = signal; from = time; to = time + 1; budget = budget } }
-{
-    Query {
-        number,
-        signal,
-        from: time,
-        to: time + 1,
-        budget,
-    }
-}
-
-fn one_cell_of(alloc: Global, design: &Design) -> Result<Option<Seen>, Fail> {
+/// Runs a row, where its queries are of the design, and its schedule of the strands.
+fn serve_row(alloc: Global, design: &Design, row: &Row) -> Result<Option<Seen>, Fail> {
     design.facts();
-    let Some(signal) = design.netlist().id_of(b"y") else {
+    let Some(first) = query_of(design, &row.first) else {
         return Ok(None);
     };
-    if design.horizon() < 6 {
+    let Some(second) = query_of(design, &row.second) else {
+        return Ok(None);
+    };
+    if first.number == second.number || !are_numbers(row.schedule) {
         return Ok(None);
     }
-    let first = at(1, signal, 5, 4);
-    let second = at(2, signal, 6, 4);
-    Ok(Some(one_cell::<Brand>(alloc, design, first, second)?))
-}
-
-fn one_point_of(alloc: Global, design: &Design) -> Result<Option<Seen>, Fail> {
-    design.facts();
-    let Some(signal) = design.netlist().id_of(b"n3") else {
-        return Ok(None);
-    };
-    if design.horizon() < 5 {
-        return Ok(None);
-    }
-    let first = at(1, signal, 5, 1);
-    let second = at(2, signal, 5, 50000);
-    Ok(Some(one_point::<Brand>(alloc, design, first, second)?))
-}
-
-fn point(signal: u32, time: u32) -> Point {
-    Point { signal, time }
-}
-
-/// The entry of a fill with 1 from the start to the end.
-fn filled(q: u32, p: Point, start: u32, end: u32) -> Option<Entry> {
-    let span = Span::new(start, end)?;
-    let cell = Cell {
-        span,
-        value: Value::One,
-    };
-    Some(Entry::Filled { q, p, cell })
+    Ok(Some(serve::<Brand>(alloc, design, first, second, row.schedule)?))
 }
 
 #[test]
-fn two_points_of_one_cell(rt: HostRuntime) -> Result<(), Fail> {
-    let design = circuit(rt.alloc(), "INPUT(a)\nOUTPUT(y)\ny = BUFF(a)\n")??;
-    let seen = one_cell_of(rt.alloc(), &design)?.expect(&rt, "a signal within the horizon");
-    assert_eq!(rt; seen.counted, 4);
-    assert_eq!(rt; seen.ready.len(), 0);
-    assert_eq!(rt; seen.turns.as_slice(), [Turned::NotReady].as_slice());
-    let (five, six) = (point(1, 5), point(1, 6));
-    let want = [
-        Some(Entry::Claimed { q: 1, p: five }),
-        Some(Entry::Claimed { q: 2, p: six }),
-        filled(1, five, 1, 11),
-        filled(2, six, 1, 11),
-    ];
-    assert_eq!(rt; seen.journal.as_slice(), want.as_slice());
+fn turns_of_two_strands(rt: HostRuntime) -> Result<(), Fail> {
+    for row in &ROWS {
+        let design = circuit(rt.alloc(), row.netlist)??;
+        let seen = serve_row(rt.alloc(), &design, row)?.expect(&rt, "a signal and a time");
+        assert_eq!(rt; seen.turns.as_slice(), row.turns, "{}", row.name);
+        assert_eq!(rt; seen.counted, row.counted, "{}", row.name);
+        assert!(rt; seen.counted <= row.most, "{}", row.name);
+        assert_eq!(rt; seen.ready.as_slice(), row.ready, "{}", row.name);
+        assert_eq!(rt; seen.heard, row.heard, "{}", row.name);
+        assert_eq!(rt; seen.further, row.further, "{}", row.name);
+        assert_eq!(rt; seen.lines.as_slice(), row.lines, "{}", row.name);
+        assert_eq!(rt; seen.stored, row.stored, "{}", row.name);
+    }
     Ok(())
 }
 
+/// Runs the strand with this number alone.
+fn serve_alone<B: BatchName>(
+    alloc: Global,
+    design: &Design,
+    first: Query,
+    second: Query,
+    number: u32,
+) -> Result<(Alone, Option<Value>, Vec<Line>), Fail>
+    requires circuit { design.now.circuit ≡ B.batch.circuit }
+    requires lawful { IsLawful B.batch }
+    requires shards { B.batch.shards ≡ 1 }
+    requires capacity { B.batch.capacity ≡ 4 }
+    requires opening { B.opening 0 ≡ [] }
+    requires first { IsQueryOf B.batch first }
+    requires second { IsQueryOf B.batch second }
+    requires window_first { first.from < first.to }
+    requires window_second { second.from < second.to }
+    requires number { number < 2 }
+{
+    let mut plan = two::<B>(alloc, design, first, second)?;
+    let came = plan.run_alone(design, number)?;
+    let heard = heard_by(&plan, number);
+    let (lines, _) = left_in(alloc, plan)?;
+    Ok((came, heard, lines))
+}
+
+/// Runs one of two strands for `n3` at 5, with budgets of 2 and of 3, alone.
+fn serve_lone(
+    alloc: Global,
+    design: &Design,
+    number: u32,
+) -> Result<Option<(Alone, Option<Value>, Vec<Line>)>, Fail> {
+    design.facts();
+    let Some(first) = query_of(design, &At(1, "n3", 5, 2)) else {
+        return Ok(None);
+    };
+    let Some(second) = query_of(design, &At(2, "n3", 5, 3)) else {
+        return Ok(None);
+    };
+    if first.number == second.number || number >= 2 {
+        return Ok(None);
+    }
+    Ok(Some(serve_alone::<Brand>(alloc, design, first, second, number)?))
+}
+
 #[test]
-fn a_strand_gives_up(rt: HostRuntime) -> Result<(), Fail> {
-    let design = circuit(
-        rt.alloc(),
-        "INPUT(a)\nOUTPUT(n3)\nn1 = BUFF(a)\nn2 = BUFF(n1)\nn3 = BUFF(n2)\n",
-    )??;
-    let seen = one_point_of(rt.alloc(), &design)?.expect(&rt, "a signal within the horizon");
-    let turns = [
-        Turned::Claimed,
-        Turned::Waits,
-        Turned::Spent,
-        Turned::Dropped,
-    ];
-    assert_eq!(rt; seen.turns.as_slice(), turns.as_slice());
-    assert_eq!(rt; seen.ready.as_slice(), [0].as_slice());
-    assert_eq!(rt; seen.counted, 6);
-    let (top, middle, low) = (point(1, 5), point(3, 4), point(2, 3));
-    let want = [
-        Some(Entry::Claimed { q: 1, p: top }),
-        Some(Entry::Dropped { q: 1, p: top }),
-        Some(Entry::Claimed { q: 2, p: top }),
-        Some(Entry::Claimed { q: 2, p: middle }),
-        Some(Entry::Claimed { q: 2, p: low }),
-        filled(2, low, 1, 11),
-        filled(2, middle, 2, 11),
-        filled(2, top, 3, 11),
-    ];
-    assert_eq!(rt; seen.journal.as_slice(), want.as_slice());
+fn a_strand_runs_alone(rt: HostRuntime) -> Result<(), Fail> {
+    let design = circuit(rt.alloc(), CHAIN)??;
+    for lone in &LONE {
+        let ran = serve_lone(rt.alloc(), &design, lone.number)?;
+        let (came, heard, lines) = ran.expect(&rt, "a signal and a time");
+        assert_eq!(rt; came, lone.came);
+        assert_eq!(rt; heard, lone.heard);
+        assert_eq!(rt; lines.as_slice(), lone.lines);
+    }
     Ok(())
 }
