@@ -10,7 +10,7 @@ ghost use Rattle.valid_intervals.specs.declared.SignalCell.{SignalCell};
 ghost use Rattle.why_proofs.specs.Spelling.{Proof};
 ghost use Rattle.why_proofs.specs.Justified.{answer, line_at, IsJustified, IsClaimed};
 ghost use Rattle.why_proofs.specs.inner.Known.{IsTrueCell, AreTrueCells, IsIndexOf, Rules, Judges, Accepts, place_of};
-ghost use Rattle.why_proofs.specs.inner.Walks.{IsPoint};
+ghost use Rattle.why_proofs.specs.inner.Walks.{IsPoint, IsWalk, IsLooking, LooksOn, Hears};
 
 use crate::cells::CellLine;
 use crate::walk::Walk;
@@ -67,6 +67,23 @@ impl KnownCells {
         }
     }
 
+    /// The walk after it has looked at the next pin; None where that pin has no answer.
+    fn look(&self, design: &Design, walk: &Walk) -> Option<Walk>
+        requires walk { IsWalk design.now.circuit walk.now }
+        requires looking { IsLooking design.now.circuit walk.now }
+        requires cells { AreTrueCells design.now.circuit (get point_cmp self.now.cells) }
+        ensures looks { IfSome result (LooksOn design.now.circuit walk.now) }
+        ensures known { (lines : List SignalCell) → IsIndexOf lines (get point_cmp self.now.cells) → Hears design.now.circuit (answer design.now.circuit lines) walk.now result }
+    {
+        match walk.next_source(design) {
+            None => Some(walk.see(design, None)),
+            Some(source) => {
+                let cell = self.answer(design, source)?;
+                Some(walk.see(design, Some(cell)))
+            }
+        }
+    }
+
     /// The cell of the point, by the rules of values and cells; None where a pin that is looked at has no answer.
     fn rule(&self, design: &Design, p: Point) -> Option<Cell>
         requires point { IsPoint design.now.circuit p }
@@ -81,14 +98,10 @@ impl KnownCells {
             if walk.is_done(design) {
                 return Some(walk.cell(design));
             }
-            let heard = match walk.next_source(design) {
-                None => None,
-                Some(source) => match self.answer(design, source) {
-                    None => return None,
-                    Some(cell) => Some(cell),
-                },
-            };
-            walk = walk.see(design, heard);
+            match self.look(design, &walk) {
+                None => return None,
+                Some(next) => walk = next,
+            }
         }
     }
 

@@ -1,5 +1,5 @@
 -- A walk over the pins of a point: how many of them were looked at, and what these come to.
-use Rattle.std.specs.Prelude.{◌≡◌, ℕ, ◌≤◌, ◌<◌, ◌+◌, IsSome, List, length, map, take, get_or, Option, Some, None, option_map}
+use Rattle.std.specs.Prelude.{◌≡◌, ℕ, ◌≤◌, ◌<◌, ◌+◌, IsSome, List, length, map, take, get_or, Option, Some, None, MatchOption, option_map}
 use Rattle.std.specs.List.{list_any}
 use Rattle.gate_values.specs.declared.Kind.{Kind}
 use Rattle.gate_values.specs.declared.Value.{Value}
@@ -71,8 +71,10 @@ abbrev pub IsKnown : Answers → Option Point → Type 0
 IsKnown a None = Unit {0}
 IsKnown a (Some p) = IsSome (a p.signal p.time)
 
--- all pins looked at so far had answers
-pub record IsInformed (c : Circuit) (a : Answers) (p : Point) (w : Walk) : Type 0 where
-  pub walk : IsWalk c w
-  pub point : w.point ≡ p
-  pub known : (k : ℕ) → k < w.looked → IsKnown a (get_or (looked_at c p) k None)
+-- the next pin is heard exactly where its source has an answer
+abbrev pub Hears : Circuit → Answers → Walk → Option Walk → Type 0
+Hears c a w result = MatchOption result (IsKnown a (next_point c w) → ⊥) (λ next. IsKnown a (next_point c w))
+
+-- the first n pins that are looked at have answers
+abbrev pub AreKnown : Circuit → Answers → Point → ℕ → Type 0
+AreKnown c a p n = (k : ℕ) → k < n → IsKnown a (get_or (looked_at c p) k None)
