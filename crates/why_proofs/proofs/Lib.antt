@@ -2,3 +2,5 @@ pub mod Numbers
 pub mod Fields
 pub mod WalkLemmas
 pub mod Sound
+pub mod Sources
+pub mod KnownLemmas
