@@ -4,3 +4,4 @@ pub mod WalkLemmas
 pub mod Sound
 pub mod Sources
 pub mod KnownLemmas
+pub mod Judging
