@@ -1,5 +1,6 @@
 pub mod Numbers
 pub mod Fields
+pub mod Lines
 pub mod WalkLemmas
 pub mod Sound
 pub mod Sources

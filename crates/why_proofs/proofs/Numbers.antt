@@ -15,7 +15,7 @@ abbrev value_after : ℕ → List ℕ → ℕ
 value_after n [] = n
 value_after n (c ∷ cs) = value_after (10 * n + (c - 48)) cs
 
-own : IsNumeralModel (λ ds. all_ascii_digits ds ≡ true) (value_after 0)
+pub own : IsNumeralModel (λ ds. all_ascii_digits ds ≡ true) (value_after 0)
 own = numerals_by_fold _ (search rules) value_after (search rules)
 
 -- no digit follows
