@@ -3,6 +3,7 @@ pub mod Fields
 pub mod Lines
 pub mod Feeds
 pub mod Breaks
+pub mod Checking
 pub mod WalkLemmas
 pub mod Sound
 pub mod Sources

@@ -35,6 +35,7 @@ pub fn check_proof(alloc: Global, design: &Design, text: &[u8]) -> Result<Checke
     ensures no { IfOk result (RightNo design.now text.now) }
     ensures bad { IfOk result (RightBad text.now) }
 {
+    design.facts();
     let Some((name, time, value, rest)) = claim_of(text) else {
         return Ok(Checked::Bad { line: 1 });
     };
