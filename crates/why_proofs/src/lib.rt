@@ -6,6 +6,8 @@ mod checker;
 mod known;
 mod laws;
 mod reading;
+#[cfg(test)]
+mod tests;
 mod walk;
 mod writing;
 
