@@ -1,16 +1,14 @@
 -- Where a text stops being that of a proof.
-use Rattle.std.proofs.Common.{◌≡◌, ℕ, zero, suc, ◌+◌, ◌<◌, ◌≤◌, true, List, [], ◌∷◌, ◌++◌, length, get_or, Option, Some, None, option_map, refl, sym, ap, subst, ◌∙◌, append_assoc, append-nil, length-append, arith, inl, inr, ◌⊎◌}
+use Rattle.std.proofs.Common.{◌≡◌, ℕ, suc, ◌+◌, ◌<◌, ◌≤◌, List, [], ◌∷◌, ◌++◌, length, get_or, Option, Some, None, option_map, refl, sym, ap, subst, ◌∙◌, append_assoc, append-nil, length-append, arith}
 use Rattle.std.specs.Prelude.{flat_map, codes}
 use Rattle.std.specs.List.{AllByRecursion}
-use Rattle.gate_values.specs.declared.Value.{Value}
 use Rattle.gate_values.specs.declared.Value.TheVariants.{X}
-use Rattle.text_rules.specs.Text.{is_name}
 use Rattle.valid_intervals.specs.declared.SignalCell.{SignalCell}
-use Rattle.why_proofs.specs.Spelling.{claim_line, cell_line, Proof, text_of, IsNumber, IsLine, IsProof}
-use Rattle.why_proofs.specs.Broken.{first_lines, IsBegun, GoesOn, IsBroken}
+use Rattle.why_proofs.specs.Spelling.{claim_line, cell_line, Proof, text_of, IsLine, IsProof}
+use Rattle.why_proofs.specs.Broken.{first_lines, GoesOn, IsBroken}
 use Rattle.why_proofs.specs.inner.Reading.{after_word, Claim, claim_at, cell_at, cells_at}
 use Rattle.why_proofs.proofs.Fields.{some_is, after_takes}
-use Rattle.why_proofs.proofs.Lines.{claim_takes, claim_again, cell_takes, cell_again, cell_none_end, cells_takes, cells_again}
+use Rattle.why_proofs.proofs.Lines.{claim_again, cell_again, cell_none_end, cells_again}
 use Rattle.why_proofs.proofs.Feeds.{IsWholeLine, claim-whole, cell-whole, end-whole, line-same, first-line, first-none, first-shape, first-fewer}
 
 abbrev end : List ℕ
@@ -149,15 +147,15 @@ module _ (q : Proof) (is : IsProof q) where
       none = λ p hp e. let at-end = end-behind p hp e in ended (sym no-word ∙ ap (after_word end) at-end);
       some = omega arith;
       before = λ n l.
-        let found : first_lines (length q.cells + 1 + 0) text ≡ Some (head ++ []) = first-two 0 ∙ ap (option_map (λ r. head ++ r)) (first-none r2) in
-        goes text (head ++ []) (length q.cells + 1 + 0) n end found (text-head ∙ ap (λ (x : List ℕ). x ++ end) (sym (append-nil head))) (omega arith);
+          let found : first_lines (length q.cells + 1 + 0) text ≡ Some (head ++ []) = first-two 0 ∙ ap (option_map (λ r. head ++ r)) (first-none r2) in
+          goes text (head ++ []) (length q.cells + 1 + 0) n end found (text-head ∙ ap (λ (x : List ℕ). x ++ end) (sym (append-nil head))) (omega arith);
       there = λ h.
-        let (bytes, found, (p, rest, hp, begun)) = h in
-        let count : length q.cells + 2 ≡ length q.cells + 1 + 1 = omega arith in
-        let (l, one, same) = map-some (first_lines 1 r2) bytes (sym (first-two 1) ∙ ap (λ k. first_lines k text) (sym count) ∙ found) in
-        let f = first-shape r2 l one in
-        let after-head : text_of p ≡ head ++ (l ++ rest) = begun ∙ ap (λ (x : List ℕ). x ++ rest) (sym same) ∙ append_assoc head l rest in
-        clash f.rest l f.parts (next-line q.cells p.cells l rest is.cells hp.cells f.whole (behind-head p (l ++ rest) hp after-head));
+          let (bytes, found, (p, rest, hp, begun)) = h in
+          let count : length q.cells + 2 ≡ length q.cells + 1 + 1 = omega arith in
+          let (l, one, same) = map-some (first_lines 1 r2) bytes (sym (first-two 1) ∙ ap (λ k. first_lines k text) (sym count) ∙ found) in
+          let f = first-shape r2 l one in
+          let after-head : text_of p ≡ head ++ (l ++ rest) = begun ∙ ap (λ (x : List ℕ). x ++ rest) (sym same) ∙ append_assoc head l rest in
+          clash f.rest l f.parts (next-line q.cells p.cells l rest is.cells hp.cells f.whole (behind-head p (l ++ rest) hp after-head));
     }
       where
         ended : None ≡ after_word end end → ⊥
@@ -180,14 +178,14 @@ module _ (q : Proof) (is : IsProof q) where
           some = omega arith;
           before = λ n l. goes text (head ++ (end ++ [])) (length q.cells + 1 + 1) n [] (found-end ends) (text-head ∙ sym (append-nil (head ++ (end ++ [])))) (omega arith);
           there = λ h.
-            let (bytes, found, (p, rest, hp, begun)) = h in
-            let count : length q.cells + 2 + 1 ≡ length q.cells + 1 + 2 = omega arith in
-            let (l2, two, same) = map-some (first_lines 2 r2) bytes (sym (first-two 2) ∙ ap (λ k. first_lines k text) (sym count) ∙ found) in
-            let (l, one, same-end) = after-end (first_lines 1 r3) l2 (sym (ap (first_lines 2) ends ∙ first-line 1 end r3 end-whole) ∙ two) in
-            let f = first-shape r3 l one in
-            let after-head : text_of p ≡ head ++ (end ++ (l ++ rest)) =
-            begun ∙ ap (λ (x : List ℕ). x ++ rest) (sym same ∙ ap (λ (x : List ℕ). head ++ x) (sym same-end)) ∙ append_assoc head (end ++ l) rest ∙ ap (λ (x : List ℕ). head ++ x) (append_assoc end l rest) in
-            nothing-left q.cells p.cells l rest is.cells hp.cells f.whole (behind-head p (end ++ (l ++ rest)) hp after-head);
+              let (bytes, found, (p, rest, hp, begun)) = h in
+              let count : length q.cells + 2 + 1 ≡ length q.cells + 1 + 2 = omega arith in
+              let (l2, two, same) = map-some (first_lines 2 r2) bytes (sym (first-two 2) ∙ ap (λ k. first_lines k text) (sym count) ∙ found) in
+              let (l, one, same-end) = after-end (first_lines 1 r3) l2 (sym (ap (first_lines 2) ends ∙ first-line 1 end r3 end-whole) ∙ two) in
+              let f = first-shape r3 l one in
+              let after-head : text_of p ≡ head ++ (end ++ (l ++ rest)) =
+              begun ∙ ap (λ (x : List ℕ). x ++ rest) (sym same ∙ ap (λ (x : List ℕ). head ++ x) (sym same-end)) ∙ append_assoc head (end ++ l) rest ∙ ap (λ (x : List ℕ). head ++ x) (append_assoc end l rest) in
+              nothing-left q.cells p.cells l rest is.cells hp.cells f.whole (behind-head p (end ++ (l ++ rest)) hp after-head);
         }
       where
         empty : end ≡ end ++ r3 → ⊥
@@ -226,9 +224,9 @@ no-claim text none-found = record {
   some = omega arith;
   before = λ n l. let zero-lines : n ≡ 0 = omega arith in subst (λ k. GoesOn k text) (sym zero-lines) ([], first-none text, (any-proof, text_of any-proof, any-is, refl));
   there = λ h.
-    let (bytes, found, (p, rest, hp, begun)) = h in
-    let f = first-shape text bytes found in
-    let same = (line-same (claim_line p.name p.time p.value) bytes (tail-of p) rest (claim-whole p.name p.time p.value hp.name hp.time) f.whole begun).0 in
-    let read : claim_at text ≡ Some (claim-of p, f.rest) = ap claim_at (f.parts ∙ ap (λ (x : List ℕ). x ++ f.rest) (sym same)) ∙ claim-read p f.rest hp in
-    cc (read, none-found);
+      let (bytes, found, (p, rest, hp, begun)) = h in
+      let f = first-shape text bytes found in
+      let same = (line-same (claim_line p.name p.time p.value) bytes (tail-of p) rest (claim-whole p.name p.time p.value hp.name hp.time) f.whole begun).0 in
+      let read : claim_at text ≡ Some (claim-of p, f.rest) = ap claim_at (f.parts ∙ ap (λ (x : List ℕ). x ++ f.rest) (sym same)) ∙ claim-read p f.rest hp in
+      cc (read, none-found);
 }

@@ -1,15 +1,15 @@
 -- What was read of a text, and what follows of the answer.
-use Rattle.std.proofs.Common.{◌≡◌, ℕ, ◌+◌, ◌<◌, ◌≤◌, List, [], ◌∷◌, ◌++◌, length, Option, Some, None, Result, Ok, Err, IfOk, refl, sym, ap, subst, ◌∙◌, append_assoc, append-nil, length-append, arith, inl, inr, ◌⊎◌}
+use Rattle.std.proofs.Common.{◌≡◌, ℕ, ◌+◌, ◌<◌, ◌≤◌, List, [], ◌∷◌, ◌++◌, length, Option, Some, None, Result, Ok, Err, IfOk, refl, sym, ap, subst, ◌∙◌, append_assoc, length-append, arith}
 use Rattle.std.specs.Prelude.{flat_map, codes}
 use Rattle.valid_intervals.specs.declared.SignalCell.{SignalCell}
 use Rattle.circuit_meaning.specs.Circuit.{IsCircuit}
 use Rattle.circuit_meaning.specs.Forward.{value}
 use Rattle.design.specs.Joined.{Joined}
-use Rattle.why_proofs.specs.Spelling.{cell_line, claim_line, Proof, text_of, IsProof}
+use Rattle.why_proofs.specs.Spelling.{cell_line, claim_line, Proof, IsProof}
 use Rattle.why_proofs.specs.Broken.{IsBroken}
 use Rattle.why_proofs.specs.Verdicts.{IsTextOf, RightYes, RightNo, IsTrueYes}
 use Rattle.why_proofs.specs.inner.Judged.{IsJudged}
-use Rattle.why_proofs.specs.inner.Reading.{after_word, Claim, claim_at, cell_at, cells_at}
+use Rattle.why_proofs.specs.inner.Reading.{after_word, Claim, claim_at, cells_at}
 use Rattle.why_proofs.specs.declared.checker.Checked.{Checked}
 use Rattle.why_proofs.specs.declared.checker.Checked.TheVariants.{Yes, No, Bad}
 use Rattle.why_proofs.proofs.Fields.{after_takes}

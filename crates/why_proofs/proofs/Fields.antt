@@ -1,15 +1,13 @@
 -- A field that is read is spelled so, and what is spelled so is read.
-use Rattle.std.proofs.Common.{◌≡◌, ℕ, zero, suc, ◌+◌, ◌^◌, ◌<◌, ◌≤◌, Bool, true, false, cond, ◌&&◌, ltb, leb, eqb, List, [], ◌∷◌, ◌++◌, length, Option, Some, None, refl, sym, ap, subst, ◌∙◌, append_assoc, arith, lt-ltb, ltb-true, take, drop, Bor, nat_eq, MatchOption}
+use Rattle.std.proofs.Common.{◌≡◌, ℕ, ◌+◌, Bool, true, false, cond, ◌&&◌, eqb, List, [], ◌∷◌, ◌++◌, length, Option, Some, None, refl, sym, ap, subst, ◌∙◌, take, drop, Bor, nat_eq, MatchOption}
 use Rattle.std.specs.Cmp.Lexicographic.{pointwise}
-use Rattle.std.proofs.lemmas.Bool.{eqb-true, le-leb, leb-true}
-use Rattle.std.proofs.lemmas.Option.{cond_some}
-use Rattle.std.specs.Fmt.{decimal}
+use Rattle.std.proofs.lemmas.Bool.{eqb-true}
 use Rattle.gate_values.specs.Spelling.{byte_of_value}
 use Rattle.gate_values.specs.declared.Value.{Value}
 use Rattle.gate_values.specs.declared.Value.TheVariants.{Zero, One, X, Z}
-use Rattle.why_proofs.specs.Spelling.{field, last_field, IsNumber}
-use Rattle.why_proofs.specs.inner.Reading.{◌>>=◌, behind_is, after_word, number_at, field_at, value_at, last_field_at}
-use Rattle.why_proofs.proofs.Numbers.{EndsNumber, and_both, number_takes, number_again}
+use Rattle.why_proofs.specs.Spelling.{field, IsNumber}
+use Rattle.why_proofs.specs.inner.Reading.{◌>>=◌, behind_is, after_word, number_at, field_at, value_at}
+use Rattle.why_proofs.proofs.Numbers.{EndsNumber, number_takes, number_again}
 
 -- the value of a step that read something
 pub bind_some : {A B : Type 0} (o : Option A) (f : A → Option B) (y : B) → (o >>= f) ≡ Some y → (x : A) × (o ≡ Some x) × (f x ≡ Some y)

@@ -1,17 +1,13 @@
 -- A line is justified by the accepted lines exactly where the rules give its cell; a proof, where each of its lines and its claim is.
-use Rattle.std.proofs.Common.{◌≡◌, ℕ, zero, suc, ◌+◌, ◌<◌, ◌≤◌, Bool, true, false, List, [], ◌∷◌, ◌++◌, length, take, get_or, Option, Some, None, IfSome, slice_get, refl, sym, ap, ap₂, subst, ◌∙◌, arith, inl, inr, ◌⊎◌}
+use Rattle.std.proofs.Common.{◌≡◌, ℕ, zero, suc, ◌+◌, ◌<◌, ◌≤◌, Bool, true, false, List, [], ◌∷◌, ◌++◌, length, take, get_or, Option, Some, IfSome, slice_get, sym, ap, ap₂, subst, ◌∙◌, arith, inl, inr}
 use Rattle.std.proofs.lemmas.Bool.{cases_lt}
 use Rattle.std.proofs.lemmas.List.{take_all}
 use Rattle.valid_intervals.specs.declared.Cell.{Cell}
 use Rattle.valid_intervals.specs.declared.Point.{Point}
 use Rattle.valid_intervals.specs.declared.SignalCell.{SignalCell}
 use Rattle.circuit_meaning.specs.Circuit.{Circuit, IsCircuit}
-use Rattle.circuit_meaning.specs.Cells.{cell_at}
 use Rattle.circuit_meaning.specs.Need.{IsEvaluable}
-use Rattle.design.specs.Joined.{Joined}
-use Rattle.why_proofs.specs.Spelling.{Proof}
-use Rattle.why_proofs.specs.Justified.{answer, IsJustified, IsJustifiedAt, AreJustified, IsClaimed, IsJustifiedProof}
-use Rattle.why_proofs.specs.Verdicts.{IsFirstUnjustified, IsUnclaimed}
+use Rattle.why_proofs.specs.Justified.{answer, IsJustified, IsJustifiedAt, AreJustified}
 use Rattle.why_proofs.specs.inner.Known.{place_of, AreTrueCells, IsIndexOf, IsRuled, Accepts}
 use Rattle.why_proofs.proofs.Sound.{answer-right, rule-right, grown, take-grown}
 use Rattle.why_proofs.proofs.KnownLemmas.{index-right}

@@ -1,5 +1,5 @@
 -- What is found among the accepted lines, by an index of their signals and first times.
-use Rattle.std.proofs.Common.{◌≡◌, ℕ, zero, suc, ◌<◌, ◌≤◌, ◌&&◌, nat_le, nat_lt, nat_eq, Bool, true, false, cond, List, [], ◌∷◌, ◌++◌, length, get_or, Option, Some, None, IsSome, IfSome, MatchOption, Contains, option_map, refl, sym, ap, ap₂, subst, ◌∙◌, arith, inl, inr, ◌⊎◌, eqb-true, eq-eqb, le-leb, lt-ltb}
+use Rattle.std.proofs.Common.{◌≡◌, ℕ, zero, suc, ◌≤◌, ◌&&◌, nat_eq, Bool, true, false, cond, List, [], ◌∷◌, ◌++◌, Option, Some, None, IsSome, MatchOption, Contains, option_map, refl, sym, ap, ap₂, subst, ◌∙◌, arith, inl, inr, ◌⊎◌, eqb-true, eq-eqb, le-leb, lt-ltb}
 use Rattle.std.specs.Prelude.{find}
 use Rattle.std.specs.List.{AllByRecursion}
 use Rattle.std.proofs.lemmas.Bool.{and_parts, and_from, cases_Bool}
@@ -9,18 +9,18 @@ use Rattle.std.specs.Ordering.{is_eq, is_gt, is_lt}
 use Rattle.valid_intervals.specs.declared.Cell.{Cell}
 use Rattle.valid_intervals.specs.declared.Point.{Point}
 use Rattle.valid_intervals.specs.declared.SignalCell.{SignalCell}
-use Rattle.valid_intervals.specs.Spans.{Span, IsIn}
+use Rattle.valid_intervals.specs.Spans.{IsIn}
 use Rattle.valid_intervals.specs.Cells.{covers, point_cmp}
 use Rattle.circuit_meaning.specs.Circuit.{Circuit, IsCircuit}
-use Rattle.circuit_meaning.specs.Cells.{span, cell_at, point_at}
+use Rattle.circuit_meaning.specs.Cells.{cell_at, point_at}
 use Rattle.circuit_meaning.specs.Base.{base_answer}
 use Rattle.circuit_meaning.specs.Need.{IsEvaluable}
 use Rattle.circuit_meaning.proofs.Cover.{cell-covers}
 use Rattle.circuit_meaning.proofs.BaseCells.{base-answers}
-use Rattle.why_proofs.specs.Justified.{base_or, line_at, answer}
+use Rattle.why_proofs.specs.Justified.{base_or, line_at}
 use Rattle.why_proofs.specs.Laws.{IsTrueLine}
 use Rattle.why_proofs.specs.inner.Known.{place_of, IsTrueCell, AreTrueCells, IsStated, IsIndexOf}
-use Rattle.why_proofs.proofs.Sound.{Covers, covers-from, steady, answer-right, AreRight}
+use Rattle.why_proofs.proofs.Sound.{Covers, covers-from, steady}
 
 point-is : (a b : Point) → a.signal ≡ b.signal → a.time ≡ b.time → a ≡ b
 point-is a b e f = let at : ℕ → ℕ → Point = λ s t. record { signal = s; time = t } in ap₂ at e f

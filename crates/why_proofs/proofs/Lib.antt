@@ -4,6 +4,7 @@ pub mod Lines
 pub mod Feeds
 pub mod Breaks
 pub mod Checking
+pub mod Fixed
 pub mod WalkLemmas
 pub mod Sound
 pub mod Sources

@@ -1,5 +1,5 @@
 -- A line that is read is spelled so, and what is spelled so is read.
-use Rattle.std.proofs.Common.{◌≡◌, ℕ, zero, suc, ◌+◌, ◌<◌, ◌≤◌, Bool, true, false, cond, ◌&&◌, not, eqb, nat_lt, List, [], ◌∷◌, ◌++◌, length, take, drop, position, Option, Some, None, refl, sym, ap, ap₂, subst, ◌∙◌, append_assoc, append-nil, length-append, arith, lt-ltb, eqb-true}
+use Rattle.std.proofs.Common.{◌≡◌, ℕ, zero, suc, ◌<◌, ◌≤◌, Bool, true, false, cond, eqb, nat_lt, List, [], ◌∷◌, ◌++◌, length, take, drop, position, Option, Some, None, refl, sym, ap, ap₂, subst, ◌∙◌, append_assoc, append-nil, length-append, arith, lt-ltb, eqb-true}
 use Rattle.std.specs.Prelude.{flat_map, codes, decimal}
 use Rattle.std.specs.Option.{option_map_or}
 use Rattle.std.specs.List.{AllByRecursion, position_or_len, list_all}
@@ -11,7 +11,7 @@ use Rattle.text_rules.specs.Text.{is_name, is_name_byte, is_filled}
 use Rattle.valid_intervals.specs.declared.SignalCell.{SignalCell}
 use Rattle.why_proofs.specs.Spelling.{field, last_field, claim_line, cell_line, IsNumber, IsLine}
 use Rattle.why_proofs.specs.inner.Reading.{◌>>=◌, after_word, field_at, value_at, last_field_at, is_space, named, name_at, Claim, claim_at, cell_at, line_of, put_first, cells_at}
-use Rattle.why_proofs.proofs.Numbers.{EndsNumber, and_both}
+use Rattle.why_proofs.proofs.Numbers.{and_both}
 use Rattle.why_proofs.proofs.Fields.{bind_some, some_is, after_takes, field_takes, field_again, value_takes}
 
 -- ---- the end of a line

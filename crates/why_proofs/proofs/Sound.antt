@@ -1,21 +1,20 @@
 -- What the rules give from right answers is the cell; so justified lines state cells.
-use Rattle.std.proofs.Common.{◌≡◌, ℕ, zero, suc, ◌+◌, ◌-◌, ◌<◌, ◌≤◌, ◌&&◌, nat_le, nat_lt, nat_eq, Bool, true, false, cond, List, [], ◌∷◌, ◌++◌, length, map, take, All, Option, Some, None, IsSome, IfSome, MatchOption, slice_get, option_map, refl, sym, ap, ap₂, subst, ◌∙◌, arith, inl, inr, eqb-true, leb-true}
+use Rattle.std.proofs.Common.{◌≡◌, ℕ, zero, suc, ◌+◌, ◌-◌, ◌<◌, ◌&&◌, nat_le, nat_lt, nat_eq, Bool, true, false, cond, List, [], ◌∷◌, ◌++◌, length, map, take, Option, Some, None, IsSome, IfSome, MatchOption, slice_get, option_map, refl, sym, ap, ap₂, subst, ◌∙◌, arith, inl, inr, eqb-true, leb-true}
 use Rattle.std.specs.Prelude.{find}
 use Rattle.std.specs.Option.{option_map_or}
 use Rattle.std.specs.List.{AllByRecursion}
-use Rattle.std.proofs.lemmas.Bool.{and_parts, cases_lt, cases_Bool, ltb-true}
+use Rattle.std.proofs.lemmas.Bool.{and_parts, cases_lt, ltb-true}
 use Rattle.std.proofs.lemmas.List.{take_all}
-use Rattle.std.proofs.lemmas.List.Elements.{recursion_from_All, All-from_recursion}
+use Rattle.std.proofs.lemmas.List.Elements.{recursion_from_All}
 use Rattle.gate_values.specs.declared.Value.{Value}
 use Rattle.gate_values.specs.declared.Value.TheVariants.{X}
 use Rattle.gate_values.specs.declared.Kind.{Kind}
 use Rattle.gate_values.specs.declared.Kind.TheVariants.{Dff}
-use Rattle.gate_values.specs.Gates.{gate_value, decides, up_to_first}
+use Rattle.gate_values.specs.Gates.{gate_value, decides}
 use Rattle.gate_values.proofs.Looked.{gate_value-looked, cut_alike, map-up_to_first}
-use Rattle.valid_intervals.specs.declared.Point.{Point}
 use Rattle.valid_intervals.specs.declared.Cell.{Cell}
 use Rattle.valid_intervals.specs.declared.SignalCell.{SignalCell}
-use Rattle.valid_intervals.specs.Cells.{covers, stored_at}
+use Rattle.valid_intervals.specs.Cells.{covers}
 use Rattle.valid_intervals.specs.Spans.{Span, IsIn, moved}
 use Rattle.flip_flops.specs.Edges.{shown_edge}
 use Rattle.circuit_meaning.specs.declared.Pin.{Pin}
@@ -29,7 +28,7 @@ use Rattle.circuit_meaning.proofs.Steady.{seen-early, seen-late, pin_span-early,
 use Rattle.circuit_meaning.proofs.BaseCells.{base-answers}
 use Rattle.design.specs.Joined.{Joined}
 use Rattle.why_proofs.specs.Spelling.{Proof}
-use Rattle.why_proofs.specs.Justified.{Answers, base_or, line_at, answer, value_in, span_in, looked_in, IsAnswered, AreAnswered, rule_value, rule_span, rule_cell, IsJustified, IsJustifiedAt, AreJustified, IsClaimed, IsJustifiedProof}
+use Rattle.why_proofs.specs.Justified.{Answers, base_or, line_at, answer, value_in, span_in, looked_in, IsAnswered, AreAnswered, rule_value, rule_span, rule_cell, IsJustified, AreJustified, IsJustifiedProof}
 use Rattle.why_proofs.specs.Laws.{IsTrueLine}
 
 abbrev made : Span → Value → Cell

@@ -1,6 +1,6 @@
 -- When the lines of a proof follow from those above them. Nothing here speaks of forward simulation: a line is judged by the answers of
 -- the lines above it alone.
-use Rattle.std.specs.Prelude.{◌≡◌, ℕ, ◌+◌, ◌-◌, ◌≤◌, ◌<◌, nat_lt, if◌then◌else◌, All, List, length, map, find, take, slice_get, position, Option, Some, None, IsSome, IfSome, option_map}
+use Rattle.std.specs.Prelude.{◌≡◌, ℕ, ◌+◌, ◌-◌, ◌≤◌, ◌<◌, All, List, length, map, take, slice_get, position, Option, Some, None, IsSome, IfSome, option_map}
 use Rattle.std.specs.Option.{option_map_or}
 use Rattle.std.specs.Str.{bytes_eq}
 use Rattle.gate_values.specs.declared.Value.{Value}

@@ -46,6 +46,12 @@ RightBad text (Yes signal time v) = Unit {0}
 RightBad text (No line) = Unit {0}
 RightBad text (Bad line) = IsBroken text line
 
+-- an answer that is right of a text
+pub record IsVerdict (d : Joined) (text : List ℕ) (r : Checked) : Type 0 where
+  pub yes : RightYes d text r
+  pub no : RightNo d text r
+  pub bad : RightBad text r
+
 -- where the answer is yes, the claim holds in forward simulation
 abbrev pub IsTrueYes : Joined → Checked → Type 0
 IsTrueYes d (Yes signal time v) = value d.circuit signal time ≡ v

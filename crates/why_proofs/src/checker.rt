@@ -18,12 +18,20 @@ use std::alloc::Global;
 #[derive(Clone, Copy, Debug, PartialEq, Eq)]
 pub enum Checked {
     /// It is a justified proof: the signal with this number has this value at this time.
-    Yes { signal: u32, time: u32, value: Value },
+    Yes {
+        signal: u32,
+        time: u32,
+        value: Value,
+    },
     /// It is a proof, and this is its first cell line that the lines above it do not justify; line 1 where all are justified, but
     /// what the first line claims does not follow.
-    No { line: u32 },
+    No {
+        line: u32,
+    },
     /// It is no proof, and this is the first line at which no proof's text goes on.
-    Bad { line: u32 },
+    Bad {
+        line: u32,
+    },
 }
 
 /// Whether a text is a justified proof. It takes time in O(n log n) for n bytes of text, and memory in proportion to them.

@@ -75,18 +75,42 @@ const fn bad(line: u32) -> Checked {
 fn proofs_are_judged(rt: HostRuntime) -> Result<(), Fail> {
     let rows = [
         // a chain of three gates, from the input on
-        (CHAIN, "why n3 6 1\ncell 2 1 11 1\ncell 3 2 11 1\ncell 1 3 11 1\nend\n", yes(1, 6, Value::One)),
+        (
+            CHAIN,
+            "why n3 6 1\ncell 2 1 11 1\ncell 3 2 11 1\ncell 1 3 11 1\nend\n",
+            yes(1, 6, Value::One),
+        ),
         // a line twice
-        (CHAIN, "why n1 5 1\ncell 2 1 11 1\ncell 2 1 11 1\nend\n", yes(2, 5, Value::One)),
+        (
+            CHAIN,
+            "why n1 5 1\ncell 2 1 11 1\ncell 2 1 11 1\nend\n",
+            yes(2, 5, Value::One),
+        ),
         // a base answer needs no line
         (CHAIN, "why a 4 1\nend\n", yes(0, 4, Value::One)),
         (CHAIN, "why n3 0 x\nend\n", yes(1, 0, Value::X)),
         // the second gate of the chain is left out, or comes too late
-        (CHAIN, "why n3 6 1\ncell 2 1 11 1\ncell 1 3 11 1\nend\n", no(3)),
-        (CHAIN, "why n3 6 1\ncell 2 1 11 1\ncell 1 3 11 1\ncell 3 2 11 1\nend\n", no(3)),
+        (
+            CHAIN,
+            "why n3 6 1\ncell 2 1 11 1\ncell 1 3 11 1\nend\n",
+            no(3),
+        ),
+        (
+            CHAIN,
+            "why n3 6 1\ncell 2 1 11 1\ncell 1 3 11 1\ncell 3 2 11 1\nend\n",
+            no(3),
+        ),
         // the lines are right, and the claim is not, or is not covered, or is of no signal, or past the horizon
-        (CHAIN, "why n3 6 0\ncell 2 1 11 1\ncell 3 2 11 1\ncell 1 3 11 1\nend\n", no(1)),
-        (CHAIN, "why n3 6 1\ncell 2 1 11 1\ncell 3 2 11 1\nend\n", no(1)),
+        (
+            CHAIN,
+            "why n3 6 0\ncell 2 1 11 1\ncell 3 2 11 1\ncell 1 3 11 1\nend\n",
+            no(1),
+        ),
+        (
+            CHAIN,
+            "why n3 6 1\ncell 2 1 11 1\ncell 3 2 11 1\nend\n",
+            no(1),
+        ),
         (CHAIN, "why b 6 1\nend\n", no(1)),
         (CHAIN, "why a 11 1\nend\n", no(1)),
         // the value is right, and the interval is not
@@ -98,17 +122,29 @@ fn proofs_are_judged(rt: HostRuntime) -> Result<(), Fail> {
         (CHAIN, "why a 4 1\ncell 4 1 11 1\nend\n", no(2)),
         (CHAIN, "why a 4 1\ncell 2 11 12 1\nend\n", no(2)),
         // the first pin decides, so that the second is not looked at; then both are
-        (RING, "why y 9 1\ncell 1 2 6 1\ncell 1 6 8 0\ncell 1 8 10 1\nend\n", yes(1, 9, Value::One)),
+        (
+            RING,
+            "why y 9 1\ncell 1 2 6 1\ncell 1 6 8 0\ncell 1 8 10 1\nend\n",
+            yes(1, 9, Value::One),
+        ),
         // a gate that reads itself is no reason for itself
         (RING, "why y 7 0\ncell 1 6 8 0\nend\n", no(2)),
         (RING, "why y 9 1\ncell 1 2 13 1\nend\n", no(2)),
         // a flip-flop shows its pin at the edge
-        (CLOCKED, "why q 15 1\ncell 1 11 21 1\nend\n", yes(1, 15, Value::One)),
+        (
+            CLOCKED,
+            "why q 15 1\ncell 1 11 21 1\nend\n",
+            yes(1, 15, Value::One),
+        ),
         (CLOCKED, "why q 15 1\ncell 1 11 31 1\nend\n", no(2)),
     ];
     for (files, text, checked) in rows {
         let design = joined(rt.alloc(), &files)?;
-        assert_eq!(rt; check_proof(rt.alloc(), &design, short(text))?, checked, "{text}");
+        assert_eq!(rt;
+            check_proof(rt.alloc(), &design, short(text))?,
+            checked,
+            "{text}"
+        );
     }
     Ok(())
 }
@@ -134,7 +170,10 @@ fn broken_texts_have_a_line(rt: HostRuntime) -> Result<(), Fail> {
         ("why a 4 1\nend\n\n", 3),
         ("why a 4 1\nend\nend\n", 3),
         // a proof that is cut before its last line, and in its second
-        ("why n3 6 1\ncell 2 1 11 1\ncell 3 2 11 1\ncell 1 3 11 1\n", 5),
+        (
+            "why n3 6 1\ncell 2 1 11 1\ncell 3 2 11 1\ncell 1 3 11 1\n",
+            5,
+        ),
         ("why n3 6 1\ncell 2 1 1", 2),
         // whatever its lines say
         ("why b 6 1\ncell 9 9 9 9\nend\n", 2),
@@ -142,7 +181,11 @@ fn broken_texts_have_a_line(rt: HostRuntime) -> Result<(), Fail> {
     ];
     let design = joined(rt.alloc(), &CHAIN)?;
     for (text, line) in rows {
-        assert_eq!(rt; check_proof(rt.alloc(), &design, short(text))?, bad(line), "{text}");
+        assert_eq!(rt;
+            check_proof(rt.alloc(), &design, short(text))?,
+            bad(line),
+            "{text}"
+        );
     }
     Ok(())
 }

@@ -1,4 +1,4 @@
-use Rattle.std.proofs.Common.{rules, ◌≡◌, ◌<◌, ◌∷◌, [], ◌++◌, take, length, slice_get, Some, refl, true, false, arith, sym, subst, inr}
+use Rattle.std.proofs.Common.{rules, ◌≡◌, ◌<◌, take, length, slice_get, Some, refl, true, false, arith, sym, subst, inr}
 use Rattle.std.specs.BTreeMap.{get}
 use Rattle.valid_intervals.specs.Cells.{point_cmp}
 use Rattle.why_proofs.specs.inner.Known.{IsIndexOf}

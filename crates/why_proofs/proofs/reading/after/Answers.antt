@@ -1,4 +1,3 @@
-use Rattle.std.proofs.Common.{◌≡◌}
 use Rattle.why_proofs.proofs.Fields.{after_strips}
 use Rattle.why_proofs.proofs.reading.after.Goals as goal
 

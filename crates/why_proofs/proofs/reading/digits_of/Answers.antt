@@ -1,5 +1,5 @@
-use Rattle.std.proofs.Common.{rules, ◌≡◌, ◌+◌, ◌*◌, ◌<◌, ◌≤◌, ℕ, List, ap, arith, ◌^◌}
-use Rattle.why_proofs.specs.inner.Reading.{digit_at, digits_at}
+use Rattle.std.proofs.Common.{rules, ◌≡◌, ◌+◌, ◌*◌, ℕ, List, ap, arith}
+use Rattle.why_proofs.specs.inner.Reading.{digit_at}
 use Rattle.why_proofs.proofs.Numbers.{digit_read, digits_next, digits_at_ge}
 use Rattle.why_proofs.proofs.reading.digits_of.Goals as goal
 

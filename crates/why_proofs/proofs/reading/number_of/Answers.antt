@@ -1,5 +1,4 @@
-use Rattle.std.proofs.Common.{rules, ◌≡◌, ◌+◌, ◌<◌, ◌≤◌, ◌^◌, ℕ, List, length, get_or, ap, arith}
-use Rattle.why_proofs.specs.inner.Reading.{digits_at}
+use Rattle.std.proofs.Common.{rules, ℕ, List, length, ap, arith}
 use Rattle.why_proofs.proofs.Numbers.{digits_shorter, number_wide, number_empty, number_zero, number_read}
 use Rattle.why_proofs.proofs.reading.number_of.Goals.{else-len-gt1-via-then-len-gt1+else-text-eq48, else-len-gt1-via-else-len-gt1}
 use Rattle.why_proofs.proofs.reading.number_of.Goals as goal

@@ -1,4 +1,4 @@
-use Rattle.std.proofs.Common.{rules, ◌≡◌, ◌<◌, ◌≤◌, length, true, false, arith, sym, ◌∙◌}
+use Rattle.std.proofs.Common.{rules, ◌≡◌, ◌<◌, ◌≤◌, length, true}
 use Rattle.std.specs.BTreeMap.{get}
 use Rattle.valid_intervals.specs.Cells.{point_cmp}
 use Rattle.valid_intervals.specs.declared.Point.{Point}

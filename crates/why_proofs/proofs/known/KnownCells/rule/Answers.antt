@@ -1,4 +1,4 @@
-use Rattle.std.proofs.Common.{rules, arith, ◌≡◌, ◌<◌, length, sym, ◌∙◌, eqb-true}
+use Rattle.std.proofs.Common.{rules, ◌≡◌, ◌<◌, length, sym, ◌∙◌, eqb-true}
 use Rattle.std.specs.BTreeMap.{get}
 use Rattle.valid_intervals.specs.Cells.{point_cmp}
 use Rattle.why_proofs.specs.Justified.{answer}
