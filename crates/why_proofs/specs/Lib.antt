@@ -1,0 +1,6 @@
+pub mod Spelling
+pub mod Broken
+pub mod Justified
+pub mod Verdicts
+pub mod Laws
+pub mod inner
