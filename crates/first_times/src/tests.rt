@@ -114,9 +114,9 @@ fn first_of_y(
     Ok(Some(asked::<Brand>(alloc, design, query, value)?))
 }
 
-/// A row: the window, the budget, the value, the answer and the entries.
+/// A row: where a window from 0 on ends, the budget, the value, the answer and the entries.
+#[derive(Clone, Copy)]
 struct Row {
-    from: u32,
     to: u32,
     budget: u32,
     value: Value,
@@ -124,28 +124,62 @@ struct Row {
     journal: &'static [u8],
 }
 
-#[test]
-fn first_times_of_an_inverter(rt: HostRuntime) -> Result<(), Fail> {
-    let design = inverter(rt.alloc())??;
-    let row = |to: u32, budget: u32, value: Value, answer: FirstAnswer, journal: &'static [u8]| Row {
-        from: 0,
+fn row_of(to: u32, budget: u32, value: Value, answer: FirstAnswer, journal: &'static [u8]) -> Row {
+    Row {
         to,
         budget,
         value,
         answer,
         journal,
-    };
+    }
+}
+
+#[test]
+fn first_times_of_an_inverter(rt: HostRuntime) -> Result<(), Fail> {
+    let design = inverter(rt.alloc())??;
     let rows = [
-        row(11, 50_000, Value::Zero, FirstAnswer::At(8), b"claim 1 1 3\nfill 1 1 3 3 8 1\nclaim 1 1 8\nfill 1 1 8 8 11 0\n"),
-        row(11, 50_000, Value::One, FirstAnswer::At(3), b"claim 1 1 3\nfill 1 1 3 3 8 1\n"),
-        row(11, 50_000, Value::X, FirstAnswer::At(0), b""),
-        row(11, 50_000, Value::Z, FirstAnswer::Never, b"claim 1 1 3\nfill 1 1 3 3 8 1\nclaim 1 1 8\nfill 1 1 8 8 11 0\n"),
-        row(8, 50_000, Value::Zero, FirstAnswer::Never, b"claim 1 1 3\nfill 1 1 3 3 8 1\n"),
-        row(11, 1, Value::Zero, FirstAnswer::Budget(1), b"claim 1 1 3\nfill 1 1 3 3 8 1\nspent 1 1 8 0\n"),
+        row_of(
+            11,
+            50_000,
+            Value::Zero,
+            FirstAnswer::At(8),
+            b"claim 1 1 3\nfill 1 1 3 3 8 1\nclaim 1 1 8\nfill 1 1 8 8 11 0\n",
+        ),
+        row_of(
+            11,
+            50_000,
+            Value::One,
+            FirstAnswer::At(3),
+            b"claim 1 1 3\nfill 1 1 3 3 8 1\n",
+        ),
+        row_of(11, 50_000, Value::X, FirstAnswer::At(0), b""),
+        row_of(
+            11,
+            50_000,
+            Value::Z,
+            FirstAnswer::Never,
+            b"claim 1 1 3\nfill 1 1 3 3 8 1\nclaim 1 1 8\nfill 1 1 8 8 11 0\n",
+        ),
+        row_of(
+            8,
+            50_000,
+            Value::Zero,
+            FirstAnswer::Never,
+            b"claim 1 1 3\nfill 1 1 3 3 8 1\n",
+        ),
+        row_of(
+            11,
+            1,
+            Value::Zero,
+            FirstAnswer::Budget(1),
+            b"claim 1 1 3\nfill 1 1 3 3 8 1\nspent 1 1 8 0\n",
+        ),
     ];
     for row in &rows {
-        let seen = first_of_y(rt.alloc(), &design, row.from, row.to, row.budget, row.value)?
-            .expect(&rt, "a signal within the horizon");
+        let seen = first_of_y(rt.alloc(), &design, 0, row.to, row.budget, row.value)?.expect(
+            &rt,
+            "a signal within the horizon",
+        );
         assert_eq!(rt; seen.answer, row.answer);
         assert_eq!(rt; seen.journal.as_slice(), row.journal);
     }
@@ -155,8 +189,10 @@ fn first_times_of_an_inverter(rt: HostRuntime) -> Result<(), Fail> {
 #[test]
 fn an_empty_window_asks_nothing(rt: HostRuntime) -> Result<(), Fail> {
     let design = inverter(rt.alloc())??;
-    let seen = first_of_y(rt.alloc(), &design, 5, 5, 50_000, Value::One)?
-        .expect(&rt, "a signal within the horizon");
+    let seen = first_of_y(rt.alloc(), &design, 5, 5, 50_000, Value::One)?.expect(
+        &rt,
+        "a signal within the horizon",
+    );
     assert_eq!(rt; seen.answer, FirstAnswer::Never);
     assert_eq!(rt; seen.journal.as_slice(), b"".as_slice());
     Ok(())
