@@ -11,6 +11,7 @@ enum Said {
     Go,
     Trim(u32),
     Stats,
+    First(Value, u32, u32, u32),
     Bad,
 }
 
@@ -29,13 +30,14 @@ fn form_of(line: &Line) -> Said {
         Line::Go => Said::Go,
         Line::Trim(cells) => Said::Trim(*cells),
         Line::Stats => Said::Stats,
+        Line::First(first) => Said::First(first.value, first.from, first.to, first.budget),
         Line::Bad | Line::Ask(What::Bad) => Said::Bad,
     }
 }
 
 #[test]
 fn lines_have_their_forms(rt: HostRuntime) -> Result<(), Fail> {
-    let rows: [(&[u8], Said); 36] = [
+    let rows: [(&[u8], Said); 44] = [
         (b"", Said::Blank),
         (b" \t # wave y 0 11\r", Said::Blank),
         (b"wave y 0 11", Said::Wave(0, 11, 50_000)),
@@ -72,7 +74,18 @@ fn lines_have_their_forms(rt: HostRuntime) -> Result<(), Fail> {
         (b"stats 1", Said::Bad),
         (b"hello", Said::Bad),
         (b"vcd dump", Said::Bad),
-        (b"first y 1 0 11", Said::Bad),
+        (b"first y 1 0 11", Said::First(Value::One, 0, 11, 50_000)),
+        (b"first y X 5 5 7 # budget", Said::First(Value::X, 5, 5, 7)),
+        (
+            b"first y z 4294967294 007 0",
+            Said::First(Value::Z, 4_294_967_294, 7, 0),
+        ),
+        (b"first y 2 0 11", Said::Bad),
+        (b"first y 10 0 11", Said::Bad),
+        (b"first y 1 0 11 500001", Said::Bad),
+        (b"first y 1 0 11 7 8", Said::Bad),
+        (b"first y 1 0", Said::Bad),
+        (b"first y=z 1 0 11", Said::Bad),
         (b"why y 5", Said::Bad),
         (b"stuck y 0 y 0 11", Said::Bad),
     ];
@@ -88,6 +101,7 @@ enum Shape {
     Items(usize),
     Trim(u32),
     Stats,
+    First(u32),
 }
 
 fn shape_of(unit: &Unit) -> Shape {
@@ -95,6 +109,7 @@ fn shape_of(unit: &Unit) -> Shape {
         Unit::Batch(items) => Shape::Items(items.as_slice().len()),
         Unit::Trim(cells) => Shape::Trim(*cells),
         Unit::Stats => Shape::Stats,
+        Unit::First(item) => Shape::First(item.line),
     }
 }
 
@@ -185,8 +200,8 @@ fn a_stream_is_cut_into_lines(rt: HostRuntime) -> Result<(), Fail> {
 
 #[test]
 fn units_close_where_they_must(rt: HostRuntime) -> Result<(), Fail> {
-    use Shape::{Items, Stats, Trim};
-    let rows: [(&[u8], &[Shape]); 9] = [
+    use Shape::{First, Items, Stats, Trim};
+    let rows: [(&[u8], &[Shape]); 10] = [
         (b"", &[]),
         (b"go\n\n# nothing is pending\ngo", &[]),
         (b"at y 5\ngo\nat y 6", &[Items(1), Items(1)]),
@@ -198,6 +213,10 @@ fn units_close_where_they_must(rt: HostRuntime) -> Result<(), Fail> {
         (
             b"wave y 0 11\r\ntrim 1\r\nstats\r\n",
             &[Items(1), Trim(1), Stats],
+        ),
+        (
+            b"at y 5\nat y 6\nfirst y 1 0 11\nfirst y 0 0 11\nat y 7\nfirst y 2 0 11",
+            &[Items(2), First(3), First(4), Items(2)],
         ),
         (
             b"wave y 0 11 500000\nwave y 0 11 499999\nat y 1 1",

@@ -3,7 +3,7 @@
 use super::*;
 use backsim_io::Text;
 use gate_values::Value;
-use query_lines::{Item, What};
+use query_lines::{First, Item, What};
 use std::test::Fail;
 use window_walks::{Run, Runs};
 
@@ -84,5 +84,38 @@ fn other_replies_have_their_texts(rt: HostRuntime) -> Result<(), Fail> {
         text.as_slice(),
         b"stats batches 1 fills 399997 evictions 383613 cells 16384\n".as_slice()
     );
+    Ok(())
+}
+
+#[test]
+fn first_times_have_their_texts(rt: HostRuntime) -> Result<(), Fail> {
+    let alloc = rt.alloc();
+    let first = First {
+        name: Text::from_bytes(alloc, b"n3")?,
+        value: Value::X,
+        from: 4,
+        to: 1_000_001,
+        budget: 50_000,
+    };
+    let rows: [(FirstReply, &[u8]); 5] = [
+        (FirstReply::Unknown, b"unknown n3\n"),
+        (FirstReply::Past, b"past n3 4 1000001\n"),
+        (
+            FirstReply::Answer(FirstAnswer::At(17)),
+            b"first n3 x 4 1000001 17\n",
+        ),
+        (
+            FirstReply::Answer(FirstAnswer::Never),
+            b"first n3 x 4 1000001 none\n",
+        ),
+        (
+            FirstReply::Answer(FirstAnswer::Budget(50_000)),
+            b"budget n3 50000\n",
+        ),
+    ];
+    for (reply, want) in rows {
+        let text = first_text(alloc, &first, reply)?;
+        assert_eq!(rt; text.as_slice(), want);
+    }
     Ok(())
 }

@@ -195,11 +195,7 @@ fn put_first(text: &mut Vec<u8>, first: &First, reply: FirstReply) -> Result<(),
 }
 
 /// The text of the reply to a question for a first time: one line.
-pub fn first_text(
-    alloc: Global,
-    first: &First,
-    reply: FirstReply,
-) -> Result<Vec<u8>, OutOfMemory>
+pub fn first_text(alloc: Global, first: &First, reply: FirstReply) -> Result<Vec<u8>, OutOfMemory>
     ensures { IfOk result (λ text. text.items ≡ first_line first.now reply) }
 {
     let mut text = Vec::new(alloc);
