@@ -1,12 +1,13 @@
 //! Plans of two strands, turn by turn, and the journals that they leave.
 
-use super::{At, Lone, Line, Row};
+use super::{At, Line, Lone, Row};
 use crate::Alone;
 use gate_values::Value;
 use plan_machine::Turned;
 use valid_intervals::Point;
 
 const BUFFER: &str = "INPUT(a)\ny = BUFF(a)\n";
+
 pub const CHAIN: &str = "INPUT(a)\nOUTPUT(n3)\nn1 = BUFF(a)\nn2 = BUFF(n1)\nn3 = BUFF(n2)\n";
 
 pub const ROWS: [Row; 5] = [
