@@ -1,4 +1,4 @@
-//! A batch and a trim over two shards.
+//! A batch, a question for a first time and a trim over two shards.
 
 ghost use Rattle.std.specs.Prelude.{◌≡◌, ◌≤◌, false, [], ◌∷◌, length, IfOk};
 ghost use Rattle.cell_store.specs.Recency.{contents};
@@ -14,8 +14,8 @@ use design::{Design, JoinFault};
 use gate_values::Value;
 use journal_meaning::Entry;
 use journal_text::EntryList;
-use query_lines::{Item, What};
-use reply_lines::Reply;
+use query_lines::{First, FirstItem, Item, What};
+use reply_lines::{FirstAnswer, FirstReply, Reply};
 use std::alloc::Global;
 use std::sync::Wait;
 use std::test::Fail;
@@ -146,5 +146,59 @@ fn a_batch_is_answered_and_trimmed(rt: HostRuntime) -> Result<(), Fail> {
     assert_eq!(rt; trimmed.lists.len(), 2);
     assert!(rt; entries_of(&trimmed.lists, 0).is_empty());
     assert!(rt; entries_of(&trimmed.lists, 1) == evicted.as_slice());
+    Ok(())
+}
+
+/// When the signal of this name is first 1, from time 0 on, over empty stores.
+fn first_one(
+    alloc: Global,
+    design: &Design,
+    name: &[u8],
+    to: u32,
+) -> Result<FirstDone, OutOfMemory> {
+    let item = FirstItem {
+        line: 1,
+        first: First {
+            name: Text::from_bytes(alloc, name)?,
+            value: Value::One,
+            from: 0,
+            to,
+            budget: 3,
+        },
+    };
+    let stores = empty_stores(alloc)?;
+    let done = answer_first(alloc, design, &item, SIZES, stores)?;
+    Ok(done)
+}
+
+#[test]
+fn a_first_time_is_answered(rt: HostRuntime) -> Result<(), Fail> {
+    let design = joined(rt.alloc())??;
+    let found = first_one(rt.alloc(), &design, b"y", 11)?;
+    assert_eq!(rt; found.reply, FirstReply::Answer(FirstAnswer::At(1)));
+    let p = Point { signal: 1, time: 1 };
+    let cell = Cell {
+        span: Span::new(1, 11).expect(&rt, "an interval"),
+        value: Value::One,
+    };
+    let asked = [Entry::Claimed { q: 1, p }, Entry::Filled { q: 1, p, cell }];
+    assert_eq!(rt; found.lists.len(), 2);
+    assert!(rt; entries_of(&found.lists, 0).is_empty());
+    assert!(rt; entries_of(&found.lists, 1) == asked.as_slice());
+    assert_eq!(rt; found.stores.len(), 2);
+    Ok(())
+}
+
+#[test]
+fn a_first_time_that_is_not_asked(rt: HostRuntime) -> Result<(), Fail> {
+    let design = joined(rt.alloc())??;
+    let unknown = first_one(rt.alloc(), &design, b"z", 11)?;
+    assert_eq!(rt; unknown.reply, FirstReply::Unknown);
+    assert_eq!(rt; unknown.lists.len(), 2);
+    assert!(rt; entries_of(&unknown.lists, 1).is_empty());
+    let past = first_one(rt.alloc(), &design, b"y", 12)?;
+    assert_eq!(rt; past.reply, FirstReply::Past);
+    assert_eq!(rt; past.lists.len(), 2);
+    assert!(rt; entries_of(&past.lists, 1).is_empty());
     Ok(())
 }
