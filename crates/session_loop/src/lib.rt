@@ -30,6 +30,7 @@
 
 mod counting;
 mod desk;
+mod first;
 mod halt;
 mod journal;
 mod script;

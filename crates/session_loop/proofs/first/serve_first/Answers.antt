@@ -10,7 +10,7 @@ use Rattle.unit_answers.specs.Stores.{setup_of}
 use Rattle.session_loop.specs.inner.Desks.{IsCounted}
 use Rattle.session_loop.proofs.Growing.{on-err, part-whole, file-part-none}
 use Rattle.session_loop.proofs.Served.{stops-none, first-served, first-stopped}
-use Rattle.session_loop.proofs.unit.serve_first.Goals as goal
+use Rattle.session_loop.proofs.first.serve_first.Goals as goal
 
 -- no journals were made
 pub returns-in_err-done-clause-stopped : goal.returns-in_err-done-clause-stopped
