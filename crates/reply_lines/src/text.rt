@@ -159,16 +159,31 @@ pub fn reply_text(alloc: Global, item: &Item, reply: &Reply) -> Result<Vec<u8>, 
     Ok(text)
 }
 
+// Appends where the window ends, and what was found in it.
+fn put_end(text: &mut Vec<u8>, to: u32, found: &[u8]) -> Result<(), OutOfMemory>
+    ensures { OnOk result (text.new.items ≡ text.old.items ++ text_line (decimal to ∷ found.now ∷ [])) }
+{
+    put_number(text, to as u64, b' ')?;
+    put(text, found, b'\n')
+}
+
+// Appends the value that is looked for, the window, and what was found in it.
+fn put_sought(text: &mut Vec<u8>, first: &First, found: &[u8]) -> Result<(), OutOfMemory>
+    ensures { OnOk result (text.new.items ≡ text.old.items
+        ++ text_line ((byte_of_value first.now.value ∷ []) ∷ decimal first.now.from ∷ decimal first.now.to ∷ found.now ∷ [])) }
+{
+    put(text, &[first.value.byte()], b' ')?;
+    put_number(text, first.from as u64, b' ')?;
+    put_end(text, first.to, found)
+}
+
 // Appends the line that tells this of a first time.
 fn put_found(text: &mut Vec<u8>, first: &First, found: &[u8]) -> Result<(), OutOfMemory>
     ensures { OnOk result (text.new.items ≡ text.old.items ++ first_found first.now found.now) }
 {
     put(text, b"first", b' ')?;
     put(text, first.name.bytes(), b' ')?;
-    put(text, &[first.value.byte()], b' ')?;
-    put_number(text, first.from as u64, b' ')?;
-    put_number(text, first.to as u64, b' ')?;
-    put(text, found, b'\n')
+    put_sought(text, first, found)
 }
 
 fn put_first(text: &mut Vec<u8>, first: &First, reply: FirstReply) -> Result<(), OutOfMemory>
