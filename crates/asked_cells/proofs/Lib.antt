@@ -4,3 +4,5 @@ pub mod Entries
 pub mod Alone
 pub mod Asked
 pub mod Freeing
+pub mod Unused
+pub mod One

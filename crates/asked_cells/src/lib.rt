@@ -34,5 +34,4 @@ mod reading;
 #[cfg(test)]
 mod tests;
 
-pub use memo::{Memo, reach};
-pub use reading::begin;
+pub use memo::{Memo, begin, reach};

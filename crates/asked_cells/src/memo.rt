@@ -13,15 +13,17 @@ ghost use Rattle.journal_meaning.specs.inner.Index.{cells_said, IsCellIndex, IsF
 ghost use Rattle.valid_intervals.specs.Cells.{point_cmp};
 ghost use Rattle.batch_meaning.specs.Lawful.{IsLawful};
 ghost use Rattle.batch_meaning.specs.Pieces.{IsStart};
+ghost use Rattle.plan_machine.specs.Settle.{AreShards, AreFreed};
 ghost use Rattle.plan_machine.specs.Sound.{IsFresh};
 ghost use Rattle.memo_shards.specs.KeptShards.{KeptShard};
 ghost use Rattle.plan_core.specs.Parts.{shards_in};
 ghost use Rattle.asked_cells.specs.Shards.{AreNumbered};
-ghost use Rattle.asked_cells.specs.Memos.{IsChargedMemo, entries_of, asked_at, at_time, is_missing};
+ghost use Rattle.asked_cells.specs.Memos.{AreFreeShards, IsChargedMemo, entries_of, asked_at, at_time, is_missing};
 ghost use Rattle.asked_cells.specs.Asked.{HasAsked};
 ghost use Rattle.asked_cells.specs.inner.Tails.{lengths_of, tails};
 
 use crate::cells::SaidCells;
+use crate::reading::{free_all, know_all, read_all};
 use backsim_io::OutOfMemory;
 use batch_meaning::Query;
 use demand_points::{BatchName, Strand};
@@ -59,18 +61,6 @@ impl<B: BatchName> Model for Memo<B> {
 }
 
 impl<B: BatchName> Memo<B> {
-    /// These shards, with the cells that their entries say.
-    pub fn of(alloc: Global, shards: Vec<Shard<B>>, cells: SaidCells) -> Memo<B>
-        requires { IsCellIndex B.batch.circuit (cells_said (entries_of shards.items)) (get point_cmp cells.cells) }
-        ensures { result ≡ shards.items }
-    {
-        Memo {
-            alloc,
-            shards,
-            cells,
-        }
-    }
-
     /// No shard.
     fn empty(alloc: Global) -> Memo<B>
         ensures { result ≡ [] }
@@ -115,6 +105,26 @@ impl<B: BatchName> Memo<B> {
     {
         self.cells.find(p)
     }
+}
+
+/// Frees the claims that are left, and reads the entries.
+pub fn begin<B: BatchName>(alloc: Global, shards: Vec<Shard<B>>) -> Result<Memo<B>, OutOfMemory>
+    requires lawful { IsLawful B.batch }
+    requires count { length shards.items ≡ B.batch.shards }
+    requires numbers { AreNumbered shards.items }
+    ensures shards { AreShards B.batch B.opening (shards_in shards.items) }
+    ensures freed { IfOk result (λ memo. AreFreed (shards_in shards.items) (shards_in memo)) }
+    ensures kept { IfOk result (AreFreeShards B.batch B.opening) }
+{
+    know_all(&shards);
+    let mut freed = shards;
+    free_all(&mut freed);
+    let cells = read_all(alloc, &freed)?;
+    Ok(Memo {
+        alloc,
+        shards: freed,
+        cells,
+    })
 }
 
 /// Whether the entry is a fill for the query with this number.

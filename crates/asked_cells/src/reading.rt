@@ -9,21 +9,16 @@ ghost use Rattle.journal_meaning.specs.inner.Index.{cells_said, IsCellIndex};
 ghost use Rattle.valid_intervals.specs.Cells.{point_cmp};
 ghost use Rattle.memo_shards.specs.KeptShards.{KeptShard, IsKnownShard};
 ghost use Rattle.memo_shards.specs.Ends.{FreesAll};
-ghost use Rattle.batch_meaning.specs.Lawful.{IsLawful};
-ghost use Rattle.plan_machine.specs.Settle.{AreShards, AreFreed};
-ghost use Rattle.plan_core.specs.Parts.{shards_in};
-ghost use Rattle.asked_cells.specs.Shards.{AreNumbered};
-ghost use Rattle.asked_cells.specs.Memos.{entries_of, AreFreeShards};
+ghost use Rattle.asked_cells.specs.Memos.{entries_of};
 
 use crate::cells::SaidCells;
-use crate::memo::Memo;
 use backsim_io::OutOfMemory;
 use demand_points::BatchName;
 use memo_shards::Shard;
 use std::alloc::Global;
 
 /// What is known of each shard.
-fn know_all<B: BatchName>(shards: &[Shard<B>])
+pub fn know_all<B: BatchName>(shards: &[Shard<B>])
     ensures { All (IsKnownShard B.batch B.opening) shards.now }
 {
     for shard in shards {
@@ -32,7 +27,7 @@ fn know_all<B: BatchName>(shards: &[Shard<B>])
 }
 
 /// Frees the claims of each shard.
-fn free_all<B: BatchName>(shards: &mut Vec<Shard<B>>)
+pub fn free_all<B: BatchName>(shards: &mut Vec<Shard<B>>)
     ensures count { length shards.new.items ≡ length shards.old.items }
     ensures freed { (n : ℕ) (d : KeptShard) → n < length shards.old.items → FreesAll (get_or shards.old.items n d) (get_or shards.new.items n d) }
 {
@@ -42,7 +37,7 @@ fn free_all<B: BatchName>(shards: &mut Vec<Shard<B>>)
 }
 
 /// The cells that the entries of shards say.
-fn read_all<B: BatchName>(alloc: Global, shards: &[Shard<B>]) -> Result<SaidCells, OutOfMemory>
+pub fn read_all<B: BatchName>(alloc: Global, shards: &[Shard<B>]) -> Result<SaidCells, OutOfMemory>
     ensures { (c : Circuit) → IsCircuit c → AllByRecursion (IsRightEntry c) (entries_of shards.now)
         → IfOk result (λ cells. IsCellIndex c (cells_said (entries_of shards.now)) (get point_cmp cells.cells)) }
 {
@@ -51,20 +46,4 @@ fn read_all<B: BatchName>(alloc: Global, shards: &[Shard<B>]) -> Result<SaidCell
         cells.note_all(shard.journal())?;
     }
     Ok(cells)
-}
-
-/// Frees the claims that are left, and reads the entries.
-pub fn begin<B: BatchName>(alloc: Global, shards: Vec<Shard<B>>) -> Result<Memo<B>, OutOfMemory>
-    requires lawful { IsLawful B.batch }
-    requires count { length shards.items ≡ B.batch.shards }
-    requires numbers { AreNumbered shards.items }
-    ensures shards { AreShards B.batch B.opening (shards_in shards.items) }
-    ensures freed { IfOk result (λ memo. AreFreed (shards_in shards.items) (shards_in memo)) }
-    ensures kept { IfOk result (AreFreeShards B.batch B.opening) }
-{
-    know_all(&shards);
-    let mut freed = shards;
-    free_all(&mut freed);
-    let cells = read_all(alloc, &freed)?;
-    Ok(Memo::of(alloc, freed, cells))
 }

@@ -1,4 +1,3 @@
 pub mod Finding
 pub mod Lawful
-mod Unused
 mod Walks

@@ -81,8 +81,9 @@ fn asked<B: BatchName>(
     requires capacity { B.batch.capacity ≡ 4 }
     requires opening { B.opening 0 ≡ [] }
 {
+    let shard = one_shard::<B>(alloc)?;
     let mut shards = Vec::new(alloc);
-    shards.push(one_shard::<B>(alloc)?)?;
+    shards.push(shard)?;
     let FirstDone { answer, shards } = first_time(alloc, design, shards, query, value)?;
     let journal = journal_text(alloc, &shards)?;
     Ok(Seen { answer, journal })

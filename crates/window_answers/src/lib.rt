@@ -4,8 +4,8 @@
 //! of each window. A caller has these run over the shards (`plan_core`, `batch_crew`), as far as it likes. Then [`settle`] goes over
 //! the batch alone, and answers every query:
 //! - It frees the claims that are left.
-//! - For each query in order it visits the points that the query had filled as settlement began: the cell of each looked pin is
-//!   found among the base answers and the cells that entries of the batch say, or a strand that runs alone asks for it.
+//! - For each query in order it visits the points that the query had filled as settlement began: `asked_cells` finds the cell of each
+//!   looked pin among the base answers and the cells that entries of the batch say, or has a strand ask for it that runs alone.
 //! - For each query in order it walks the window from cell to cell in the same way, and gathers its runs.
 //!
 //! A query that is refused meanwhile is replied its budget, and every other its waveform (`specs/Settlement`). Where memory runs out,

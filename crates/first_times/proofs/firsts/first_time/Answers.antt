@@ -6,7 +6,7 @@ use Rattle.plan_machine.specs.Settle.{journals_of}
 use Rattle.plan_machine.proofs.Freed.{all-freed}
 use Rattle.memo_shards.specs.KeptShards.{KeptShard}
 use Rattle.plan_core.specs.Parts.{shards_in}
-use Rattle.first_times.proofs.Unused.{unused-freed}
+use Rattle.asked_cells.proofs.Unused.{unused-freed}
 use Rattle.first_times.proofs.firsts.first_time.Goals as goal
 
 pub walk-requires-clause-unused : goal.walk-requires-clause-unused

@@ -12,7 +12,7 @@ use Rattle.plan_core.specs.Parts.{shards_in}
 use Rattle.asked_cells.specs.Memos.{AreFreeShards, entries_of}
 use Rattle.asked_cells.proofs.Lists.{each-from}
 use Rattle.asked_cells.proofs.Freeing.{known-shards, shards-freed, freed-numbers, freed-fresh}
-use Rattle.asked_cells.proofs.reading.begin.Goals as goal
+use Rattle.asked_cells.proofs.memo.begin.Goals as goal
 
 pub returns-clause-shards : goal.returns-clause-shards
 returns-clause-shards g c =
@@ -24,8 +24,8 @@ returns-in_err-cells-clause-shards g c =
     let b = g.B.BatchName.batch in
     known-shards b g.B.BatchName.opening c.args.shards.items c.requires.count c.requires.numbers (subst (λ (ms : List KeptShard). All (IsKnownShard b g.B.BatchName.opening) ms) c.deref.ensures.value c.know_all.ensures)
 
-pub of-requires : goal.of-requires
-of-requires g c =
+pub invariant_of-result : goal.invariant_of-result
+invariant_of-result g c =
     let b = g.B.BatchName.batch in
     let opening = g.B.BatchName.opening in
     let old = c.args.shards.items in
@@ -36,9 +36,7 @@ of-requires g c =
     (c.in_ok-cells.ensures b.circuit c.requires.lawful.circuit) (each-from (IsRightEntry b.circuit) (entries_of new) (right-of b c.requires.lawful opening (shards_in new) fresh))
 
 pub returns-clause-freed : goal.returns-clause-freed
-returns-clause-freed g c =
-    let old = c.args.shards.items in
-    subst (λ (ms : List KeptShard). AreFreed (shards_in old) (shards_in ms)) (sym c.of.ensures) (shards-freed old c.free_all.new.shards.items c.free_all.ensures.count c.free_all.ensures.freed)
+returns-clause-freed g c = shards-freed c.args.shards.items c.free_all.new.shards.items c.free_all.ensures.count c.free_all.ensures.freed
 
 pub returns-clause-kept : goal.returns-clause-kept
 returns-clause-kept g c =
@@ -47,7 +45,7 @@ returns-clause-kept g c =
     let old = c.args.shards.items in
     let new = c.free_all.new.shards.items in
     let are : AreShards b opening (shards_in old) = known-shards b opening old c.requires.count c.requires.numbers (subst (λ (ms : List KeptShard). All (IsKnownShard b opening) ms) c.deref.ensures.value c.know_all.ensures) in
-    subst (AreFreeShards b opening) (sym c.of.ensures) (record {
+    record {
       numbers = freed-numbers old new c.free_all.ensures.count c.free_all.ensures.freed c.requires.numbers;
       fresh = freed-fresh b c.requires.lawful opening old new are (shards-freed old new c.free_all.ensures.count c.free_all.ensures.freed);
-    })
+    }

@@ -13,7 +13,6 @@ use Rattle.memo_shards.specs.KeptShards.{KeptShard}
 use Rattle.plan_core.specs.Parts.{shards_in}
 use Rattle.asked_cells.specs.Memos.{entries_of}
 use Rattle.asked_cells.proofs.Entries.{shard-at}
-use Rattle.first_times.specs.Unused.{AreUnused}
 
 -- an order of no claims is empty
 no-order : (order : List Claim) → IsOrder [] order → order ≡ []
@@ -26,7 +25,7 @@ none-recorded (m ∷ ms) h =
     let here : m.shard.journal ≡ [] = h 0 (omega arith) in
     ap (λ (l : List Entry). l ++ entries_of ms) here ∙ none-recorded ms (λ n low. h (suc n) (omega arith))
 
-pub unused-freed : (b : Batch) (opening : ℕ → List SignalCell) (handed begun : List KeptShard) → AreShards b opening (shards_in handed) → AreFreed (shards_in handed) (shards_in begun) → AreUnused handed → entries_of begun ≡ []
+pub unused-freed : (b : Batch) (opening : ℕ → List SignalCell) (handed begun : List KeptShard) → AreShards b opening (shards_in handed) → AreFreed (shards_in handed) (shards_in begun) → All (λ (m : KeptShard). m.shard.journal ≡ []) handed → entries_of begun ≡ []
 unused-freed b opening handed begun are f unused = none-recorded begun one
   where
     one : (n : ℕ) → n < length begun → (get_or (shards_in begun) n no_shard).journal ≡ []
@@ -45,6 +44,6 @@ unused-freed b opening handed begun are f unused = none-recorded begun one
         let same : get_or (shards_in begun) n no_shard ≡ old = o.2 ∙ ap (λ cs. freed cs old) none in
         ap (λ (h : Shard). h.journal) same ∙ empty
       where
-        by : (ms : List KeptShard) (n : ℕ) → n < length ms → AreUnused ms → (get_or (shards_in ms) n no_shard).journal ≡ []
+        by : (ms : List KeptShard) (n : ℕ) → n < length ms → All (λ (m : KeptShard). m.shard.journal ≡ []) ms → (get_or (shards_in ms) n no_shard).journal ≡ []
         by [] n low u = absurd (omega arith)
         by (m ∷ ms) n low u = ap (λ (h : Shard). h.journal) (shard-at (m ∷ ms) n m no_shard low) ∙ u n m low
