@@ -4,5 +4,5 @@ use Rattle.unit_answers.proofs.Firsts.{first-batch-lawful}
 use Rattle.unit_answers.proofs.first.answer_first.Goals as goal
 
 pub run_first-requires-clause-lawful : goal.run_first-requires-clause-lawful
-run_first-requires-clause-lawful c κs within =
+run_first-requires-clause-lawful c =
     first-batch-lawful (setup_of c.args.design.now c.args.sizes) c.args.item.now _ (sym c.first_verdict_of.ensures ∙ c.in-Ask.is) c.facts.ensures c.requires.shards.0 c.have_room.ensures
