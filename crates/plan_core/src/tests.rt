@@ -272,19 +272,24 @@ fn serve_row(alloc: Global, design: &Design, row: &Row) -> Result<Option<Seen>, 
     Ok(Some(serve::<Brand>(alloc, design, first, second, row.schedule)?))
 }
 
+/// Whether what came of a row's schedule is what the row says.
+fn is_as_said(seen: &Seen, row: &Row) -> bool {
+    seen.turns.as_slice() == row.turns
+        && seen.counted == row.counted
+        && seen.counted <= row.most
+        && seen.ready.as_slice() == row.ready
+        && seen.heard == row.heard
+        && seen.further == row.further
+        && seen.lines.as_slice() == row.lines
+        && seen.stored == row.stored
+}
+
 #[test]
 fn turns_of_two_strands(rt: HostRuntime) -> Result<(), Fail> {
     for row in &ROWS {
         let design = circuit(rt.alloc(), row.netlist)??;
         let seen = serve_row(rt.alloc(), &design, row)?.expect(&rt, "a signal and a time");
-        assert_eq!(rt; seen.turns.as_slice(), row.turns, "{}", row.name);
-        assert_eq!(rt; seen.counted, row.counted, "{}", row.name);
-        assert!(rt; seen.counted <= row.most, "{}", row.name);
-        assert_eq!(rt; seen.ready.as_slice(), row.ready, "{}", row.name);
-        assert_eq!(rt; seen.heard, row.heard, "{}", row.name);
-        assert_eq!(rt; seen.further, row.further, "{}", row.name);
-        assert_eq!(rt; seen.lines.as_slice(), row.lines, "{}", row.name);
-        assert_eq!(rt; seen.stored, row.stored, "{}", row.name);
+        assert!(rt; is_as_said(&seen, row), "{}", row.name);
     }
     Ok(())
 }
