@@ -1,6 +1,0 @@
-use Rattle.std.specs.List.{AllByRecursion}
-use Rattle.journal_meaning.specs.Allowed.{IsRight}
-use Rattle.memo_shards.proofs.tests.serve_row.Given as goal
-
-abbrev pub invariant-loop-batch : goal.invariant-loop-batch
-invariant-loop-batch l = AllByRecursion (IsRight l.design.now.circuit) l.store.cells
