@@ -46,7 +46,7 @@ use Rattle.stimulus_file.specs.Ranges.{IsStimulus}
 use Rattle.design.proofs.Answered.{length-pins_with, get_or-pins_with, if_some}
 use Rattle.design.proofs.Kept.{driver-same, fits-same}
 use Rattle.design.proofs.Rowed.{row-sound}
-use Rattle.design.proofs.Timed.{scheduled-order, order-differs, scheduled-all}
+use Rattle.design.proofs.SortedSettings.{scheduled-order, order-differs, scheduled-all}
 
 -- the least delay of pins with these delays
 fold-least : (m : ℕ) (signals delays : List ℕ) → length delays ≡ length signals → fold (λ (n : ℕ) (p : Pin). min n p.delay) m (pins_with signals delays) ≡ fold min m delays

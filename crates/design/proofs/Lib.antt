@@ -6,7 +6,7 @@ pub mod Overlap
 pub mod Walked
 pub mod Listed
 pub mod Rereads
-pub mod Timed
+pub mod SortedSettings
 pub mod Joining
 pub mod Rowed
 pub mod Bucketed

@@ -120,10 +120,7 @@ pub fn flop_span(flop: &FlipFlop, time: u32, limit: u32) -> Span
 {
     match flop.clock {
         None => span_of(0, limit),
-        Some(clock) => {
-            let (start, end) = flip_flops::flop_span(&clock, flop.delay, time, limit);
-            span_of(start, end)
-        }
+        Some(clock) => flip_flops::flop_span(&clock, flop.delay, time, limit),
     }
 }
 

@@ -9,14 +9,16 @@
 //! ```
 //! let clock = Clock { first: 10, period: 10 };
 //! let edge = last_edge(&clock, 1, 25); // Some(20)
-//! let times = flop_span(&clock, 1, 25, 31); // (21, 31)
+//! let times = flop_span(&clock, 1, 25, 31); // 21 to 31
 //! ```
 #![tactic(auto)]
 
 ghost use Rattle.std.specs.Prelude.{◌≡◌, ◌≤◌, ◌<◌, Some, MatchOption};
-ghost use Rattle.valid_intervals.specs.Spans.{from_to, IsIn};
+ghost use Rattle.valid_intervals.specs.Spans.{IsIn};
 ghost use Rattle.flip_flops.specs.Edges as edges;
 ghost use Rattle.flip_flops.specs.Edges.{IsClock, IsLastEdge, ShowsNone, EdgesAreLast};
+
+use valid_intervals::Span;
 
 /// A clock: its edges are `first`, `first + period`, `first + 2 * period` and so on. `first` is at most 1,000,000, `period`
 /// from 1 to 1,000,000.
@@ -43,21 +45,20 @@ pub fn last_edge(clock: &Clock, delay: u32, t: u32) -> Option<u32>
     }
 }
 
-/// The times about `t` at which a flip-flop with this delay shows the same edge, or none: the first of them, and the first
-/// time after them, which is at most `cut`.
-pub fn flop_span(clock: &Clock, delay: u32, t: u32, cut: u32) -> (u32, u32)
+/// The times about `t` at which a flip-flop with this delay shows the same edge, or none; they lie below `cut`.
+pub fn flop_span(clock: &Clock, delay: u32, t: u32, cut: u32) -> Span
     requires clock { IsClock clock.now }
     requires delay { (1 ≤ delay) × (delay ≤ 1000000) }
     requires time { t < cut }
     requires cut { cut ≤ 1000001 }
-    ensures span { from_to result.0 result.1 ≡ edges.flop_span cut delay (Some clock.now) (edges.last_edge clock.now delay t) }
-    ensures inside { IsIn (from_to result.0 result.1) t }
+    ensures span { result ≡ edges.flop_span cut delay (Some clock.now) (edges.last_edge clock.now delay t) }
+    ensures inside { IsIn result t }
 {
     match last_edge(clock, delay, t) {
-        None => (0, (clock.first + delay).min(cut)),
+        None => Span::new(0, (clock.first + delay).min(cut)).unwrap(),
         Some(edge) => {
             let start = edge + delay;
-            (start, (start + clock.period).min(cut))
+            Span::new(start, (start + clock.period).min(cut)).unwrap()
         }
     }
 }
@@ -88,7 +89,8 @@ mod tests {
             (30, Some(20), 21, 31),
         ] {
             assert_eq!(rt; last_edge(&clock, 1, t), edge, "at {t}");
-            assert_eq!(rt; flop_span(&clock, 1, t, 31), (start, end), "at {t}");
+            let shown = flop_span(&clock, 1, t, 31);
+            assert_eq!(rt; (shown.start(), shown.end()), (start, end), "at {t}");
         }
     }
 }

@@ -3,7 +3,7 @@ use Rattle.std.specs.List.{dedup}
 use Rattle.std.proofs.lemmas.Fn.{dedup_same}
 use Rattle.std.proofs.lemmas.List.Sorted.{IsNonDecreasingBy-from_sort_by_key, answers_always}
 use Rattle.design.specs.Join.{is_at_one_time}
-use Rattle.design.proofs.Timed.{time_of, sorted-is}
+use Rattle.design.proofs.SortedSettings.{time_of, sorted-is}
 use Rattle.design.proofs.settings.scheduled.Goals as goal
 
 pub returns : goal.returns
