@@ -13,3 +13,4 @@ pub mod Bucketed
 pub mod Finished
 pub mod Held
 pub mod Readers
+pub mod SettingOrder

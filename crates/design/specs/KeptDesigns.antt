@@ -1,8 +1,6 @@
 -- The pins of a gate, from its signals and delays.
-use Rattle.std.specs.Prelude.{◌≡◌, ℕ, ◌<◌, List, [], ◌∷◌}
+use Rattle.std.specs.Prelude.{ℕ, List, [], ◌∷◌}
 use Rattle.circuit_meaning.specs.declared.Pin.{Pin}
-use Rattle.design.specs.declared.rows.Row.TheVariants as row
-use Rattle.design.specs.declared.rows.SignalView.TheVariants as view
 
 -- the pins that read these signals after these delays
 abbrev pub pins_with : List ℕ → List ℕ → List Pin

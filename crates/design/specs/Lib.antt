@@ -3,4 +3,5 @@ pub mod KeptDesigns
 pub mod Pins
 pub mod Causes
 pub mod Join
+pub mod Laws
 pub mod inner

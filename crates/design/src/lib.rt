@@ -4,6 +4,7 @@
 //! row has which cause, and what the design is. From then on a signal is a number. Contracts see a design as the netlist's content
 //! and one circuit of `circuit_meaning`; the calls answer what that circuit's definitions say of a signal at a time, so that a
 //! caller needs no word of how delays, clocks and settings are kept. [`Design::facts`] hands out what holds of every design.
+//! [`order_of_settings_is_free`] says that nothing depends on the order in which a design keeps settings.
 //! [`Design::hold`] makes the design in which one signal is forced to a value, and [`Design::reached`] tells which signals read a
 //! signal, however far back, so that all others stay as they are where it is forced.
 //!
@@ -26,6 +27,7 @@ mod cone;
 mod design;
 mod fault;
 mod flags;
+mod laws;
 mod lists;
 mod rows;
 mod settings;
@@ -36,3 +38,4 @@ mod tests;
 pub use design::Design;
 pub use fault::{JoinCause, JoinFault, JoinFile};
 pub use flags::FlagList;
+pub use laws::order_of_settings_is_free;
