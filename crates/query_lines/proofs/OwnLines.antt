@@ -77,6 +77,7 @@ step-own horizon number pending Go p = record { given = closed-own pending p.own
 step-own horizon number pending (lines.Trim cells) p = with_unit-own number pending (units.Trim cells) tt p
 step-own horizon number pending Stats p = with_unit-own number pending units.Stats tt p
 step-own horizon number pending (lines.First first) p = with_unit-own number pending (units.First (record { line = number; first = first })) tt p
+step-own horizon number pending (lines.Why why) p = with_unit-own number pending (units.Why (record { line = number; why = why })) tt p
 
 units_from-own : (horizon first : ℕ) (pending : List Item) (texts : List Line) → ArePending first pending → All HasOwnLines (units_from horizon pending (enumerate_from first texts))
 units_from-own horizon first pending [] p = closed-own pending p.own

@@ -2,7 +2,7 @@
 use Rattle.std.specs.Prelude.{◌≡◌, ◌≢◌, ⊤, ℕ, ◌≤◌, List, All, AllPairs}
 use Rattle.query_lines.specs.declared.unit.Item.{Item}
 use Rattle.query_lines.specs.declared.unit.Unit.{Unit as ScriptUnit}
-use Rattle.query_lines.specs.declared.unit.Unit.TheVariants.{Batch, Trim, Stats, First}
+use Rattle.query_lines.specs.declared.unit.Unit.TheVariants.{Batch, Trim, Stats, First, Why}
 use Rattle.query_lines.specs.Reading.{script_units, completed_units}
 use Rattle.query_lines.specs.Readers.{Reader, HasRead}
 use Rattle.query_lines.specs.Laws.{IsWithinLimits}
@@ -17,6 +17,7 @@ HasOwnLines (Batch items) = HaveOwnLines items
 HasOwnLines (Trim cells) = ⊤
 HasOwnLines Stats = ⊤
 HasOwnLines (First item) = ⊤
+HasOwnLines (Why item) = ⊤
 
 -- No two items of a unit have one line.
 abbrev pub UnitsHaveOwnLines : Type 0

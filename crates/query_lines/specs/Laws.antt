@@ -6,8 +6,9 @@ use Rattle.query_lines.specs.declared.line.Line.TheVariants as lines
 use Rattle.query_lines.specs.declared.line.What.TheVariants as whats
 use Rattle.query_lines.specs.declared.unit.Item.{Item}
 use Rattle.query_lines.specs.declared.unit.FirstItem.{FirstItem}
+use Rattle.query_lines.specs.declared.unit.WhyItem.{WhyItem}
 use Rattle.query_lines.specs.declared.unit.Unit.{Unit as ScriptUnit}
-use Rattle.query_lines.specs.declared.unit.Unit.TheVariants.{Batch, Trim, Stats, First}
+use Rattle.query_lines.specs.declared.unit.Unit.TheVariants.{Batch, Trim, Stats, First, Why}
 use Rattle.query_lines.specs.Units.{budgets, lengths, units_of}
 use Rattle.query_lines.specs.Reading.{script_units}
 
@@ -17,12 +18,14 @@ pub data Request : Type 0 where
   Leave : ℕ → Request
   Counts : Request
   Seek : FirstItem → Request
+  Explain : WhyItem → Request
 
 abbrev pub requests_in : ScriptUnit → List Request
 requests_in (Batch items) = map Answer items
 requests_in (Trim cells) = Leave cells ∷ []
 requests_in Stats = Counts ∷ []
 requests_in (First item) = Seek item ∷ []
+requests_in (Why item) = Explain item ∷ []
 
 abbrev pub requests_on : ℕ → Line → List Request
 requests_on number Blank = []
@@ -32,6 +35,7 @@ requests_on number Go = []
 requests_on number (lines.Trim cells) = Leave cells ∷ []
 requests_on number lines.Stats = Counts ∷ []
 requests_on number (lines.First first) = Seek (record { line = number; first = first }) ∷ []
+requests_on number (lines.Why why) = Explain (record { line = number; why = why }) ∷ []
 
 -- The units are the lines' requests in their order: none is lost, none is told twice.
 abbrev pub UnitsKeepRequests : Type 0
@@ -50,6 +54,7 @@ IsWithinLimits horizon (Batch items) = IsWithin horizon items
 IsWithinLimits horizon (Trim cells) = cells ≤ 65536
 IsWithinLimits horizon Stats = ⊤
 IsWithinLimits horizon (First item) = item.first.budget ≤ 500000
+IsWithinLimits horizon (Why item) = item.why.budget ≤ 500000
 
 -- The units of a script are within their limits.
 abbrev pub UnitsAreWithinLimits : Type 0

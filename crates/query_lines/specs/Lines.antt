@@ -7,7 +7,7 @@ use Rattle.text_rules.specs.declared.Amount.{Amount}
 use Rattle.text_rules.specs.declared.Amount.TheVariants as amounts
 use Rattle.text_rules.specs.Text.{amount, content, is_name, words}
 use Rattle.query_lines.specs.declared.line.Line.{Line}
-use Rattle.query_lines.specs.declared.line.Line.TheVariants.{Blank, Ask, Go, Trim, Stats, First, Bad}
+use Rattle.query_lines.specs.declared.line.Line.TheVariants.{Blank, Ask, Go, Trim, Stats, First, Why, Bad}
 use Rattle.query_lines.specs.declared.line.What.TheVariants.{Wave, At}
 
 abbrev pub within : Amount → Option ℕ
@@ -72,6 +72,18 @@ first_of (name ∷ value ∷ []) = Bad
 first_of (name ∷ value ∷ from ∷ []) = Bad
 first_of (name ∷ value ∷ from ∷ to ∷ budget) = first_of_parts name (value_of_word value) (instant from) (instant to) (budget_of budget)
 
+-- NAME T BUDGET
+abbrev pub why_of_parts : List ℕ → Option ℕ → Option ℕ → Line
+why_of_parts name (Some time) (Some budget) = if is_name name then Why (record { name = name; time = time; budget = budget }) else Bad
+why_of_parts name (Some time) None = Bad
+why_of_parts name None budget = Bad
+
+-- after `why`: NAME T or NAME T BUDGET
+abbrev pub why_of : List (List ℕ) → Line
+why_of [] = Bad
+why_of (name ∷ []) = Bad
+why_of (name ∷ time ∷ budget) = why_of_parts name (instant time) (budget_of budget)
+
 abbrev pub trim_of_part : Option ℕ → Line
 trim_of_part (Some n) = Trim n
 trim_of_part None = Bad
@@ -95,7 +107,8 @@ command_of keyword words =
     if bytes_eq keyword (codes "go") then alone Go words else (
     if bytes_eq keyword (codes "trim") then trim_of words else (
     if bytes_eq keyword (codes "stats") then alone Stats words else (
-    if bytes_eq keyword (codes "first") then first_of words else Bad)))))
+    if bytes_eq keyword (codes "first") then first_of words else (
+    if bytes_eq keyword (codes "why") then why_of words else Bad))))))
 
 abbrev pub by_words : List (List ℕ) → Line
 by_words [] = Blank

@@ -5,7 +5,7 @@ ghost use Rattle.query_lines.specs.Units as units;
 ghost use Rattle.query_lines.specs.Units.{closed, given_by, left_by, with_item};
 
 use crate::line::{Line, What};
-use crate::unit::{FirstItem, Item, ItemList, Unit, UnitList};
+use crate::unit::{FirstItem, Item, ItemList, Unit, UnitList, WhyItem};
 use backsim_io::OutOfMemory;
 use std::alloc::Global;
 use std::marker::Model;
@@ -114,6 +114,7 @@ impl Batcher {
                 line: number,
                 first,
             }))),
+            Line::Why(why) => self.close(Some(Unit::Why(WhyItem { line: number, why }))),
         }
     }
 

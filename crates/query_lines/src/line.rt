@@ -53,6 +53,14 @@ pub struct First {
     pub budget: u32,
 }
 
+/// What `why` asks: why a signal has the value that it has at one time.
+#[derive(Drop)]
+pub struct Why {
+    pub name: Text,
+    pub time: u32,
+    pub budget: u32,
+}
+
 /// What a line of a script says.
 #[derive(Drop)]
 pub enum Line {
@@ -68,6 +76,8 @@ pub enum Line {
     Stats,
     /// `first NAME VALUE FROM TO [BUDGET]`: tell when a signal first has a value.
     First(First),
+    /// `why NAME T [BUDGET]`: tell why a signal has its value at a time.
+    Why(Why),
     /// None of these, a number above its limit, or more than 4,096 bytes.
     Bad,
 }
@@ -225,6 +235,37 @@ fn first_of(alloc: Global, rest: &[u8]) -> Result<Line, OutOfMemory>
     )
 }
 
+fn why_of_parts(
+    alloc: Global,
+    name: &[u8],
+    time: Option<u32>,
+    budget: Option<u32>,
+) -> Result<Line, OutOfMemory>
+    ensures { IfOk result (λ line. line ≡ lines.why_of_parts name.now time budget) }
+{
+    match (time, budget) {
+        (Some(time), Some(budget)) if is_name(name) => {
+            let name = Text::from_bytes(alloc, name)?;
+            Ok(Line::Why(Why { name, time, budget }))
+        }
+        _ => Ok(Line::Bad),
+    }
+}
+
+fn why_of(alloc: Global, rest: &[u8]) -> Result<Line, OutOfMemory>
+    ensures { IfOk result (λ line. line ≡ lines.why_of (words rest.now)) }
+{
+    let (name, rest) = match next_word(rest) {
+        None => return Ok(Line::Bad),
+        Some(found) => found,
+    };
+    let (time, rest) = match next_word(rest) {
+        None => return Ok(Line::Bad),
+        Some(found) => found,
+    };
+    why_of_parts(alloc, name, instant(time), budget_of(rest))
+}
+
 fn trim_of(rest: &[u8]) -> Line
     ensures { result ≡ lines.trim_of (words rest.now) }
 {
@@ -264,6 +305,8 @@ fn command_of(alloc: Global, keyword: &[u8], rest: &[u8]) -> Result<Line, OutOfM
         Ok(alone(Line::Stats, rest))
     } else if keyword == b"first".as_slice() {
         first_of(alloc, rest)
+    } else if keyword == b"why".as_slice() {
+        why_of(alloc, rest)
     } else {
         Ok(Line::Bad)
     }

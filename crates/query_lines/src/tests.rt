@@ -12,6 +12,7 @@ enum Said {
     Trim(u32),
     Stats,
     First(Value, u32, u32, u32),
+    Why(u32, u32),
     Bad,
 }
 
@@ -31,13 +32,14 @@ fn form_of(line: &Line) -> Said {
         Line::Trim(cells) => Said::Trim(*cells),
         Line::Stats => Said::Stats,
         Line::First(first) => Said::First(first.value, first.from, first.to, first.budget),
+        Line::Why(why) => Said::Why(why.time, why.budget),
         Line::Bad | Line::Ask(What::Bad) => Said::Bad,
     }
 }
 
 #[test]
 fn lines_have_their_forms(rt: HostRuntime) -> Result<(), Fail> {
-    let rows: [(&[u8], Said); 44] = [
+    let rows: [(&[u8], Said); 51] = [
         (b"", Said::Blank),
         (b" \t # wave y 0 11\r", Said::Blank),
         (b"wave y 0 11", Said::Wave(0, 11, 50_000)),
@@ -86,7 +88,17 @@ fn lines_have_their_forms(rt: HostRuntime) -> Result<(), Fail> {
         (b"first y 1 0 11 7 8", Said::Bad),
         (b"first y 1 0", Said::Bad),
         (b"first y=z 1 0 11", Said::Bad),
-        (b"why y 5", Said::Bad),
+        (b"why y 6", Said::Why(6, 50_000)),
+        (
+            b"why why 4294967294 0 # budget",
+            Said::Why(4_294_967_294, 0),
+        ),
+        (b"why y", Said::Bad),
+        (b"why y 4294967295", Said::Bad),
+        (b"why y 6 500001", Said::Bad),
+        (b"why y 6 7 8", Said::Bad),
+        (b"why y=z 6", Said::Bad),
+        (b"vcd w", Said::Bad),
         (b"stuck y 0 y 0 11", Said::Bad),
     ];
     for (text, want) in rows {
@@ -102,6 +114,7 @@ enum Shape {
     Trim(u32),
     Stats,
     First(u32),
+    Why(u32),
 }
 
 fn shape_of(unit: &Unit) -> Shape {
@@ -110,6 +123,7 @@ fn shape_of(unit: &Unit) -> Shape {
         Unit::Trim(cells) => Shape::Trim(*cells),
         Unit::Stats => Shape::Stats,
         Unit::First(item) => Shape::First(item.line),
+        Unit::Why(item) => Shape::Why(item.line),
     }
 }
 
@@ -200,7 +214,7 @@ fn a_stream_is_cut_into_lines(rt: HostRuntime) -> Result<(), Fail> {
 
 #[test]
 fn units_close_where_they_must(rt: HostRuntime) -> Result<(), Fail> {
-    use Shape::{First, Items, Stats, Trim};
+    use Shape::{First, Items, Stats, Trim, Why};
     let rows: [(&[u8], &[Shape]); 10] = [
         (b"", &[]),
         (b"go\n\n# nothing is pending\ngo", &[]),
@@ -215,8 +229,8 @@ fn units_close_where_they_must(rt: HostRuntime) -> Result<(), Fail> {
             &[Items(1), Trim(1), Stats],
         ),
         (
-            b"at y 5\nat y 6\nfirst y 1 0 11\nfirst y 0 0 11\nat y 7\nfirst y 2 0 11",
-            &[Items(2), First(3), First(4), Items(2)],
+            b"at y 5\nat y 6\nfirst y 1 0 11\nfirst y 0 0 11\nat y 7\nfirst y 2 0 11\nwhy y 7",
+            &[Items(2), First(3), First(4), Items(2), Why(7)],
         ),
         (
             b"wave y 0 11 500000\nwave y 0 11 499999\nat y 1 1",

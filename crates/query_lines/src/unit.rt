@@ -2,7 +2,7 @@
 
 ghost use Rattle.std.specs.Prelude.{◌≡◌};
 
-use crate::line::{First, What};
+use crate::line::{First, What, Why};
 use std::marker::Model;
 
 /// An item of a batch: the number of its line, counted from 1, and what the
@@ -58,6 +58,13 @@ pub struct FirstItem {
     pub first: First,
 }
 
+/// A question for an explanation, which is a unit of its own: the number of its line, counted from 1, and what the line asks.
+#[derive(Drop)]
+pub struct WhyItem {
+    pub line: u32,
+    pub why: Why,
+}
+
 /// What is served as a whole.
 #[derive(Drop)]
 pub enum Unit {
@@ -69,6 +76,8 @@ pub enum Unit {
     Stats,
     /// Tell when a signal first has a value.
     First(FirstItem),
+    /// Tell why a signal has the value that it has at a time.
+    Why(WhyItem),
 }
 
 /// A list of units.

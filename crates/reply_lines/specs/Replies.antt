@@ -12,6 +12,11 @@ use Rattle.reply_lines.specs.declared.reply.Reply.TheVariants.{Wave, Unknown, Pa
 use Rattle.reply_lines.specs.declared.reply.FirstAnswer.TheVariants as answers
 use Rattle.reply_lines.specs.declared.reply.FirstReply.{FirstReply}
 use Rattle.reply_lines.specs.declared.reply.FirstReply.TheVariants as firsts
+use Rattle.query_lines.specs.declared.line.Why.{Why}
+use Rattle.reply_lines.specs.declared.reply.WhyAnswer.TheVariants as explained
+use Rattle.reply_lines.specs.declared.reply.WhyReply.{WhyReply}
+use Rattle.reply_lines.specs.declared.reply.WhyReply.TheVariants as whys
+use Rattle.why_proofs.specs.Spelling.{proof_lines}
 
 -- A reply that an item may get: a bad line, and it alone, gets BadLine, and a wave of one instant has one run.
 abbrev pub Suits : What → Reply → Type 0
@@ -84,6 +89,13 @@ first_line first firsts.Past = text_line (codes "past" ∷ first.name ∷ decima
 first_line first (firsts.Answer (answers.At time)) = first_found first (decimal time)
 first_line first (firsts.Answer answers.Never) = first_found first (codes "none")
 first_line first (firsts.Answer (answers.Budget budget)) = text_line (codes "budget" ∷ first.name ∷ decimal budget ∷ [])
+
+-- the text of the reply to a question for an explanation: a proof, where there is one
+abbrev pub why_lines : Why → WhyReply → List ℕ
+why_lines why whys.Unknown = text_line (codes "unknown" ∷ why.name ∷ [])
+why_lines why whys.Past = text_line (codes "past" ∷ why.name ∷ decimal why.time ∷ decimal (why.time + 1) ∷ [])
+why_lines why (whys.Answer (explained.Proof cells value)) = proof_lines why.name why.time value cells
+why_lines why (whys.Answer (explained.Budget budget)) = text_line (codes "budget" ∷ why.name ∷ decimal budget ∷ [])
 
 -- the text of the reply to a trim that removed so many cells
 abbrev pub trimmed_line : ℕ → List ℕ

@@ -1,5 +1,7 @@
 //! Replies to items.
 
+use gate_values::Value;
+use why_proofs::CellList;
 use window_walks::Runs;
 
 /// What is replied to an item.
@@ -37,4 +39,24 @@ pub enum FirstReply {
     Past,
     /// The question was answered.
     Answer(FirstAnswer),
+}
+
+/// Why a signal has the value that it has at a time.
+#[derive(Drop)]
+pub enum WhyAnswer {
+    /// It has this value, by a proof with these cell lines.
+    Proof { cells: CellList, value: Value },
+    /// The query needs more evaluations than this budget.
+    Budget(u32),
+}
+
+/// What is replied to the question for an explanation.
+#[derive(Drop)]
+pub enum WhyReply {
+    /// The name is no signal.
+    Unknown,
+    /// The time comes behind the horizon.
+    Past,
+    /// The question was answered.
+    Answer(WhyAnswer),
 }

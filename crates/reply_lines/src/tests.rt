@@ -3,8 +3,9 @@
 use super::*;
 use backsim_io::Text;
 use gate_values::Value;
-use query_lines::{First, Item, What};
+use query_lines::{First, Item, What, Why};
 use std::test::Fail;
+use why_proofs::CellList;
 use window_walks::{Run, Runs};
 
 #[test]
@@ -117,5 +118,32 @@ fn first_times_have_their_texts(rt: HostRuntime) -> Result<(), Fail> {
         let text = first_text(alloc, &first, reply)?;
         assert_eq!(rt; text.as_slice(), want);
     }
+    Ok(())
+}
+
+#[test]
+fn explanations_have_their_texts(rt: HostRuntime) -> Result<(), Fail> {
+    let alloc = rt.alloc();
+    let why = Why {
+        name: Text::from_bytes(alloc, b"n3")?,
+        time: 4_294_967_294,
+        budget: 7,
+    };
+    let text = why_text(alloc, &why, &WhyReply::Unknown)?;
+    assert_eq!(rt; text.as_slice(), b"unknown n3\n".as_slice());
+    let text = why_text(alloc, &why, &WhyReply::Past)?;
+    assert_eq!(rt;
+        text.as_slice(),
+        b"past n3 4294967294 4294967295\n".as_slice()
+    );
+    let text = why_text(alloc, &why, &WhyReply::Answer(WhyAnswer::Budget(7)))?;
+    assert_eq!(rt; text.as_slice(), b"budget n3 7\n".as_slice());
+    let cells = CellList::from_vec(Vec::new(alloc));
+    let reply = WhyReply::Answer(WhyAnswer::Proof {
+        cells,
+        value: Value::Zero,
+    });
+    let text = why_text(alloc, &why, &reply)?;
+    assert_eq!(rt; text.as_slice(), b"why n3 4294967294 0\nend\n".as_slice());
     Ok(())
 }

@@ -4,15 +4,16 @@ ghost use Rattle.std.specs.Prelude.{◌≡◌, ◌++◌, ◌∷◌, [], flat_map
 ghost use Rattle.std.specs.Fmt.{decimal};
 ghost use Rattle.gate_values.specs.Spelling.{byte_of_value};
 ghost use Rattle.reply_lines.specs.Replies as replies;
-ghost use Rattle.reply_lines.specs.Replies.{Suits, text_of, text_line, run_line, first_line, first_found, trimmed_line, stats_line};
+ghost use Rattle.reply_lines.specs.Replies.{Suits, text_of, text_line, run_line, first_line, first_found, why_lines, trimmed_line, stats_line};
 
-use crate::reply::{FirstAnswer, FirstReply, Reply};
+use crate::reply::{FirstAnswer, FirstReply, Reply, WhyAnswer, WhyReply};
 use backsim_io::OutOfMemory;
 use circuit_meaning::Run;
 use gate_values::Value;
 use itoa::Buffer;
-use query_lines::{First, Item, What};
+use query_lines::{First, Item, What, Why};
 use std::alloc::Global;
+use why_proofs::proof_text;
 
 // Appends a word and the byte behind it.
 fn put(text: &mut Vec<u8>, word: &[u8], behind: u8) -> Result<(), OutOfMemory>
@@ -215,6 +216,26 @@ pub fn first_text(alloc: Global, first: &First, reply: FirstReply) -> Result<Vec
 {
     let mut text = Vec::new(alloc);
     put_first(&mut text, first, reply)?;
+    Ok(text)
+}
+
+/// The text of the reply to a question for an explanation: a proof, or one line that says why there is none.
+pub fn why_text(alloc: Global, why: &Why, reply: &WhyReply) -> Result<Vec<u8>, OutOfMemory>
+    ensures { IfOk result (λ text. text.items ≡ why_lines why.now reply.now) }
+{
+    let name = why.name.bytes();
+    let mut text = Vec::new(alloc);
+    match reply {
+        WhyReply::Unknown => put_unknown(&mut text, name)?,
+        WhyReply::Past => {
+            let time = why.time as u64;
+            put_window(&mut text, b"past", name, time, time + 1)?;
+        }
+        WhyReply::Answer(WhyAnswer::Budget(budget)) => put_budget(&mut text, name, *budget)?,
+        WhyReply::Answer(WhyAnswer::Proof { cells, value }) => {
+            return proof_text(alloc, name, why.time, *value, cells);
+        }
+    }
     Ok(text)
 }
 

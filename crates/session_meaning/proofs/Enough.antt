@@ -11,6 +11,7 @@ use Rattle.journal_meaning.specs.Sections.{of_batch, cells_after}
 use Rattle.journal_meaning.specs.Answers.{IsAnswer, IsSpent}
 use Rattle.journal_meaning.proofs.Budgets.{enough-budget}
 use Rattle.query_lines.specs.declared.unit.FirstItem.{FirstItem}
+use Rattle.query_lines.specs.declared.unit.WhyItem.{WhyItem}
 use Rattle.query_lines.specs.declared.unit.Item.{Item}
 use Rattle.query_lines.specs.declared.unit.Unit.{Unit as ScriptUnit}
 use Rattle.query_lines.specs.declared.unit.Unit.TheVariants as units
@@ -21,14 +22,18 @@ use Rattle.reply_lines.specs.declared.reply.FirstReply.{FirstReply}
 use Rattle.reply_lines.specs.declared.reply.FirstReply.TheVariants as firsts
 use Rattle.reply_lines.specs.declared.reply.Reply.{Reply}
 use Rattle.reply_lines.specs.declared.reply.Reply.TheVariants as replies
+use Rattle.reply_lines.specs.declared.reply.WhyAnswer.TheVariants as explained
+use Rattle.reply_lines.specs.declared.reply.WhyReply.{WhyReply}
+use Rattle.reply_lines.specs.declared.reply.WhyReply.TheVariants as whys
 use Rattle.session_meaning.specs.declared.Verdict.{Verdict}
 use Rattle.session_meaning.specs.declared.Verdict.TheVariants.{Ask, Unknown, Past, Bad}
-use Rattle.session_meaning.specs.Verdicts.{verdict_of, first_verdict, asked}
+use Rattle.session_meaning.specs.Verdicts.{verdict_of, first_verdict, why_verdict, asked}
 use Rattle.session_meaning.specs.FirstTimes.{first_time, up_to_first, IsFirstReply}
+use Rattle.session_meaning.specs.Explanations.{IsWhyReply}
 use Rattle.session_meaning.proofs.Asked.{asks-line, asked-in, in-asked}
 use Rattle.session_meaning.specs.Replies.{IsReply}
-use Rattle.session_meaning.specs.Session.{Setup, Course, batch_of, first_batch, IsServed, IsFirstServed, Session, Opened, Served}
-use Rattle.session_meaning.specs.Ample.{answer_of, IsAmpleFirst, IsAmpleUnit, IsAmple}
+use Rattle.session_meaning.specs.Session.{Setup, Course, batch_of, first_batch, why_batch, IsServed, IsFirstServed, IsWhyServed, Session, Opened, Served}
+use Rattle.session_meaning.specs.Ample.{answer_of, IsAmpleFirst, IsAmpleWhy, IsAmpleUnit, IsAmple}
 use Rattle.session_meaning.specs.Laws.{EnoughBudgetIsServed, EnoughBudgetsAreServed}
 
 zip-at : {A B : Type 0} (P Q : A → B → Type 0) (xs : List A) (ys : List B)
@@ -139,12 +144,43 @@ enough-first : (setup : Setup) → IsCircuit setup.design.circuit → (now next 
 enough-first setup circuit now next item served room query is most =
     told setup circuit now next item served room query (first_verdict setup.design item) served.reply is is most served.right
 
+-- Of a question for an explanation.
+module _ (setup : Setup) (circuit : IsCircuit setup.design.circuit) (now next : Course) (item : WhyItem) (served : IsWhyServed setup now next item) (room : IsRoomy (why_batch setup item) served.lists) where
+  asked-query : (query : Query) → why_verdict setup.design item ≡ Ask query → IsOwnQuery (why_batch setup item) query
+  asked-query query is = record {
+    known = subst (λ qs. Contains qs query) (sym (ap asked is)) (0, omega arith, refl);
+    single = λ r has same. only r (subst (λ qs. Contains qs r) (ap asked is) has);
+  }
+    where
+      only : (r : Query) → Contains (query ∷ []) r → r ≡ query
+      only r (zero, l, is) = sym is
+      only r (suc k, l, is) = absurd (omega (arith, l))
+
+  unspent : (query : Query) (verdict : Verdict) (reply : WhyReply) → why_verdict setup.design item ≡ Ask query → verdict ≡ Ask query
+      → NeedsAtMost (why_batch setup item) query query.budget
+      → IsWhyReply setup.design (of_batch served.lists) verdict item.why reply
+      → (budget : ℕ) → reply ≢ whys.Answer (explained.Budget budget)
+  unspent query (Ask q) (whys.Answer (explained.Proof cells v)) is same most right budget = λ e. cc
+  unspent query (Ask q) (whys.Answer (explained.Budget b)) is same most right budget = λ _. let e : q ≡ query = cc in
+      none-some None _ refl (enough-budget (why_batch setup item) circuit (λ shard. cells_after shard now.sections) served.lists (record { count = served.count; legal = served.legal }) room
+      query (asked-query query is) most None (subst (λ x. IsSpent (of_batch served.lists) x) e right.0.1))
+  unspent query (Ask q) whys.Unknown is same most right budget = absurd right
+  unspent query (Ask q) whys.Past is same most right budget = absurd right
+  unspent query Unknown reply is same most right budget = absurd cc
+  unspent query Past reply is same most right budget = absurd cc
+  unspent query Bad reply is same most right budget = absurd cc
+
+enough-why : (setup : Setup) → IsCircuit setup.design.circuit → (now next : Course) (item : WhyItem) (served : IsWhyServed setup now next item) → IsAmpleWhy setup item served.lists served.reply
+enough-why setup circuit now next item served room query is most =
+    unspent setup circuit now next item served room query (why_verdict setup.design item) served.reply is is most served.right
+
 -- so it is in each unit of a session
 unit-ample : (setup : Setup) → IsCircuit setup.design.circuit → (now next : Course) (unit : ScriptUnit) (served : IsServed setup now unit next) → HasOwnLines unit → IsAmpleUnit setup now next unit served
 unit-ample setup circuit now next (units.Batch items) served own = enough setup circuit now next items own served
 unit-ample setup circuit now next (units.Trim most) served own = tt
 unit-ample setup circuit now next units.Stats served own = tt
 unit-ample setup circuit now next (units.First item) served own = enough-first setup circuit now next item served
+unit-ample setup circuit now next (units.Why item) served own = enough-why setup circuit now next item served
 
 session-ample : (setup : Setup) → IsCircuit setup.design.circuit → (us : List ScriptUnit) (course : Course) → All HasOwnLines us → (session : Session setup us course) → IsAmple setup us course session
 session-ample setup circuit us course own Opened = tt

@@ -4,7 +4,7 @@ use Rattle.valid_intervals.specs.declared.SignalCell.{SignalCell}
 use Rattle.journal_meaning.specs.Sections.{SectionEntries, Asks, Trims, IsLegalIn, list_of, cells_left, AreLegal}
 use Rattle.query_lines.specs.declared.unit.Unit.{Unit as ScriptUnit}
 use Rattle.query_lines.specs.declared.unit.Unit.TheVariants as units
-use Rattle.session_meaning.specs.Session.{Setup, Course, IsServed, Session, Opened, Served, batch_of, first_batch}
+use Rattle.session_meaning.specs.Session.{Setup, Course, IsServed, Session, Opened, Served, batch_of, first_batch, why_batch}
 
 -- one section more
 legal-more : (shard : ℕ) (cells : List SignalCell) (sections : List SectionEntries) (section : SectionEntries) → AreLegal shard cells sections
@@ -19,6 +19,8 @@ unit-legal setup now next (units.Trim most) served shard h legal =
     subst (λ (c : Course). AreLegal shard [] c.sections) (sym served.leads) (legal-more shard [] now.sections (record { purpose = Trims; lists = served.lists }) legal (served.legal shard h))
 unit-legal setup now next (units.First item) served shard h legal =
     subst (λ (c : Course). AreLegal shard [] c.sections) (sym served.leads) (legal-more shard [] now.sections (record { purpose = Asks (first_batch setup item); lists = served.lists }) legal (served.legal shard h))
+unit-legal setup now next (units.Why item) served shard h legal =
+    subst (λ (c : Course). AreLegal shard [] c.sections) (sym served.leads) (legal-more shard [] now.sections (record { purpose = Asks (why_batch setup item); lists = served.lists }) legal (served.legal shard h))
 unit-legal setup now next units.Stats served shard h legal = subst (λ (c : Course). AreLegal shard [] c.sections) (sym served) legal
 
 pub session-legal : (setup : Setup) (us : List ScriptUnit) (course : Course) → Session setup us course → (shard : ℕ) → shard < setup.shards → AreLegal shard [] course.sections

@@ -1,11 +1,12 @@
 -- Who pays enough is served: where a query's budget is as great as its need, the reply is its wave.
-use Rattle.std.specs.Prelude.{◌≡◌, ⊤, ℕ, List, Option, Some, None}
+use Rattle.std.specs.Prelude.{◌≡◌, ◌≢◌, ⊤, ℕ, List, Option, Some, None}
 use Rattle.std.specs.List.{AllZip}
 use Rattle.circuit_meaning.specs.Forward.{wave}
 use Rattle.batch_meaning.specs.declared.Query.{Query}
 use Rattle.journal_meaning.specs.declared.Entry.{Entry}
 use Rattle.journal_meaning.specs.Laws.{IsRoomy, NeedsAtMost}
 use Rattle.query_lines.specs.declared.unit.FirstItem.{FirstItem}
+use Rattle.query_lines.specs.declared.unit.WhyItem.{WhyItem}
 use Rattle.query_lines.specs.declared.unit.Item.{Item}
 use Rattle.query_lines.specs.declared.unit.Unit.{Unit as ScriptUnit}
 use Rattle.query_lines.specs.declared.unit.Unit.TheVariants as units
@@ -15,11 +16,14 @@ use Rattle.reply_lines.specs.declared.reply.FirstAnswer.TheVariants as answers
 use Rattle.reply_lines.specs.declared.reply.FirstReply.{FirstReply}
 use Rattle.reply_lines.specs.declared.reply.FirstReply.TheVariants as firsts
 use Rattle.reply_lines.specs.declared.reply.Reply.{Reply}
+use Rattle.reply_lines.specs.declared.reply.WhyAnswer.TheVariants as explained
+use Rattle.reply_lines.specs.declared.reply.WhyReply.{WhyReply}
+use Rattle.reply_lines.specs.declared.reply.WhyReply.TheVariants as whys
 use Rattle.reply_lines.specs.declared.reply.Reply.TheVariants.{Wave}
 use Rattle.session_meaning.specs.declared.Verdict.TheVariants.{Ask}
-use Rattle.session_meaning.specs.Verdicts.{verdict_of, first_verdict}
+use Rattle.session_meaning.specs.Verdicts.{verdict_of, first_verdict, why_verdict}
 use Rattle.session_meaning.specs.FirstTimes.{first_time, up_to_first}
-use Rattle.session_meaning.specs.Session.{Setup, Course, batch_of, first_batch, IsServed, Session, Opened, Served, IsSessionOf}
+use Rattle.session_meaning.specs.Session.{Setup, Course, batch_of, first_batch, why_batch, IsServed, Session, Opened, Served, IsSessionOf}
 
 -- In a batch in which nothing is evicted, or whose needed cells fit, every query whose budget is as great as its need has its wave.
 abbrev pub IsAmpleBatch : Setup → List Item → List (List Entry) → List Reply → Type 0
@@ -40,12 +44,20 @@ IsAmpleFirst setup item lists reply = IsRoomy (first_batch setup item) lists
     → NeedsAtMost (first_batch setup item) (up_to_first setup.design.circuit query item.first.value) query.budget
     → reply ≡ firsts.Answer (answer_of (first_time setup.design.circuit query.signal item.first.value query.from query.to))
 
+-- Where a question for an explanation has a budget as great as its need, it is not refused for it.
+abbrev pub IsAmpleWhy : Setup → WhyItem → List (List Entry) → WhyReply → Type 0
+IsAmpleWhy setup item lists reply = IsRoomy (why_batch setup item) lists
+    → (query : Query) → why_verdict setup.design item ≡ Ask query
+    → NeedsAtMost (why_batch setup item) query query.budget
+    → (budget : ℕ) → reply ≢ whys.Answer (explained.Budget budget)
+
 -- so it is in a unit, if it asks
 abbrev pub IsAmpleUnit : (setup : Setup) (now next : Course) (unit : ScriptUnit) → IsServed setup now unit next → Type 0
 IsAmpleUnit setup now next (units.Batch items) served = IsAmpleBatch setup items served.lists served.replies
 IsAmpleUnit setup now next (units.Trim most) served = ⊤
 IsAmpleUnit setup now next units.Stats served = ⊤
 IsAmpleUnit setup now next (units.First item) served = IsAmpleFirst setup item served.lists served.reply
+IsAmpleUnit setup now next (units.Why item) served = IsAmpleWhy setup item served.lists served.reply
 
 -- and in every unit of a session
 abbrev pub IsAmple : (setup : Setup) (all : List ScriptUnit) (course : Course) → Session setup all course → Type 0

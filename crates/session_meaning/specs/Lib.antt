@@ -2,6 +2,7 @@ pub mod Verdicts
 pub mod Replies
 pub mod Written
 pub mod FirstTimes
+pub mod Explanations
 pub mod Session
 pub mod Broken
 pub mod Ample

@@ -10,17 +10,20 @@ use Rattle.journal_meaning.specs.Replay.{IsLegalBatch, IsLegalTrim}
 use Rattle.journal_meaning.specs.Sections.{Purpose, Asks, Trims, SectionEntries, own, cells_after, of_batch}
 use Rattle.journal_meaning.specs.Counts.{count}
 use Rattle.query_lines.specs.declared.unit.FirstItem.{FirstItem}
+use Rattle.query_lines.specs.declared.unit.WhyItem.{WhyItem}
 use Rattle.query_lines.specs.declared.unit.Item.{Item}
 use Rattle.query_lines.specs.declared.unit.Unit.{Unit as ScriptUnit}
 use Rattle.query_lines.specs.declared.unit.Unit.TheVariants as units
 use Rattle.reply_lines.specs.declared.reply.FirstReply.{FirstReply}
 use Rattle.reply_lines.specs.declared.reply.Reply.{Reply}
+use Rattle.reply_lines.specs.declared.reply.WhyReply.{WhyReply}
 use Rattle.query_lines.specs.Reading.{script_units}
-use Rattle.reply_lines.specs.Replies.{first_line, trimmed_line, stats_line}
+use Rattle.reply_lines.specs.Replies.{first_line, why_lines, trimmed_line, stats_line}
 use Rattle.design.specs.Joined.{Joined}
-use Rattle.session_meaning.specs.Verdicts.{verdict_of, queries_of, first_verdict, asked}
+use Rattle.session_meaning.specs.Verdicts.{verdict_of, queries_of, first_verdict, why_verdict, asked}
 use Rattle.session_meaning.specs.Replies.{IsReply, replies_text}
 use Rattle.session_meaning.specs.FirstTimes.{up_to_first, IsFirstReply}
+use Rattle.session_meaning.specs.Explanations.{IsWhyReply}
 use Rattle.session_meaning.specs.Written.{journal_text}
 
 -- what is the same throughout a session: the design, how many shards the memo has, and for how many cells each has room
@@ -90,6 +93,28 @@ pub record IsFirstServed (setup : Setup) (now next : Course) (item : FirstItem) 
   pub right : IsFirstReply setup.design.circuit (of_batch lists) (first_verdict setup.design item) item.first.value reply
   pub leads : next ≡ with_section now (Asks (first_batch setup item)) lists (first_line item.first reply)
 
+-- A question for an explanation.
+
+-- a batch of its own, which asks for the one time
+abbrev pub why_batch : Setup → WhyItem → Batch
+why_batch setup item = record {
+  circuit = setup.design.circuit;
+  shards = setup.shards;
+  capacity = setup.capacity;
+  queries = asked (why_verdict setup.design item);
+  site = None;
+}
+
+-- Each shard has a list of entries, legal from the cells that the sections before leave, and the reply is right.
+pub record IsWhyServed (setup : Setup) (now next : Course) (item : WhyItem) : Type 0 where
+  pub lists : List (List Entry)
+  pub reply : WhyReply
+  pub count : length lists ≡ setup.shards
+  pub legal : (shard : ℕ) → shard < setup.shards
+      → IsLegalBatch (why_batch setup item) shard (cells_after shard now.sections) (get_or lists shard [])
+  pub right : IsWhyReply setup.design (of_batch lists) (why_verdict setup.design item) item.why reply
+  pub leads : next ≡ with_section now (Asks (why_batch setup item)) lists (why_lines item.why reply)
+
 -- A trim.
 
 -- the entries that evict the least recent of the cells, until so many are left
@@ -139,6 +164,7 @@ IsServed setup now (units.Batch items) next = IsBatchServed setup now next items
 IsServed setup now (units.Trim most) next = IsTrimServed setup now next most
 IsServed setup now units.Stats next = next ≡ with_reply now (counts_line setup now.sections)
 IsServed setup now (units.First item) next = IsFirstServed setup now next item
+IsServed setup now (units.Why item) next = IsWhyServed setup now next item
 
 -- What a session comes to by these units, one after another.
 pub data Session (setup : Setup) : List ScriptUnit → Course → Type 0 where

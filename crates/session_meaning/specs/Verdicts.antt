@@ -4,6 +4,7 @@ use Rattle.batch_meaning.specs.declared.Query.{Query}
 use Rattle.query_lines.specs.declared.line.What.{What}
 use Rattle.query_lines.specs.declared.line.What.TheVariants as whats
 use Rattle.query_lines.specs.declared.unit.FirstItem.{FirstItem}
+use Rattle.query_lines.specs.declared.unit.WhyItem.{WhyItem}
 use Rattle.query_lines.specs.declared.unit.Item.{Item}
 use Rattle.design.specs.Joined.{Joined}
 use Rattle.design.specs.Join.{number}
@@ -30,6 +31,10 @@ verdict_of d item = what_verdict d item.line item.what
 -- of a question for a first time
 abbrev pub first_verdict : Joined → FirstItem → Verdict
 first_verdict d item = window_verdict d.circuit.horizon item.line item.first.from item.first.to item.first.budget (number d.netlist item.first.name)
+
+-- of a question for an explanation, which asks for one time
+abbrev pub why_verdict : Joined → WhyItem → Verdict
+why_verdict d item = window_verdict d.circuit.horizon item.line item.why.time (item.why.time + 1) item.why.budget (number d.netlist item.why.name)
 
 -- the query that is asked, if one is
 abbrev pub asked : Verdict → List Query

@@ -1,13 +1,13 @@
-//! What the items of a batch ask, and a question for a first time.
+//! What the items of a batch ask, and what questions for a first time and for an explanation do.
 
 ghost use Rattle.std.specs.Prelude.{◌≡◌, map, IfOk};
 ghost use Rattle.design.specs.Join.{number};
-ghost use Rattle.session_meaning.specs.Verdicts.{window_verdict, verdict_of, first_verdict};
+ghost use Rattle.session_meaning.specs.Verdicts.{window_verdict, verdict_of, first_verdict, why_verdict};
 
 use backsim_io::{OutOfMemory, Text};
 use batch_meaning::Query;
 use design::Design;
-use query_lines::{FirstItem, Item, What};
+use query_lines::{FirstItem, Item, What, WhyItem};
 use session_meaning::Verdict;
 use std::alloc::Global;
 
@@ -83,4 +83,13 @@ pub fn first_verdict_of(design: &Design, item: &FirstItem) -> Verdict
         first.to as u64,
         first.budget,
     )
+}
+
+/// What a question for an explanation asks: one look-up of its name by hashing.
+pub fn why_verdict_of(design: &Design, item: &WhyItem) -> Verdict
+    ensures { result ≡ why_verdict design.now item.now }
+{
+    let why = &item.why;
+    let stop = why.time as u64 + 1;
+    window_verdict(design, item.line, &why.name, why.time, stop, why.budget)
 }
