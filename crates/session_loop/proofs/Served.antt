@@ -9,6 +9,7 @@ use Rattle.cell_store.specs.Recency.{Contents}
 use Rattle.backsim_io.specs.Counts.{Grows}
 use Rattle.backsim_io.specs.Held.{Made, FileGrows}
 use Rattle.journal_meaning.specs.declared.Entry.{Entry}
+use Rattle.batch_meaning.specs.Batches.{Batch as BatchRecord}
 use Rattle.journal_meaning.specs.States.{fresh}
 use Rattle.journal_meaning.specs.Replay.{IsLegalBatch, IsLegalTrim, replay}
 use Rattle.journal_meaning.specs.Sections.{Purpose, Asks, Trims, Forces, SectionEntries, own, cells_left, cells_after}
@@ -16,24 +17,26 @@ use Rattle.journal_meaning.specs.Counts.{count}
 use Rattle.journal_text.specs.Spelling.{section_lines}
 use Rattle.query_lines.specs.declared.unit.FirstItem.{FirstItem}
 use Rattle.query_lines.specs.declared.unit.Item.{Item}
+use Rattle.query_lines.specs.declared.unit.WhyItem.{WhyItem}
 use Rattle.query_lines.specs.declared.unit.Unit.{Unit as ScriptUnit}
 use Rattle.query_lines.specs.declared.unit.Unit.TheVariants as units
 use Rattle.reply_lines.specs.declared.reply.FirstReply.{FirstReply}
 use Rattle.reply_lines.specs.declared.reply.Reply.{Reply}
-use Rattle.reply_lines.specs.Replies.{first_line, trimmed_line, stats_line}
+use Rattle.reply_lines.specs.declared.reply.WhyReply.{WhyReply}
+use Rattle.reply_lines.specs.Replies.{first_line, why_lines, trimmed_line, stats_line}
 use Rattle.journal_text.specs.declared.sections.SectionKind.TheVariants.{Batch, Trim}
 use Rattle.session_meaning.specs.Replies.{replies_text}
 use Rattle.session_meaning.specs.Written.{kind_of, numbered}
-use Rattle.session_meaning.specs.Session.{Setup, Course, IsServed, Session, Served, batch_of, first_batch, with_section, with_reply, counts_line, cells_stored, trim_entries, is_batch, is_fill, is_eviction, entries_that}
+use Rattle.session_meaning.specs.Session.{Setup, Course, IsServed, Session, Served, batch_of, first_batch, why_batch, with_section, with_reply, counts_line, cells_stored, trim_entries, is_batch, is_fill, is_eviction, entries_that}
 use Rattle.session_meaning.specs.Broken.{IsPrefix, journal_of, IsBroken}
 use Rattle.session_meaning.proofs.Journals.{journal-more, broken-none, broken-more, broken-at, prefix-same, prefix-more, prefix-behind}
 use Rattle.session_loop.specs.declared.desk.Counts.{Counts}
 use Rattle.session_loop.specs.declared.desk.Desk.{Desk}
 use Rattle.session_loop.specs.inner.Growing.{GrowsPart, FileGrowsPart}
 use Rattle.unit_answers.specs.Stores.{AreStores, cells_of}
-use Rattle.unit_answers.specs.Done.{IsBatchDone, IsFirstDone, IsTrimDone}
+use Rattle.unit_answers.specs.Done.{IsBatchDone, IsFirstDone, IsWhyDone, IsTrimDone}
 use Rattle.session_loop.specs.inner.Desks.{IsCount, IsCounted, batches_in, Keeps}
-use Rattle.session_loop.specs.inner.Serving.{ServedTo, StoppedIn, Serves, Stops}
+use Rattle.session_loop.specs.inner.Serving.{ServedTo, StoppedIn, Serves, Stops, IsAnswered}
 use Rattle.session_loop.proofs.Growing.{goes-none, goes-more, file-goes-none, file-goes-more}
 
 entries-more : (test : Entry → Bool) (sections : List SectionEntries) (section : SectionEntries) → own section.purpose ≡ (λ es. es)
@@ -180,28 +183,46 @@ module _ (setup : Setup) where
     trim-stopped replied recorded us now session keeps =
         section-stopped us (units.Trim most) now desk session keeps slot out new_out made new_made Trims lists (trimmed_line (sum_by length lists)) (is-trimmed now keeps) counts.sections counted.sections replied recorded
 
-  -- A question for a first time.
-  module _ (item : FirstItem) (desk : Desk) (reply : FirstReply) (lists : List (List Entry)) (left : List Contents) (done : IsFirstDone setup item desk.stores.items reply lists left) (counts : Counts) (counted : IsCounted desk.counts Batch lists counts) (slot : ℕ) (out new_out : List ℕ → Type 0) (made new_made : List Made → Type 0) where
-    is-told : (now : Course) → Keeps setup desk now → IsServed setup now (units.First item) (with_section now (Asks (first_batch setup item)) lists (first_line item.first reply))
-    is-told now keeps = record {
+  -- A question with a batch of its own.
+  module _ (unit : ScriptUnit) (b : BatchRecord) (desk : Desk) (text : List ℕ) (lists : List (List Entry)) (left : List Contents) (done : IsAnswered setup desk unit b text lists left) (counts : Counts) (counted : IsCounted desk.counts Batch lists counts) (slot : ℕ) (out new_out : List ℕ → Type 0) (made new_made : List Made → Type 0) where
+    pub question-served : (later : Desk) → later.counts ≡ counts → later.stores.items ≡ left → Grows out new_out text
+        → FileGrows made new_made slot (section_lines (record { kind = Batch; number = counts.sections; shards = lists })) → Serves setup desk later (unit ∷ []) slot out new_out made new_made
+    question-served later same stores replied recorded us now session keeps =
+        section-served us unit now desk session keeps slot out new_out made new_made (Asks b) lists text (done.serves now keeps) counts.sections counted.sections
+        later refl (subst (λ c. IsCounted desk.counts Batch lists c) (sym same) counted) (λ shard h. ap (λ l. cells_of l shard) stores ∙ done.leaves shard h) replied recorded
+
+    pub question-stopped : GrowsPart out new_out text → FileGrowsPart made new_made slot (section_lines (record { kind = Batch; number = counts.sections; shards = lists }))
+        → Stops setup desk (unit ∷ []) slot out new_out made new_made
+    question-stopped replied recorded us now session keeps =
+        section-stopped us unit now desk session keeps slot out new_out made new_made (Asks b) lists text (done.serves now keeps) counts.sections counted.sections replied recorded
+
+  pub first-answered : (item : FirstItem) (desk : Desk) (reply : FirstReply) (lists : List (List Entry)) (left : List Contents) → IsFirstDone setup item desk.stores.items reply lists left
+      → IsAnswered setup desk (units.First item) (first_batch setup item) (first_line item.first reply) lists left
+  first-answered item desk reply lists left done = record {
+    serves = λ now keeps. record {
       lists = lists;
       reply = reply;
       count = done.count;
       legal = λ shard h. subst (λ cells. IsLegalBatch (first_batch setup item) shard cells (get_or lists shard [])) (keeps.cells shard h) (done.legal shard h);
       right = done.right;
       leads = refl;
-    }
+    };
+    leaves = done.leaves;
+  }
 
-    pub first-served : (later : Desk) → later.counts ≡ counts → later.stores.items ≡ left → Grows out new_out (first_line item.first reply)
-        → FileGrows made new_made slot (section_lines (record { kind = Batch; number = counts.sections; shards = lists })) → Serves setup desk later (units.First item ∷ []) slot out new_out made new_made
-    first-served later same stores replied recorded us now session keeps =
-        section-served us (units.First item) now desk session keeps slot out new_out made new_made (Asks (first_batch setup item)) lists (first_line item.first reply) (is-told now keeps) counts.sections counted.sections
-        later refl (subst (λ c. IsCounted desk.counts Batch lists c) (sym same) counted) (λ shard h. ap (λ l. cells_of l shard) stores ∙ done.leaves shard h) replied recorded
-
-    pub first-stopped : GrowsPart out new_out (first_line item.first reply) → FileGrowsPart made new_made slot (section_lines (record { kind = Batch; number = counts.sections; shards = lists }))
-        → Stops setup desk (units.First item ∷ []) slot out new_out made new_made
-    first-stopped replied recorded us now session keeps =
-        section-stopped us (units.First item) now desk session keeps slot out new_out made new_made (Asks (first_batch setup item)) lists (first_line item.first reply) (is-told now keeps) counts.sections counted.sections replied recorded
+  pub why-answered : (item : WhyItem) (desk : Desk) (reply : WhyReply) (lists : List (List Entry)) (left : List Contents) → IsWhyDone setup item desk.stores.items reply lists left
+      → IsAnswered setup desk (units.Why item) (why_batch setup item) (why_lines item.why reply) lists left
+  why-answered item desk reply lists left done = record {
+    serves = λ now keeps. record {
+      lists = lists;
+      reply = reply;
+      count = done.count;
+      legal = λ shard h. subst (λ cells. IsLegalBatch (why_batch setup item) shard cells (get_or lists shard [])) (keeps.cells shard h) (done.legal shard h);
+      right = done.right;
+      leads = refl;
+    };
+    leaves = done.leaves;
+  }
 
   -- The counts.
   stored-from : (stores : List Contents) (first : ℕ) (cells : ℕ → List SignalCell) → ((i : ℕ) → i < length stores → cells_of stores i ≡ cells (first + i))

@@ -30,9 +30,9 @@
 
 mod counting;
 mod desk;
-mod first;
 mod halt;
 mod journal;
+mod question;
 mod script;
 mod section;
 mod session;

@@ -10,7 +10,7 @@ ghost use Rattle.session_loop.specs.inner.Serving.{Serves, Stops};
 
 use crate::counting::{cells_in, counted, entries_in};
 use crate::desk::Desk;
-use crate::first::serve_first;
+use crate::question::{serve_first, serve_why};
 use crate::section::{write_replies, write_reply, write_section};
 use crate::stop::Stop;
 use backsim_io::{Files, Sink};
@@ -196,6 +196,7 @@ pub fn serve_unit<C: Crew, F: Files, S: Sink>(
         Unit::Trim(most) => serve_trim(alloc, design, *most, sizes, desk, slot, files, out),
         Unit::Stats => serve_stats(alloc, design, sizes, desk, slot, files, out),
         Unit::First(item) => serve_first(alloc, design, item, sizes, desk, slot, files, out),
+        Unit::Why(item) => serve_why(alloc, design, item, sizes, desk, slot, files, out),
     }
 }
 

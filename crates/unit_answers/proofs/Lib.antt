@@ -4,7 +4,9 @@ pub mod Suiting
 pub mod Answering
 pub mod Left
 pub mod Done
+pub mod Questions
 pub mod Firsts
+pub mod Whys
 pub mod EmptyStores
 pub mod Opening
 pub mod Running

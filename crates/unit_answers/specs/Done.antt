@@ -6,15 +6,19 @@ use Rattle.journal_meaning.specs.declared.Entry.{Entry}
 use Rattle.journal_meaning.specs.States.{fresh}
 use Rattle.journal_meaning.specs.Replay.{IsLegalBatch, IsLegalTrim, replay}
 use Rattle.journal_meaning.specs.Sections.{of_batch}
+use Rattle.batch_meaning.specs.Batches.{Batch}
 use Rattle.query_lines.specs.declared.unit.FirstItem.{FirstItem}
 use Rattle.query_lines.specs.declared.unit.Item.{Item}
+use Rattle.query_lines.specs.declared.unit.WhyItem.{WhyItem}
 use Rattle.reply_lines.specs.declared.reply.FirstReply.{FirstReply}
 use Rattle.reply_lines.specs.declared.reply.Reply.{Reply}
+use Rattle.reply_lines.specs.declared.reply.WhyReply.{WhyReply}
 use Rattle.reply_lines.specs.Replies.{Suits}
 use Rattle.session_meaning.specs.FirstTimes.{IsFirstReply}
-use Rattle.session_meaning.specs.Verdicts.{verdict_of, first_verdict}
+use Rattle.session_meaning.specs.Explanations.{IsWhyReply}
+use Rattle.session_meaning.specs.Verdicts.{verdict_of, first_verdict, why_verdict}
 use Rattle.session_meaning.specs.Replies.{IsReply}
-use Rattle.session_meaning.specs.Session.{Setup, batch_of, first_batch, trim_entries}
+use Rattle.session_meaning.specs.Session.{Setup, batch_of, first_batch, why_batch, trim_entries}
 use Rattle.unit_answers.specs.Stores.{AreStores, cells_of}
 
 -- A batch: legal journals from the cells in the stores, a right reply to each item, and the stores as the journals leave them.
@@ -28,15 +32,26 @@ pub record IsBatchDone (setup : Setup) (items : List Item) (opening : List Conte
   pub leaves : (shard : ℕ) → shard < setup.shards
       → cells_of left shard ≡ (replay (fresh (cells_of opening shard)) (get_or lists shard [])).cells
 
--- A question for a first time: legal journals from the cells in the stores, a right reply, and the stores as the journals leave them.
-pub record IsFirstDone (setup : Setup) (item : FirstItem) (opening : List Contents) (reply : FirstReply) (lists : List (List Entry)) (left : List Contents) : Type 0 where
+-- A question with a batch of its own: legal journals from the cells in the stores, entries of which `right` holds, and the stores as
+-- the journals leave them.
+pub record IsQuestionDone (setup : Setup) (batch : Batch) (right : List Entry → Type 0) (opening : List Contents) (lists : List (List Entry)) (left : List Contents) : Type 0 where
   pub count : length lists ≡ setup.shards
   pub legal : (shard : ℕ) → shard < setup.shards
-      → IsLegalBatch (first_batch setup item) shard (cells_of opening shard) (get_or lists shard [])
-  pub right : IsFirstReply setup.design.circuit (of_batch lists) (first_verdict setup.design item) item.first.value reply
+      → IsLegalBatch batch shard (cells_of opening shard) (get_or lists shard [])
+  pub right : right (of_batch lists)
   pub stores : AreStores setup left
   pub leaves : (shard : ℕ) → shard < setup.shards
       → cells_of left shard ≡ (replay (fresh (cells_of opening shard)) (get_or lists shard [])).cells
+
+-- a question for a first time, with a right reply
+abbrev pub IsFirstDone : Setup → FirstItem → List Contents → FirstReply → List (List Entry) → List Contents → Type 0
+IsFirstDone setup item opening reply lists left =
+    IsQuestionDone setup (first_batch setup item) (λ es. IsFirstReply setup.design.circuit es (first_verdict setup.design item) item.first.value reply) opening lists left
+
+-- a question for an explanation, with a right reply
+abbrev pub IsWhyDone : Setup → WhyItem → List Contents → WhyReply → List (List Entry) → List Contents → Type 0
+IsWhyDone setup item opening reply lists left =
+    IsQuestionDone setup (why_batch setup item) (λ es. IsWhyReply setup.design es (why_verdict setup.design item) item.why reply) opening lists left
 
 -- A trim: in each shard the last cells are evicted until few enough are left, and the stores are as the lists leave them.
 pub record IsTrimDone (setup : Setup) (most : ℕ) (opening : List Contents) (lists : List (List Entry)) (left : List Contents) : Type 0 where

@@ -1,6 +1,6 @@
 //! A question for a first time.
 
-ghost use Rattle.std.specs.Prelude.{◌≡◌, ◌<◌, ◌≤◌, [], map, IfOk};
+ghost use Rattle.std.specs.Prelude.{◌≡◌, ◌<◌, ◌≤◌, [], IfOk};
 ghost use Rattle.batch_meaning.specs.Lawful.{IsLawful};
 ghost use Rattle.session_meaning.specs.declared.Verdict.TheVariants.{Ask};
 ghost use Rattle.session_meaning.specs.FirstTimes.{IsFirstReply};
@@ -9,7 +9,7 @@ ghost use Rattle.session_meaning.specs.Verdicts.{first_verdict};
 ghost use Rattle.unit_answers.specs.Stores.{setup_of, cells_of, AreStores};
 ghost use Rattle.unit_answers.specs.Done.{IsFirstDone};
 
-use crate::run::{begin_all, end_all, have_room};
+use crate::run::{begin_all, end_all, have_room, no_entries};
 use crate::sizes::Sizes;
 use backsim_io::OutOfMemory;
 use batch_meaning::Query;
@@ -57,17 +57,6 @@ fn run_first<B: BatchName>(
         lists,
         stores,
     })
-}
-
-/// An empty journal for each store.
-fn no_entries(alloc: Global, stores: &[CellStore]) -> Result<Vec<EntryList>, OutOfMemory>
-    ensures { IfOk result (λ lists. lists.items ≡ map (λ _. []) stores.now) }
-{
-    let mut lists = Vec::with_capacity(alloc, stores.len())?;
-    for _store in stores {
-        lists.push(EntryList::from_vec(Vec::new(alloc)))?;
-    }
-    Ok(lists)
 }
 
 /// What comes of a question that asks nothing: no shard records an entry, and the stores stay as they are.

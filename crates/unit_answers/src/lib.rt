@@ -1,24 +1,27 @@
-//! What a unit of a script comes to over the memo: a batch is answered, a first time is found, or the stores are trimmed.
+//! What a unit of a script comes to over the memo: a batch is answered, a first time is found, a value is explained, or the stores are
+//! trimmed.
 //!
 //! Between two units the memo is one [`cell_store::CellStore`] for each shard. [`answer_batch`] opens the shards over them under the
 //! batch's name, has the strands run by a crew, settles, and closes the shards: it gives the replies, the journal of each shard, and
 //! the stores that are left. [`answer_first`] answers when a signal first has a value: it opens and closes the shards in the same way,
-//! and asks for one cell after another (`first_times`), with no crew. [`trim_stores`] evicts the least recent cells. `specs/Done` says
+//! and asks for one cell after another (`first_times`), with no crew; so does [`answer_why`], which answers why a signal has its value at a
+//! time by a proof (`explanations`). [`trim_stores`] evicts the least recent cells. `specs/Done` says
 //! what each comes to.
 //!
 //! A caller may rely on this, whoever the crew is: each journal is legal from the cells that its store held, each item and each question
-//! for a first time has a right reply, and the stores hold what the journals lead to. So the next unit is served over them in the same
+//! has a right reply, and the stores hold what the journals lead to. So the next unit is served over them in the same
 //! way. Where a name is no signal or a window ends behind the horizon, nothing is asked and the journals are empty. Where memory runs
 //! out, the stores are given up.
 //!
 //! No cell and no journal is copied. Beside what its strands and its settlement cost, a batch takes one step for each item and each
-//! shard. A question for a first time takes one look-up of its name, a step for each shard, and what its walk costs (`first_times`). A
-//! trim takes O(log n) steps for each cell that it removes from n.
+//! shard. A question for a first time or an explanation takes one look-up of its name, a step for each shard, and what its walk costs
+//! (`first_times`, `explanations`). A trim takes O(log n) steps for each cell that it removes from n.
 //!
 //! ```text
 //! let done = answer_batch(&crew, alloc, &design, &items, sizes, stores)?;
 //! let found = answer_first(alloc, &design, &question, sizes, done.stores)?;
-//! let trimmed = trim_stores(alloc, &design, 100, sizes, found.stores)?;
+//! let explained = answer_why(alloc, &design, &doubt, sizes, found.stores)?;
+//! let trimmed = trim_stores(alloc, &design, 100, sizes, explained.stores)?;
 //! ```
 #![tactic(auto)]
 
@@ -30,8 +33,10 @@ mod sizes;
 #[cfg(test)]
 mod tests;
 mod trim;
+mod why;
 
 pub use batch::{BatchDone, answer_batch};
 pub use first::{FirstDone, answer_first};
 pub use sizes::Sizes;
 pub use trim::{TrimDone, trim_stores};
+pub use why::{WhyDone, answer_why};

@@ -102,3 +102,14 @@ pub fn run_batch<B: BatchName + Send + Sync, C: Crew>(
         stores,
     })
 }
+
+/// An empty journal for each store.
+pub fn no_entries(alloc: Global, stores: &[CellStore]) -> Result<Vec<EntryList>, OutOfMemory>
+    ensures { IfOk result (λ lists. lists.items ≡ map (λ _. []) stores.now) }
+{
+    let mut lists = Vec::with_capacity(alloc, stores.len())?;
+    for _store in stores {
+        lists.push(EntryList::from_vec(Vec::new(alloc)))?;
+    }
+    Ok(lists)
+}

@@ -1,12 +1,19 @@
 -- What only the proofs and the private functions of this crate speak of, beside `Serving`.
-use Rattle.std.specs.Prelude.{◌≡◌, ℕ, ◌⊎◌, List, [], ◌++◌, length, Option}
+use Rattle.std.specs.Prelude.{◌≡◌, ℕ, ◌<◌, ◌⊎◌, List, [], ◌++◌, length, get_or, Option}
 use Rattle.std.specs.Io.KnownBytes.{Consumes}
 use Rattle.backsim_io.specs.Held.{Made}
+use Rattle.cell_store.specs.Recency.{Contents}
+use Rattle.batch_meaning.specs.Batches.{Batch}
+use Rattle.journal_meaning.specs.declared.Entry.{Entry}
+use Rattle.journal_meaning.specs.States.{fresh}
+use Rattle.journal_meaning.specs.Replay.{replay}
+use Rattle.journal_meaning.specs.Sections.{Asks}
 use Rattle.query_lines.specs.declared.unit.Unit.{Unit as ScriptUnit}
 use Rattle.query_lines.specs.Reading.{script_units}
 use Rattle.query_lines.specs.Readers.{Reader, HasRead}
-use Rattle.session_meaning.specs.Session.{Setup, Course, Session, opened}
+use Rattle.session_meaning.specs.Session.{Setup, Course, IsServed, Session, opened, with_section}
 use Rattle.session_meaning.specs.Broken.{IsPrefix, journal_of, IsBroken}
+use Rattle.unit_answers.specs.Stores.{cells_of}
 use Rattle.session_loop.specs.declared.desk.Desk.{Desk}
 use Rattle.session_loop.specs.inner.Desks.{Keeps}
 use Rattle.session_loop.specs.inner.Growing.{GoesOn, FileGoesOn}
@@ -36,6 +43,12 @@ Serves setup desk later more slot out new_out made new_made = (units : List Scri
 abbrev pub Stops : Setup → Desk → List ScriptUnit → ℕ → (List ℕ → Type 0) → (List ℕ → Type 0) → (List Made → Type 0) → (List Made → Type 0) → Type 0
 Stops setup desk more slot out new_out made new_made = (units : List ScriptUnit) (now : Course)
     → Session setup units now → Keeps setup desk now → StoppedIn setup (units ++ more) now slot out new_out made new_made
+
+-- A question with a batch of its own was answered by this text and these lists, whatever was served before, and the stores are as the
+-- lists leave them.
+pub record IsAnswered (setup : Setup) (desk : Desk) (unit : ScriptUnit) (batch : Batch) (text : List ℕ) (lists : List (List Entry)) (left : List Contents) : Type 0 where
+  pub serves : (now : Course) → Keeps setup desk now → IsServed setup now unit (with_section now (Asks batch) lists text)
+  pub leaves : (shard : ℕ) → shard < setup.shards → cells_of left shard ≡ (replay (fresh (cells_of desk.stores.items shard)) (get_or lists shard [])).cells
 
 -- the reader has taken so many bytes of a script, for a simulation up to this horizon
 abbrev pub HasTaken : ℕ → ℕ → Reader → Type 0

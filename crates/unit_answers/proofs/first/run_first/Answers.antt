@@ -1,12 +1,18 @@
 use Rattle.std.proofs.Common.{◌≡◌, ℕ, List, [], ◌∷◌, length, map, sym, ap, subst, ◌∙◌}
 use Rattle.valid_intervals.specs.declared.SignalCell.{SignalCell}
+use Rattle.journal_meaning.specs.declared.Entry.{Entry}
 use Rattle.batch_meaning.specs.declared.Query.{Query}
 use Rattle.batch_meaning.specs.Batches.{Batch}
-use Rattle.session_meaning.specs.FirstTimes.{up_to_first}
+use Rattle.plan_machine.specs.Settle.{entries_in}
+use Rattle.plan_core.specs.Parts.{shards_in}
+use Rattle.session_meaning.specs.FirstTimes.{up_to_first, IsFirstReply}
+use Rattle.session_meaning.specs.Verdicts.{first_verdict}
 use Rattle.session_meaning.specs.Session.{first_batch}
+use Rattle.reply_lines.specs.declared.reply.FirstReply.TheVariants.{Answer}
 use Rattle.unit_answers.specs.Stores.{setup_of, cells_of}
 use Rattle.unit_answers.specs.inner.Runs.{AreOpened}
-use Rattle.unit_answers.proofs.Firsts.{first-queries, first-done}
+use Rattle.unit_answers.proofs.Firsts.{first-queries, first-right}
+use Rattle.unit_answers.proofs.Questions.{question-done}
 use Rattle.unit_answers.proofs.Running.{opened-by, order-numbers, fresh-free}
 use Rattle.unit_answers.proofs.first.run_first.Goals as goal
 
@@ -39,5 +45,11 @@ end_all-requires g c = fresh-free g.B.BatchName.batch g.B.BatchName.opening c.in
 
 pub returns : goal.returns
 returns g c =
-    first-done (setup_of c.args.design.now c.args.sizes) c.args.item.now c.args.query c.requires.asks g.B.BatchName.batch g.B.BatchName.opening c.args.stores.items c.requires.batch c.requires.opening
-    c.in_ok-found.found.answer c.in_ok-found.found.shards.items c.in_ok-lists.lists.items c.in_ok-lists.stores.items c.in_ok-found.ensures.fresh c.in_ok-found.ensures.answer c.in_ok-lists.ensures.lists c.in_ok-lists.ensures.stores
+    let setup = setup_of c.args.design.now c.args.sizes in
+    let item = c.args.item.now in
+    let ms = c.in_ok-found.found.shards.items in
+    let answer = c.in_ok-found.found.answer in
+    question-done setup (first_batch setup item).queries (λ es. IsFirstReply setup.design.circuit es (first_verdict setup.design item) item.first.value (Answer answer))
+    g.B.BatchName.batch g.B.BatchName.opening c.args.stores.items c.requires.batch c.requires.opening ms c.in_ok-lists.lists.items c.in_ok-lists.stores.items c.in_ok-found.ensures.fresh
+    (first-right setup item c.args.query c.requires.asks g.B.BatchName.batch (entries_in (shards_in ms)) answer c.requires.batch c.in_ok-found.ensures.answer)
+    c.in_ok-lists.ensures.lists c.in_ok-lists.ensures.stores

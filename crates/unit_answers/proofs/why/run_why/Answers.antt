@@ -1,0 +1,55 @@
+use Rattle.std.proofs.Common.{◌≡◌, ℕ, List, [], ◌∷◌, length, map, sym, ap, subst, ◌∙◌}
+use Rattle.valid_intervals.specs.declared.SignalCell.{SignalCell}
+use Rattle.journal_meaning.specs.declared.Entry.{Entry}
+use Rattle.batch_meaning.specs.declared.Query.{Query}
+use Rattle.batch_meaning.specs.Batches.{Batch}
+use Rattle.plan_machine.specs.Settle.{entries_in}
+use Rattle.plan_core.specs.Parts.{shards_in}
+use Rattle.session_meaning.specs.Explanations.{IsWhyReply}
+use Rattle.session_meaning.specs.Verdicts.{why_verdict}
+use Rattle.session_meaning.specs.Session.{why_batch}
+use Rattle.reply_lines.specs.declared.reply.WhyReply.TheVariants.{Answer}
+use Rattle.unit_answers.specs.Stores.{setup_of, cells_of}
+use Rattle.unit_answers.specs.inner.Runs.{AreOpened}
+use Rattle.unit_answers.proofs.Whys.{why-queries, why-window, why-right}
+use Rattle.unit_answers.proofs.Questions.{question-done}
+use Rattle.unit_answers.proofs.Running.{opened-by, order-numbers, fresh-free}
+use Rattle.unit_answers.proofs.why.run_why.Goals as goal
+
+pub begin_all-requires-clause-opened : goal.begin_all-requires-clause-opened
+begin_all-requires-clause-opened g c =
+    let setup = setup_of c.args.design.now c.args.sizes in
+    let b = why_batch setup c.args.item.now in
+    let stores = c.args.stores.items in
+    subst (λ (x : Batch). AreOpened x g.B.BatchName.opening stores) (sym c.requires.batch)
+    (subst (λ (o : ℕ → List SignalCell). AreOpened b o stores) (sym c.requires.opening) (opened-by setup b.queries stores c.requires.stores))
+
+pub explain-requires-clause-queries : goal.explain-requires-clause-queries
+explain-requires-clause-queries g c =
+    ap (λ (x : Batch). x.queries) c.requires.batch ∙ why-queries (setup_of c.args.design.now c.args.sizes) c.args.item.now c.args.query c.requires.asks
+
+pub explain-requires-clause-window : goal.explain-requires-clause-window
+explain-requires-clause-window g c = why-window (setup_of c.args.design.now c.args.sizes) c.args.item.now c.args.query c.requires.asks
+
+pub explain-requires-clause-count : goal.explain-requires-clause-count
+explain-requires-clause-count g c = c.in_ok-begun.ensures.count ∙ c.requires.stores.count ∙ sym (ap (λ (x : Batch). x.shards) c.requires.batch)
+
+pub explain-requires-clause-numbers : goal.explain-requires-clause-numbers
+explain-requires-clause-numbers g c = order-numbers c.in_ok-begun.begun.items c.in_ok-begun.ensures.order
+
+pub explain-requires-clause-unused : goal.explain-requires-clause-unused
+explain-requires-clause-unused g c = c.in_ok-begun.ensures.empty
+
+pub end_all-requires : goal.end_all-requires
+end_all-requires g c = fresh-free g.B.BatchName.batch g.B.BatchName.opening c.in_ok-found.found.shards.items c.in_ok-found.ensures.fresh
+
+pub returns : goal.returns
+returns g c =
+    let setup = setup_of c.args.design.now c.args.sizes in
+    let item = c.args.item.now in
+    let ms = c.in_ok-found.found.shards.items in
+    let answer = c.in_ok-found.found.answer in
+    question-done setup (why_batch setup item).queries (λ es. IsWhyReply setup.design es (why_verdict setup.design item) item.why (Answer answer))
+    g.B.BatchName.batch g.B.BatchName.opening c.args.stores.items c.requires.batch c.requires.opening ms c.in_ok-lists.lists.items c.in_ok-lists.stores.items c.in_ok-found.ensures.fresh
+    (why-right setup item c.args.query c.requires.asks g.B.BatchName.batch (entries_in (shards_in ms)) answer c.requires.batch c.in_ok-found.ensures.answer)
+    c.in_ok-lists.ensures.lists c.in_ok-lists.ensures.stores
