@@ -72,11 +72,6 @@ impl<B: BatchName> Memo<B> {
         }
     }
 
-    /// Whence memory comes.
-    pub fn alloc(&self) -> Global {
-        self.alloc
-    }
-
     /// The shards, in order.
     pub fn shards(&self) -> &[Shard<B>]
         ensures { result.now ≡ self.now }

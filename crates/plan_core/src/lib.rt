@@ -3,7 +3,7 @@
 //! A [`Plan`] runs the strands of one batch in turns, on one thread, by the calls of a shard (`memo_shards`) that a worker makes too.
 //! A turn ([`Plan::turn`]) makes one step of one strand: it asks for a point, fills one or drops one. Which strand has the next turn
 //! is up to the caller, who may take any that is ready ([`Plan::ready`]), or name them in any order ([`Plan::run`]).
-//! [`Plan::run_alone`] makes the turns of one strand until it has ended; that is what settlement (`window_answers`) calls.
+//! [`Plan::run_alone`] makes the turns of one strand until it has ended; that is what whoever asks alone for a cell (`asked_cells`) calls.
 //!
 //! Contracts see a plan as the pure machine of `plan_machine`: the list of its strands, those that wait included, and the list of its
 //! shards. A turn is the machine's turn, and so every theorem on lists of turns holds of the code: by its type a plan is sound

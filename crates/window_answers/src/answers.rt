@@ -23,6 +23,7 @@ use batch_meaning::Query;
 use demand_points::BatchName;
 use design::Design;
 use reply_lines::Reply;
+use std::alloc::Global;
 use valid_intervals::Point;
 
 /// What a query is charged once its fills are visited, and whether it was refused.
@@ -69,6 +70,7 @@ fn feed_one<B: BatchName>(
 /// Visits what each query filled. The fills of all queries are gathered before the first is visited: the strands that run alone
 /// meanwhile fill for the query that is visited, and for no other.
 pub fn feed_all<B: BatchName>(
+    alloc: Global,
     memo: &mut Memo<B>,
     design: &Design,
     queries: &[Query],
@@ -81,8 +83,8 @@ pub fn feed_all<B: BatchName>(
     ensures kept { OnOk result (AreFreeShards B.batch B.opening memo.new) }
     ensures fed { IfOk result (λ fed. IsFeeding B.batch (entries_of memo.old) (shards_in memo.old) (shards_in memo.new) B.batch.queries fed.items []) }
 {
-    let gathered = FilledPoints::gather(memo.alloc(), memo.shards())?;
-    let mut fed = Vec::new(memo.alloc());
+    let gathered = FilledPoints::gather(alloc, memo.shards())?;
+    let mut fed = Vec::new(alloc);
     for &q in queries {
         let one = feed_one(memo, design, q, gathered.of(q.number))?;
         fed.push(one)?;
@@ -92,6 +94,7 @@ pub fn feed_all<B: BatchName>(
 
 /// Walks the window of a query, unless it was refused.
 fn answer_one<B: BatchName>(
+    alloc: Global,
     memo: &mut Memo<B>,
     design: &Design,
     q: Query,
@@ -112,7 +115,7 @@ fn answer_one<B: BatchName>(
         return Ok(Reply::Budget(q.budget));
     }
     let mut charge = fed.charge;
-    match settle_window(memo, design, q, &mut charge)? {
+    match settle_window(alloc, memo, design, q, &mut charge)? {
         Some(runs) => Ok(Reply::Wave(runs)),
         None => Ok(Reply::Budget(q.budget)),
     }
@@ -120,6 +123,7 @@ fn answer_one<B: BatchName>(
 
 /// Walks the window of each query that was not refused.
 pub fn answer_all<B: BatchName>(
+    alloc: Global,
     memo: &mut Memo<B>,
     design: &Design,
     queries: &[Query],
@@ -136,9 +140,9 @@ pub fn answer_all<B: BatchName>(
     ensures settled { (start : List EntryRecord) (first : List ShardRecord) → IsWalking B.batch start first (shards_in memo.old) [] [] queries.now fed.now
         → IfOk result (λ replies. IsWalking B.batch start first (shards_in memo.new) B.batch.queries replies.items [] []) }
 {
-    let mut replies = Vec::new(memo.alloc());
+    let mut replies = Vec::new(alloc);
     for k in 0..queries.len() {
-        let reply = answer_one(memo, design, queries[k], fed[k])?;
+        let reply = answer_one(alloc, memo, design, queries[k], fed[k])?;
         replies.push(reply)?;
     }
     Ok(replies)

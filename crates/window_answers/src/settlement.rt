@@ -40,8 +40,8 @@ pub fn settle<B: BatchName>(
     ensures { IfOk result (λ settled. HasSettled B.batch B.opening shards.items settled.shards.items settled.replies.items) }
 {
     let mut memo = begin(alloc, shards)?;
-    let fed = feed_all(&mut memo, design, queries)?;
-    let replies = answer_all(&mut memo, design, queries, &fed)?;
+    let fed = feed_all(alloc, &mut memo, design, queries)?;
+    let replies = answer_all(alloc, &mut memo, design, queries, &fed)?;
     Ok(Settled {
         replies,
         shards: memo.into_shards(),

@@ -20,6 +20,7 @@ use backsim_io::OutOfMemory;
 use batch_meaning::Query;
 use demand_points::{BatchName, Frame};
 use design::Design;
+use std::alloc::Global;
 use valid_intervals::Point;
 use window_walks::{Runs, WindowWalk};
 
@@ -121,6 +122,7 @@ pub fn settle_fills<B: BatchName>(
 
 /// Walks the window of a query, and asks for what is missing; none where it is refused.
 pub fn settle_window<B: BatchName>(
+    alloc: Global,
     memo: &mut Memo<B>,
     design: &Design,
     q: Query,
@@ -138,7 +140,7 @@ pub fn settle_window<B: BatchName>(
     ensures covered { (start : List EntryRecord) (first : List ShardRecord) → IsStanding B.batch B.opening q start first (live memo.old)
         → IfOk result (λ r. IsCoveredTo B.batch.circuit q (standing memo.new (is_missing r)) q.to) }
 {
-    let mut walk = WindowWalk::new(memo.alloc(), q.from, q.to);
+    let mut walk = WindowWalk::new(alloc, q.from, q.to);
     'roots: while let Some(time) = walk.next() {
         let Some(cell) = reach(memo, design, q, time, charge)? else {
             return Ok(None);
