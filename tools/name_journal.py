@@ -1,12 +1,14 @@
 #!/usr/bin/env python3
-"""Writes a journal with the names of signals in place of their numbers, which count the names of the netlist as they first appear.
+"""Writes a journal, or replies with proofs, with the names of signals in place of their numbers, which count the names of the netlist as
+they first appear.
 
     name_journal.py NETLIST < JOURNAL"""
 import sys
 
 from files import Netlist
 
-PLACE = {"told": 2, "claim": 2, "fill": 2, "evict": 1, "drop": 2, "spent": 2}  # of the signal among an entry's words
+# of the signal among the words of an entry, or of a proof's line
+PLACE = {"told": 2, "claim": 2, "fill": 2, "evict": 1, "drop": 2, "spent": 2, "cell": 1}
 
 
 def main(netlist_path):
