@@ -1,4 +1,4 @@
-//! A batch, a question for a first time and a trim over two shards.
+//! A batch, questions for a first time and for an explanation, and a trim over two shards.
 
 ghost use Rattle.std.specs.Prelude.{◌≡◌, ◌≤◌, false, [], ◌∷◌, length, IfOk};
 ghost use Rattle.cell_store.specs.Recency.{contents};
@@ -14,8 +14,8 @@ use design::{Design, JoinFault};
 use gate_values::Value;
 use journal_meaning::Entry;
 use journal_text::EntryList;
-use query_lines::{First, FirstItem, Item, What};
-use reply_lines::{FirstAnswer, FirstReply, Reply};
+use query_lines::{First, FirstItem, Item, What, Why, WhyItem};
+use reply_lines::{FirstAnswer, FirstReply, Reply, why_text};
 use std::alloc::Global;
 use std::sync::Wait;
 use std::test::Fail;
@@ -200,5 +200,44 @@ fn a_first_time_that_is_not_asked(rt: HostRuntime) -> Result<(), Fail> {
     assert_eq!(rt; past.reply, FirstReply::Past);
     assert_eq!(rt; past.lists.len(), 2);
     assert!(rt; entries_of(&past.lists, 1).is_empty());
+    Ok(())
+}
+
+/// What is replied to the question why the signal of this name has its value at the time, over empty stores.
+fn why_of(
+    alloc: Global,
+    design: &Design,
+    name: &[u8],
+    time: u32,
+) -> Result<(Vec<u8>, Vec<EntryList>), OutOfMemory> {
+    let item = WhyItem {
+        line: 1,
+        why: Why {
+            name: Text::from_bytes(alloc, name)?,
+            time,
+            budget: 3,
+        },
+    };
+    let stores = empty_stores(alloc)?;
+    let done = answer_why(alloc, design, &item, SIZES, stores)?;
+    let text = why_text(alloc, &item.why, &done.reply)?;
+    Ok((text, done.lists))
+}
+
+#[test]
+fn values_are_explained(rt: HostRuntime) -> Result<(), Fail> {
+    let design = joined(rt.alloc())??;
+    let rows: [(&[u8], u32, &[u8], usize); 4] = [
+        (b"y", 3, b"why y 3 1\ncell 1 1 11 1\nend\n", 2),
+        (b"y", 0, b"why y 0 x\nend\n", 0),
+        (b"z", 3, b"unknown z\n", 0),
+        (b"y", 11, b"past y 11 12\n", 0),
+    ];
+    for (name, time, want, entries) in rows {
+        let (text, lists) = why_of(rt.alloc(), &design, name, time)?;
+        assert_eq!(rt; text.as_slice(), want);
+        assert_eq!(rt; lists.len(), 2);
+        assert_eq!(rt; entries_of(&lists, 1).len(), entries);
+    }
     Ok(())
 }
