@@ -32,13 +32,13 @@ pub record IsBatchDone (setup : Setup) (items : List Item) (opening : List Conte
   pub leaves : (shard : ℕ) → shard < setup.shards
       → cells_of left shard ≡ (replay (fresh (cells_of opening shard)) (get_or lists shard [])).cells
 
--- A question with a batch of its own: legal journals from the cells in the stores, entries of which `right` holds, and the stores as
+-- A question with a batch of its own: legal journals from the cells in the stores, entries of which `such` holds, and the stores as
 -- the journals leave them.
-pub record IsQuestionDone (setup : Setup) (batch : Batch) (right : List Entry → Type 0) (opening : List Contents) (lists : List (List Entry)) (left : List Contents) : Type 0 where
+pub record IsQuestionDone (setup : Setup) (batch : Batch) (such : List Entry → Type 0) (opening : List Contents) (lists : List (List Entry)) (left : List Contents) : Type 0 where
   pub count : length lists ≡ setup.shards
   pub legal : (shard : ℕ) → shard < setup.shards
       → IsLegalBatch batch shard (cells_of opening shard) (get_or lists shard [])
-  pub right : right (of_batch lists)
+  pub right : such (of_batch lists)
   pub stores : AreStores setup left
   pub leaves : (shard : ℕ) → shard < setup.shards
       → cells_of left shard ≡ (replay (fresh (cells_of opening shard)) (get_or lists shard [])).cells
