@@ -1,6 +1,6 @@
 //! Questions that are batches of their own: for a first time, and for an explanation.
 
-ghost use Rattle.std.specs.Prelude.{◌≡◌, ◌<◌, ◌≤◌, ◌∷◌, [], Contains, IfErr, IfOk, OnErr, OnOk};
+ghost use Rattle.std.specs.Prelude.{◌≡◌, ◌<◌, ◌≤◌, ◌∷◌, [], length, Contains, IfErr, IfOk, OnErr, OnOk};
 ghost use Rattle.batch_meaning.specs.Batches.{Batch as BatchRecord};
 ghost use Rattle.query_lines.specs.declared.unit.Unit.{Unit as UnitRecord};
 ghost use Rattle.query_lines.specs.declared.unit.Unit.TheVariants as kinds;
@@ -40,6 +40,7 @@ fn write_answered<F: Files, S: Sink>(
     files: &mut F,
     out: &mut S,
 ) -> Result<Desk, Stop>
+    requires few { length answered.lists.items ≤ 4294967295 }
     requires unfinished { Contains (F.unfinished files.old) slot }
     ensures stores { IfOk result (λ later. later.stores.items ≡ answered.stores.items) }
     ensures served { (setup : Setup) (desk : DeskRecord) (unit : UnitRecord) (batch : BatchRecord) → desk.counts ≡ counts

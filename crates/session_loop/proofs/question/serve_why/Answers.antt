@@ -1,4 +1,4 @@
-use Rattle.std.proofs.Common.{refl, sym, subst, List, ℕ}
+use Rattle.std.proofs.Common.{refl, sym, subst, List, ℕ, arith}
 use Rattle.query_lines.specs.declared.unit.Unit.TheVariants.{Why}
 use Rattle.session_meaning.specs.Session.{why_batch}
 use Rattle.unit_answers.specs.Stores.{setup_of}
@@ -7,12 +7,16 @@ use Rattle.session_loop.proofs.Growing.{on-err}
 use Rattle.session_loop.proofs.Served.{stops-none, why-answered}
 use Rattle.session_loop.proofs.question.serve_why.Goals as goal
 
+-- there is a list for each shard
+pub write_answered-requires-clause-few : goal.write_answered-requires-clause-few
+write_answered-requires-clause-few g c = let count = c.in_ok-done.ensures.count in let most = c.requires.shards.1 in omega (arith, count, most)
+
 -- no journals were made
 pub returns-in_err-done-clause-stopped : goal.returns-in_err-done-clause-stopped
 returns-in_err-done-clause-stopped g c = on-err c.from_residual.result (stops-none (setup_of c.args.design.now c.args.sizes) c.args.desk _ c.args.slot _ _)
 
-pub returns-in_err-text-clause-stopped : goal.returns-in_err-text-clause-stopped
-returns-in_err-text-clause-stopped g c = on-err c.from_residual-in_err-text.result (stops-none (setup_of c.args.design.now c.args.sizes) c.args.desk _ c.args.slot _ _)
+pub returns-in_err-why_text-clause-stopped : goal.returns-in_err-why_text-clause-stopped
+returns-in_err-why_text-clause-stopped g c = on-err c.from_residual-in_err-why_text.result (stops-none (setup_of c.args.design.now c.args.sizes) c.args.desk _ c.args.slot _ _)
 
 pub returns-clause-served : goal.returns-clause-served
 returns-clause-served g c =
@@ -20,7 +24,7 @@ returns-clause-served g c =
     let item = c.args.item.now in
     let done = c.in_ok-done.done in
     c.write_answered.ensures.served setup c.args.desk (Why item) (why_batch setup item) refl
-    (subst (λ (text : List ℕ). IsAnswered setup c.args.desk (Why item) (why_batch setup item) text done.lists.items done.stores.items) (sym c.in_ok-text.ensures)
+    (subst (λ (text : List ℕ). IsAnswered setup c.args.desk (Why item) (why_batch setup item) text done.lists.items done.stores.items) (sym c.in_ok-why_text.ensures)
     (why-answered setup item c.args.desk done.reply done.lists.items done.stores.items c.in_ok-done.ensures))
 
 pub returns-clause-stopped : goal.returns-clause-stopped
@@ -29,5 +33,5 @@ returns-clause-stopped g c =
     let item = c.args.item.now in
     let done = c.in_ok-done.done in
     c.write_answered.ensures.stopped setup c.args.desk (Why item) (why_batch setup item) refl
-    (subst (λ (text : List ℕ). IsAnswered setup c.args.desk (Why item) (why_batch setup item) text done.lists.items done.stores.items) (sym c.in_ok-text.ensures)
+    (subst (λ (text : List ℕ). IsAnswered setup c.args.desk (Why item) (why_batch setup item) text done.lists.items done.stores.items) (sym c.in_ok-why_text.ensures)
     (why-answered setup item c.args.desk done.reply done.lists.items done.stores.items c.in_ok-done.ensures))
