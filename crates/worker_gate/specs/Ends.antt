@@ -1,5 +1,5 @@
 -- Strands that have ended, at their places.
-use Rattle.std.specs.Prelude.{◌≡◌, ◌≢◌, ℕ, ◌+◌, ◌<◌, true, List, [], length, Option, Some, None, slice_get, slice_index}
+use Rattle.std.specs.Prelude.{◌≡◌, ◌≢◌, ℕ, ◌+◌, ◌<◌, ◌^◌, ◌-◌, true, List, [], length, sum_by, Option, Some, None, slice_get, slice_index}
 use Rattle.journal_meaning.specs.Counts.{booked}
 use Rattle.demand_points.specs.declared.strand.Task.{Task}
 use Rattle.demand_points.specs.Demands.{Demand}
@@ -18,6 +18,25 @@ IsEnd s number task count = (next s.strand ≡ Done) × (s.number ≡ number) ×
 -- each place is empty, or has such a strand
 abbrev pub AreEnds : List (Option Demand) → List Task → List ℕ → Type 0
 AreEnds places tasks counts = (i : ℕ) (s : Demand) (t : Task) → slice_get places i ≡ Some (Some s) → slice_get tasks i ≡ Some t → IsEnd s i t (slice_index counts i)
+
+-- the same without the count, as the board knows it
+abbrev pub HasEnded : Demand → ℕ → Task → Type 0
+HasEnded s number task = (next s.strand ≡ Done) × (s.number ≡ number) × (task_of s ≡ task) × (s.strand.spent ≡ true → s.strand.charged ≡ s.strand.budget)
+
+abbrev pub HaveEnded : List (Option Demand) → List Task → Type 0
+HaveEnded places tasks = (i : ℕ) (s : Demand) (t : Task) → slice_get places i ≡ Some (Some s) → slice_get tasks i ≡ Some t → HasEnded s i t
+
+-- each strand at its place has claimed and filled as often as its count says
+abbrev pub AreCounted : List (Option Demand) → List ℕ → Type 0
+AreCounted places counts = (i : ℕ) (s : Demand) → slice_get places i ≡ Some (Some s) → slice_index counts i ≡ s.strand.charged + s.strand.filled
+
+abbrev pub one_if_empty : Option Demand → ℕ
+one_if_empty None = 1
+one_if_empty (Some s) = 0
+
+-- how many places are empty
+abbrev pub empty_in : List (Option Demand) → ℕ
+empty_in places = sum_by one_if_empty places
 
 -- no place is empty
 abbrev pub AreFilled : List (Option Demand) → Type 0
@@ -40,3 +59,7 @@ AreNew strands = (i : ℕ) (s : Demand) → slice_get strands i ≡ Some s → I
 -- how many claims and fills a shard has recorded
 abbrev pub booked_in : KeptShard → ℕ
 booked_in m = booked m.shard.journal
+
+-- one more claim or fill of the strand with this number can be counted
+abbrev pub HasRoom : List ℕ → ℕ → Type 0
+HasRoom counts number = (number < length counts) × (slice_index counts number < 2 ^ 64 - 1)

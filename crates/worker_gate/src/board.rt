@@ -1,61 +1,29 @@
-//! The board: the strands that have ended, and how often each has claimed and filled a point.
+//! The board: the strands that have ended, and what workers that wait look at.
 
-ghost use Rattle.std.specs.Prelude.{◌≡◌, ℕ, ◌+◌, ◌<◌, ◌≤◌, true, false, Some, None, length, sum, slice_get, slice_index, MatchBool, IfErr};
+ghost use Rattle.std.specs.Prelude.{◌≡◌, ◌+◌, true, false, Some, None, length, slice_get, IfErr, IfSome};
 ghost use Rattle.strand_meaning.specs.Strands.{next};
 ghost use Rattle.strand_meaning.specs.declared.Next.TheVariants.{Done};
-ghost use Rattle.worker_gate.specs.Ends.{task_of, AreEnds, AreFilled};
+ghost use Rattle.worker_gate.specs.Ends.{task_of, HaveEnded, AreCounted, AreFilled, empty_in};
 
 use demand_points::{BatchName, Strand, Task};
-use std::sync::ledger::{Book, Ledger, Share};
-use std::sync::{Mutex, Wait};
 
-/// The tasks that were handed in; for each a count and a place; and the book of the ledger.
+/// The tasks that were handed in, a place for each, and how many places are empty.
 #[derive(Drop)]
-pub struct Board<B: BatchName, L: Ledger> {
+pub struct Board<B: BatchName> {
     pub tasks: Vec<Task>,
-    pub counts: Vec<u64>,
     pub places: Vec<Option<Strand<B>>>,
+    pub empty: usize,
     pub no_memory: bool,
+    /// How many strands were put into the queue.
     pub moves: u64,
-    pub book: Book<L>,
-    ghost total: { book.total ≡ sum counts.items },
-    ghost as_many_counts: { length counts.items ≡ length tasks.items },
+    /// How many workers wait.
+    pub sleeping: u32,
     ghost as_many_places: { length places.items ≡ length tasks.items },
-    ghost ends: { AreEnds places.items tasks.items counts.items },
+    ghost empties: { empty ≡ empty_in places.items },
+    ghost ended: { HaveEnded places.items tasks.items },
 }
 
-impl<B: BatchName, L: Ledger> Board<B, L> {
-    /// Whether the place is empty, and its count is one less than `charge`.
-    fn can_book(&self, number: u32, charge: u64) -> bool
-        ensures room { result ≡ true → (number < length self.now.counts.items) × (0 < charge) }
-        ensures place { result ≡ true → slice_get self.now.places.items number ≡ Some None }
-        ensures count { result ≡ true → slice_index self.now.counts.items number + 1 ≡ charge }
-    {
-        let n = number as usize;
-        if n >= self.tasks.len() {
-            return false;
-        }
-        if self.places[n].is_some() {
-            return false;
-        }
-        charge > 0 && self.counts[n] == charge - 1
-    }
-
-    /// Books one claim or fill of a strand, where its place is empty and its count is one less than `charge`.
-    pub fn try_book(&mut self, part: &mut Share<L>, number: u32, charge: u64) -> bool
-        requires { 0 < part.old.parts }
-        ensures parts { part.new.parts ≡ part.old.parts }
-        ensures amount { MatchBool result (part.new.amount ≡ part.old.amount + 1) (part.new.amount ≡ part.old.amount) }
-    {
-        if !self.can_book(number, charge) {
-            return false;
-        }
-        let Board { counts, book, .. } = self;
-        book.add(part, 1);
-        counts[number as usize] = charge;
-        true
-    }
-
+impl<B: BatchName> Board<B> {
     // Whether the task of the strand's number is that of the strand.
     fn has_task_of(&self, strand: &Strand<B>) -> bool
         ensures { result ≡ true → slice_get self.now.tasks.items strand.now.number ≡ Some (task_of strand.now) }
@@ -68,13 +36,12 @@ impl<B: BatchName, L: Ledger> Board<B, L> {
     fn fits(&self, strand: &Strand<B>) -> bool
         ensures task { result ≡ true → slice_get self.now.tasks.items strand.now.number ≡ Some (task_of strand.now) }
         ensures spent { result ≡ true → strand.now.strand.spent ≡ true → strand.now.strand.charged ≡ strand.now.strand.budget }
-        ensures count { result ≡ true → slice_index self.now.counts.items strand.now.number ≡ strand.now.strand.charged + strand.now.strand.filled }
+        ensures place { result ≡ true → slice_get self.now.places.items strand.now.number ≡ Some None }
     {
         if !self.has_task_of(strand) || gave_up_early(strand) {
             return false;
         }
-        let n = strand.number() as usize;
-        self.places[n].is_none() && self.counts[n] == booked_of(strand)
+        self.places[strand.number() as usize].is_none()
     }
 
     /// Takes in a strand that has ended, where it may stand at its place.
@@ -87,6 +54,7 @@ impl<B: BatchName, L: Ledger> Board<B, L> {
         }
         let n = strand.number() as usize;
         self.places[n] = Some(strand);
+        self.empty -= 1;
         Ok(())
     }
 
@@ -94,12 +62,32 @@ impl<B: BatchName, L: Ledger> Board<B, L> {
     pub fn is_full(&self) -> bool
         ensures { result ≡ true → AreFilled self.now.places.items }
     {
+        self.empty == 0
+    }
+
+    /// Whether each strand that has ended claimed and filled a point as often as its count says.
+    pub fn has_counts(&self, counts: &[u64]) -> bool
+        ensures { result ≡ true → AreCounted self.now.places.items counts.now }
+    {
+        if counts.len() != self.places.len() {
+            return false;
+        }
         for i in 0..self.places.len() {
-            if self.places[i].is_none() {
+            if !has_count(&self.places[i], counts[i]) {
                 return false;
             }
         }
         true
+    }
+}
+
+// Whether the place is empty, or its strand has claimed and filled a point so often.
+fn has_count<B: BatchName>(place: &Option<Strand<B>>, count: u64) -> bool
+    ensures { result ≡ true → IfSome place.now (λ s. count ≡ s.strand.charged + s.strand.filled) }
+{
+    match place {
+        Some(strand) => booked_of(strand) == count,
+        None => true,
     }
 }
 
@@ -110,29 +98,9 @@ fn gave_up_early<B: BatchName>(strand: &Strand<B>) -> bool
     strand.is_spent() && strand.charged() != strand.task().budget
 }
 
-/// How often the strand has claimed and filled a point.
-pub fn booked_of<B: BatchName>(strand: &Strand<B>) -> u64
+// How often the strand has claimed and filled a point.
+fn booked_of<B: BatchName>(strand: &Strand<B>) -> u64
     ensures { result ≡ strand.now.strand.charged + strand.now.strand.filled }
 {
     strand.charged() as u64 + strand.filled() as u64
-}
-
-/// Books one claim or fill, however often the board has to be looked at.
-pub fn book<B: BatchName, L: Ledger, R: Wait>(
-    rt: &R,
-    board: &Mutex<Board<B, L>>,
-    part: &mut Share<L>,
-    number: u32,
-    charge: u64,
-)
-    requires { 0 < part.old.parts }
-    ensures parts { part.new.parts ≡ part.old.parts }
-    ensures amount { part.new.amount ≡ part.old.amount + 1 }
-{
-    for _ in rt.forever() {
-        if board.lock(rt).try_book(part, number, charge) {
-            return;
-        }
-    }
-    unreachable!()
 }

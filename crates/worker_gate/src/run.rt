@@ -15,30 +15,33 @@ use design::Design;
 use memo_shards::Shard;
 use ready_queue::{QueuePass, ReadyQueue};
 use std::alloc::Global;
-use std::marker::Brand;
-use std::sync::ledger::{Blank, Book, Ledger, Share};
 use std::sync::{Condvar, Mutex, Wait};
 use std::thread;
 use std::thread::Threads;
 
-// Puts each shard behind a lock, with one part of the ledger.
-fn locked<B: BatchName, L: Ledger>(
+// A count of 0 for each strand.
+fn no_counts(alloc: Global, strands: usize) -> Result<Vec<u64>, OutOfMemory>
+    ensures length { IfOk result (λ v. vec_len v ≡ strands) }
+    ensures zero { IfOk result (λ v. sum v.items ≡ 0) }
+{
+    Ok(vec![in alloc; 0; strands]?)
+}
+
+// Puts each shard behind a lock, with a count for each strand.
+fn locked<B: BatchName>(
     alloc: Global,
     shards: Vec<Shard<B>>,
-    all: &mut Share<L>,
-) -> Result<Vec<Mutex<Slot<B, L>>>, OutOfMemory>
-    requires parts { all.old.parts ≡ vec_len shards }
-    requires amount { all.old.amount ≡ 0 }
+    strands: usize,
+) -> Result<Vec<Mutex<Slot<B>>>, OutOfMemory>
     requires empty { All (λ m. m.shard.journal ≡ []) shards.items }
-    ensures count { IfOk result (λ v. vec_len v ≡ vec_len shards) }
-    ensures rest { IfOk result (λ _. (all.new.parts ≡ 0) × (all.new.amount ≡ 0)) }
+    ensures { IfOk result (λ v. vec_len v ≡ vec_len shards) }
 {
     let mut shards = shards;
     let mut slots = Vec::new(alloc);
     while !shards.is_empty() {
         let shard = shards.remove(0);
-        let part = all.split_off(1, 0);
-        let held = Some(Held { shard, part });
+        let counts = no_counts(alloc, strands)?;
+        let held = Some(Held { shard, counts });
         slots.push(Mutex::new(Slot { held }))?;
     }
     Ok(slots)
@@ -50,37 +53,26 @@ fn tasks_of<B: BatchName>(alloc: Global, strands: &[Strand<B>]) -> Result<Vec<Ta
     Ok(strands.iter().map(|s| s.task()).collect(alloc)?)
 }
 
-// A board with these tasks, on which nothing is counted and nothing has ended.
-fn empty_board<B: BatchName, L: Ledger>(
-    alloc: Global,
-    tasks: Vec<Task>,
-    book: Book<L>,
-) -> Result<Board<B, L>, OutOfMemory>
-    requires { book.total ≡ 0 }
+// A board with these tasks, on which nothing has ended.
+fn empty_board<B: BatchName>(alloc: Global, tasks: Vec<Task>) -> Result<Board<B>, OutOfMemory>
     ensures { IfOk result (λ b. b.tasks.items ≡ tasks.items) }
 {
-    let mut counts = Vec::new(alloc);
     let mut places = Vec::new(alloc);
     for _i in 0..tasks.len() {
-        counts.push(0)?;
         places.push(None)?;
     }
     Ok(Board {
+        empty: tasks.len(),
         tasks,
-        counts,
         places,
         no_memory: false,
         moves: 0,
-        book,
+        sleeping: 0,
     })
 }
 
 // Takes out the shard with this number, however often the lock has to be taken.
-fn taken<B: BatchName, L: Ledger, R: Wait>(
-    rt: &R,
-    lock: &Mutex<Slot<B, L>>,
-    number: u32,
-) -> Held<B, L>
+fn taken<B: BatchName, R: Wait>(rt: &R, lock: &Mutex<Slot<B>>, number: u32) -> Held<B>
     ensures { result.shard.number ≡ number }
 {
     for _ in rt.forever() {
@@ -91,36 +83,59 @@ fn taken<B: BatchName, L: Ledger, R: Wait>(
     unreachable!()
 }
 
-// Takes all shards out, and puts the parts of the ledger together.
-fn all_taken<B: BatchName, L: Ledger, R: Wait>(
+// Adds the counts of one shard to those of others, strand by strand. False where they aren't as many, or a sum is too great.
+fn add_counts(counts: &mut Vec<u64>, more: &[u64]) -> bool
+    ensures as_many { vec_len counts.new ≡ vec_len counts.old }
+    ensures sum { result ≡ true → sum counts.new.items ≡ sum counts.old.items + sum more.now }
+{
+    if more.len() != counts.len() {
+        return false;
+    }
+    for i in 0..more.len() {
+        let Some(count) = counts[i].checked_add(more[i]) else {
+            return false;
+        };
+        counts[i] = count;
+    }
+    true
+}
+
+// Takes all shards out, and adds their counts up. It waits for ever where these can't be added.
+fn all_taken<B: BatchName, R: Wait>(
     rt: &R,
     alloc: Global,
-    slots: &[Mutex<Slot<B, L>>],
-    all: &mut Share<L>,
-) -> Result<Vec<Shard<B>>, OutOfMemory>
-    requires none { (all.old.parts ≡ 0) × (all.old.amount ≡ 0) }
+    slots: &[Mutex<Slot<B>>],
+    strands: usize,
+) -> Result<(Vec<Shard<B>>, Vec<u64>), OutOfMemory>
     requires few { length slots.now < 2 ^ 32 }
-    ensures count { IfOk result (λ v. vec_len v ≡ length slots.now) }
-    ensures numbers { IfOk result (λ v. AreInOrder v.items) }
-    ensures parts { IfOk result (λ _. all.new.parts ≡ length slots.now) }
-    ensures amount { IfOk result (λ v. all.new.amount ≡ sum_by booked_in v.items) }
+    ensures count { IfOk result (λ r. vec_len r.0 ≡ length slots.now) }
+    ensures numbers { IfOk result (λ r. AreInOrder r.0.items) }
+    ensures counts { IfOk result (λ r. vec_len r.1 ≡ strands) }
+    ensures amount { IfOk result (λ r. sum r.1.items ≡ sum_by booked_in r.0.items) }
 {
     let mut shards = Vec::new(alloc);
+    let mut counts = no_counts(alloc, strands)?;
     for i in 0..slots.len() {
-        let Held { shard, part } = taken(rt, &slots[i], i as u32);
-        all.merge(part);
+        let Held {
+            shard,
+            counts: more,
+        } = taken(rt, &slots[i], i as u32);
+        if !add_counts(&mut counts, more.as_slice()) {
+            for _ in rt.forever() {}
+            unreachable!()
+        }
         shards.push(shard)?;
     }
-    Ok(shards)
+    Ok((shards, counts))
 }
 
 // Takes the board out; none where memory ran out. It waits for ever where the board isn't what the workers leave.
-fn board_taken<B: BatchName, L: Ledger, R: Wait>(
+fn board_taken<B: BatchName, R: Wait>(
     rt: &R,
-    board: Mutex<Board<B, L>>,
+    board: Mutex<Board<B>>,
     tasks: &[Task],
     left: bool,
-) -> Option<Board<B, L>>
+) -> Option<Board<B>>
     ensures tasks { IfSome result (λ b. b.tasks.items ≡ tasks.now) }
     ensures full { IfSome result (λ b. left ≡ false → AreFilled b.places.items) }
 {
@@ -131,6 +146,24 @@ fn board_taken<B: BatchName, L: Ledger, R: Wait>(
     let is_whole = left || board.is_full();
     if board.tasks.as_slice() == tasks && is_whole {
         return Some(board);
+    }
+    for _ in rt.forever() {}
+    unreachable!()
+}
+
+// The places of the board, compared with the counts. It waits for ever where they differ.
+fn compared<B: BatchName, R: Wait>(
+    rt: &R,
+    board: Board<B>,
+    counts: &[u64],
+) -> Vec<Option<Strand<B>>>
+    ensures ends { AreEnds result.items board.tasks.items counts.now }
+    ensures places { result ≡ board.places }
+    ensures count { length result.items ≡ length board.tasks.items }
+{
+    if board.has_counts(counts) {
+        let Board { places, .. } = board;
+        return places;
     }
     for _ in rt.forever() {}
     unreachable!()
@@ -162,10 +195,10 @@ fn jobs_of<B: BatchName>(
 }
 
 // Runs the workers. True where one was told to leave.
-fn all_run<B: BatchName + Send + Sync, L: Ledger + Send + Sync, G: Gate, R: Threads + Wait + Sync>(
+fn all_run<B: BatchName + Send + Sync, G: Gate, R: Threads + Wait + Sync>(
     rt: &R,
     design: &Design,
-    shared: &Shared<B, L>,
+    shared: &Shared<B>,
     gate: &G,
     jobs: Vec<Job<B>>,
 ) -> Result<bool, OutOfMemory>
@@ -182,90 +215,6 @@ fn all_run<B: BatchName + Send + Sync, L: Ledger + Send + Sync, G: Gate, R: Thre
         { shared.work(rt, design, gate, job.worker, job.pass) },
     )?;
     Ok(left.iter().any(|x| *x))
-}
-
-// What the board leaves, with the counts compared with the ledger.
-fn audited<B: BatchName, L: Ledger>(
-    board: Board<B, L>,
-    all: Share<L>,
-) -> (Vec<u64>, Vec<Option<Strand<B>>>)
-    requires { all.parts ≡ L.parts }
-    ensures sum { sum result.0.items ≡ all.amount }
-    ensures ends { AreEnds result.1.items board.tasks.items result.0.items }
-    ensures places { result.1 ≡ board.places }
-    ensures count { length result.1.items ≡ length board.tasks.items }
-    ensures counts { length result.0.items ≡ length board.tasks.items }
-{
-    let mut all = all;
-    let Board {
-        counts,
-        places,
-        mut book,
-        ..
-    } = board;
-    book.audit(&mut all);
-    (counts, places)
-}
-
-fn run_in<B: BatchName + Send + Sync, L: Ledger + Send + Sync, G: Gate, R: Threads + Wait + Sync>(
-    rt: &R,
-    alloc: Global,
-    blank: Blank,
-    design: &Design,
-    shards: Vec<Shard<B>>,
-    strands: Vec<Strand<B>>,
-    workers: u32,
-    gate: &G,
-) -> Result<Ran<B>, OutOfMemory>
-    requires name { blank.name ≡ L.name }
-    requires parts { blank.parts ≡ L.parts }
-    requires one_each { blank.parts ≡ vec_len shards }
-    requires design { design.now.circuit ≡ B.batch.circuit }
-    requires named { vec_len shards ≡ B.batch.shards }
-    requires shards { (0 < vec_len shards) × (vec_len shards ≤ 64) }
-    requires empty { All (λ m. m.shard.journal ≡ []) shards.items }
-    requires strands { vec_len strands ≤ 256 }
-    requires workers { (0 < workers) × (workers ≤ 64) }
-    ensures counted { IfOk result (λ r. sum r.counts ≡ sum_by booked_in r.shards) }
-    ensures ended { IfOk result (λ r. AreEnds r.strands (map task_of strands.items) r.counts) }
-    ensures filled { G.is_open gate.now ≡ true → IfOk result (λ r. AreFilled r.strands) }
-    ensures places { IfOk result (λ r. length r.strands ≡ vec_len strands) }
-    ensures counts { IfOk result (λ r. length r.counts ≡ vec_len strands) }
-    ensures shards { IfOk result (λ r. length r.shards ≡ vec_len shards) }
-    ensures order { IfOk result (λ r. AreInOrder r.shards) }
-{
-    let tasks = tasks_of(alloc, strands.as_slice())?;
-    let kept = tasks_of(alloc, strands.as_slice())?;
-    let (book, mut all) = blank.open::<L>();
-    let count = shards.len() as u32;
-    let slots = locked(alloc, shards, &mut all)?;
-    let capacity = (strands.len() as u32).max(1);
-    let (queue, mut passes) = ReadyQueue::new(alloc, capacity, workers + 1)?;
-    let Some(mut mine) = passes.pop() else {
-        unreachable!()
-    };
-    let board = Mutex::new(empty_board(alloc, kept, book)?);
-    let shared = Shared {
-        slots,
-        board,
-        moved: Condvar::new(),
-        queue,
-        count,
-    };
-    shared.push_all(rt, &mut mine, strands);
-    let jobs = jobs_of(alloc, &shared.queue, passes)?;
-    let left = all_run(rt, design, &shared, gate, jobs)?;
-    let Shared { slots, board, .. } = shared;
-    let Some(board) = board_taken(rt, board, tasks.as_slice(), left) else {
-        return Err(OutOfMemory);
-    };
-    let shards = all_taken(rt, alloc, slots.as_slice(), &mut all)?;
-    let (counts, places) = audited(board, all);
-    Ok(Ran {
-        shards: ShardList::new(shards),
-        strands: EndedList::new(places),
-        counts: CountList::new(counts),
-    })
 }
 
 /// Serves the strands by so many workers at once, until each has ended, a worker is told to leave by the gate, or memory runs out.
@@ -294,6 +243,35 @@ pub fn run_workers<B: BatchName + Send + Sync, G: Gate, R: Threads + Wait + Sync
     ensures shards { IfOk result (λ r. length r.shards ≡ vec_len shards) }
     ensures order { IfOk result (λ r. AreInOrder r.shards) }
 {
-    let blank = Blank::new(shards.len() as u64);
-    run_in::<B, Brand, G, R>(rt, alloc, blank, design, shards, strands, workers, gate)
+    let tasks = tasks_of(alloc, strands.as_slice())?;
+    let kept = tasks_of(alloc, strands.as_slice())?;
+    let count = shards.len() as u32;
+    let slots = locked(alloc, shards, strands.len())?;
+    let capacity = (strands.len() as u32).max(1);
+    let (queue, mut passes) = ReadyQueue::new(alloc, capacity, workers + 1)?;
+    let Some(mut mine) = passes.pop() else {
+        unreachable!()
+    };
+    let board = Mutex::new(empty_board(alloc, kept)?);
+    let shared = Shared {
+        slots,
+        board,
+        moved: Condvar::new(),
+        queue,
+        count,
+    };
+    shared.push_all(rt, &mut mine, strands);
+    let jobs = jobs_of(alloc, &shared.queue, passes)?;
+    let left = all_run(rt, design, &shared, gate, jobs)?;
+    let Shared { slots, board, .. } = shared;
+    let Some(board) = board_taken(rt, board, tasks.as_slice(), left) else {
+        return Err(OutOfMemory);
+    };
+    let (shards, counts) = all_taken(rt, alloc, slots.as_slice(), tasks.len())?;
+    let places = compared(rt, board, counts.as_slice());
+    Ok(Ran {
+        shards: ShardList::new(shards),
+        strands: EndedList::new(places),
+        counts: CountList::new(counts),
+    })
 }

@@ -14,14 +14,13 @@ use design::Design;
 use memo_shards::Asked;
 use ready_queue::{QueuePass, ReadyQueue};
 use smallvec::SmallVec;
-use std::sync::ledger::Ledger;
 use std::sync::{Condvar, Mutex, Wait};
 
 /// What the workers share: each shard behind a lock of its own, the board, and the queue of strands that are ready.
 #[derive(Drop)]
-pub struct Shared<B: BatchName, L: Ledger> {
-    pub slots: Vec<Mutex<Slot<B, L>>>,
-    pub board: Mutex<Board<B, L>>,
+pub struct Shared<B: BatchName> {
+    pub slots: Vec<Mutex<Slot<B>>>,
+    pub board: Mutex<Board<B>>,
     pub moved: Condvar,
     pub queue: ReadyQueue<Strand<B>>,
     pub count: u32,
@@ -51,15 +50,22 @@ fn after_ask<B: BatchName>(asked: Result<Asked<B>, (Strand<B>, OutOfMemory)>) ->
     }
 }
 
-impl<B: BatchName, L: Ledger> Shared<B, L> {
-    // Tells of a push or an end.
+impl<B: BatchName> Shared<B> {
+    // Tells of a push, and wakes a worker for it where one sleeps.
+    //
+    // A worker sleeps only while no move was made since it looked, there is memory and a place is empty: it tests this under the
+    // board's lock, under which each of these changes and wakes. So a wake for a push is no other sleeper's and none goes amiss.
+    // It wakes one, since one strand is ready; where all that sleep are woken already, nobody sleeps. No strand is left in the queue
+    // while all sleep: who pushes it is awake, and takes from the queue once more before it sleeps, or has woken another if it leaves.
     fn tell<R: Wait>(&self, rt: &R) {
         let mut board = self.board.lock(rt);
         board.moves = board.moves.wrapping_add(1);
-        self.moved.notify_all();
+        if board.sleeping > 0 {
+            self.moved.notify_one();
+        }
     }
 
-    // Tells of want of memory.
+    // Tells all of want of memory.
     fn give_up<R: Wait>(&self, rt: &R) {
         let mut board = self.board.lock(rt);
         board.no_memory = true;
@@ -76,11 +82,14 @@ impl<B: BatchName, L: Ledger> Shared<B, L> {
         }
     }
 
-    // Waits for a push or an end. True where there is nothing more to do.
+    // Sleeps until a strand was pushed since the look, each has ended, or memory ran out. True where there is nothing more to do.
     fn wait_past<R: Wait>(&self, rt: &R, seen: u64) -> bool {
-        let board = self.moved.wait_while(rt, self.board.lock(rt), |b| {
+        let mut board = self.board.lock(rt);
+        board.sleeping = board.sleeping.wrapping_add(1);
+        let mut board = self.moved.wait_while(rt, board, |b| {
             b.moves == seen && !b.no_memory && !b.is_full()
         });
+        board.sleeping = board.sleeping.wrapping_sub(1);
         board.no_memory || board.is_full()
     }
 
@@ -132,16 +141,18 @@ impl<B: BatchName, L: Ledger> Shared<B, L> {
         }
     }
 
-    // Puts a strand that has ended on the board, however often the board has to be looked at.
+    // Puts a strand that has ended on the board, however often the board has to be looked at. The last one wakes all.
     fn put<R: Wait>(&self, rt: &R, strand: Strand<B>)
         requires { next strand.strand ≡ Done }
     {
         let mut strand = strand;
         for _ in rt.forever() {
-            let put = self.board.lock(rt).try_put(strand);
-            match put {
+            let mut board = self.board.lock(rt);
+            match board.try_put(strand) {
                 Ok(()) => {
-                    self.tell(rt);
+                    if board.is_full() {
+                        self.moved.notify_all();
+                    }
                     return;
                 }
                 Err(back) => strand = back,
@@ -172,11 +183,11 @@ impl<B: BatchName, L: Ledger> Shared<B, L> {
             let Some(held) = &mut slot.held else {
                 continue;
             };
-            if held.shard.number() != number {
+            if held.shard.number() != number || !held.has_room(strand.number()) {
                 continue;
             }
             gate.within(worker, number);
-            return after_ask(held.ask(rt, &self.board, strand, design, p));
+            return after_ask(held.ask(strand, design, p));
         }
         unreachable!()
     }
@@ -207,8 +218,11 @@ impl<B: BatchName, L: Ledger> Shared<B, L> {
             if held.shard.number() != number || !held.shard.holds(p, q) {
                 continue;
             }
+            if !held.has_room(strand.number()) {
+                continue;
+            }
             gate.within(worker, number);
-            return held.fill(rt, &self.board, strand, design, p).ok();
+            return held.fill(strand, design, p).ok();
         }
         unreachable!()
     }

@@ -2,16 +2,16 @@ use Rattle.std.proofs.Common.{◌≡◌, ◌∙◌, ap, subst, sym, ℕ, List, m
 use Rattle.demand_points.specs.declared.strand.Task.{Task}
 use Rattle.demand_points.specs.Demands.{Demand}
 use Rattle.worker_gate.specs.Ends.{task_of, AreEnds, AreInOrder}
-use Rattle.worker_gate.proofs.run.run_in.Goals as goal
+use Rattle.worker_gate.proofs.run.run_workers.Goals as goal
 
 pub returns-clause-ended : goal.returns-clause-ended
 returns-clause-ended g c =
     let tasks : c.in-Some-board_taken.board.tasks.items ≡ map task_of c.args.strands.items =
     c.in-Some-board_taken.ensures.tasks ∙ c.as_slice-3.ensures.value ∙ c.in_ok-tasks.ensures ∙ ap (map task_of) c.as_slice.ensures.value in
     let P : List (Option Demand) → Type 0 = λ places. AreEnds places (map task_of c.args.strands.items) c.new-5.result in
-    let Q : List ℕ → Type 0 = λ counts. AreEnds c.audited-counts.result.1.items (map task_of c.args.strands.items) counts in
-    let R : List Task → Type 0 = λ ts. AreEnds c.audited-counts.result.1.items ts c.audited-counts.result.0.items in
-    subst P (sym c.new-4.ensures) (subst Q (sym c.new-5.ensures) (subst R tasks c.audited-counts.ensures.ends))
+    let Q : List ℕ → Type 0 = λ counts. AreEnds c.compared-places.result.items (map task_of c.args.strands.items) counts in
+    let R : List Task → Type 0 = λ ts. AreEnds c.compared-places.result.items ts c.as_slice-5.result.now in
+    subst P (sym c.new-4.ensures) (subst Q (c.as_slice-5.ensures.value ∙ sym c.new-5.ensures) (subst R tasks c.compared-places.ensures.ends))
 
 pub returns-clause-order : goal.returns-clause-order
 returns-clause-order g c = subst AreInOrder (sym c.new-3.ensures) c.in_ok-shards.ensures.numbers

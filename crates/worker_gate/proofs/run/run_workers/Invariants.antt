@@ -1,4 +1,0 @@
-use Rattle.worker_gate.proofs.run.run_workers.Given as goal
-
-abbrev pub ghosts-run_in : goal.ghosts-run_in
-ghosts-run_in g a = record { name = a.blank.name; parts = a.blank.parts }
