@@ -1,0 +1,5 @@
+pub mod Explained
+pub mod Firsts
+pub mod Clashes
+pub mod Ends
+pub mod Judging

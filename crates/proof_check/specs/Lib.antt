@@ -1,0 +1,6 @@
+pub mod Given
+pub mod Texts
+pub mod Answers
+pub mod Refused
+pub mod Cause
+pub mod inner

@@ -1,0 +1,3 @@
+pub mod Stops
+pub mod Judged
+pub mod Statuses
