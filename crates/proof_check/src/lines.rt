@@ -1,6 +1,6 @@
 //! The lines that are written.
 
-ghost use Rattle.std.specs.Prelude.{◌≡◌, ◌++◌, ◌∷◌, [], IfOk, decimal};
+ghost use Rattle.std.specs.Prelude.{◌≡◌, ◌++◌, IfOk, codes, decimal};
 ghost use Rattle.proof_check.specs.Texts as texts;
 
 use backsim_io::OutOfMemory;
@@ -47,7 +47,7 @@ pub fn bad_line(alloc: Global, line: u32) -> Result<Vec<u8>, OutOfMemory>
 }
 
 fn numbered(alloc: Global, words: &[u8], number: u32) -> Result<Vec<u8>, OutOfMemory>
-    ensures { IfOk result (λ text. text.items ≡ words.now ++ decimal number ++ 10 ∷ []) }
+    ensures { IfOk result (λ text. text.items ≡ words.now ++ (decimal number ++ codes "\n")) }
 {
     let mut buffer = Buffer::new();
     let mut text = Vec::from_slice(alloc, words)?;

@@ -120,27 +120,27 @@ returns-in_err-netlist-clause-second g c first second held_first held_second =
 
 pub returns-in_err-read_text-2-clause-first : goal.returns-in_err-read_text-2-clause-first
 returns-in_err-read_text-2-clause-first g c first held_first =
-    passes _ _ _ _ (netlist_read first _ _ _ (c.in_ok-read_text.ensures.text first held_first) c.deref.ensures.value c.in_ok-netlist.ensures)
+    passes 1 _ _ _ (netlist_read first _ _ _ (c.in_ok-read_text.ensures.text first held_first) c.deref.ensures.value c.in_ok-netlist.ensures)
 
 pub returns-in_err-timing-clause-first : goal.returns-in_err-timing-clause-first
 returns-in_err-timing-clause-first g c first held_first =
-    passes _ _ _ _ (netlist_read first _ _ _ (c.in_ok-read_text.ensures.text first held_first) c.deref.ensures.value c.in_ok-netlist.ensures)
+    passes 1 _ _ _ (netlist_read first _ _ _ (c.in_ok-read_text.ensures.text first held_first) c.deref.ensures.value c.in_ok-netlist.ensures)
 
 pub returns-in_err-read_text-3-clause-first : goal.returns-in_err-read_text-3-clause-first
 returns-in_err-read_text-3-clause-first g c first held_first =
-    passes _ _ _ _ (netlist_read first _ _ _ (c.in_ok-read_text.ensures.text first held_first) c.deref.ensures.value c.in_ok-netlist.ensures)
+    passes 1 _ _ _ (netlist_read first _ _ _ (c.in_ok-read_text.ensures.text first held_first) c.deref.ensures.value c.in_ok-netlist.ensures)
 
 pub returns-in_err-stimulus-clause-first : goal.returns-in_err-stimulus-clause-first
 returns-in_err-stimulus-clause-first g c first held_first =
-    passes _ _ _ _ (netlist_read first _ _ _ (c.in_ok-read_text.ensures.text first held_first) c.deref.ensures.value c.in_ok-netlist.ensures)
+    passes 1 _ _ _ (netlist_read first _ _ _ (c.in_ok-read_text.ensures.text first held_first) c.deref.ensures.value c.in_ok-netlist.ensures)
 
 pub returns-in_err-join-clause-first : goal.returns-in_err-join-clause-first
 returns-in_err-join-clause-first g c first held_first =
-    passes _ _ _ _ (netlist_read first _ _ _ (c.in_ok-read_text.ensures.text first held_first) c.deref.ensures.value c.in_ok-netlist.ensures)
+    passes 1 _ _ _ (netlist_read first _ _ _ (c.in_ok-read_text.ensures.text first held_first) c.deref.ensures.value c.in_ok-netlist.ensures)
 
 pub returns-clause-first : goal.returns-clause-first
 returns-clause-first g c first held_first =
-    passes _ (Ok c.in_ok-join.field-0) _ _ (netlist_read first _ _ _ (c.in_ok-read_text.ensures.text first held_first) c.deref.ensures.value c.in_ok-netlist.ensures)
+    passes 1 (Ok c.in_ok-join.field-0) _ _ (netlist_read first _ _ _ (c.in_ok-read_text.ensures.text first held_first) c.deref.ensures.value c.in_ok-netlist.ensures)
 
 pub returns-in_err-read_text-2-clause-second : goal.returns-in_err-read_text-2-clause-second
 returns-in_err-read_text-2-clause-second g c first second held_first held_second =
@@ -154,19 +154,19 @@ returns-in_err-timing-clause-second g c first second held_first held_second =
 
 pub returns-in_err-read_text-3-clause-second : goal.returns-in_err-read_text-3-clause-second
 returns-in_err-read_text-3-clause-second g c first second held_first held_second =
-    passes _ _ _ _ (behind_netlist first second _ (netlist_read first _ _ _ (c.in_ok-read_text.ensures.text first held_first) c.deref.ensures.value c.in_ok-netlist.ensures) ∙ (timing_read second _ _ _ (c.in_ok-read_text-2.ensures.text second (ap (λ (h : List ℕ → Option (List ℕ)). h c.args.timing.now) c.in_ok-read_text.ensures.held ∙ held_second)) c.deref-2.ensures.value c.in_ok-timing.ensures))
+    passes 2 _ _ _ (behind_netlist first second _ (netlist_read first _ _ _ (c.in_ok-read_text.ensures.text first held_first) c.deref.ensures.value c.in_ok-netlist.ensures) ∙ (timing_read second _ _ _ (c.in_ok-read_text-2.ensures.text second (ap (λ (h : List ℕ → Option (List ℕ)). h c.args.timing.now) c.in_ok-read_text.ensures.held ∙ held_second)) c.deref-2.ensures.value c.in_ok-timing.ensures))
 
 pub returns-in_err-stimulus-clause-second : goal.returns-in_err-stimulus-clause-second
 returns-in_err-stimulus-clause-second g c first second held_first held_second =
-    passes _ _ _ _ (behind_netlist first second _ (netlist_read first _ _ _ (c.in_ok-read_text.ensures.text first held_first) c.deref.ensures.value c.in_ok-netlist.ensures) ∙ (timing_read second _ _ _ (c.in_ok-read_text-2.ensures.text second (ap (λ (h : List ℕ → Option (List ℕ)). h c.args.timing.now) c.in_ok-read_text.ensures.held ∙ held_second)) c.deref-2.ensures.value c.in_ok-timing.ensures))
+    passes 2 _ _ _ (behind_netlist first second _ (netlist_read first _ _ _ (c.in_ok-read_text.ensures.text first held_first) c.deref.ensures.value c.in_ok-netlist.ensures) ∙ (timing_read second _ _ _ (c.in_ok-read_text-2.ensures.text second (ap (λ (h : List ℕ → Option (List ℕ)). h c.args.timing.now) c.in_ok-read_text.ensures.held ∙ held_second)) c.deref-2.ensures.value c.in_ok-timing.ensures))
 
 pub returns-in_err-join-clause-second : goal.returns-in_err-join-clause-second
 returns-in_err-join-clause-second g c first second held_first held_second =
-    passes _ _ _ _ (behind_netlist first second _ (netlist_read first _ _ _ (c.in_ok-read_text.ensures.text first held_first) c.deref.ensures.value c.in_ok-netlist.ensures) ∙ (timing_read second _ _ _ (c.in_ok-read_text-2.ensures.text second (ap (λ (h : List ℕ → Option (List ℕ)). h c.args.timing.now) c.in_ok-read_text.ensures.held ∙ held_second)) c.deref-2.ensures.value c.in_ok-timing.ensures))
+    passes 2 _ _ _ (behind_netlist first second _ (netlist_read first _ _ _ (c.in_ok-read_text.ensures.text first held_first) c.deref.ensures.value c.in_ok-netlist.ensures) ∙ (timing_read second _ _ _ (c.in_ok-read_text-2.ensures.text second (ap (λ (h : List ℕ → Option (List ℕ)). h c.args.timing.now) c.in_ok-read_text.ensures.held ∙ held_second)) c.deref-2.ensures.value c.in_ok-timing.ensures))
 
 pub returns-clause-second : goal.returns-clause-second
 returns-clause-second g c first second held_first held_second =
-    passes _ (Ok c.in_ok-join.field-0) _ _ (behind_netlist first second _ (netlist_read first _ _ _ (c.in_ok-read_text.ensures.text first held_first) c.deref.ensures.value c.in_ok-netlist.ensures) ∙ (timing_read second _ _ _ (c.in_ok-read_text-2.ensures.text second (ap (λ (h : List ℕ → Option (List ℕ)). h c.args.timing.now) c.in_ok-read_text.ensures.held ∙ held_second)) c.deref-2.ensures.value c.in_ok-timing.ensures))
+    passes 2 (Ok c.in_ok-join.field-0) _ _ (behind_netlist first second _ (netlist_read first _ _ _ (c.in_ok-read_text.ensures.text first held_first) c.deref.ensures.value c.in_ok-netlist.ensures) ∙ (timing_read second _ _ _ (c.in_ok-read_text-2.ensures.text second (ap (λ (h : List ℕ → Option (List ℕ)). h c.args.timing.now) c.in_ok-read_text.ensures.held ∙ held_second)) c.deref-2.ensures.value c.in_ok-timing.ensures))
 
 -- all three were read
 pub returns-clause-cause : goal.returns-clause-cause
