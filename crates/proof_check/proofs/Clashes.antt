@@ -16,13 +16,13 @@ yes-verdict d text line is = record { yes = (is.proof, is.spelled, is.justified,
 
 -- a justified proof is no other text
 pub yes-other : VerdictsAreFixed → (d : Joined) (text line line' : List ℕ) → IsYes d text line → IsOther d text line' → ⊥
-yes-other fixed d text line line' is (inl no) =
-    let same : Yes is.signal is.proof.time is.proof.value ≡ No no.number =
-      fixed d text _ (No no.number) (yes-verdict d text line is) (record { yes = tt; no = (no.proof, no.spelled, no.unjustified); bad = tt }) in
+yes-other fixed d text line line' is (inl other) =
+    let same : Yes is.signal is.proof.time is.proof.value ≡ No other.number =
+      fixed d text _ (No other.number) (yes-verdict d text line is) (record { yes = tt; no = (other.proof, other.spelled, other.unjustified); bad = tt }) in
     cc
-yes-other fixed d text line line' is (inr bad) =
-    let same : Yes is.signal is.proof.time is.proof.value ≡ Bad bad.number =
-      fixed d text _ (Bad bad.number) (yes-verdict d text line is) (record { yes = tt; no = tt; bad = bad.broken }) in
+yes-other fixed d text line line' is (inr other) =
+    let same : Yes is.signal is.proof.time is.proof.value ≡ Bad other.number =
+      fixed d text _ (Bad other.number) (yes-verdict d text line is) (record { yes = tt; no = tt; bad = other.broken }) in
     cc
 
 -- what is judged is not refused

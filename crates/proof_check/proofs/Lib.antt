@@ -2,4 +2,5 @@ pub mod Explained
 pub mod Firsts
 pub mod Clashes
 pub mod Ends
-pub mod Judging
+pub mod Verdicts
+pub mod Answered

@@ -25,19 +25,28 @@ fn verdict_of(alloc: Global, design: &Design, text: &[u8]) -> Result<Verdict, Ou
     requires { length text.now ≤ 268435456 }
     ensures { IfOk result (λ verdict. Gives design.now text.now verdict.status verdict.line.items) }
 {
-    let (status, line) = match check_proof(alloc, design, text)? {
+    match check_proof(alloc, design, text)? {
         Checked::Yes {
             signal,
             time,
             value,
         } => {
             let name = design.netlist().name_of(signal);
-            (CheckStatus::Yes, yes_line(alloc, name, time, value)?)
+            let line = yes_line(alloc, name, time, value)?;
+            Ok(Verdict {
+                status: CheckStatus::Yes,
+                line,
+            })
         }
-        Checked::No { line } => (CheckStatus::No, no_line(alloc, line)?),
-        Checked::Bad { line } => (CheckStatus::No, bad_line(alloc, line)?),
-    };
-    Ok(Verdict { status, line })
+        Checked::No { line } => Ok(Verdict {
+            status: CheckStatus::No,
+            line: no_line(alloc, line)?,
+        }),
+        Checked::Bad { line } => Ok(Verdict {
+            status: CheckStatus::No,
+            line: bad_line(alloc, line)?,
+        }),
+    }
 }
 
 /// Judges a proof, and writes the line of its verdict.

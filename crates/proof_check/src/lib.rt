@@ -1,7 +1,7 @@
 //! Checking a proof.
 #![tactic(auto)]
 
-mod check;
+mod checking;
 mod judging;
 mod lines;
 mod reading;
@@ -9,5 +9,5 @@ mod status;
 #[cfg(test)]
 mod tests;
 
-pub use check::check;
+pub use checking::check;
 pub use status::CheckStatus;

@@ -1,6 +1,6 @@
 //! Reading the four files.
 
-ghost use Rattle.std.specs.Prelude.{◌≡◌, ◌≤◌, ◌<◌, ◌+◌, ℕ, List, Some, Ok, Err, IfErr, IfOk, IsErrOf, length, vec_len};
+ghost use Rattle.std.specs.Prelude.{◌≡◌, ◌≤◌, ◌<◌, ◌+◌, ℕ, List, Some, Ok, Err, IfErr, IfOk, length};
 ghost use Rattle.backsim_io.specs.Held.{SameMade};
 ghost use Rattle.circuit_files.specs.Causes.{counts_of};
 ghost use Rattle.circuit_files.specs.Files.{netlist_of, first_two, design_of_files};
@@ -73,7 +73,7 @@ pub fn read_all<F: Files>(
     ensures design { (given : Given) → AreGiven (F.held files.old) (names_of netlist.now timing.now stimulus.now proof.now) given
         → IfOk result (λ read. design_of_files given.netlist given.timing given.stimulus ≡ Ok read.0) }
     ensures text { (bytes : List ℕ) → F.held files.old proof.now ≡ Some bytes → IfOk result (λ read. read.1.items ≡ bytes) }
-    ensures short { IfOk result (λ read. vec_len read.1 ≤ 268435456) }
+    ensures short { IfOk result (λ read. length read.1.items ≤ 268435456) }
     ensures refused { (given : Given) (bytes : List ℕ) → AreGiven (F.held files.old) (names_of netlist.now timing.now stimulus.now proof.now) given
         → F.held files.old proof.now ≡ Some bytes → IfErr result (RefusesRight given bytes) }
     ensures first { (first : List ℕ) (refusal : FileRefusal) → F.held files.old netlist.now ≡ Some first → netlist_of first ≡ Err refusal
@@ -102,7 +102,7 @@ pub fn read_all<F: Files>(
 fn read_proof<F: Files>(alloc: Global, proof: &str, files: &mut F) -> Result<Vec<u8>, Stop>
     requires { F.started files.old ≡ 3 }
     ensures text { (bytes : List ℕ) → F.held files.old proof.now ≡ Some bytes → IfOk result (λ text. text.items ≡ bytes) }
-    ensures short { IfOk result (λ text. vec_len text ≤ 268435456) }
+    ensures short { IfOk result (λ text. length text.items ≤ 268435456) }
     ensures refused { (given : Given) (bytes : List ℕ) (design : Joined) → F.held files.old proof.now ≡ Some bytes
         → design_of_files given.netlist given.timing given.stimulus ≡ Ok design → IfErr result (RefusesRight given bytes) }
     ensures long { (bytes : List ℕ) → F.held files.old proof.now ≡ Some bytes → 268435456 < length bytes → RefusedFirst 4 too_long (F.started files.new) result }
