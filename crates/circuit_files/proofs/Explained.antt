@@ -1,9 +1,8 @@
 -- What explains a stop still does where no fault came before.
-use Rattle.std.proofs.Common.{◌≡◌, ℕ, ◌+◌, ap, subst, ◌∙◌}
+use Rattle.std.proofs.Common.{ℕ, subst, ◌∙◌}
 use Rattle.backsim_io.specs.Counts.{Rose}
 use Rattle.circuit_files.specs.Causes.{Counts, Calm, ExplainsStop}
 use Rattle.circuit_files.specs.Stops.{before, IsQuiet}
-use Rattle.circuit_files.specs.declared.refusal.CircuitFile.{CircuitFile}
 use Rattle.circuit_files.specs.declared.stop.FilesStop.{FilesStop}
 use Rattle.circuit_files.specs.declared.stop.FilesStop.TheVariants.{Refused, NotOpened, Unread, OutOfMemory}
 

@@ -52,7 +52,10 @@ pub fn read_design<F: Files>(
         alloc,
         &read_text(alloc, files, netlist, CircuitFile::Netlist)?,
     )?;
-    let timing = read_timing(alloc, &read_text(alloc, files, timing, CircuitFile::Timing)?)?;
+    let timing = read_timing(
+        alloc,
+        &read_text(alloc, files, timing, CircuitFile::Timing)?,
+    )?;
     let stimulus = read_stimulus(
         alloc,
         &read_text(alloc, files, stimulus, CircuitFile::Stimulus)?,

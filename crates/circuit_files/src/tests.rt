@@ -7,7 +7,9 @@ use std::test::Fail;
 type Files<'a> = [(&'a str, Option<&'a str>); 3];
 
 const NETLIST: &str = "INPUT(a)\nOUTPUT(y)\ny = NOT(a)\n";
+
 const TIMING: &str = "default 3\n";
+
 const STIMULUS: &str = "horizon 10\nset a 0 0\nset a 5 1\n";
 
 fn mem_files(alloc: Global, given: &Files<'_>, failing: &[u64]) -> Result<MemFiles, Fail> {
@@ -68,7 +70,10 @@ fn refusals_are_told(rt: HostRuntime) -> Result<(), Fail> {
         assert_eq!(rt; refusal.text(rt.alloc())?.as_str(), text);
     }
     let long = FileRefusal::TooLong(CircuitFile::Stimulus);
-    assert_eq!(rt; long.text(rt.alloc())?.as_str(), "refused stimulus too long\n");
+    assert_eq!(rt;
+        long.text(rt.alloc())?.as_str(),
+        "refused stimulus too long\n"
+    );
     Ok(())
 }
 

@@ -1,32 +1,23 @@
 -- How a call ends that judged the proof.
-use Rattle.std.proofs.Common.{◌≡◌, ◌≤◌, ◌<◌, ◌⊎◌, inl, inr, ℕ, List, length, Result, Ok, refl, sym, subst, ◌∙◌, arith}
-use Rattle.backsim_io.specs.Counts.{Grows, GrowsByPrefix, Stays}
+use Rattle.std.proofs.Common.{◌≡◌, ◌≤◌, ◌⊎◌, inl, inr, ℕ, List, length, Ok, refl, subst}
+use Rattle.backsim_io.specs.Counts.{GrowsByPrefix}
 use Rattle.design.specs.Joined.{Joined}
 use Rattle.circuit_files.specs.Files.{design_of_files}
 use Rattle.why_proofs.specs.Laws.{VerdictsAreFixed}
 use Rattle.proof_check.specs.Given.{Given}
-use Rattle.proof_check.specs.Answers.{IsYes, IsTrue, OfDesign, IsProved, IsUnproved, IsTrueOf, Wrote, WrotePart, IsCut, EndsAs, WritesNothing}
+use Rattle.proof_check.specs.Answers.{IsYes, IsProved, IsUnproved, WrotePart, EndsAs}
 use Rattle.proof_check.specs.Refused.{IsAnswer}
 use Rattle.proof_check.specs.inner.Judged.{IsOther, Gives, Judged}
 use Rattle.proof_check.specs.declared.status.CheckStatus.{CheckStatus}
-use Rattle.proof_check.specs.declared.status.CheckStatus.TheVariants.{Yes, Words, Refused, ReadFault, WriteFault, FileFault, OutOfMemory, No}
+use Rattle.proof_check.specs.declared.status.CheckStatus.TheVariants.{Yes, WriteFault, OutOfMemory, No}
 use Rattle.proof_check.proofs.Firsts.{same-design}
 use Rattle.proof_check.proofs.Clashes.{yes-other}
 
--- the line that was found is written
-pub gives-judged : (d : Joined) (text line : List ℕ) (w w' : List ℕ → Type 0) (status : CheckStatus) → Gives d text status line → Grows w w' line → Judged d text w w' status
-gives-judged d text line w w' Yes gives grows = record { line = line; is = gives.0; written = grows }
-gives-judged d text line w w' No gives grows = record { line = line; is = gives; written = grows }
-gives-judged d text line w w' _ gives grows = absurd gives
-
+-- the line that was found is written in part
 pub gives-part : (d : Joined) (text line : List ℕ) (w w' : List ℕ → Type 0) (status : CheckStatus) → Gives d text status line → GrowsByPrefix w w' line → Judged d text w w' WriteFault
 gives-part d text line w w' Yes gives part = record { line = line; is = inl gives.0; written = part }
 gives-part d text line w w' No gives part = record { line = line; is = inr gives; written = part }
 gives-part d text line w w' _ gives part = absurd gives
-
-pub gives-true : (d : Joined) (text line : List ℕ) (w w' : List ℕ → Type 0) (status : CheckStatus) → Gives d text status line → Grows w w' line → status ≡ Yes → Wrote (IsTrue d) w w'
-gives-true d text line w w' status gives grows is =
-    let yes : IsYes d text line × IsTrue d line = subst (λ (s : CheckStatus). Gives d text s line) is gives in record { line = line; is = yes.1; written = grows }
 
 -- the four files: the design that the three make, and a proof that is short
 pub record AreRead (given : Given) (proof : List ℕ) (d : Joined) (text : List ℕ) : Type 0 where
@@ -45,16 +36,6 @@ other-unproved : (given : Given) (proof : List ℕ) (d : Joined) (text line : Li
 other-unproved given proof d text line read is =
     (short-proof given proof d text read, record { design = d; accepted = read.accepted; holds = subst (λ (l : List ℕ). IsOther d l line) read.text_is is })
 
-pub judged-yes : (given : Given) (proof : List ℕ) (d : Joined) (text : List ℕ) (w w' : List ℕ → Type 0) (status : CheckStatus) → AreRead given proof d text → Judged d text w w' status → status ≡ Yes → Wrote (IsProved given proof) w w'
-judged-yes given proof d text w w' status read judged is =
-    let wrote : Wrote (IsYes d text) w w' = subst (Judged d text w w') is judged in
-    record { line = wrote.line; is = yes-proved given proof d text wrote.line read wrote.is; written = wrote.written }
-
-pub judged-no : (given : Given) (proof : List ℕ) (d : Joined) (text : List ℕ) (w w' : List ℕ → Type 0) (status : CheckStatus) → AreRead given proof d text → Judged d text w w' status → status ≡ No → Wrote (IsUnproved given proof) w w'
-judged-no given proof d text w w' status read judged is =
-    let wrote : Wrote (IsOther d text) w w' = subst (Judged d text w w') is judged in
-    record { line = wrote.line; is = other-unproved given proof d text wrote.line read wrote.is; written = wrote.written }
-
 part-answer : (given : Given) (proof : List ℕ) (d : Joined) (text line : List ℕ) → AreRead given proof d text → IsYes d text line ⊎ IsOther d text line → IsAnswer given proof line
 part-answer given proof d text line read (inl is) = inl (yes-proved given proof d text line read is)
 part-answer given proof d text line read (inr is) = inr (inl (other-unproved given proof d text line read is))
@@ -63,22 +44,6 @@ pub judged-part : (given : Given) (proof : List ℕ) (d : Joined) (text : List �
 judged-part given proof d text w w' status read judged is =
     let wrote : WrotePart (λ line. IsYes d text line ⊎ IsOther d text line) w w' = subst (Judged d text w w') is judged in
     record { line = wrote.line; is = part-answer given proof d text wrote.line read wrote.is; written = wrote.written }
-
-pub judged-true : (given : Given) (d : Joined) (w w' : List ℕ → Type 0) → design_of_files given.netlist given.timing given.stimulus ≡ Ok d → Wrote (IsTrue d) w w' → Wrote (IsTrueOf given) w w'
-judged-true given d w w' accepted wrote = record { line = wrote.line; is = record { design = d; accepted = accepted; holds = wrote.is }; written = wrote.written }
-
--- the other statuses
-pub judged-not-refused : (d : Joined) (text : List ℕ) (w w' : List ℕ → Type 0) (status : CheckStatus) → Judged d text w w' status → status ≡ Refused → ⊥
-judged-not-refused d text w w' status judged is = subst (Judged d text w w') is judged
-
-pub judged-not-usage : (d : Joined) (text : List ℕ) (w w' : List ℕ → Type 0) (status : CheckStatus) → Judged d text w w' status → status ≡ Words → ⊥
-judged-not-usage d text w w' status judged is = subst (Judged d text w w') is judged
-
-pub judged-still : (d : Joined) (text : List ℕ) (w w' : List ℕ → Type 0) (status : CheckStatus) → Judged d text w w' status → WritesNothing status → Stays w w'
-judged-still d text w w' OutOfMemory judged nothing = judged
-judged-still d text w w' ReadFault judged nothing = absurd judged
-judged-still d text w w' FileFault judged nothing = absurd judged
-judged-still d text w w' _ judged nothing = absurd nothing
 
 -- a justified proof is told by `yes`, and every other one by `no`
 pub judged-proved : VerdictsAreFixed → (given : Given) (proof line : List ℕ) (d : Joined) (text : List ℕ) (w w' : List ℕ → Type 0) (status : CheckStatus) → AreRead given proof d text → IsProved given proof line → Judged d text w w' status → EndsAs Yes status

@@ -1,12 +1,11 @@
 -- How a call ends that was stopped.
-use Rattle.std.proofs.Common.{◌≡◌, ◌≤◌, ◌<◌, ◌⊎◌, inl, inr, ℕ, List, length, refl, sym, subst, ◌∙◌, append-nil}
+use Rattle.std.proofs.Common.{◌≡◌, ◌⊎◌, inl, inr, ℕ, List, length, refl, sym, subst, ◌∙◌, append-nil}
 use Rattle.std.proofs.Math.Seq.{take-length}
 use Rattle.backsim_io.specs.Counts.{Grows, GrowsByPrefix, Stays}
 use Rattle.proof_check.specs.Given.{Given}
-use Rattle.proof_check.specs.Answers.{IsProved, IsUnproved, Wrote, WrotePart, IsCut, EndsAs, WritesNothing}
+use Rattle.proof_check.specs.Answers.{IsProved, IsUnproved, Wrote, WrotePart, IsCut, EndsAs}
 use Rattle.proof_check.specs.Refused.{IsRefused, IsAnswer, EndsRefused, Refuses}
 use Rattle.proof_check.specs.inner.Stops.{line_of, RefusesRight, StopsFirst, IsTold, EndsWith}
-use Rattle.proof_check.specs.declared.reading.Refusal.{Refusal}
 use Rattle.proof_check.specs.declared.reading.Stop.{Stop}
 use Rattle.proof_check.specs.declared.reading.Stop.TheVariants.{Refused, NotOpened, Unread, OutOfMemory}
 use Rattle.proof_check.specs.declared.status.CheckStatus.{CheckStatus}
@@ -79,10 +78,6 @@ stop-stopped w w' NotOpened status told = inr (subst IsCut (sym told.0) tt)
 stop-stopped w w' Unread status told = inr (subst IsCut (sym told.0) tt)
 stop-stopped w w' OutOfMemory status told = inr (subst IsCut (sym told.0) tt)
 
-pub not-stopped : (due status : CheckStatus) → (due ≡ statuses.Refused → ⊥) → (IsCut due → ⊥) → IsStopped status → status ≡ due → ⊥
-not-stopped due status other cut (inl refused) is = other (sym is ∙ refused)
-not-stopped due status other cut (inr by) is = cut (subst IsCut is by)
-
 -- where the proof is justified, or is not, nothing is refused
 stopped-as : (due status : CheckStatus) → (status ≡ statuses.Refused → ⊥) → IsStopped status → EndsAs due status
 stopped-as due status other (inl refused) = absurd (other refused)
@@ -95,16 +90,3 @@ stop-proved given proof line w w' stop status proved right told = stopped-as sta
 pub stop-unproved : (given : Given) (proof line : List ℕ) (w w' : List ℕ → Type 0) (stop : Stop) (status : CheckStatus) → IsUnproved given proof line → RefusesRight given proof stop → EndsWith stop w w' status → EndsAs statuses.No status
 stop-unproved given proof line w w' stop status unproved right told = stopped-as statuses.No status
     (λ is. let wrote : Wrote (IsRefused given proof) w w' = stop-wrote given proof w w' stop status right told is in unproved-not-refused given proof line wrote.line unproved wrote.is) (stop-stopped w w' stop status told)
-
--- of a fault of the files nothing is written
-told-still : (line : List ℕ) (w w' : List ℕ → Type 0) (status : CheckStatus) → IsTold line w w' status → WritesNothing status → Stays w w'
-told-still line w w' statuses.Refused told nothing = absurd nothing
-told-still line w w' statuses.WriteFault told nothing = absurd nothing
-told-still line w w' statuses.OutOfMemory told nothing = told
-told-still line w w' _ told nothing = absurd told
-
-pub stop-still : (w w' : List ℕ → Type 0) (stop : Stop) (status : CheckStatus) → EndsWith stop w w' status → WritesNothing status → Stays w w'
-stop-still w w' (Refused refusal) status told nothing = told-still (line_of refusal) w w' status told nothing
-stop-still w w' NotOpened status told nothing = told.1
-stop-still w w' Unread status told nothing = told.1
-stop-still w w' OutOfMemory status told nothing = told.1

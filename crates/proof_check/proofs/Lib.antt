@@ -1,4 +1,3 @@
-pub mod Explained
 pub mod Firsts
 pub mod Clashes
 pub mod Ends

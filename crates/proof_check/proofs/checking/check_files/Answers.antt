@@ -1,6 +1,6 @@
 use Rattle.std.proofs.Common.{sym}
-use Rattle.proof_check.proofs.Ends.{stop-refuses, stop-wrote, stop-part, stop-proved, stop-unproved}
-use Rattle.proof_check.proofs.Answered.{AreRead, judged-part, judged-proved, judged-unproved}
+use Rattle.proof_check.proofs.Ends.{stop-refuses, stop-wrote, stop-part}
+use Rattle.proof_check.proofs.Answered.{judged-part, judged-proved, judged-unproved}
 use Rattle.proof_check.proofs.checking.check_files.Goals as goal
 
 -- the proof was judged

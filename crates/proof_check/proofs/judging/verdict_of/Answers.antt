@@ -1,4 +1,4 @@
-use Rattle.std.proofs.Common.{◌≡◌, subst, sym, ap, List, ℕ, Some, slice_get, rules}
+use Rattle.std.proofs.Common.{◌≡◌, subst, Some, slice_get, rules}
 use Rattle.why_proofs.specs.Verdicts.{RightYes, IsTrueYes}
 use Rattle.why_proofs.specs.declared.checker.Checked.TheVariants.{Yes}
 use Rattle.proof_check.proofs.Verdicts.{gives-yes}
