@@ -3,4 +3,5 @@ pub mod Texts
 pub mod Answers
 pub mod Refused
 pub mod Cause
+pub mod Statuses
 pub mod inner

@@ -1,7 +1,7 @@
 //! How a call ends.
 
 ghost use Rattle.std.specs.Prelude.{◌≡◌};
-ghost use Rattle.proof_check.specs.inner.Statuses.{number_of};
+ghost use Rattle.proof_check.specs.Statuses.{number_of};
 
 /// How a call ended.
 #[derive(Clone, Copy, Debug, PartialEq, Eq)]
