@@ -2,6 +2,8 @@
 ghost use Rattle.std.specs.Prelude.{◌≡◌, ◌<◌, ◌≤◌, [], length};
 ghost use Rattle.batch_meaning.specs.Lawful.{IsLawful, IsQueryOf};
 
+mod journals;
+
 use super::*;
 use batch_meaning::Query;
 use bench_reader::read_bench;
@@ -47,12 +49,13 @@ enum Came {
     Elsewhere,
 }
 
-/// Makes one step of the strand.
+/// Makes one step of the strand. That it is refused a point is recorded, or not.
 fn step<B: BatchName>(
     shard: &mut Shard<B>,
     mut strand: Strand<B>,
     design: &Design,
     shards: u32,
+    recorded: bool,
 ) -> Result<(Came, Option<Strand<B>>), Fail>
     requires circuit { design.now.circuit ≡ B.batch.circuit }
     requires shards { B.batch.shards ≡ shards }
@@ -69,7 +72,7 @@ fn step<B: BatchName>(
                 Ok(Asked::Claimed(s)) => Ok((Came::Claimed, Some(s))),
                 Ok(Asked::Waits) => Ok((Came::Waits, None)),
                 Ok(Asked::Spent(s)) => {
-                    if !shard.covers(p) {
+                    if recorded && !shard.covers(p) {
                         shard.spend(&s, p)?;
                     }
                     Ok((Came::Spent, Some(s)))
@@ -106,6 +109,7 @@ fn run<B: BatchName>(
     query: Query,
     budget: u32,
     steps: u32,
+    recorded: bool,
     seen: &mut Vec<Came>,
 ) -> Result<(), Fail>
     requires circuit { design.now.circuit ≡ B.batch.circuit }
@@ -120,7 +124,7 @@ fn run<B: BatchName>(
         let Some(strand) = hand.take() else {
             break;
         };
-        let (came, left) = step(shard, strand, design, shards)?;
+        let (came, left) = step(shard, strand, design, shards, recorded)?;
         seen.push(came)?;
         hand = left;
     }
@@ -145,12 +149,12 @@ fn meet<B: BatchName>(
 {
     let mut shard = Shard::<B>::begin(alloc, 0, CellStore::new(alloc, 2)?);
     let mut seen = Vec::new(alloc);
-    run(alloc, &mut shard, design, 1, query, 0, 2, &mut seen)?;
-    run(alloc, &mut shard, design, 1, query, 3, 1, &mut seen)?;
-    run(alloc, &mut shard, design, 1, query, 3, 1, &mut seen)?;
+    run(alloc, &mut shard, design, 1, query, 0, 2, true, &mut seen)?;
+    run(alloc, &mut shard, design, 1, query, 3, 1, true, &mut seen)?;
+    run(alloc, &mut shard, design, 1, query, 3, 1, true, &mut seen)?;
     shard.free_claims();
-    run(alloc, &mut shard, design, 1, query, 3, 9, &mut seen)?;
-    run(alloc, &mut shard, design, 1, query, 3, 9, &mut seen)?;
+    run(alloc, &mut shard, design, 1, query, 3, 9, true, &mut seen)?;
+    run(alloc, &mut shard, design, 1, query, 3, 9, true, &mut seen)?;
     shard.free_claims();
     let (_, journal) = shard.end_batch();
     Ok((seen, journal))
