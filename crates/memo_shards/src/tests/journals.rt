@@ -191,7 +191,7 @@ fn serve(
 }
 
 /// Serves the batches one after another over one shard with room for so many cells, and compares what comes of each.
-fn are_served(
+fn go_as_said(
     alloc: Global,
     design: &Design,
     capacity: u32,
@@ -212,11 +212,41 @@ fn are_served(
     Ok(true)
 }
 
+/// The same for the design of these texts.
+fn are_served(alloc: Global, texts: &Texts, capacity: u32, batches: &[Batch]) -> Result<bool, Fail>
+    requires { (0 < capacity) × (capacity ≤ 65536) }
+{
+    match design_of(alloc, texts)? {
+        Ok(design) => go_as_said(alloc, &design, capacity, batches),
+        Err(_) => Ok(false),
+    }
+}
+
 /// A chain of three buffers with a delay of 1 each, whose input is 1 from the start on.
 const CHAIN: Texts = Texts {
     netlist: "INPUT(a)\nOUTPUT(n3)\nn1 = BUFF(a)\nn2 = BUFF(n1)\nn3 = BUFF(n2)\n",
     timing: "",
     stimulus: "horizon 10\nset a 0 1\n",
+};
+
+/// c17 of ISCAS'85, whose inputs are all 0.
+const C17: Texts = Texts {
+    netlist: "INPUT(1)\nINPUT(2)\nINPUT(3)\nINPUT(6)\nINPUT(7)\nOUTPUT(22)\nOUTPUT(23)\n10 = NAND(1, 3)\n11 = NAND(3, 6)\n16 = NAND(2, 11)\n19 = NAND(11, 7)\n22 = NAND(10, 16)\n23 = NAND(16, 19)\n",
+    timing: "",
+    stimulus: "horizon 10\nset 1 0 0\nset 2 0 0\nset 3 0 0\nset 6 0 0\nset 7 0 0\n",
+};
+
+const PAIR: Texts = Texts {
+    netlist: "INPUT(a)\nOUTPUT(y)\ny = AND(p, q)\np = BUFF(a)\nq = BUFF(a)\n",
+    timing: "",
+    stimulus: "horizon 10\nset a 0 1\n",
+};
+
+/// `y` is x from 0 on, 1 from 3 on and 0 from 8 on.
+const INVERTER: Texts = Texts {
+    netlist: "INPUT(a)\nOUTPUT(y)\ny = NOT(a)\n",
+    timing: "default 3\n",
+    stimulus: "horizon 10\nset a 0 0\nset a 5 1\n",
 };
 
 /// One time of a signal.
@@ -230,18 +260,18 @@ fn at(line: u32, name: &'static [u8], time: u32, budget: u32) -> Ask {
     }
 }
 
-/// A window from 0 on.
-fn wave(line: u32, name: &'static [u8], to: u32) -> Ask {
+/// `y` from 0 on and below 11.
+fn wave_of_y(line: u32) -> Ask {
     Ask {
         line,
-        name,
+        name: b"y",
         from: 0,
-        to,
+        to: 11,
         budget: 500_000,
     }
 }
 
-fn asked(
+fn batch_of(
     first: Ask,
     second: Ask,
     strands: &'static [Serves],
@@ -257,148 +287,159 @@ fn asked(
     }
 }
 
-#[test]
-fn a_cell_is_told_to_the_next_strand(rt: HostRuntime) -> Result<(), Fail> {
-    let served = asked(
+fn two_times_of_a_cell() -> Batch {
+    batch_of(
         at(1, b"n3", 5, 50_000),
         at(2, b"n3", 6, 50_000),
         &[Serves::First, Serves::Second],
         0,
         b"claim 1 1 5\nclaim 1 3 4\nclaim 1 2 3\nfill 1 2 3 1 11 1\nfill 1 3 4 2 11 1\nfill 1 1 5 3 11 1\ntold 2 1 6 3 11 1\n",
-    );
-    let design = design_of(rt.alloc(), &CHAIN)??;
-    assert!(rt; are_served(rt.alloc(), &design, 4, &[served])?);
-    Ok(())
+    )
 }
 
 #[test]
-fn the_oldest_cell_makes_place(rt: HostRuntime) -> Result<(), Fail> {
-    let served = asked(
+fn a_cell_is_told_to_the_next_strand(rt: HostRuntime) -> Result<(), Fail> {
+    assert!(rt; are_served(rt.alloc(), &CHAIN, 4, &[two_times_of_a_cell()])?);
+    Ok(())
+}
+
+fn three_cells_in_two_places() -> Batch {
+    batch_of(
         at(1, b"n3", 5, 50_000),
         at(2, b"n3", 6, 50_000),
         &[Serves::First],
         0,
         b"claim 1 1 5\nclaim 1 3 4\nclaim 1 2 3\nfill 1 2 3 1 11 1\nfill 1 3 4 2 11 1\nevict 2 1\nfill 1 1 5 3 11 1\n",
-    );
-    let design = design_of(rt.alloc(), &CHAIN)??;
-    assert!(rt; are_served(rt.alloc(), &design, 2, &[served])?);
+    )
+}
+
+#[test]
+fn the_oldest_cell_makes_place(rt: HostRuntime) -> Result<(), Fail> {
+    assert!(rt; are_served(rt.alloc(), &CHAIN, 2, &[three_cells_in_two_places()])?);
     Ok(())
 }
 
-/// The first strand meets its refusal while others may run, and the second alone, which records it.
+fn no_budget() -> Batch {
+    batch_of(
+        at(1, b"n3", 5, 0),
+        at(2, b"n3", 5, 0),
+        &[Serves::FirstAlone],
+        1,
+        b"spent 1 1 5 0\n",
+    )
+}
+
+/// The first strand is refused a point while others may run, and the second alone, which records it.
+fn one_too_few() -> Batch {
+    batch_of(
+        at(1, b"n3", 5, 2),
+        at(2, b"n3", 5, 2),
+        &[Serves::First, Serves::FirstAlone],
+        2,
+        b"claim 1 1 5\nclaim 1 3 4\ndrop 1 3 4\ndrop 1 1 5\nclaim 1 1 5\nclaim 1 3 4\nspent 1 2 3 2\ndrop 1 3 4\ndrop 1 1 5\n",
+    )
+}
+
+fn just_enough() -> Batch {
+    batch_of(
+        at(1, b"n3", 5, 3),
+        at(2, b"n3", 5, 3),
+        &[Serves::First],
+        0,
+        b"claim 1 1 5\nclaim 1 3 4\nclaim 1 2 3\nfill 1 2 3 1 11 1\nfill 1 3 4 2 11 1\nfill 1 1 5 3 11 1\n",
+    )
+}
+
+/// Before its delay a gate is x at once.
+fn none_needed() -> Batch {
+    batch_of(
+        at(1, b"n3", 0, 0),
+        at(2, b"n3", 0, 0),
+        &[Serves::First],
+        0,
+        b"",
+    )
+}
+
 #[test]
 fn budgets_and_refusals(rt: HostRuntime) -> Result<(), Fail> {
-    let rows = [
-        asked(
-            at(1, b"n3", 5, 0),
-            at(2, b"n3", 5, 0),
-            &[Serves::FirstAlone],
-            1,
-            b"spent 1 1 5 0\n",
-        ),
-        asked(
-            at(1, b"n3", 5, 2),
-            at(2, b"n3", 5, 2),
-            &[Serves::First, Serves::FirstAlone],
-            2,
-            b"claim 1 1 5\nclaim 1 3 4\ndrop 1 3 4\ndrop 1 1 5\nclaim 1 1 5\nclaim 1 3 4\nspent 1 2 3 2\ndrop 1 3 4\ndrop 1 1 5\n",
-        ),
-        asked(
-            at(1, b"n3", 5, 3),
-            at(2, b"n3", 5, 3),
-            &[Serves::First],
-            0,
-            b"claim 1 1 5\nclaim 1 3 4\nclaim 1 2 3\nfill 1 2 3 1 11 1\nfill 1 3 4 2 11 1\nfill 1 1 5 3 11 1\n",
-        ),
-        asked(
-            at(1, b"n3", 0, 0),
-            at(2, b"n3", 0, 0),
-            &[Serves::First],
-            0,
-            b"",
-        ),
-    ];
-    let design = design_of(rt.alloc(), &CHAIN)??;
-    for row in rows {
-        assert!(rt; are_served(rt.alloc(), &design, 4, &[row])?);
+    for batch in [no_budget(), one_too_few(), just_enough(), none_needed()] {
+        assert!(rt; are_served(rt.alloc(), &CHAIN, 4, &[batch])?);
     }
     Ok(())
 }
 
-/// c17 of ISCAS'85: of its six gates only the three that decide are evaluated.
-#[test]
-fn a_pin_that_decides_is_the_last(rt: HostRuntime) -> Result<(), Fail> {
-    let c17 = Texts {
-        netlist: "INPUT(1)\nINPUT(2)\nINPUT(3)\nINPUT(6)\nINPUT(7)\nOUTPUT(22)\nOUTPUT(23)\n10 = NAND(1, 3)\n11 = NAND(3, 6)\n16 = NAND(2, 11)\n19 = NAND(11, 7)\n22 = NAND(10, 16)\n23 = NAND(16, 19)\n",
-        timing: "",
-        stimulus: "horizon 10\nset 1 0 0\nset 2 0 0\nset 3 0 0\nset 6 0 0\nset 7 0 0\n",
-    };
-    let served = asked(
+fn one_output() -> Batch {
+    batch_of(
         at(1, b"22", 3, 50_000),
         at(2, b"22", 3, 50_000),
         &[Serves::First],
         0,
         b"claim 1 5 3\nclaim 1 7 2\nfill 1 7 2 1 11 1\nclaim 1 9 2\nfill 1 9 2 1 11 1\nfill 1 5 3 2 11 0\n",
+    )
+}
+
+#[test]
+fn pins_behind_one_that_decides_are_not_asked_for(rt: HostRuntime) -> Result<(), Fail> {
+    assert!(rt; are_served(rt.alloc(), &C17, 16_384, &[one_output()])?);
+    Ok(())
+}
+
+fn both_pins() -> Batch {
+    batch_of(
+        at(1, b"y", 5, 50_000),
+        at(2, b"y", 5, 50_000),
+        &[Serves::First],
+        0,
+        b"claim 1 1 5\nclaim 1 2 4\nfill 1 2 4 1 11 1\nclaim 1 3 4\nevict 2 1\nfill 1 3 4 1 11 1\nevict 3 1\nfill 1 1 5 2 11 1\n",
+    )
+}
+
+fn a_pin_again() -> Batch {
+    batch_of(
+        at(3, b"p", 4, 50_000),
+        at(4, b"p", 4, 50_000),
+        &[Serves::First],
+        0,
+        b"claim 3 2 4\nevict 1 2\nfill 3 2 4 1 11 1\n",
+    )
+}
+
+#[test]
+fn a_point_is_evaluated_again_once_its_cell_has_gone(rt: HostRuntime) -> Result<(), Fail> {
+    assert!(rt; are_served(rt.alloc(), &PAIR, 1, &[both_pins(), a_pin_again()])?);
+    Ok(())
+}
+
+fn a_wave_twice() -> Batch {
+    batch_of(
+        wave_of_y(1),
+        wave_of_y(2),
+        &[Serves::First, Serves::Second],
+        0,
+        b"claim 1 1 3\nfill 1 1 3 3 8 1\nclaim 1 1 8\nfill 1 1 8 8 11 0\ntold 2 1 3 3 8 1\ntold 2 1 8 8 11 0\n",
+    )
+}
+
+fn the_wave_once_more() -> Batch {
+    batch_of(
+        wave_of_y(3),
+        wave_of_y(4),
+        &[Serves::First],
+        0,
+        b"told 3 1 3 3 8 1\ntold 3 1 8 8 11 0\n",
+    )
+}
+
+#[test]
+fn a_batch_is_told_what_the_one_before_it_stored(rt: HostRuntime) -> Result<(), Fail> {
+    assert!(rt;
+        are_served(
+            rt.alloc(),
+            &INVERTER,
+            16_384,
+            &[a_wave_twice(), the_wave_once_more()]
+        )?
     );
-    let design = design_of(rt.alloc(), &c17)??;
-    assert!(rt; are_served(rt.alloc(), &design, 16_384, &[served])?);
-    Ok(())
-}
-
-/// With room for one cell, a point is evaluated again once its cell has gone.
-#[test]
-fn room_for_one_cell(rt: HostRuntime) -> Result<(), Fail> {
-    let both = Texts {
-        netlist: "INPUT(a)\nOUTPUT(y)\ny = AND(p, q)\np = BUFF(a)\nq = BUFF(a)\n",
-        timing: "",
-        stimulus: "horizon 10\nset a 0 1\n",
-    };
-    let batches = [
-        asked(
-            at(1, b"y", 5, 50_000),
-            at(2, b"y", 5, 50_000),
-            &[Serves::First],
-            0,
-            b"claim 1 1 5\nclaim 1 2 4\nfill 1 2 4 1 11 1\nclaim 1 3 4\nevict 2 1\nfill 1 3 4 1 11 1\nevict 3 1\nfill 1 1 5 2 11 1\n",
-        ),
-        asked(
-            at(3, b"p", 4, 50_000),
-            at(4, b"p", 4, 50_000),
-            &[Serves::First],
-            0,
-            b"claim 3 2 4\nevict 1 2\nfill 3 2 4 1 11 1\n",
-        ),
-    ];
-    let design = design_of(rt.alloc(), &both)??;
-    assert!(rt; are_served(rt.alloc(), &design, 1, &batches)?);
-    Ok(())
-}
-
-/// What a batch leaves stored is told to the strands of the next.
-#[test]
-fn a_batch_finds_what_the_one_before_left(rt: HostRuntime) -> Result<(), Fail> {
-    let inverter = Texts {
-        netlist: "INPUT(a)\nOUTPUT(y)\ny = NOT(a)\n",
-        timing: "default 3\n",
-        stimulus: "horizon 10\nset a 0 0\nset a 5 1\n",
-    };
-    let batches = [
-        asked(
-            wave(1, b"y", 11),
-            wave(2, b"y", 11),
-            &[Serves::First, Serves::Second],
-            0,
-            b"claim 1 1 3\nfill 1 1 3 3 8 1\nclaim 1 1 8\nfill 1 1 8 8 11 0\ntold 2 1 3 3 8 1\ntold 2 1 8 8 11 0\n",
-        ),
-        asked(
-            wave(3, b"y", 11),
-            wave(4, b"y", 11),
-            &[Serves::First],
-            0,
-            b"told 3 1 3 3 8 1\ntold 3 1 8 8 11 0\n",
-        ),
-    ];
-    let design = design_of(rt.alloc(), &inverter)??;
-    assert!(rt; are_served(rt.alloc(), &design, 16_384, &batches)?);
     Ok(())
 }
