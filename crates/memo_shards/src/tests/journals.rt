@@ -6,29 +6,15 @@ ghost use Rattle.batch_meaning.specs.Lawful.{IsLawful, IsQueryOf};
 ghost use Rattle.cell_store.specs.Recency.{contents};
 ghost use Rattle.journal_meaning.specs.Allowed.{IsRight};
 
-use super::{Came, run, short};
+use super::{CHAIN, Came, Texts, design_of, run, text_of};
 use crate::Shard;
-use backsim_io::OutOfMemory;
 use batch_meaning::Query;
-use bench_reader::read_bench;
 use cell_store::CellStore;
 use demand_points::BatchName;
-use design::{Design, JoinFault};
-use journal_meaning::Entry;
-use journal_text::entry_text;
+use design::Design;
 use std::alloc::Global;
 use std::marker::Brand;
 use std::test::Fail;
-use stimulus_file::read_stimulus;
-use timing_file::read_timing;
-
-/// The texts of a design's three files.
-#[derive(Clone, Copy)]
-struct Texts {
-    netlist: &'static str,
-    timing: &'static str,
-    stimulus: &'static str,
-}
 
 /// A query: the line that asks it, the signal, the window and the budget.
 #[derive(Clone, Copy)]
@@ -59,13 +45,6 @@ struct Batch {
     journal: &'static [u8],
 }
 
-fn design_of(alloc: Global, texts: &Texts) -> Result<Result<Design, JoinFault>, Fail> {
-    let netlist = read_bench(alloc, short(texts.netlist))?;
-    let timing = read_timing(alloc, short(texts.timing))?;
-    let stimulus = read_stimulus(alloc, short(texts.stimulus))?;
-    Ok(Design::join(alloc, netlist, &timing, &stimulus))
-}
-
 /// The query, where the design has its signal and its times.
 fn query_of(design: &Design, ask: &Ask) -> Option<Query>
     ensures signal { IfSome result (λ q. q.signal < length design.now.circuit.drivers) }
@@ -84,16 +63,6 @@ fn query_of(design: &Design, ask: &Ask) -> Option<Query>
         to: ask.to,
         budget: ask.budget,
     })
-}
-
-/// The entries, line by line.
-fn text_of(alloc: Global, entries: &[Entry]) -> Result<Vec<u8>, OutOfMemory> {
-    let mut text = Vec::new(alloc);
-    for entry in entries {
-        let line = entry_text(alloc, entry)?;
-        text.extend_from_slice(&line)?;
-    }
-    Ok(text)
 }
 
 /// What comes of a batch: the cells that are stored then, the journal, and how many strands were refused a point.
@@ -221,13 +190,6 @@ fn are_served(alloc: Global, texts: &Texts, capacity: u32, batches: &[Batch]) ->
         Err(_) => Ok(false),
     }
 }
-
-/// A chain of three buffers with a delay of 1 each, whose input is 1 from the start on.
-const CHAIN: Texts = Texts {
-    netlist: "INPUT(a)\nOUTPUT(n3)\nn1 = BUFF(a)\nn2 = BUFF(n1)\nn3 = BUFF(n2)\n",
-    timing: "",
-    stimulus: "horizon 10\nset a 0 1\n",
-};
 
 /// c17 of ISCAS'85, whose inputs are all 0.
 const C17: Texts = Texts {
