@@ -2,21 +2,23 @@
 ghost use Rattle.std.specs.Prelude.{◌≡◌, ◌<◌, ◌≤◌, [], length};
 ghost use Rattle.batch_meaning.specs.Lawful.{IsLawful, IsQueryOf};
 
+mod journals;
+
 use super::*;
+use backsim_io::OutOfMemory;
 use batch_meaning::Query;
 use bench_reader::read_bench;
 use cell_store::CellStore;
 use demand_points::{BatchName, Strand};
 use design::{Design, JoinFault};
 use journal_meaning::Entry;
+use journal_text::entry_text;
 use std::alloc::Global;
 use std::marker::Brand;
 use std::test::Fail;
 use stimulus_file::read_stimulus;
 use strand_meaning::Next;
 use timing_file::read_timing;
-
-const NETLIST: &str = "INPUT(a)\nOUTPUT(n3)\nn1 = BUFF(a)\nn2 = BUFF(n1)\nn3 = BUFF(n2)\n";
 
 /// The text, where it is short.
 fn short(text: &str) -> &[u8]
@@ -26,12 +28,36 @@ fn short(text: &str) -> &[u8]
     if bytes.len() > 1000 { &[] } else { bytes }
 }
 
-/// A chain of three buffers, with a delay of 1 each.
-fn chain(alloc: Global) -> Result<Result<Design, JoinFault>, Fail> {
-    let netlist = read_bench(alloc, short(NETLIST))?;
-    let timing = read_timing(alloc, short(""))?;
-    let stimulus = read_stimulus(alloc, short("horizon 10\nset a 0 1\n"))?;
+/// The texts of a design's three files.
+#[derive(Clone, Copy)]
+struct Texts {
+    netlist: &'static str,
+    timing: &'static str,
+    stimulus: &'static str,
+}
+
+/// A chain of three buffers with a delay of 1 each, whose input is 1 from the start on.
+const CHAIN: Texts = Texts {
+    netlist: "INPUT(a)\nOUTPUT(n3)\nn1 = BUFF(a)\nn2 = BUFF(n1)\nn3 = BUFF(n2)\n",
+    timing: "",
+    stimulus: "horizon 10\nset a 0 1\n",
+};
+
+fn design_of(alloc: Global, texts: &Texts) -> Result<Result<Design, JoinFault>, Fail> {
+    let netlist = read_bench(alloc, short(texts.netlist))?;
+    let timing = read_timing(alloc, short(texts.timing))?;
+    let stimulus = read_stimulus(alloc, short(texts.stimulus))?;
     Ok(Design::join(alloc, netlist, &timing, &stimulus))
+}
+
+/// The entries, line by line.
+fn text_of(alloc: Global, entries: &[Entry]) -> Result<Vec<u8>, OutOfMemory> {
+    let mut text = Vec::new(alloc);
+    for entry in entries {
+        let line = entry_text(alloc, entry)?;
+        text.extend_from_slice(&line)?;
+    }
+    Ok(text)
 }
 
 /// What a step came to; of the end of a claim, how many came out.
@@ -47,12 +73,13 @@ enum Came {
     Elsewhere,
 }
 
-/// Makes one step of the strand.
+/// Makes one step of the strand. That it is refused a point is recorded, or not.
 fn step<B: BatchName>(
     shard: &mut Shard<B>,
     mut strand: Strand<B>,
     design: &Design,
     shards: u32,
+    recorded: bool,
 ) -> Result<(Came, Option<Strand<B>>), Fail>
     requires circuit { design.now.circuit ≡ B.batch.circuit }
     requires shards { B.batch.shards ≡ shards }
@@ -69,7 +96,7 @@ fn step<B: BatchName>(
                 Ok(Asked::Claimed(s)) => Ok((Came::Claimed, Some(s))),
                 Ok(Asked::Waits) => Ok((Came::Waits, None)),
                 Ok(Asked::Spent(s)) => {
-                    if !shard.covers(p) {
+                    if recorded && !shard.covers(p) {
                         shard.spend(&s, p)?;
                     }
                     Ok((Came::Spent, Some(s)))
@@ -106,6 +133,7 @@ fn run<B: BatchName>(
     query: Query,
     budget: u32,
     steps: u32,
+    recorded: bool,
     seen: &mut Vec<Came>,
 ) -> Result<(), Fail>
     requires circuit { design.now.circuit ≡ B.batch.circuit }
@@ -120,7 +148,7 @@ fn run<B: BatchName>(
         let Some(strand) = hand.take() else {
             break;
         };
-        let (came, left) = step(shard, strand, design, shards)?;
+        let (came, left) = step(shard, strand, design, shards, recorded)?;
         seen.push(came)?;
         hand = left;
     }
@@ -145,18 +173,18 @@ fn meet<B: BatchName>(
 {
     let mut shard = Shard::<B>::begin(alloc, 0, CellStore::new(alloc, 2)?);
     let mut seen = Vec::new(alloc);
-    run(alloc, &mut shard, design, 1, query, 0, 2, &mut seen)?;
-    run(alloc, &mut shard, design, 1, query, 3, 1, &mut seen)?;
-    run(alloc, &mut shard, design, 1, query, 3, 1, &mut seen)?;
+    run(alloc, &mut shard, design, 1, query, 0, 2, true, &mut seen)?;
+    run(alloc, &mut shard, design, 1, query, 3, 1, true, &mut seen)?;
+    run(alloc, &mut shard, design, 1, query, 3, 1, true, &mut seen)?;
     shard.free_claims();
-    run(alloc, &mut shard, design, 1, query, 3, 9, &mut seen)?;
-    run(alloc, &mut shard, design, 1, query, 3, 9, &mut seen)?;
+    run(alloc, &mut shard, design, 1, query, 3, 9, true, &mut seen)?;
+    run(alloc, &mut shard, design, 1, query, 3, 9, true, &mut seen)?;
     shard.free_claims();
     let (_, journal) = shard.end_batch();
     Ok((seen, journal))
 }
 
-fn meet_in(alloc: Global, design: &Design) -> Result<Option<(Vec<Came>, Vec<Entry>)>, Fail> {
+fn meet_in(alloc: Global, design: &Design) -> Result<Option<(Vec<Came>, Vec<u8>)>, Fail> {
     design.facts();
     let Some(signal) = design.netlist().id_of(b"n3") else {
         return Ok(None);
@@ -171,13 +199,25 @@ fn meet_in(alloc: Global, design: &Design) -> Result<Option<(Vec<Came>, Vec<Entr
         to: 6,
         budget: 3,
     };
-    Ok(Some(meet::<Brand>(alloc, design, query)?))
+    let (seen, journal) = meet::<Brand>(alloc, design, query)?;
+    Ok(Some((seen, text_of(alloc, &journal)?)))
 }
+
+/// What the steps came to, and the journal.
+fn met(alloc: Global) -> Result<Option<(Vec<Came>, Vec<u8>)>, Fail> {
+    match design_of(alloc, &CHAIN)? {
+        Ok(design) => meet_in(alloc, &design),
+        Err(_) => Ok(None),
+    }
+}
+
+/// Three fills in a store with room for two.
+const MET: &[u8] =
+    b"spent 7 1 5 0\nclaim 7 1 5\ndrop 7 1 5\nclaim 7 1 5\nclaim 7 3 4\nclaim 7 2 3\nfill 7 2 3 1 11 1\nfill 7 3 4 2 11 1\nevict 2 1\nfill 7 1 5 3 11 1\ntold 7 1 5 3 11 1\n";
 
 #[test]
 fn strands_meet(rt: HostRuntime) -> Result<(), Fail> {
-    let design = chain(rt.alloc())??;
-    let (seen, journal) = meet_in(rt.alloc(), &design)?.expect(&rt, "a signal within the horizon");
+    let (seen, journal) = met(rt.alloc())?.expect(&rt, "a signal within the horizon");
     let want = [
         Came::Spent,
         Came::Ended,
@@ -194,12 +234,6 @@ fn strands_meet(rt: HostRuntime) -> Result<(), Fail> {
         Came::Ended,
     ];
     assert_eq!(rt; seen.as_slice(), want.as_slice());
-    // three fills in a store with room for two
-    assert_eq!(rt; journal.len(), 11);
-    let evicted = journal
-        .iter()
-        .filter(|e| matches!(e, Entry::Evicted { .. }))
-        .count();
-    assert_eq!(rt; evicted, 1);
+    assert_eq!(rt; journal.as_slice(), MET);
     Ok(())
 }
