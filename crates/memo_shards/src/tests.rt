@@ -12,13 +12,13 @@ use cell_store::CellStore;
 use demand_points::{BatchName, Strand};
 use design::{Design, JoinFault};
 use journal_meaning::Entry;
-use journal_text::entry_text;
-use std::alloc::Global;
+use std::alloc::{AllocError, Global};
 use std::marker::Brand;
 use std::test::Fail;
 use stimulus_file::read_stimulus;
 use strand_meaning::Next;
 use timing_file::read_timing;
+use valid_intervals::{Cell, Point};
 
 /// The text, where it is short.
 fn short(text: &str) -> &[u8]
@@ -50,12 +50,43 @@ fn design_of(alloc: Global, texts: &Texts) -> Result<Result<Design, JoinFault>, 
     Ok(Design::join(alloc, netlist, &timing, &stimulus))
 }
 
+/// The line of an entry that tells or fills a cell.
+fn cell_line(
+    alloc: Global,
+    keyword: &str,
+    q: u32,
+    p: Point,
+    cell: &Cell,
+) -> Result<String, AllocError> {
+    let Cell { span, value } = cell;
+    let (start, end, value) = (span.start(), span.end(), value.byte() as char);
+    format!(in alloc;
+        "{keyword} {q} {} {} {start} {end} {value}\n",
+        p.signal, p.time
+    )
+}
+
+/// An entry as journals have it.
+fn line_of(alloc: Global, entry: &Entry) -> Result<String, AllocError> {
+    match entry {
+        Entry::Told { q, p, cell } => cell_line(alloc, "told", *q, *p, cell),
+        Entry::Filled { q, p, cell } => cell_line(alloc, "fill", *q, *p, cell),
+        Entry::Claimed { q, p } => format!(in alloc; "claim {q} {} {}\n", p.signal, p.time),
+        Entry::Dropped { q, p } => format!(in alloc; "drop {q} {} {}\n", p.signal, p.time),
+        Entry::Evicted { signal, start } => format!(in alloc; "evict {signal} {start}\n"),
+        Entry::Spent { q, p, held } => format!(in alloc;
+            "spent {q} {} {} {held}\n",
+            p.signal, p.time
+        ),
+    }
+}
+
 /// The entries, line by line.
 fn text_of(alloc: Global, entries: &[Entry]) -> Result<Vec<u8>, OutOfMemory> {
     let mut text = Vec::new(alloc);
     for entry in entries {
-        let line = entry_text(alloc, entry)?;
-        text.extend_from_slice(&line)?;
+        let line = line_of(alloc, entry)?;
+        text.extend_from_slice(line.as_bytes())?;
     }
     Ok(text)
 }
