@@ -1,8 +1,8 @@
-//! Workers over one memo in plain Rust, with the locks of this repository's: one for each shard, one for the board, which is taken
-//! within the shard's for each claim and fill, and one for the queue of strands that are ready. The questions of the script are one
-//! batch. It writes the replies, and on standard error how long the batch took.
+//! Workers over one memo in plain Rust, with the locks of this repository's: one for each shard, under which claims and fills are
+//! counted, one for the board, where strands that have ended are put down and workers sleep, and one for the queue of strands that
+//! are ready. The questions of the script are one batch. It writes the replies, and on standard error how long the batch took.
 //!
-//!     plain NETLIST STIMULUS JOURNAL WORKERS < SCRIPT
+//!     plain NETLIST STIMULUS JOURNAL WORKERS SHARDS < SCRIPT
 #[path = "../plain/circuit.rs"]
 mod circuit;
 #[path = "../plain/gates.rs"]
@@ -20,7 +20,6 @@ use std::time::Instant;
 use std::{env, fs, thread};
 use store::Store;
 
-const SHARDS: u32 = 8;
 const CAPACITY: usize = 16_384;
 
 type Point = (u32, u32);
@@ -57,13 +56,15 @@ struct Shard {
     store: Store<Value>,
     claims: BTreeMap<Point, Claim>,
     journal: Vec<Entry>,
+    /// How many claims and fills of each query the journal has.
+    counts: Vec<u64>,
 }
 
 struct Board {
-    counts: Vec<u64>,
     ended: Vec<Option<Strand>>,
     left: usize,
     moves: u64,
+    sleeping: u32,
 }
 
 struct Shared<'a> {
@@ -106,17 +107,16 @@ impl Strand {
 
 impl Shared<'_> {
     fn shard(&self, signal: u32) -> &Mutex<Shard> {
-        &self.shards[(signal % SHARDS) as usize]
-    }
-
-    fn book(&self, query: usize) {
-        self.board.lock().unwrap().counts[query] += 1;
+        &self.shards[signal as usize % self.shards.len()]
     }
 
     fn push(&self, strand: Strand) {
         self.ready.lock().unwrap().push_back(strand);
-        self.board.lock().unwrap().moves += 1;
-        self.moved.notify_all();
+        let mut board = self.board.lock().unwrap();
+        board.moves += 1;
+        if board.sleeping > 0 {
+            self.moved.notify_one();
+        }
     }
 
     /// The strand, if it goes on.
@@ -139,7 +139,7 @@ impl Shared<'_> {
         shard.claims.insert(point, Claim { waiting: Vec::new() });
         shard.journal.push(Entry::Claimed { query: strand.query, point });
         strand.frames.push(self.circuit.frame(point.0, point.1));
-        self.book(strand.query);
+        shard.counts[strand.query] += 1;
         Some(strand)
     }
 
@@ -152,7 +152,7 @@ impl Shared<'_> {
         }
         shard.journal.push(Entry::Filled { query: strand.query, point, cell });
         let woken = shard.claims.remove(&point).unwrap().waiting;
-        self.book(strand.query);
+        shard.counts[strand.query] += 1;
         drop(shard);
         strand.hear(self.circuit, cell);
         for mut other in woken {
@@ -166,8 +166,9 @@ impl Shared<'_> {
         let query = strand.query;
         board.ended[query] = Some(strand);
         board.left -= 1;
-        board.moves += 1;
-        self.moved.notify_all();
+        if board.left == 0 {
+            self.moved.notify_all();
+        }
     }
 
     fn run(&self, strand: Strand) {
@@ -195,8 +196,10 @@ impl Shared<'_> {
                 self.run(strand);
                 continue;
             }
-            let board = self.board.lock().unwrap();
-            let board = self.moved.wait_while(board, |board| board.moves == seen && board.left > 0).unwrap();
+            let mut board = self.board.lock().unwrap();
+            board.sleeping += 1;
+            let mut board = self.moved.wait_while(board, |board| board.moves == seen && board.left > 0).unwrap();
+            board.sleeping -= 1;
             if board.left == 0 {
                 return;
             }
@@ -206,7 +209,7 @@ impl Shared<'_> {
 
 /// The journal of one batch.
 fn journal_text(shards: &[Mutex<Shard>]) -> String {
-    let mut text = format!("journal shards {SHARDS} cells {CAPACITY}\nbatch 1\n");
+    let mut text = format!("journal shards {} cells {CAPACITY}\nbatch 1\n", shards.len());
     for (number, shard) in shards.iter().enumerate() {
         writeln!(text, "shard {number}").unwrap();
         for entry in &shard.lock().unwrap().journal {
@@ -232,9 +235,17 @@ fn main() -> io::Result<()> {
     let words: Vec<String> = env::args().collect();
     let circuit = Circuit::read(&words[1], &words[2])?;
     let workers: usize = words[4].parse().expect("a number of workers");
+    let shards: u32 = words[5].parse().expect("a number of shards");
     let questions = io::stdin().lock().lines().map(|line| Ok(Question::read(&line?))).collect::<io::Result<Vec<_>>>()?;
     let begun = Instant::now();
-    let shard = || Mutex::new(Shard { store: Store::new(CAPACITY), claims: BTreeMap::new(), journal: Vec::new() });
+    let shard = || {
+        Mutex::new(Shard {
+            store: Store::new(CAPACITY),
+            claims: BTreeMap::new(),
+            journal: Vec::new(),
+            counts: vec![0; questions.len()],
+        })
+    };
     let strand = |(query, question): (usize, &Question)| Strand {
         query,
         signal: circuit.signal(&question.name),
@@ -247,12 +258,12 @@ fn main() -> io::Result<()> {
     let strands: VecDeque<Strand> = questions.iter().enumerate().map(strand).collect();
     let shared = Shared {
         circuit: &circuit,
-        shards: (0..SHARDS).map(|_| shard()).collect(),
+        shards: (0..shards).map(|_| shard()).collect(),
         board: Mutex::new(Board {
-            counts: vec![0; strands.len()],
             ended: strands.iter().map(|_| None).collect(),
             left: strands.len(),
             moves: 0,
+            sleeping: 0,
         }),
         moved: Condvar::new(),
         ready: Mutex::new(strands),
@@ -264,11 +275,12 @@ fn main() -> io::Result<()> {
     });
     let ran = begun.elapsed();
     let board = shared.board.into_inner().unwrap();
+    let booked = |shard: &Mutex<Shard>| shard.lock().unwrap().counts.iter().sum::<u64>();
     let mut out = io::BufWriter::new(io::stdout().lock());
     for (question, strand) in questions.iter().zip(&board.ended) {
         question.write(&mut out, strand.as_ref().map(|strand| &strand.runs[..]))?;
     }
     fs::write(&words[3], journal_text(&shared.shards))?;
-    eprintln!("{} claims and fills, {} ms", board.counts.iter().sum::<u64>(), ran.as_millis());
+    eprintln!("{} claims and fills, {} ms", shared.shards.iter().map(booked).sum::<u64>(), ran.as_millis());
     Ok(())
 }

@@ -5,14 +5,16 @@
 # - workload: its sixteen questions, 82,730 evaluations.
 # - apart: sixteen windows of 100 instants, of outputs whose fan-in cones share no gate.
 #
-# A time is the shortest of five, without the time that an empty script takes: that of reading and joining the files.
+# A time is the shortest of five, without the time that an empty script takes: that of reading and joining the files. SHARDS is the
+# number of shards of both programs, 8 if it is not set.
 #
-#     bench/workers/run.sh
+#     [SHARDS=64] bench/workers/run.sh
 set -euo pipefail
 here=$(cd "$(dirname "$0")" && pwd)
 . "$here/../common.sh"
 begin "$here"
 own=$top/crates/backsim/out/backsim
+shards=${SHARDS:-8}
 rustc --edition 2021 -O -o "$copy/generate" "$here/../demand/generate.rs"
 "$copy/generate" "$copy" 7
 for i in $(seq 0 15); do
@@ -36,8 +38,8 @@ best() {
     echo "$least"
 }
 
-plain() { "$copy/plain" "$copy/workload.bench" "$copy/workload.stim" "$copy/journal" "$1"; }
-backsim() { "$own" "$copy"/workload.{bench,timing,stim} "$copy/journal" --workers "$1" --shards "${SHARDS:-8}"; }
+plain() { "$copy/plain" "$copy/workload.bench" "$copy/workload.stim" "$copy/journal" "$1" "$shards"; }
+backsim() { "$own" "$copy"/workload.{bench,timing,stim} "$copy/journal" --workers "$1" --shards "$shards"; }
 
 echo "| script | workers | plain Rust, ms | backsim, ms | backsim / plain Rust |"
 echo "|---|---|---|---|---|"

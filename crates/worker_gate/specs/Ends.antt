@@ -19,10 +19,11 @@ IsEnd s number task count = (next s.strand ≡ Done) × (s.number ≡ number) ×
 abbrev pub AreEnds : List (Option Demand) → List Task → List ℕ → Type 0
 AreEnds places tasks counts = (i : ℕ) (s : Demand) (t : Task) → slice_get places i ≡ Some (Some s) → slice_get tasks i ≡ Some t → IsEnd s i t (slice_index counts i)
 
--- the same without the count, as the board knows it
+-- what the board knows of it, which is all but the count
 abbrev pub HasEnded : Demand → ℕ → Task → Type 0
 HasEnded s number task = (next s.strand ≡ Done) × (s.number ≡ number) × (task_of s ≡ task) × (s.strand.spent ≡ true → s.strand.charged ≡ s.strand.budget)
 
+-- each place is empty, or has a strand of which this is known
 abbrev pub HaveEnded : List (Option Demand) → List Task → Type 0
 HaveEnded places tasks = (i : ℕ) (s : Demand) (t : Task) → slice_get places i ≡ Some (Some s) → slice_get tasks i ≡ Some t → HasEnded s i t
 

@@ -2,20 +2,23 @@
 //!
 //! [`run_workers`] starts 1 to 64 workers. Each takes a strand from the queue of those that are ready and makes its turns, until the
 //! strand waits in a shard or has ended; the strands that come out of a claim go into the queue. Each shard stands behind a lock of
-//! its own. A strand that has ended goes to its place on the board, which is one lock more. No other lock is taken while the board's is held.
+//! its own, with a count of the claims and fills of each strand: a claim or a fill takes no other lock. A strand that has ended goes to
+//! its place on the board, which is one lock more. No worker holds two locks. One that finds no strand ready sleeps at the board, and a
+//! push wakes one of those that sleep.
 //!
 //! What a caller may rely on, under every schedule of the threads:
 //!
-//! - The counts of the strands add up to the claims and fills that all journals have. For this each shard has one part of a ledger
-//!   under its lock, and the board has the ledger's book: a claim or a fill is booked there while the shard's lock is still held.
+//! - The counts of the strands add up to the claims and fills that all journals have. The counts under a shard's lock add up to those
+//!   of its journal whenever the lock is free; once the workers are joined, the counts of all shards are added up, strand by strand.
 //! - Each strand that comes back has ended, has the number of its place and the task of the strand that was handed in with that
 //!   number, is spent only at its full budget, and its charge and its fills make up its count.
 //! - Where the gate is open, every strand comes back.
 //!
 //! What is under one lock is not known under another, so a worker tests it: that the shard is there with its number, that it has the
-//! claim, that the place on the board is empty and its count the one before. No worker makes one of these tests false; where one is,
-//! the worker takes the lock again. So `run_workers` may wait, and no clause says that it returns, that a worker gets on, or that two
-//! workers run at once: the tests show the latter, by gates that hold a worker until another has come.
+//! claim and a count for the strand, that the place on the board is empty. No worker makes one of these tests false; where one is, the
+//! worker takes the lock again. After the join each strand is compared with its count, and where one differed the call would not
+//! return. So `run_workers` may wait, and no clause says that it returns, that a worker gets on, or that two workers run at once: the
+//! tests show the latter, by gates that hold a worker until another has come.
 //!
 //! A [`Gate`] is called before each turn, and within each shard's lock. [`OpenGate`] lets everyone go on. A worker that a gate tells
 //! to leave puts its strand back into the queue, and that strand's place stays empty. Where memory runs out, all workers end, and

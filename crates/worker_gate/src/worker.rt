@@ -53,10 +53,10 @@ fn after_ask<B: BatchName>(asked: Result<Asked<B>, (Strand<B>, OutOfMemory)>) ->
 impl<B: BatchName> Shared<B> {
     // Tells of a push, and wakes a worker for it where one sleeps.
     //
-    // A worker sleeps only while no move was made since it looked, there is memory and a place is empty: it tests this under the
-    // board's lock, under which each of these changes and wakes. So a wake for a push is no other sleeper's and none goes amiss.
-    // It wakes one, since one strand is ready; where all that sleep are woken already, nobody sleeps. No strand is left in the queue
-    // while all sleep: who pushes it is awake, and takes from the queue once more before it sleeps, or has woken another if it leaves.
+    // No wake is lost. A worker goes to sleep under the board's lock, where no move was made since it looked, there is memory, and a
+    // place is empty. Each of these changes under that lock and wakes then, so whoever is woken finds a change. A move wakes one, since
+    // it made one strand ready; where it finds none to wake, all are awake or woken, and each takes from the queue before it sleeps.
+    // So does who pushed the strand; where it leaves at the gate, the push has woken another.
     fn tell<R: Wait>(&self, rt: &R) {
         let mut board = self.board.lock(rt);
         board.moves = board.moves.wrapping_add(1);
