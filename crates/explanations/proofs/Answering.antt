@@ -1,12 +1,10 @@
 -- The one query of a batch, for one time: what it needs, and its answer.
-use Rattle.std.proofs.Common.{◌≡◌, ℕ, ◌+◌, ◌<◌, ◌≤◌, Bool, true, false, List, [], ◌∷◌, length, Contains, Option, Some, None, option_map, refl, sym, ap, subst, ◌∙◌, arith}
+use Rattle.std.proofs.Common.{◌≡◌, ℕ, ◌+◌, ◌<◌, ◌≤◌, Bool, true, List, [], ◌∷◌, length, Contains, Option, Some, None, refl, sym, ap, subst, ◌∙◌, arith}
 use Rattle.std.proofs.lemmas.List.Elements.{All-contains, All-from_recursion}
-use Rattle.gate_values.specs.declared.Value.{Value}
 use Rattle.valid_intervals.specs.declared.Cell.{Cell}
 use Rattle.valid_intervals.specs.declared.Point.{Point}
 use Rattle.valid_intervals.specs.declared.SignalCell.{SignalCell}
 use Rattle.circuit_meaning.specs.Circuit.{Circuit, IsCircuit}
-use Rattle.circuit_meaning.specs.Forward.{value}
 use Rattle.circuit_meaning.specs.Cells.{cell_at, point_at}
 use Rattle.circuit_meaning.specs.Need.{IsEvaluable, Root, First}
 use Rattle.journal_meaning.specs.declared.Entry.{Entry}
@@ -17,8 +15,7 @@ use Rattle.batch_meaning.specs.declared.Query.{Query}
 use Rattle.batch_meaning.specs.Batches.{Batch, Site, IsNeededBy, NeedOf}
 use Rattle.batch_meaning.specs.Lawful.{IsLawful}
 use Rattle.session_meaning.specs.Explanations.{Explains, IsWhyAnswer}
-use Rattle.reply_lines.specs.declared.reply.WhyAnswer.TheVariants.{Proof, Budget}
-use Rattle.why_proofs.specs.Justified.{answer}
+use Rattle.reply_lines.specs.declared.reply.WhyAnswer.TheVariants.{Budget}
 use Rattle.plan_machine.specs.Shards.{Shard}
 use Rattle.plan_machine.specs.Settle.{journals_of}
 use Rattle.plan_machine.specs.inner.Settle.{IsOpen, IsStanding, Advances, Reaches}
@@ -27,7 +24,7 @@ use Rattle.plan_machine.proofs.Underway.{contains-none}
 use Rattle.memo_shards.specs.KeptShards.{KeptShard}
 use Rattle.plan_core.specs.Parts.{shards_in}
 use Rattle.demand_points.specs.Frames.{IsPoint}
-use Rattle.asked_cells.specs.Memos.{AreFreeShards, entries_of}
+use Rattle.asked_cells.specs.Memos.{AreFreeShards, entries_of, is_missing}
 use Rattle.asked_cells.specs.inner.Standings.{live, standing}
 use Rattle.explanations.specs.inner.Gathered.{AreExplained}
 
@@ -74,6 +71,16 @@ module _ (b : Batch) (lawful : IsLawful b) (opening : ℕ → List SignalCell) (
         fed = λ p x h. absurd (contains-none _ [] refl h);
         refusals = refl;
       }))
+
+  -- its point was asked for
+  pub record IsHeard (first : List Shard) (heard : List KeptShard) : Type 0 where
+    pub stands : IsStanding b opening q [] first (live heard)
+    pub covered : IsCovered b.circuit (entries_of heard) root
+
+  pub is-heard : (first : List Shard) (old heard : List KeptShard) (o : Option Cell) (cell : Cell) → o ≡ Some cell → Reaches b opening q [] first (live old) root (standing heard (is_missing o)) → IsHeard first heard
+  is-heard first old heard o cell e r =
+      let k = subst (λ o. Reaches b opening q [] first (live old) root (standing heard (is_missing o))) e r in
+      record { stands = k.0.stands; covered = k.1 refl }
 
   -- the query is closed once its point is covered
   closed : (first : List Shard) (now : List KeptShard) → IsStanding b opening q [] first (live now) → IsCovered b.circuit (entries_of now) root → IsClosed b.circuit (entries_of now) q

@@ -1,7 +1,7 @@
 -- Lines are gathered: one is taken, and what it comes from is asked for.
-use Rattle.std.proofs.Common.{◌≡◌, ℕ, zero, suc, ◌+◌, ◌*◌, ◌<◌, ◌≤◌, List, [], ◌∷◌, length, get_or, All, Contains, Option, Some, None, refl, sym, ap, subst, ◌∙◌, arith, inl, inr}
+use Rattle.std.proofs.Common.{◌≡◌, ℕ, zero, suc, ◌<◌, ◌≤◌, List, [], ◌∷◌, ◌++◌, reverse, length, get_or, All, Contains, Option, Some, None, refl, sym, ap, subst, ◌∙◌, arith, inl, inr}
 use Rattle.std.specs.List.{AllByRecursion}
-use Rattle.std.proofs.lemmas.List.{get_or_default}
+use Rattle.std.proofs.lemmas.List.{get_or_default, reverse-append}
 use Rattle.std.proofs.lemmas.List.Elements.{All-weaker, All-contains_itself, All-contains}
 use Rattle.std.proofs.lemmas.List.Kept.{AllPairs-cons}
 use Rattle.valid_intervals.specs.declared.Cell.{Cell}
@@ -18,13 +18,14 @@ use Rattle.batch_meaning.specs.Batches.{Batch, IsNeededBy}
 use Rattle.batch_meaning.specs.Lawful.{IsLawful}
 use Rattle.journal_meaning.specs.declared.Entry.{Entry}
 use Rattle.session_meaning.specs.Explanations.{IsBefore}
+use Rattle.demand_points.specs.Frames.{IsPoint}
 use Rattle.plan_machine.proofs.Steps.{wanted-time}
 use Rattle.plan_machine.proofs.Settle.{child-needed}
 use Rattle.plan_machine.proofs.Underway.{contains-one, contains-cases, contains-none}
 use Rattle.why_proofs.proofs.Sound.{steady}
 use Rattle.explanations.specs.declared.waiting.Place.{Place}
 use Rattle.explanations.specs.declared.waiting.Asked.{Asked}
-use Rattle.explanations.specs.inner.Waiting.{IsBelow, line_of, point_of, place_of, Places, Adds, TakesLast}
+use Rattle.explanations.specs.inner.Waiting.{IsBelow, line_of, point_of, place_of, Places, TakesLast}
 use Rattle.explanations.specs.inner.Gathered.{IsWanted, IsSourceAdded, IsOfSource, Looks, IsKept, IsSourceKept, AreSourcesKept, AreGathered, rank}
 use Rattle.explanations.proofs.Moves.{IsMoved, source-child, source-earlier, sources-moved, never-moves}
 use Rattle.explanations.proofs.Looks.{told-grows}
@@ -37,6 +38,10 @@ at-front y rest = (0, omega arith, refl)
 
 all-from : {A : Type 0} (P : A → Type 0) (xs : List A) → ((x : A) → Contains xs x → P x) → All P xs
 all-from P xs f = All-weaker (Contains xs) P f xs (All-contains_itself xs)
+
+-- lines are kept in the order in which they are taken, and read from the end
+pub taken-first : (xs ys : List SignalCell) (x line : SignalCell) → ys ≡ xs ++ x ∷ [] → x ≡ line → reverse ys ≡ line ∷ reverse xs
+taken-first xs ys x line e is = ap reverse e ∙ reverse-append xs (x ∷ []) ∙ ap (λ z. z ∷ reverse xs) is
 
 -- the order of lines
 before-before : (x y z : SignalCell) → IsBefore x y → IsBefore y z → IsBefore x z
@@ -93,6 +98,10 @@ module _ (b : Batch) (lawful : IsLawful b) (q : Query) (known : Contains b.queri
   -- what is wanted is asked for up to the horizon
   pub in-time : (es : List Entry) (a : Asked) → IsWanted b q es a → a.time ≤ c.horizon
   in-time es a w = wanted-time b lawful q.number (point_of a) (q, known, refl, w.needed)
+
+  -- at a point of the circuit
+  pub wanted-point : (es : List Entry) (a : Asked) → IsWanted b q es a → IsPoint c (point_of a)
+  wanted-point es a w = record { signal = evaluable-signal a.time c.drivers a.signal w.told.evaluable; time = in-time es a w }
 
   -- the cell has the time, and its own first time
   pub has-time : (a : Asked) → a.cell ≡ cell_at c (point_of a) → a.time ≤ c.horizon → IsIn a.cell.span a.time
@@ -211,6 +220,24 @@ module _ (b : Batch) (lawful : IsLawful b) (q : Query) (known : Contains b.queri
                 let same : x.cell ≡ y.cell = one-place x y refl (omega (arith, early, low)) wy.told.right (in-time fs y wy) stands in
                 inr (line_of y, inr (place_of (line_of x), y, h.1, refl), sym (ap (λ (k : Place). k.signal) stands) ∙ sym m.0, subst (λ (z : Cell). IsIn z.span r.time) same m.1)
 
+  -- one line more
+  pub record IsStep (fs : List Entry) (lines : List SignalCell) (a : Asked) (new : Places) : Type 0 where
+    pub gathered : AreGathered b q fs (line_of a ∷ lines) new
+    pub sources : (x : SignalCell) → Contains (line_of a ∷ lines) x → AreSourcesKept c (line_of a ∷ lines) new x
+
+  pub steps : (es fs : List Entry) (lines : List SignalCell) (old now new : Places) (a : Asked) → AreGathered b q es lines old → ((x : SignalCell) → Contains lines x → AreSourcesKept c lines old x) → TakesLast old a now
+      → Looks c es fs now new (looked_points c a.signal a.time) → IsStep fs lines a new
+  steps es fs lines old now new a g kept t l =
+      let w = g.waiting t.place a t.was in
+      let taken = takes-line es lines old a now g t in
+      record {
+        gathered = gathers es lines now a w fs new taken l;
+        sources = λ x h. elim (contains-cases (line_of a) lines x h) [
+          | inl same ↦ subst (AreSourcesKept c (line_of a ∷ lines) new) same (sources-kept es lines now a w fs new taken l)
+          | inr more ↦ sources-looked c (line_of a ∷ lines) now new l.kept x (sources-taken c lines old now a t x (kept x more))
+        ];
+      }
+
   -- before any line is taken: the query's own point was asked for
   pub begins : (es fs : List Entry) (old new : Places) → ((k : Place) → old k ≡ None) → (IsEvaluable c q.signal q.from → IsNeededBy b q (point_at q.signal q.from)) → Looks c es fs old new (Some (point_at q.signal q.from) ∷ []) → AreGathered b q fs [] new
   begins es fs old new none needed l = record {
@@ -248,7 +275,7 @@ module _ (b : Batch) (lawful : IsLawful b) (q : Query) (known : Contains b.queri
           inr (line_of a, inr (k, a, h.1, refl), sym (ap (λ (p : Point). p.signal) same), subst (IsIn a.cell.span) (sym (ap (λ (p : Point). p.time) same)) inside)
 
   -- each line that is taken comes before those that were
-  pub rank-less : (es : List Entry) (lines : List SignalCell) (now : Places) (a : Asked) → AreGathered b q es (line_of a ∷ lines) now → IsWanted b q es a → length c.drivers ≤ 1048576 → rank c.horizon (line_of a ∷ lines) < rank c.horizon lines
+  rank-less : (es : List Entry) (lines : List SignalCell) (now : Places) (a : Asked) → AreGathered b q es (line_of a ∷ lines) now → IsWanted b q es a → length c.drivers ≤ 1048576 → rank c.horizon (line_of a ∷ lines) < rank c.horizon lines
   rank-less es [] now a g w limit =
       let low = in-time es a w in
       let since = (has-time a w.told.right low).low in
@@ -261,3 +288,6 @@ module _ (b : Batch) (lawful : IsLawful b) (q : Query) (known : Contains b.queri
         | inl l ↦ omega arith
         | inr m ↦ let e = m.0 in let l = m.1 in omega arith
       ]
+
+  pub takes-less : (es : List Entry) (lines : List SignalCell) (old now : Places) (a : Asked) → AreGathered b q es lines old → TakesLast old a now → length c.drivers ≤ 1048576 → rank c.horizon (line_of a ∷ lines) < rank c.horizon lines
+  takes-less es lines old now a g t limit = rank-less es lines now a (takes-line es lines old a now g t) (g.waiting t.place a t.was) limit

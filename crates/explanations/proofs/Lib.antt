@@ -1,7 +1,8 @@
-pub mod Answering
+mod Answering
 mod Asking
+mod Ended
+mod Following
 mod Gathering
-mod Lines
 mod Looks
 mod Moves
 mod Places

@@ -56,12 +56,13 @@ pub fn hear<B: BatchName>(
     let Some(cell) = reach(memo, design, one, p.time, charge)? else {
         return Ok(None);
     };
-    waiting.add(Asked {
+    let asked = Asked {
         signal: p.signal,
         time: p.time,
         cell,
-    })?;
-    Ok(Some(cell))
+    };
+    waiting.add(&asked)?;
+    Ok(Some(asked.cell))
 }
 
 /// Looks at the next pin of a point; none where the query is refused.

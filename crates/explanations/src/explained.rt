@@ -35,6 +35,7 @@ pub struct Explained<B: BatchName> {
 
 /// Asks for the one time of a query, and gathers the lines of its cell.
 fn gather_answer<B: BatchName>(
+    alloc: Global,
     memo: &mut Memo<B>,
     design: &Design,
     query: Query,
@@ -50,7 +51,7 @@ fn gather_answer<B: BatchName>(
     ensures journals { OnOk result ((added : List EntryRecord) × AreAdded (journals_of (shards_in memo.old)) added (journals_of (shards_in memo.new))) }
     ensures answer { IfOk result (IsWhyAnswer B.batch.circuit (entries_of memo.new) query) }
 {
-    let mut waiting = Waiting::new(memo.alloc());
+    let mut waiting = Waiting::new(alloc);
     let mut charge = 0;
     let point = Point {
         signal: query.signal,
@@ -59,7 +60,7 @@ fn gather_answer<B: BatchName>(
     let Some(cell) = hear(memo, design, query, point, &mut waiting, &mut charge)? else {
         return Ok(WhyAnswer::Budget(query.budget));
     };
-    match gather(memo, design, query, waiting, charge)? {
+    match gather(alloc, memo, design, query, waiting, charge)? {
         None => Ok(WhyAnswer::Budget(query.budget)),
         Some(lines) => Ok(WhyAnswer::Proof {
             cells: CellList::from_vec(lines),
@@ -90,7 +91,7 @@ pub fn explain<B: BatchName>(
     ensures answer { IfOk result (λ done. IsWhyAnswer B.batch.circuit (entries_in (shards_in done.shards.items)) query done.answer) }
 {
     let mut memo = begin(alloc, shards)?;
-    let answer = gather_answer(&mut memo, design, query)?;
+    let answer = gather_answer(alloc, &mut memo, design, query)?;
     Ok(Explained {
         answer,
         shards: memo.into_shards(),

@@ -31,9 +31,9 @@
 mod children;
 mod explained;
 mod lines;
-mod waiting;
 #[cfg(test)]
 mod tests;
+mod waiting;
 
 pub use explained::{Explained, explain};
 pub use reply_lines::WhyAnswer;

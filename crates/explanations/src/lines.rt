@@ -17,10 +17,12 @@ use backsim_io::OutOfMemory;
 use batch_meaning::Query;
 use demand_points::BatchName;
 use design::Design;
+use std::alloc::Global;
 use valid_intervals::SignalCell;
 
 /// The lines of the cells that wait and of all that they come from, in order. None where the query is refused.
 pub fn gather<B: BatchName>(
+    alloc: Global,
     memo: &mut Memo<B>,
     design: &Design,
     query: Query,
@@ -40,7 +42,7 @@ pub fn gather<B: BatchName>(
     design.facts();
     let mut waiting = waiting;
     let mut charge = charge;
-    let mut lines = Vec::new(memo.alloc());
+    let mut lines = Vec::new(alloc);
     'cells: while let Some(asked) = waiting.take_last() {
         lines.push(asked.line())?;
         let point = asked.point();

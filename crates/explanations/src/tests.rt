@@ -29,11 +29,7 @@ fn short(text: &str) -> &[u8]
 }
 
 /// The design of a netlist and a stimulus, with delays of 1.
-fn joined(
-    alloc: Global,
-    netlist: &str,
-    stimulus: &str,
-) -> Result<Result<Design, JoinFault>, Fail> {
+fn joined(alloc: Global, netlist: &str, stimulus: &str) -> Result<Result<Design, JoinFault>, Fail> {
     let netlist = read_bench(alloc, short(netlist))?;
     let timing = read_timing(alloc, short(""))?;
     let stimulus = read_stimulus(alloc, short(stimulus))?;
@@ -159,12 +155,24 @@ fn told_cells_are_explained_too(rt: HostRuntime) -> Result<(), Fail> {
     let design = chain(rt.alloc())??;
     let store = CellStore::new(rt.alloc(), 4)?;
     let first = why(rt.alloc(), &design, store, 1, b"n3", 5, 50_000)?.expect(&rt, "a signal");
-    assert_eq!(rt; first.text.expect(&rt, "a proof").as_slice(), b"why n3 5 1\ncell 2 1 11 1\ncell 3 2 11 1\ncell 1 3 11 1\nend\n".as_slice());
-    assert_eq!(rt; first.journal.as_slice(), b"claim 1 1 5\nclaim 1 3 4\nclaim 1 2 3\nfill 1 2 3 1 11 1\nfill 1 3 4 2 11 1\nfill 1 1 5 3 11 1\n".as_slice());
+    assert_eq!(rt;
+        first.text.expect(&rt, "a proof").as_slice(),
+        b"why n3 5 1\ncell 2 1 11 1\ncell 3 2 11 1\ncell 1 3 11 1\nend\n".as_slice()
+    );
+    assert_eq!(rt;
+        first.journal.as_slice(),
+        b"claim 1 1 5\nclaim 1 3 4\nclaim 1 2 3\nfill 1 2 3 1 11 1\nfill 1 3 4 2 11 1\nfill 1 1 5 3 11 1\n".as_slice()
+    );
     // the cell of n3 is told, and so is what it comes from
     let next = why(rt.alloc(), &design, first.store, 2, b"n3", 6, 50_000)?.expect(&rt, "a signal");
-    assert_eq!(rt; next.text.expect(&rt, "a proof").as_slice(), b"why n3 6 1\ncell 2 1 11 1\ncell 3 2 11 1\ncell 1 3 11 1\nend\n".as_slice());
-    assert_eq!(rt; next.journal.as_slice(), b"told 2 1 6 3 11 1\ntold 2 3 5 2 11 1\ntold 2 2 4 1 11 1\n".as_slice());
+    assert_eq!(rt;
+        next.text.expect(&rt, "a proof").as_slice(),
+        b"why n3 6 1\ncell 2 1 11 1\ncell 3 2 11 1\ncell 1 3 11 1\nend\n".as_slice()
+    );
+    assert_eq!(rt;
+        next.journal.as_slice(),
+        b"told 2 1 6 3 11 1\ntold 2 3 5 2 11 1\ntold 2 2 4 1 11 1\n".as_slice()
+    );
     Ok(())
 }
 
@@ -173,7 +181,10 @@ fn a_base_answer_needs_no_line(rt: HostRuntime) -> Result<(), Fail> {
     let design = chain(rt.alloc())??;
     let store = CellStore::new(rt.alloc(), 4)?;
     let seen = why(rt.alloc(), &design, store, 1, b"n3", 0, 0)?.expect(&rt, "a signal");
-    assert_eq!(rt; seen.text.expect(&rt, "a proof").as_slice(), b"why n3 0 x\nend\n".as_slice());
+    assert_eq!(rt;
+        seen.text.expect(&rt, "a proof").as_slice(),
+        b"why n3 0 x\nend\n".as_slice()
+    );
     assert_eq!(rt; seen.journal.as_slice(), b"".as_slice());
     Ok(())
 }
@@ -184,7 +195,10 @@ fn a_budget_is_too_small(rt: HostRuntime) -> Result<(), Fail> {
     let store = CellStore::new(rt.alloc(), 4)?;
     let seen = why(rt.alloc(), &design, store, 1, b"n3", 5, 2)?.expect(&rt, "a signal");
     assert_eq!(rt; seen.text.is_none(), true);
-    assert_eq!(rt; seen.journal.as_slice(), b"claim 1 1 5\nclaim 1 3 4\nspent 1 2 3 2\ndrop 1 3 4\ndrop 1 1 5\n".as_slice());
+    assert_eq!(rt;
+        seen.journal.as_slice(),
+        b"claim 1 1 5\nclaim 1 3 4\nspent 1 2 3 2\ndrop 1 3 4\ndrop 1 1 5\n".as_slice()
+    );
     Ok(())
 }
 
@@ -198,7 +212,13 @@ fn pins_behind_the_first_that_decides_are_left_out(rt: HostRuntime) -> Result<()
     )??;
     let store = CellStore::new(rt.alloc(), 4)?;
     let seen = why(rt.alloc(), &design, store, 1, b"y", 5, 50_000)?.expect(&rt, "a signal");
-    assert_eq!(rt; seen.text.expect(&rt, "a proof").as_slice(), b"why y 5 0\ncell 3 1 11 0\ncell 2 2 11 0\nend\n".as_slice());
-    assert_eq!(rt; seen.journal.as_slice(), b"claim 1 2 5\nclaim 1 3 4\nfill 1 3 4 1 11 0\nfill 1 2 5 2 11 0\n".as_slice());
+    assert_eq!(rt;
+        seen.text.expect(&rt, "a proof").as_slice(),
+        b"why y 5 0\ncell 3 1 11 0\ncell 2 2 11 0\nend\n".as_slice()
+    );
+    assert_eq!(rt;
+        seen.journal.as_slice(),
+        b"claim 1 2 5\nclaim 1 3 4\nfill 1 3 4 1 11 0\nfill 1 2 5 2 11 0\n".as_slice()
+    );
     Ok(())
 }

@@ -74,14 +74,14 @@ impl Waiting {
     }
 
     /// Adds a cell, unless one stands in its place.
-    pub fn add(&mut self, asked: Asked) -> Result<(), OutOfMemory>
-        ensures { OnOk result (Adds (get place_cmp self.old.cells) asked (get place_cmp self.new.cells)) }
+    pub fn add(&mut self, asked: &Asked) -> Result<(), OutOfMemory>
+        ensures { OnOk result (Adds (get place_cmp self.old.cells) asked.now (get place_cmp self.new.cells)) }
     {
         let place = asked.place();
         if self.cells.contains_key(&place) {
             return Ok(());
         }
-        self.cells.insert(place, asked)?;
+        self.cells.insert(place, *asked)?;
         Ok(())
     }
 

@@ -9,12 +9,12 @@ use Rattle.explanations.proofs.waiting.Waiting.add.Goals as goal
 pub returns-then-contains_key : goal.returns-then-contains_key
 returns-then-contains_key c =
     let old = get place_cmp c.args.self.now.cells in
-    adds-none old c.args.asked (subst (λ (p : Place). is_some (old p) ≡ true) c.place-place.ensures (sym c.contains_key.ensures ∙ c.if-contains_key.true))
+    adds-none old c.args.asked.now (subst (λ (p : Place). is_some (old p) ≡ true) c.place-place.ensures (sym c.contains_key.ensures ∙ c.if-contains_key.true))
 
 pub returns : goal.returns
 returns c =
     let old = get place_cmp c.args.self.now.cells in
     let new = get place_cmp c.insert.new.self in
-    let a = c.args.asked in
+    let a = c.args.asked.now in
     let none : is_some (old (place_of (line_of a))) ≡ false = subst (λ (p : Place). is_some (old p) ≡ false) c.place-place.ensures (sym c.contains_key.ensures ∙ c.if-contains_key.false) in
     adds-one old new a none (subst (λ (p : Place). (k : Place) → new k ≡ cond (is_eq (place_cmp p k)) (Some a) (old k)) c.place-place.ensures c.in_ok-insert.ensures.updates.0)

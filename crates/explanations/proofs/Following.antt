@@ -11,11 +11,11 @@ use Rattle.valid_intervals.specs.declared.Point.{Point}
 use Rattle.valid_intervals.specs.declared.SignalCell.{SignalCell}
 use Rattle.valid_intervals.specs.Spans.{IsIn}
 use Rattle.valid_intervals.specs.Cells.{covers}
-use Rattle.circuit_meaning.specs.Circuit.{Circuit, Driver, Input, driver, IsCircuit}
+use Rattle.circuit_meaning.specs.Circuit.{Circuit, driver, IsCircuit}
 use Rattle.circuit_meaning.specs.Forward.{value}
 use Rattle.circuit_meaning.specs.Cells.{cell_at, point_at}
 use Rattle.circuit_meaning.specs.Base.{base_answer}
-use Rattle.circuit_meaning.specs.Need.{HasChildren, IsEvaluable}
+use Rattle.circuit_meaning.specs.Need.{IsEvaluable}
 use Rattle.circuit_meaning.specs.Looks.{looked_points}
 use Rattle.circuit_meaning.proofs.BaseCells.{base-answers}
 use Rattle.batch_meaning.specs.declared.Query.{Query}
