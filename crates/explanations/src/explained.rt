@@ -1,0 +1,99 @@
+//! The answer to a question for an explanation.
+
+ghost use Rattle.std.specs.Prelude.{◌≡◌, ◌+◌, ◌∷◌, [], List, None, length, IfOk, OnOk};
+ghost use Rattle.batch_meaning.specs.Lawful.{IsLawful};
+ghost use Rattle.journal_meaning.specs.declared.Entry.{Entry as EntryRecord};
+ghost use Rattle.journal_meaning.specs.Grown.{AreAdded};
+ghost use Rattle.session_meaning.specs.Explanations.{IsWhyAnswer};
+ghost use Rattle.plan_machine.specs.Sound.{IsFresh};
+ghost use Rattle.plan_machine.specs.Settle.{entries_in, journals_of};
+ghost use Rattle.plan_core.specs.Parts.{shards_in};
+ghost use Rattle.asked_cells.specs.Shards.{AreNumbered};
+ghost use Rattle.asked_cells.specs.Memos.{AreFreeShards, entries_of};
+ghost use Rattle.explanations.specs.Unused.{AreUnused};
+
+use crate::children::hear;
+use crate::lines::gather;
+use crate::waiting::Waiting;
+use asked_cells::{Memo, begin};
+use backsim_io::OutOfMemory;
+use batch_meaning::Query;
+use demand_points::BatchName;
+use design::Design;
+use memo_shards::Shard;
+use reply_lines::WhyAnswer;
+use std::alloc::Global;
+use valid_intervals::Point;
+use why_proofs::CellList;
+
+/// What was found, and the shards that are left.
+#[derive(Drop)]
+pub struct Explained<B: BatchName> {
+    pub answer: WhyAnswer,
+    pub shards: Vec<Shard<B>>,
+}
+
+/// Asks for the one time of a query, and gathers the lines of its cell.
+fn gather_answer<B: BatchName>(
+    alloc: Global,
+    memo: &mut Memo<B>,
+    design: &Design,
+    query: Query,
+) -> Result<WhyAnswer, OutOfMemory>
+    requires lawful { IsLawful B.batch }
+    requires site { B.batch.site ≡ None }
+    requires design { design.now.circuit ≡ B.batch.circuit }
+    requires queries { B.batch.queries ≡ query ∷ [] }
+    requires window { query.to ≡ query.from + 1 }
+    requires kept { AreFreeShards B.batch B.opening memo.old }
+    requires unused { entries_of memo.old ≡ [] }
+    ensures kept { OnOk result (AreFreeShards B.batch B.opening memo.new) }
+    ensures journals { OnOk result ((added : List EntryRecord) × AreAdded (journals_of (shards_in memo.old)) added (journals_of (shards_in memo.new))) }
+    ensures answer { IfOk result (IsWhyAnswer B.batch.circuit (entries_of memo.new) query) }
+{
+    let mut waiting = Waiting::new(alloc);
+    let mut charge = 0;
+    let point = Point {
+        signal: query.signal,
+        time: query.from,
+    };
+    let Some(cell) = hear(memo, design, query, point, &mut waiting, &mut charge)? else {
+        return Ok(WhyAnswer::Budget(query.budget));
+    };
+    match gather(alloc, memo, design, query, waiting, charge)? {
+        None => Ok(WhyAnswer::Budget(query.budget)),
+        Some(lines) => Ok(WhyAnswer::Proof {
+            cells: CellList::from_vec(lines),
+            value: cell.value,
+        }),
+    }
+}
+
+/// Why the signal of a query has its value at the query's one time: the cells that prove it, each told or filled in the batch; or the
+/// budget, where it would take more evaluations. An `Err` gives up the shards.
+pub fn explain<B: BatchName>(
+    alloc: Global,
+    design: &Design,
+    shards: Vec<Shard<B>>,
+    query: Query,
+) -> Result<Explained<B>, OutOfMemory>
+    requires lawful { IsLawful B.batch }
+    requires site { B.batch.site ≡ None }
+    requires design { design.now.circuit ≡ B.batch.circuit }
+    requires queries { B.batch.queries ≡ query ∷ [] }
+    requires window { query.to ≡ query.from + 1 }
+    requires count { length shards.items ≡ B.batch.shards }
+    requires numbers { AreNumbered shards.items }
+    requires unused { AreUnused shards.items }
+    ensures numbers { IfOk result (λ done. AreNumbered done.shards.items) }
+    ensures fresh { IfOk result (λ done. IsFresh B.batch B.opening (shards_in done.shards.items)) }
+    ensures journals { IfOk result (λ done. (added : List EntryRecord) × AreAdded (journals_of (shards_in shards.items)) added (journals_of (shards_in done.shards.items))) }
+    ensures answer { IfOk result (λ done. IsWhyAnswer B.batch.circuit (entries_in (shards_in done.shards.items)) query done.answer) }
+{
+    let mut memo = begin(alloc, shards)?;
+    let answer = gather_answer(alloc, &mut memo, design, query)?;
+    Ok(Explained {
+        answer,
+        shards: memo.into_shards(),
+    })
+}
