@@ -1,0 +1,49 @@
+-- What is known where the three files make no design.
+use Rattle.std.specs.Prelude.{◌≡◌, ◌<◌, ⊤, ℕ, Result, Ok, Err}
+use Rattle.circuit_files.specs.declared.refusal.CircuitFile.{CircuitFile}
+use Rattle.circuit_files.specs.declared.refusal.CircuitFile.TheVariants.{Netlist, Timing, Stimulus}
+use Rattle.circuit_files.specs.declared.refusal.FileRefusal.{FileRefusal}
+use Rattle.circuit_files.specs.declared.stop.FilesStop.{FilesStop}
+use Rattle.circuit_files.specs.declared.stop.FilesStop.TheVariants.{Refused, NotOpened, Unread, OutOfMemory}
+
+-- how many files are read before it
+abbrev pub before : CircuitFile → ℕ
+before Netlist = 0
+before Timing = 1
+before Stimulus = 2
+
+-- the answer is this one, unless a fault, or a lack of memory, came before
+abbrev pub IsAnswerOf : {A : Type 0} → Result A FilesStop → Result A FileRefusal → Type 0
+IsAnswerOf (Ok a) said = said ≡ Ok a
+IsAnswerOf (Err (Refused refusal)) said = said ≡ Err refusal
+IsAnswerOf (Err stop) said = ⊤
+
+-- Where this is refused of the first n files, the answer is its refusal, unless a fault at one of them, or a lack of memory, came before.
+-- Nothing is said of what comes behind.
+abbrev pub AnswersFirst : {A B : Type 0} → ℕ → Result A FilesStop → Result B FileRefusal → Type 0
+AnswersFirst n result (Ok b) = ⊤
+AnswersFirst n (Ok a) (Err refusal) = ⊥
+AnswersFirst n (Err (Refused given)) (Err refusal) = given ≡ refusal
+AnswersFirst n (Err (NotOpened file)) (Err refusal) = before file < n
+AnswersFirst n (Err (Unread file)) (Err refusal) = before file < n
+AnswersFirst n (Err OutOfMemory) (Err refusal) = ⊤
+
+-- a stop that no fault made
+abbrev pub IsQuiet : FilesStop → Type 0
+IsQuiet (Refused refusal) = ⊤
+IsQuiet (NotOpened file) = ⊥
+IsQuiet (Unread file) = ⊥
+IsQuiet OutOfMemory = ⊤
+
+-- a stop that refuses something refuses this
+abbrev pub RefusesOnly : FileRefusal → FilesStop → Type 0
+RefusesOnly refusal (Refused given) = given ≡ refusal
+RefusesOnly refusal (NotOpened file) = ⊤
+RefusesOnly refusal (Unread file) = ⊤
+RefusesOnly refusal OutOfMemory = ⊤
+
+-- what a fault of a reader with this refusal makes, unless it is a lack of memory
+pub record IsStopOf (refusal : FileRefusal) (no_memory : Type 0) (stop : FilesStop) : Type 0 where
+  pub quiet : IsQuiet stop
+  pub refuses : RefusesOnly refusal stop
+  pub memory : no_memory → stop ≡ OutOfMemory

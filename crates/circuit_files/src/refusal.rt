@@ -1,0 +1,58 @@
+//! What is refused of a file, and the line that tells of it.
+
+ghost use Rattle.std.specs.Prelude.{◌≡◌, IfOk, string_bytes};
+ghost use Rattle.circuit_files.specs.Texts.{name_of, refusal_text};
+
+use std::alloc::{AllocError, Global};
+
+/// One of the three files of a circuit.
+#[derive(Clone, Copy, Debug, PartialEq, Eq)]
+pub enum CircuitFile {
+    Netlist,
+    Timing,
+    Stimulus,
+}
+
+impl CircuitFile {
+    /// The name of the file in what a program prints.
+    pub fn name(self) -> &'static str
+        ensures { result.now ≡ name_of self }
+    {
+        match self {
+            CircuitFile::Netlist => "netlist",
+            CircuitFile::Timing => "timing",
+            CircuitFile::Stimulus => "stimulus",
+        }
+    }
+}
+
+/// What is refused, and why.
+#[derive(Clone, Copy, Debug, PartialEq, Eq)]
+pub enum FileRefusal {
+    /// The file has more bytes than its limit.
+    TooLong(CircuitFile),
+    /// A line, counted from 1, and the number of its cause. Of a file that ends too early the line is 0.
+    Line {
+        file: CircuitFile,
+        line: u32,
+        cause: u32,
+    },
+}
+
+impl FileRefusal {
+    /// The line that tells of it.
+    pub fn text(&self, alloc: Global) -> Result<String, AllocError>
+        ensures { IfOk result (λ text. string_bytes text ≡ refusal_text self.now) }
+    {
+        match *self {
+            FileRefusal::TooLong(file) => {
+                let name = file.name();
+                format!(in alloc; "refused {name} too long\n")
+            }
+            FileRefusal::Line { file, line, cause } => {
+                let name = file.name();
+                format!(in alloc; "refused {name} line {line} cause {cause}\n")
+            }
+        }
+    }
+}
