@@ -1,0 +1,51 @@
+//! The program that checks explanations: whether a signal of a circuit has a value at a time, as a proof claims.
+//!
+//! It is given the names of four files: a netlist, its timing, a stimulus, and the proof, which may come from anybody. It writes one
+//! line and ends with a status; nothing is written to standard error. All of it is `check` of the crate `proof_check`, here over the
+//! files and the standard output of the system, which tell only their counts of faults.
+//!
+//! ```text
+//! $ backsim_check chain.bench chain.timing chain.stim chain.proof
+//! yes n3 6 1
+//! ```
+#![tactic(auto)]
+
+use backsim_io::{OutOfMemory, RealFiles, RealSink};
+use proof_check::{CheckStatus, check};
+use std::process::ExitCode;
+use std::{env, io};
+
+/// The words after the program's name. Where one of them is no text there are none, which are not four words either.
+fn given_words(rt: &HostRuntime) -> Result<Vec<String>, OutOfMemory> {
+    let mut words = Vec::new(rt.alloc());
+    match env::args(rt) {
+        Ok(args) => {
+            for word in args.skip(1) {
+                words.push(word)?;
+            }
+            Ok(words)
+        }
+        Err(error) if error.kind() == io::ErrorKind::InvalidData => Ok(words),
+        Err(_) => Err(OutOfMemory),
+    }
+}
+
+/// Checks the proof that the words of the process name, over the system's files and standard output.
+fn run(rt: &HostRuntime) -> Result<CheckStatus, OutOfMemory> {
+    let given = given_words(rt)?;
+    let mut words = Vec::new(rt.alloc());
+    for word in &given {
+        words.push(word.as_str())?;
+    }
+    let Ok(own) = rt.clone() else {
+        return Err(OutOfMemory);
+    };
+    let mut files = RealFiles::new(own);
+    let mut out = RealSink::new(io::writer(rt));
+    Ok(check(rt.alloc(), &words, &mut files, &mut out))
+}
+
+fn main(rt: HostRuntime) -> ExitCode {
+    let status = run(&rt).unwrap_or(CheckStatus::OutOfMemory);
+    ExitCode::from(status.number())
+}

@@ -1,0 +1,5 @@
+pub mod Firsts
+pub mod Clashes
+pub mod Ends
+pub mod Verdicts
+pub mod Answered

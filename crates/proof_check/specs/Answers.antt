@@ -1,0 +1,115 @@
+-- What is answered of a proof, where three files make a design and the proof is not too long.
+use Rattle.std.specs.Prelude.{◌≡◌, ◌≤◌, ◌⊎◌, ⊤, ℕ, List, length, position, Some, Ok}
+use Rattle.std.specs.Str.{bytes_eq}
+use Rattle.backsim_io.specs.Counts.{Grows, GrowsByPrefix}
+use Rattle.gate_values.specs.declared.Value.{Value}
+use Rattle.circuit_meaning.specs.Forward.{value}
+use Rattle.design.specs.Joined.{Joined}
+use Rattle.circuit_files.specs.Files.{design_of_files}
+use Rattle.why_proofs.specs.Spelling.{Proof}
+use Rattle.why_proofs.specs.Broken.{IsBroken}
+use Rattle.why_proofs.specs.Justified.{IsJustifiedProof}
+use Rattle.why_proofs.specs.Verdicts.{IsTextOf, IsUnjustified}
+use Rattle.proof_check.specs.Given.{Given}
+use Rattle.proof_check.specs.Texts.{yes_line, no_line, bad_line}
+use Rattle.proof_check.specs.declared.status.CheckStatus.{CheckStatus}
+use Rattle.proof_check.specs.declared.status.CheckStatus.TheVariants.{Yes, Words, Refused, ReadFault, WriteFault, FileFault, OutOfMemory, No}
+
+-- Of a design and a text, whoever wrote it.
+
+-- the text is that of a justified proof, and the line says what it claims
+pub record IsYes (d : Joined) (text line : List ℕ) : Type 0 where
+  pub proof : Proof
+  pub signal : ℕ
+  pub spelled : IsTextOf text proof
+  pub justified : IsJustifiedProof d proof signal
+  pub line_is : line ≡ yes_line proof.name proof.time proof.value
+
+-- the text is that of a proof, and the line tells its first line that is not justified
+pub record IsNo (d : Joined) (text line : List ℕ) : Type 0 where
+  pub proof : Proof
+  pub number : ℕ
+  pub spelled : IsTextOf text proof
+  pub unjustified : IsUnjustified d proof number
+  pub line_is : line ≡ no_line number
+
+-- the text is that of no proof, and the line tells the first line at which no proof's text goes on
+pub record IsBad (text line : List ℕ) : Type 0 where
+  pub number : ℕ
+  pub broken : IsBroken text number
+  pub line_is : line ≡ bad_line number
+
+-- the line says of a signal of the design which value it has at a time in forward simulation
+pub record IsTrue (d : Joined) (line : List ℕ) : Type 0 where
+  pub name : List ℕ
+  pub time : ℕ
+  pub v : Value
+  pub signal : ℕ
+  pub line_is : line ≡ yes_line name time v
+  pub named : position (bytes_eq name) d.netlist.names ≡ Some signal
+  pub within : time ≤ d.circuit.horizon
+  pub holds : value d.circuit signal time ≡ v
+
+-- Of four files.
+
+-- the three files make a design, and this holds of it
+pub record OfDesign (given : Given) (says : Joined → Type 0) : Type 0 where
+  pub design : Joined
+  pub accepted : design_of_files given.netlist given.timing given.stimulus ≡ Ok design
+  pub holds : says design
+
+-- a proof has at most 268,435,456 bytes
+abbrev pub IsShort : List ℕ → Type 0
+IsShort proof = length proof ≤ 268435456
+
+abbrev pub IsProved : Given → (proof line : List ℕ) → Type 0
+IsProved given proof line = IsShort proof × OfDesign given (λ d. IsYes d proof line)
+
+abbrev pub IsUnproved : Given → (proof line : List ℕ) → Type 0
+IsUnproved given proof line = IsShort proof × OfDesign given (λ d. IsNo d proof line ⊎ IsBad proof line)
+
+-- whoever wrote the proof
+abbrev pub IsTrueOf : Given → (line : List ℕ) → Type 0
+IsTrueOf given line = OfDesign given (λ d. IsTrue d line)
+
+-- What is written.
+
+-- a whole line of which this holds
+pub record Wrote (such : List ℕ → Type 0) (out new_out : List ℕ → Type 0) : Type 0 where
+  pub line : List ℕ
+  pub is : such line
+  pub written : Grows out new_out line
+
+-- a part of such a line at most
+pub record WrotePart (such : List ℕ → Type 0) (out new_out : List ℕ → Type 0) : Type 0 where
+  pub line : List ℕ
+  pub is : such line
+  pub written : GrowsByPrefix out new_out line
+
+-- How a call ends.
+
+-- by a fault, or for want of memory
+abbrev pub IsCut : CheckStatus → Type 0
+IsCut ReadFault = ⊤
+IsCut WriteFault = ⊤
+IsCut FileFault = ⊤
+IsCut OutOfMemory = ⊤
+IsCut Yes = ⊥
+IsCut Words = ⊥
+IsCut Refused = ⊥
+IsCut No = ⊥
+
+-- with this status, unless it is cut off
+abbrev pub EndsAs : CheckStatus → CheckStatus → Type 0
+EndsAs due status = (status ≡ due) ⊎ IsCut status
+
+-- by a fault of the files, or for want of memory
+abbrev pub WritesNothing : CheckStatus → Type 0
+WritesNothing ReadFault = ⊤
+WritesNothing FileFault = ⊤
+WritesNothing OutOfMemory = ⊤
+WritesNothing WriteFault = ⊥
+WritesNothing Yes = ⊥
+WritesNothing Words = ⊥
+WritesNothing Refused = ⊥
+WritesNothing No = ⊥

@@ -1,0 +1,38 @@
+-- What a call is given.
+use Rattle.std.specs.Prelude.{◌≡◌, ⊤, ℕ, List, [], ◌∷◌, Option, Some}
+
+-- the names of the four files
+pub record Names : Type 0 where
+  pub netlist : List ℕ
+  pub timing : List ℕ
+  pub stimulus : List ℕ
+  pub proof : List ℕ
+
+abbrev pub names_of : (netlist timing stimulus proof : List ℕ) → Names
+names_of netlist timing stimulus proof = record { netlist = netlist; timing = timing; stimulus = stimulus; proof = proof }
+
+-- what is said where there are four words; of other words nothing is said
+abbrev pub OnNames : (Names → Type 0) → List (List ℕ) → Type 0
+OnNames says [] = ⊤
+OnNames says (netlist ∷ []) = ⊤
+OnNames says (netlist ∷ timing ∷ []) = ⊤
+OnNames says (netlist ∷ timing ∷ stimulus ∷ []) = ⊤
+OnNames says (netlist ∷ timing ∷ stimulus ∷ proof ∷ []) = says (names_of netlist timing stimulus proof)
+OnNames says (netlist ∷ timing ∷ stimulus ∷ proof ∷ more ∷ rest) = ⊤
+
+-- the bytes of the three files of a circuit
+pub record Given : Type 0 where
+  pub netlist : List ℕ
+  pub timing : List ℕ
+  pub stimulus : List ℕ
+
+-- these are held under the first three names
+pub record AreGiven (held : List ℕ → Option (List ℕ)) (names : Names) (given : Given) : Type 0 where
+  pub netlist : held names.netlist ≡ Some given.netlist
+  pub timing : held names.timing ≡ Some given.timing
+  pub stimulus : held names.stimulus ≡ Some given.stimulus
+
+-- so are they, and the bytes of the proof under the fourth
+pub record AreAll (held : List ℕ → Option (List ℕ)) (names : Names) (given : Given) (proof : List ℕ) : Type 0 where
+  pub circuit : AreGiven held names given
+  pub proof_is : held names.proof ≡ Some proof

@@ -1,0 +1,7 @@
+pub mod Given
+pub mod Texts
+pub mod Answers
+pub mod Refused
+pub mod Cause
+pub mod Statuses
+pub mod inner

@@ -1,0 +1,78 @@
+-- Why a proof is not judged, and what is written of it.
+use Rattle.std.specs.Prelude.{◌≡◌, ◌≤◌, ◌<◌, ⊤, ℕ, List, Result, Ok, Err}
+use Rattle.backsim_io.specs.Counts.{Rose, Grows, GrowsByPrefix, Stays}
+use Rattle.circuit_files.specs.Causes.{Counts, Calm}
+use Rattle.circuit_files.specs.Texts.{refusal_text}
+use Rattle.circuit_files.specs.declared.stop.FilesStop.{FilesStop}
+use Rattle.circuit_files.specs.declared.stop.FilesStop.TheVariants as files
+use Rattle.proof_check.specs.Given.{Given}
+use Rattle.proof_check.specs.Texts.{too_long}
+use Rattle.proof_check.specs.Refused.{IsRefused}
+use Rattle.proof_check.specs.declared.status.CheckStatus.{CheckStatus}
+use Rattle.proof_check.specs.declared.status.CheckStatus.TheVariants as statuses
+use Rattle.proof_check.specs.declared.reading.Refusal.{Refusal}
+use Rattle.proof_check.specs.declared.reading.Refusal.TheVariants.{OfFiles, ProofTooLong}
+use Rattle.proof_check.specs.declared.reading.Stop.{Stop}
+use Rattle.proof_check.specs.declared.reading.Stop.TheVariants.{Refused, NotOpened, Unread, OutOfMemory}
+
+-- what a stop of the three files is
+abbrev pub stop_of : FilesStop → Stop
+stop_of (files.Refused refusal) = Refused (OfFiles refusal)
+stop_of (files.NotOpened file) = NotOpened
+stop_of (files.Unread file) = Unread
+stop_of files.OutOfMemory = OutOfMemory
+
+-- the line that tells of it
+abbrev pub line_of : Refusal → List ℕ
+line_of (OfFiles refusal) = refusal_text refusal
+line_of ProofTooLong = too_long
+
+-- a stop comes only with its cause
+abbrev pub ExplainsStop : Counts → Counts → Stop → Type 0
+ExplainsStop old new (Refused refusal) = Calm old new
+ExplainsStop old new NotOpened = Rose old.file new.file
+ExplainsStop old new Unread = Rose old.read new.read
+ExplainsStop old new OutOfMemory = ⊤
+
+abbrev pub Explains : {T : Type 0} → Counts → Counts → Result T Stop → Type 0
+Explains old new (Ok t) = Calm old new
+Explains old new (Err stop) = ExplainsStop old new stop
+
+-- what is refused of these four files is refused rightly
+abbrev pub RefusesRight : Given → List ℕ → Stop → Type 0
+RefusesRight given proof (Refused refusal) = IsRefused given proof (line_of refusal)
+RefusesRight given proof NotOpened = ⊤
+RefusesRight given proof Unread = ⊤
+RefusesRight given proof OutOfMemory = ⊤
+
+-- the first n files are refused with this line, unless a fault at one of them, or a lack of memory, came before
+abbrev pub StopsFirst : ℕ → List ℕ → (started : ℕ) → Stop → Type 0
+StopsFirst n line started (Refused refusal) = line_of refusal ≡ line
+StopsFirst n line started NotOpened = started < n
+StopsFirst n line started Unread = started ≤ n
+StopsFirst n line started OutOfMemory = ⊤
+
+abbrev pub RefusedFirst : {T : Type 0} → ℕ → List ℕ → (started : ℕ) → Result T Stop → Type 0
+RefusedFirst n line started (Ok t) = ⊥
+RefusedFirst n line started (Err stop) = StopsFirst n line started stop
+
+-- How a call ends.
+
+-- the line of a refusal was written, or not wholly: the status says which
+abbrev pub IsTold : List ℕ → (List ℕ → Type 0) → (List ℕ → Type 0) → CheckStatus → Type 0
+IsTold line out new_out statuses.Refused = Grows out new_out line
+IsTold line out new_out statuses.WriteFault = GrowsByPrefix out new_out line
+IsTold line out new_out statuses.OutOfMemory = Stays out new_out
+IsTold line out new_out _ = ⊥
+
+-- a refusal is told; of another stop nothing is written
+abbrev pub EndsWith : Stop → (List ℕ → Type 0) → (List ℕ → Type 0) → CheckStatus → Type 0
+EndsWith (Refused refusal) out new_out status = IsTold (line_of refusal) out new_out status
+EndsWith NotOpened out new_out status = (status ≡ statuses.FileFault) × Stays out new_out
+EndsWith Unread out new_out status = (status ≡ statuses.ReadFault) × Stays out new_out
+EndsWith OutOfMemory out new_out status = (status ≡ statuses.OutOfMemory) × Stays out new_out
+
+-- the faults of the sink say whether the line was written
+abbrev pub OutExplains : ℕ → ℕ → CheckStatus → Type 0
+OutExplains old new statuses.WriteFault = Rose old new
+OutExplains old new _ = new ≡ old

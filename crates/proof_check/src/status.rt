@@ -1,0 +1,42 @@
+//! How a call ends.
+
+ghost use Rattle.std.specs.Prelude.{◌≡◌};
+ghost use Rattle.proof_check.specs.Statuses.{number_of};
+
+/// How a call ended.
+#[derive(Clone, Copy, Debug, PartialEq, Eq)]
+pub enum CheckStatus {
+    /// The proof is justified: its claim holds.
+    Yes,
+    /// There are not four words.
+    Words,
+    /// A file of the circuit is refused, or the proof is too long.
+    Refused,
+    /// A read of a file failed.
+    ReadFault,
+    /// The line couldn't be written.
+    WriteFault,
+    /// A file couldn't be opened.
+    FileFault,
+    OutOfMemory,
+    /// The proof is not justified, or it is no proof.
+    No,
+}
+
+impl CheckStatus {
+    /// The exit status of the process.
+    pub fn number(self) -> u8
+        ensures { result ≡ number_of self }
+    {
+        match self {
+            CheckStatus::Yes => 0,
+            CheckStatus::Words => 1,
+            CheckStatus::Refused => 2,
+            CheckStatus::ReadFault => 3,
+            CheckStatus::WriteFault => 4,
+            CheckStatus::FileFault => 5,
+            CheckStatus::OutOfMemory => 6,
+            CheckStatus::No => 7,
+        }
+    }
+}
