@@ -1,16 +1,16 @@
 -- What is said of a session is said of the words that ask for it.
 use Rattle.std.proofs.Common.{◌≡◌, ℕ, ◌≤◌, ◌<◌, ◌⊎◌, inl, inr, Option, Some, None, Result, Err, Ok, refl, subst, ap, option_map, ◌∙◌, sym, arith, List, length}
 use Rattle.backsim_io.specs.Held.{Made}
+use Rattle.circuit_files.specs.Files.{design_of_files}
+use Rattle.circuit_files.specs.declared.refusal.FileRefusal.{FileRefusal}
 use Rattle.design.specs.Joined.{Joined}
 use Rattle.command_words.specs.Words.{Text, Form, Session, Workload}
 use Rattle.command_words.specs.Answer.{form_in}
 use Rattle.command_words.specs.declared.Words.{Words as Asked}
 use Rattle.backsim.specs.Cause.{Counts, NoneRose, Explains}
 use Rattle.backsim.specs.Commands.{Command, command_of, OnSession, files_read}
-use Rattle.backsim.specs.Files.{design_of_files}
 use Rattle.backsim.specs.Refused.{IsRefused, EndsEarly}
 use Rattle.backsim.specs.Session.{Given, AreGiven}
-use Rattle.backsim.specs.declared.refusal.Refusal.{Refusal}
 use Rattle.backsim.specs.declared.status.Place.TheVariants.{Netlist, Timing, Stimulus, Journal, Script, Replies}
 use Rattle.backsim.specs.declared.status.Status.{Status}
 use Rattle.backsim.specs.declared.status.Status.TheVariants.{Ended, Words, Refused, ReadFault, WriteFault, FileFault, OutOfMemory}
@@ -65,7 +65,7 @@ ends-well files_read old new OutOfMemory e none usage refused = inr refl
 pub form-said : (form : Option Asked) (inner given : Asked) (asked : Option Form) → form ≡ Some inner → inner ≡ given → option_map form_in form ≡ asked → Some (form_in given) ≡ asked
 form-said form inner given asked is inner_is said = ap (option_map form_in) (sym (is ∙ ap Some inner_is)) ∙ said
 
-ok-not-err : (said : Result Joined Refusal) (design : Joined) (refusal : Refusal) → said ≡ Ok design → said ≡ Err refusal → ⊥
+ok-not-err : (said : Result Joined FileRefusal) (design : Joined) (refusal : FileRefusal) → said ≡ Ok design → said ≡ Err refusal → ⊥
 ok-not-err said design refusal ok err = let same : Ok design ≡ Err refusal = sym ok ∙ err in cc
 
 -- files that make a design, and a script that is short enough, are not refused

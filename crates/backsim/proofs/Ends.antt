@@ -4,21 +4,27 @@ use Rattle.std.proofs.Math.Seq.{take-length}
 use Rattle.backsim_io.specs.Counts.{Grows, GrowsByPrefix, Stays}
 use Rattle.backsim_io.specs.Held.{Made, SameMade, ConsumesUpTo}
 use Rattle.design.specs.Joined.{Joined}
+use Rattle.circuit_files.specs.Files.{design_of_files}
+use Rattle.circuit_files.specs.Stops.{IsAnswerOf, AnswersFirst, RefusesOnly}
+use Rattle.circuit_files.specs.Texts as texts
+use Rattle.circuit_files.specs.declared.refusal.CircuitFile.{CircuitFile}
+use Rattle.circuit_files.specs.declared.refusal.CircuitFile.TheVariants as circuit
+use Rattle.circuit_files.specs.declared.refusal.FileRefusal.{FileRefusal}
+use Rattle.circuit_files.specs.declared.stop.FilesStop.{FilesStop}
+use Rattle.circuit_files.specs.declared.stop.FilesStop.TheVariants as files
 use Rattle.session_loop.specs.Halting.{IsUntouched}
 use Rattle.backsim.specs.Broken.{Leaves, OnFileFault}
 use Rattle.backsim.specs.Commands.{Command}
-use Rattle.backsim.specs.Files.{design_of_files}
-use Rattle.backsim.specs.inner.Files.{IsAnswerOf, AnswersFirst}
 use Rattle.backsim.specs.Places.{IsFile, OnFile}
 use Rattle.backsim.specs.Refused.{AreRefused, EndsFiles, EndsEarly, RefusesFiles}
 use Rattle.backsim.specs.Session.{Given}
-use Rattle.backsim.specs.inner.Stops.{IsOfFiles, RefusesOnly, IsTold, EndsWith}
-use Rattle.backsim.specs.Texts.{refusal_text}
+use Rattle.backsim.specs.inner.Stops.{status_of, place_of, files_stop, refusal_text, IsTold, EndsWith}
 use Rattle.backsim.specs.declared.status.Place.{Place}
 use Rattle.backsim.specs.declared.status.Place.TheVariants.{Netlist, Timing, Stimulus, Journal, Script, Replies}
 use Rattle.backsim.specs.declared.status.Status.{Status}
 use Rattle.backsim.specs.declared.status.Status.TheVariants as statuses
 use Rattle.backsim.specs.declared.refusal.Refusal.{Refusal}
+use Rattle.backsim.specs.declared.refusal.Refusal.TheVariants.{OfFiles}
 use Rattle.backsim.specs.declared.refusal.Stop.{Stop}
 use Rattle.backsim.specs.declared.refusal.Stop.TheVariants.{Refused, ReadFault, WriteFault, FileFault, OutOfMemory}
 
@@ -61,36 +67,46 @@ refused-told OutOfMemory w w' status told is = absurd (let e : statuses.OutOfMem
 
 -- The files made no design.
 
-pub files-refused : (given : Given) (stop : Stop) (left : Option (List ℕ)) (w w' : List ℕ → Type 0) (m m' : List Made → Type 0) (status : Status)
-    → IsAnswerOf {A = Joined} (Err stop) (design_of_files given.netlist given.timing given.stimulus) → left ≡ Some given.script → SameMade m m' → EndsWith stop w w' status
+-- what their end told
+pub of-files : (given : FilesStop) (stop : Stop) (w w' : List ℕ → Type 0) (status : Status) → stop ≡ files_stop given → EndsWith stop w w' status → EndsWith (files_stop given) w w' status
+of-files given stop w w' status is told = subst (λ (s : Stop). EndsWith s w w' status) is told
+
+-- under status 2 their refusal
+files-told : (stop : FilesStop) (w w' : List ℕ → Type 0) (status : Status) → EndsWith (files_stop stop) w w' status → status ≡ statuses.Refused
+    → (refusal : FileRefusal) × (stop ≡ files.Refused refusal) × Grows w w' (texts.refusal_text refusal)
+files-told (files.Refused refusal) w w' status told is = (refusal, refl, subst (IsTold (OfFiles refusal) w w') is told)
+files-told (files.NotOpened file) w w' status told is = absurd (let e : statuses.FileFault (place_of file) ≡ statuses.Refused = sym told.0 ∙ is in cc)
+files-told (files.Unread file) w w' status told is = absurd (let e : statuses.ReadFault (place_of file) ≡ statuses.Refused = sym told.0 ∙ is in cc)
+files-told files.OutOfMemory w w' status told is = absurd (let e : statuses.OutOfMemory ≡ statuses.Refused = sym told.0 ∙ is in cc)
+
+pub files-refused : (given : Given) (stop : FilesStop) (left : Option (List ℕ)) (w w' : List ℕ → Type 0) (m m' : List Made → Type 0) (status : Status)
+    → IsAnswerOf {A = Joined} (Err stop) (design_of_files given.netlist given.timing given.stimulus) → left ≡ Some given.script → SameMade m m' → EndsWith (files_stop stop) w w' status
     → status ≡ statuses.Refused → AreRefused given Grows left w w' m m'
 files-refused given stop left w w' m m' status said unread same told is =
-    let r = refused-told stop w w' status told is in record {
+    let r = files-told stop w w' status told is in record {
       refusal = r.0;
-      refused = subst (λ (s : Stop). IsAnswerOf {A = Joined} (Err s) (design_of_files given.netlist given.timing given.stimulus)) r.1 said;
+      refused = subst (λ (s : FilesStop). IsAnswerOf {A = Joined} (Err s) (design_of_files given.netlist given.timing given.stimulus)) r.1 said;
       line = r.2;
       unread = unread;
       same_files = same;
     }
 
 -- a fault of one of the three files left all as it was
-fault-leaves-read : (command : Command) (given : Given) (left : Option (List ℕ)) (w w' : List ℕ → Type 0) (m m' : List Made → Type 0) (f f' : ℕ) (place : Place)
-    → IsFile place → IsUntouched (Some given.script) left w w' m m' f f' → Leaves command given left w w' m m' f f' (statuses.ReadFault place)
-fault-leaves-read command given left w w' m m' f f' Netlist of_file is = is
-fault-leaves-read command given left w w' m m' f f' Timing of_file is = is
-fault-leaves-read command given left w w' m m' f f' Stimulus of_file is = is
-fault-leaves-read command given left w w' m m' f f' _ of_file is = absurd of_file
+fault-leaves-read : (command : Command) (given : Given) (left : Option (List ℕ)) (w w' : List ℕ → Type 0) (m m' : List Made → Type 0) (f f' : ℕ) (file : CircuitFile)
+    → IsUntouched (Some given.script) left w w' m m' f f' → Leaves command given left w w' m m' f f' (statuses.ReadFault (place_of file))
+fault-leaves-read command given left w w' m m' f f' circuit.Netlist is = is
+fault-leaves-read command given left w w' m m' f f' circuit.Timing is = is
+fault-leaves-read command given left w w' m m' f f' circuit.Stimulus is = is
 
-fault-leaves-file : (command : Command) (given : Given) (left : Option (List ℕ)) (w w' : List ℕ → Type 0) (m m' : List Made → Type 0) (f f' : ℕ) (place : Place)
-    → IsFile place → IsUntouched (Some given.script) left w w' m m' f f' → Leaves command given left w w' m m' f f' (statuses.FileFault place)
-fault-leaves-file command given left w w' m m' f f' Netlist of_file is = is
-fault-leaves-file command given left w w' m m' f f' Timing of_file is = is
-fault-leaves-file command given left w w' m m' f f' Stimulus of_file is = is
-fault-leaves-file command given left w w' m m' f f' _ of_file is = absurd of_file
+fault-leaves-file : (command : Command) (given : Given) (left : Option (List ℕ)) (w w' : List ℕ → Type 0) (m m' : List Made → Type 0) (f f' : ℕ) (file : CircuitFile)
+    → IsUntouched (Some given.script) left w w' m m' f f' → Leaves command given left w w' m m' f f' (statuses.FileFault (place_of file))
+fault-leaves-file command given left w w' m m' f f' circuit.Netlist is = is
+fault-leaves-file command given left w w' m m' f f' circuit.Timing is = is
+fault-leaves-file command given left w w' m m' f f' circuit.Stimulus is = is
 
 -- what the end of a refusal of the files leaves
-told-leaves : (command : Command) (given : Given) (refusal : Refusal) (left : Option (List ℕ)) (w w' : List ℕ → Type 0) (m m' : List Made → Type 0) (f f' : ℕ) (status : Status)
-    → design_of_files given.netlist given.timing given.stimulus ≡ Err refusal → left ≡ Some given.script → SameMade m m' → f' ≡ f → IsTold refusal w w' status
+told-leaves : (command : Command) (given : Given) (refusal : FileRefusal) (left : Option (List ℕ)) (w w' : List ℕ → Type 0) (m m' : List Made → Type 0) (f f' : ℕ) (status : Status)
+    → design_of_files given.netlist given.timing given.stimulus ≡ Err refusal → left ≡ Some given.script → SameMade m m' → f' ≡ f → IsTold (OfFiles refusal) w w' status
     → Leaves command given left w w' m m' f f' status
 told-leaves command given refusal left w w' m m' f f' statuses.Refused said unread same count told = tt
 told-leaves command given refusal left w w' m m' f f' (statuses.WriteFault Replies) said unread same count told =
@@ -99,38 +115,35 @@ told-leaves command given refusal left w w' m m' f f' statuses.OutOfMemory said 
     inl (record { unread = unread; unreplied = told; same_files = same; no_file = count })
 told-leaves command given refusal left w w' m m' f f' _ said unread same count told = absurd told
 
-pub files-leave : (command : Command) (given : Given) (stop : Stop) (left : Option (List ℕ)) (w w' : List ℕ → Type 0) (m m' : List Made → Type 0) (f f' : ℕ) (status : Status)
-    → IsAnswerOf {A = Joined} (Err stop) (design_of_files given.netlist given.timing given.stimulus) → IsOfFiles stop → left ≡ Some given.script → SameMade m m' → f' ≡ f → EndsWith stop w w' status
+pub files-leave : (command : Command) (given : Given) (stop : FilesStop) (left : Option (List ℕ)) (w w' : List ℕ → Type 0) (m m' : List Made → Type 0) (f f' : ℕ) (status : Status)
+    → IsAnswerOf {A = Joined} (Err stop) (design_of_files given.netlist given.timing given.stimulus) → left ≡ Some given.script → SameMade m m' → f' ≡ f → EndsWith (files_stop stop) w w' status
     → Leaves command given left w w' m m' f f' status
-files-leave command given (Refused refusal) left w w' m m' f f' status said of_files unread same count told =
+files-leave command given (files.Refused refusal) left w w' m m' f f' status said unread same count told =
     told-leaves command given refusal left w w' m m' f f' status said unread same count told
-files-leave command given (ReadFault place) left w w' m m' f f' status said of_files unread same count told =
+files-leave command given (files.Unread file) left w w' m m' f f' status said unread same count told =
     subst (Leaves command given left w w' m m' f f') (sym told.0)
-    (fault-leaves-read command given left w w' m m' f f' place of_files (record { unread = unread; unreplied = told.1; same_files = same; no_file = count }))
-files-leave command given (FileFault place) left w w' m m' f f' status said of_files unread same count told =
+    (fault-leaves-read command given left w w' m m' f f' file (record { unread = unread; unreplied = told.1; same_files = same; no_file = count }))
+files-leave command given (files.NotOpened file) left w w' m m' f f' status said unread same count told =
     subst (Leaves command given left w w' m m' f f') (sym told.0)
-    (fault-leaves-file command given left w w' m m' f f' place of_files (record { unread = unread; unreplied = told.1; same_files = same; no_file = count }))
-files-leave command given (WriteFault place) left w w' m m' f f' status said of_files unread same count told = absurd of_files
-files-leave command given OutOfMemory left w w' m m' f f' status said of_files unread same count told =
+    (fault-leaves-file command given left w w' m m' f f' file (record { unread = unread; unreplied = told.1; same_files = same; no_file = count }))
+files-leave command given files.OutOfMemory left w w' m m' f f' status said unread same count told =
     subst (Leaves command given left w w' m m' f f') (sym told.0) (inl (record { unread = unread; unreplied = told.1; same_files = same; no_file = count }))
 
 -- where a file is refused, the stop refuses it, or is a fault or a lack of memory
-pub first-refuses : {B : Type 0} (stop : Stop) (said : Result B Refusal) (refusal : Refusal) → AnswersFirst {A = Joined} (Err stop) said → said ≡ Err refusal → RefusesOnly refusal stop
-first-refuses (Refused given) said refusal answers is = subst (AnswersFirst {A = Joined} (Err (Refused given))) is answers
-first-refuses (ReadFault place) said refusal answers is = tt
-first-refuses (WriteFault place) said refusal answers is = tt
-first-refuses (FileFault place) said refusal answers is = tt
-first-refuses OutOfMemory said refusal answers is = tt
+pub first-refuses : {B : Type 0} (n : ℕ) (stop : FilesStop) (said : Result B FileRefusal) (refusal : FileRefusal) → AnswersFirst {A = Joined} n (Err stop) said → said ≡ Err refusal → RefusesOnly refusal stop
+first-refuses n (files.Refused given) said refusal answers is = subst (AnswersFirst {A = Joined} n (Err (files.Refused given))) is answers
+first-refuses n (files.Unread file) said refusal answers is = tt
+first-refuses n (files.NotOpened file) said refusal answers is = tt
+first-refuses n files.OutOfMemory said refusal answers is = tt
 
-err-same : (said : Result Joined Refusal) (a b : Refusal) → said ≡ Err a → said ≡ Err b → a ≡ b
+err-same : (said : Result Joined FileRefusal) (a b : FileRefusal) → said ≡ Err a → said ≡ Err b → a ≡ b
 err-same said a b p q = cc
 
-pub all-refuse : (stop : Stop) (said : Result Joined Refusal) (refusal : Refusal) → IsAnswerOf {A = Joined} (Err stop) said → said ≡ Err refusal → RefusesOnly refusal stop
-all-refuse (Refused given) said refusal answers is = err-same said given refusal answers is
-all-refuse (ReadFault place) said refusal answers is = tt
-all-refuse (WriteFault place) said refusal answers is = tt
-all-refuse (FileFault place) said refusal answers is = tt
-all-refuse OutOfMemory said refusal answers is = tt
+pub all-refuse : (stop : FilesStop) (said : Result Joined FileRefusal) (refusal : FileRefusal) → IsAnswerOf {A = Joined} (Err stop) said → said ≡ Err refusal → RefusesOnly refusal stop
+all-refuse (files.Refused given) said refusal answers is = err-same said given refusal answers is
+all-refuse (files.Unread file) said refusal answers is = tt
+all-refuse (files.NotOpened file) said refusal answers is = tt
+all-refuse files.OutOfMemory said refusal answers is = tt
 
 told-ends : (refusal : Refusal) (w w' : List ℕ → Type 0) (status : Status) → IsTold refusal w w' status → EndsFiles status
 told-ends refusal w w' statuses.Refused told = tt
@@ -138,12 +151,16 @@ told-ends refusal w w' (statuses.WriteFault Replies) told = refl
 told-ends refusal w w' statuses.OutOfMemory told = tt
 told-ends refusal w w' _ told = absurd told
 
-files-end : (stop : Stop) (w w' : List ℕ → Type 0) (status : Status) → IsOfFiles stop → EndsWith stop w w' status → EndsFiles status
-files-end (Refused refusal) w w' status of_files told = told-ends refusal w w' status told
-files-end (ReadFault place) w w' status of_files told = subst EndsFiles (sym told.0) of_files
-files-end (FileFault place) w w' status of_files told = subst EndsFiles (sym told.0) of_files
-files-end (WriteFault place) w w' status of_files told = absurd of_files
-files-end OutOfMemory w w' status of_files told = subst EndsFiles (sym told.0) tt
+file-place : (file : CircuitFile) → IsFile (place_of file)
+file-place circuit.Netlist = tt
+file-place circuit.Timing = tt
+file-place circuit.Stimulus = tt
+
+files-end : (stop : FilesStop) (w w' : List ℕ → Type 0) (status : Status) → EndsWith (files_stop stop) w w' status → EndsFiles status
+files-end (files.Refused refusal) w w' status told = told-ends (OfFiles refusal) w w' status told
+files-end (files.Unread file) w w' status told = subst EndsFiles (sym told.0) (file-place file)
+files-end (files.NotOpened file) w w' status told = subst EndsFiles (sym told.0) (file-place file)
+files-end files.OutOfMemory w w' status told = subst EndsFiles (sym told.0) tt
 
 told-part : (refusal : Refusal) (w w' : List ℕ → Type 0) (status : Status) → IsTold refusal w w' status → GrowsByPrefix w w' (refusal_text refusal)
 told-part refusal w w' statuses.Refused told = grows-whole w w' (refusal_text refusal) told
@@ -151,23 +168,23 @@ told-part refusal w w' (statuses.WriteFault Replies) told = told
 told-part refusal w w' statuses.OutOfMemory told = grows-nothing w w' (refusal_text refusal) told
 told-part refusal w w' _ told = absurd told
 
-end-part : (stop : Stop) (refusal : Refusal) (w w' : List ℕ → Type 0) (status : Status) → RefusesOnly refusal stop → EndsWith stop w w' status → GrowsByPrefix w w' (refusal_text refusal)
-end-part (Refused given) refusal w w' status only told = subst (λ (r : Refusal). GrowsByPrefix w w' (refusal_text r)) only (told-part given w w' status told)
-end-part (ReadFault place) refusal w w' status only told = grows-nothing w w' (refusal_text refusal) told.1
-end-part (WriteFault place) refusal w w' status only told = grows-nothing w w' (refusal_text refusal) told.1
-end-part (FileFault place) refusal w w' status only told = grows-nothing w w' (refusal_text refusal) told.1
-end-part OutOfMemory refusal w w' status only told = grows-nothing w w' (refusal_text refusal) told.1
+end-part : (stop : FilesStop) (refusal : FileRefusal) (w w' : List ℕ → Type 0) (status : Status) → RefusesOnly refusal stop → EndsWith (files_stop stop) w w' status → GrowsByPrefix w w' (texts.refusal_text refusal)
+end-part (files.Refused given) refusal w w' status only told = subst (λ (r : FileRefusal). GrowsByPrefix w w' (texts.refusal_text r)) only (told-part (OfFiles given) w w' status told)
+end-part (files.Unread file) refusal w w' status only told = grows-nothing w w' (texts.refusal_text refusal) told.1
+end-part (files.NotOpened file) refusal w w' status only told = grows-nothing w w' (texts.refusal_text refusal) told.1
+end-part files.OutOfMemory refusal w w' status only told = grows-nothing w w' (texts.refusal_text refusal) told.1
 
-end-line : (stop : Stop) (refusal : Refusal) (w w' : List ℕ → Type 0) (status : Status) → RefusesOnly refusal stop → EndsWith stop w w' status → status ≡ statuses.Refused → Grows w w' (refusal_text refusal)
+end-line : (stop : FilesStop) (refusal : FileRefusal) (w w' : List ℕ → Type 0) (status : Status) → RefusesOnly refusal stop → EndsWith (files_stop stop) w w' status → status ≡ statuses.Refused
+    → Grows w w' (texts.refusal_text refusal)
 end-line stop refusal w w' status only told is =
-    let r = refused-told stop w w' status told is in
+    let r = files-told stop w w' status told is in
     let same : r.0 ≡ refusal = subst (RefusesOnly refusal) r.1 only in
-    subst (λ (x : Refusal). Grows w w' (refusal_text x)) same r.2
+    subst (λ (x : FileRefusal). Grows w w' (texts.refusal_text x)) same r.2
 
-pub files-refuse : (stop : Stop) (refusal : Refusal) (left : Option (List ℕ)) (w w' : List ℕ → Type 0) (m m' : List Made → Type 0) (f f' : ℕ) (status : Status)
-    → RefusesOnly refusal stop → IsOfFiles stop → SameMade m m' → f' ≡ f → EndsWith stop w w' status → RefusesFiles refusal left left w w' m m' f f' status
-files-refuse stop refusal left w w' m m' f f' status only of_files same count told = record {
-  ends = files-end stop w w' status of_files told;
+pub files-refuse : (stop : FilesStop) (refusal : FileRefusal) (left : Option (List ℕ)) (w w' : List ℕ → Type 0) (m m' : List Made → Type 0) (f f' : ℕ) (status : Status)
+    → RefusesOnly refusal stop → SameMade m m' → f' ≡ f → EndsWith (files_stop stop) w w' status → RefusesFiles refusal left left w w' m m' f f' status
+files-refuse stop refusal left w w' m m' f f' status only same count told = record {
+  ends = files-end stop w w' status told;
   line = end-line stop refusal w w' status only told;
   part = end-part stop refusal w w' status only told;
   unread = refl;

@@ -1,72 +1,39 @@
 -- What explains a stop explains the status that it ends with.
-use Rattle.std.proofs.Common.{◌≡◌, ℕ, ◌+◌, sym, ap, subst, ◌∙◌}
+use Rattle.std.proofs.Common.{◌≡◌, ℕ, refl, sym, subst, ◌∙◌}
 use Rattle.backsim_io.specs.Counts.{Rose}
+use Rattle.circuit_files.specs.Causes as causes
+use Rattle.circuit_files.specs.declared.refusal.CircuitFile.TheVariants as circuit
+use Rattle.circuit_files.specs.declared.stop.FilesStop.{FilesStop}
+use Rattle.circuit_files.specs.declared.stop.FilesStop.TheVariants as stopped
 use Rattle.session_loop.specs.Faults.{Faults, HaltExplains}
 use Rattle.session_loop.specs.declared.halt.Halt.{Halt}
 use Rattle.session_loop.specs.declared.halt.Halt.TheVariants.{JournalUnmade, Stopped, JournalUnfinished}
 use Rattle.session_loop.specs.declared.stop.Stop.TheVariants as stops
-use Rattle.backsim.specs.Cause.{Counts, Calm, Explains}
-use Rattle.backsim.specs.inner.Cause.{IsTurn}
-use Rattle.backsim.specs.Places.{IsFile}
-use Rattle.backsim.specs.inner.Stops.{status_of, stop_of, EndExplains}
-use Rattle.backsim.specs.declared.status.Place.{Place}
-use Rattle.backsim.specs.declared.status.Place.TheVariants.{Netlist, Timing, Stimulus, Journal, Script, Replies}
+use Rattle.backsim.specs.Cause.{Counts, counts_of, Calm, Explains}
+use Rattle.backsim.specs.inner.Stops.{status_of, files_stop, stop_of, EndExplains}
+use Rattle.backsim.specs.declared.status.Place.TheVariants.{Replies}
 use Rattle.backsim.specs.declared.status.Status.{Status}
 use Rattle.backsim.specs.declared.status.Status.TheVariants as statuses
 use Rattle.backsim.specs.declared.status.Status.TheVariants.{Ended, Words}
 use Rattle.backsim.specs.declared.refusal.Stop.{Stop}
 use Rattle.backsim.specs.declared.refusal.Stop.TheVariants.{Refused, ReadFault, WriteFault, FileFault, OutOfMemory}
 
-pub calm-later : (first old new : Counts) → Calm first old → Calm old new → Calm first new
-calm-later first old new before calm = record {
-  queries = calm.queries ∙ before.queries;
-  replies = calm.replies ∙ before.replies;
-  file = calm.file ∙ before.file;
-  read = calm.read ∙ before.read;
-  write = calm.write ∙ before.write;
-}
+-- three files that were read without a fault
+pub calm-files : (queries replies write write' files files' : ℕ) (old new : causes.Counts) → causes.Calm old new → write' ≡ write
+    → Calm (counts_of queries replies old.file old.read write old.started files) (counts_of queries replies new.file new.read write' new.started files')
+calm-files queries replies write write' files files' old new calm same = record { queries = refl; replies = refl; file = calm.file; read = calm.read; write = same }
 
--- what explains a status still does where no fault came before
-pub explains-later : (files_read : ℕ) (first old new : Counts) (status : Status) → Calm first old → Explains files_read old new status → Explains files_read first new status
-explains-later files_read first old new Ended calm e = calm-later first old new calm e
-explains-later files_read first old new Words calm e = calm-later first old new calm e
-explains-later files_read first old new statuses.Refused calm e = calm-later first old new calm e
-explains-later files_read first old new (statuses.ReadFault Netlist) calm e = (subst (λ (n : ℕ). Rose n new.read) calm.read e.0, e.1)
-explains-later files_read first old new (statuses.ReadFault Timing) calm e = (subst (λ (n : ℕ). Rose n new.read) calm.read e.0, e.1)
-explains-later files_read first old new (statuses.ReadFault Stimulus) calm e = (subst (λ (n : ℕ). Rose n new.read) calm.read e.0, e.1)
-explains-later files_read first old new (statuses.ReadFault Script) calm e = subst (λ (n : ℕ). Rose n new.queries) calm.queries e
-explains-later files_read first old new (statuses.ReadFault Journal) calm e = absurd e
-explains-later files_read first old new (statuses.ReadFault Replies) calm e = absurd e
-explains-later files_read first old new (statuses.WriteFault Replies) calm e = subst (λ (n : ℕ). Rose n new.replies) calm.replies e
-explains-later files_read first old new (statuses.WriteFault Journal) calm e = subst (λ (n : ℕ). Rose n new.write) calm.write e
-explains-later files_read first old new (statuses.WriteFault Netlist) calm e = absurd e
-explains-later files_read first old new (statuses.WriteFault Timing) calm e = absurd e
-explains-later files_read first old new (statuses.WriteFault Stimulus) calm e = absurd e
-explains-later files_read first old new (statuses.WriteFault Script) calm e = absurd e
-explains-later files_read first old new (statuses.FileFault Netlist) calm e = (subst (λ (n : ℕ). Rose n new.file) calm.file e.0, e.1)
-explains-later files_read first old new (statuses.FileFault Timing) calm e = (subst (λ (n : ℕ). Rose n new.file) calm.file e.0, e.1)
-explains-later files_read first old new (statuses.FileFault Stimulus) calm e = (subst (λ (n : ℕ). Rose n new.file) calm.file e.0, e.1)
-explains-later files_read first old new (statuses.FileFault Journal) calm e = (subst (λ (n : ℕ). Rose n new.file) calm.file e.0, e.1)
-explains-later files_read first old new (statuses.FileFault Script) calm e = absurd e
-explains-later files_read first old new (statuses.FileFault Replies) calm e = absurd e
-explains-later files_read first old new statuses.OutOfMemory calm e = tt
-
--- one of the three files could not be opened, or its read failed, when it was its turn
-pub file-explains : (files_read : ℕ) (old new : Counts) (place : Place) → IsTurn place old.started → Rose old.file new.file → new.started ≡ old.started → Explains files_read old new (statuses.FileFault place)
-file-explains files_read old new Netlist turn rose same = (rose, same ∙ turn)
-file-explains files_read old new Timing turn rose same = (rose, same ∙ turn)
-file-explains files_read old new Stimulus turn rose same = (rose, same ∙ turn)
-file-explains files_read old new Journal turn rose same = absurd turn
-file-explains files_read old new Script turn rose same = absurd turn
-file-explains files_read old new Replies turn rose same = absurd turn
-
-pub read-explains : (files_read : ℕ) (old new : Counts) (place : Place) → IsTurn place old.started → Rose old.read new.read → new.started ≡ old.started + 1 → Explains files_read old new (statuses.ReadFault place)
-read-explains files_read old new Netlist turn rose more = (rose, more ∙ ap (λ (n : ℕ). n + 1) turn)
-read-explains files_read old new Timing turn rose more = (rose, more ∙ ap (λ (n : ℕ). n + 1) turn)
-read-explains files_read old new Stimulus turn rose more = (rose, more ∙ ap (λ (n : ℕ). n + 1) turn)
-read-explains files_read old new Journal turn rose more = absurd turn
-read-explains files_read old new Script turn rose more = absurd turn
-read-explains files_read old new Replies turn rose more = absurd turn
+-- a stop of the three files
+pub files-explain : (queries replies write write' files files' : ℕ) (old new : causes.Counts) (stop : FilesStop) → causes.ExplainsStop old new stop → write' ≡ write
+    → Explains 3 (counts_of queries replies old.file old.read write old.started files) (counts_of queries replies new.file new.read write' new.started files') (status_of (files_stop stop))
+files-explain queries replies write write' files files' old new (stopped.Refused refusal) e same = calm-files queries replies write write' files files' old new e same
+files-explain queries replies write write' files files' old new (stopped.NotOpened circuit.Netlist) e same = e
+files-explain queries replies write write' files files' old new (stopped.NotOpened circuit.Timing) e same = e
+files-explain queries replies write write' files files' old new (stopped.NotOpened circuit.Stimulus) e same = e
+files-explain queries replies write write' files files' old new (stopped.Unread circuit.Netlist) e same = e
+files-explain queries replies write write' files files' old new (stopped.Unread circuit.Timing) e same = e
+files-explain queries replies write write' files files' old new (stopped.Unread circuit.Stimulus) e same = e
+files-explain queries replies write write' files files' old new stopped.OutOfMemory e same = tt
 
 -- the faults that the session's loop is told by
 abbrev pub faults_of : Counts → Faults
@@ -114,12 +81,3 @@ pub halt-ends : (old mid new : Counts) (replies : ℕ) (halt : Halt) (stop : Sto
     → HaltExplains (faults_of mid) (faults_of new) halt → stop ≡ stop_of halt → EndExplains stop new.replies replies status → Explains 3 old (record new { replies = replies }) status
 halt-ends old mid new replies halt stop status calm three same read e is told =
     end-explains 3 old new replies (stop_of halt) status (halt-explains old mid new halt calm three same read e) (subst (λ (s : Stop). EndExplains s new.replies replies status) is told)
-
--- a file's turn is one of the three
-pub turn-file : (place : Place) (started : ℕ) → IsTurn place started → IsFile place
-turn-file Netlist started turn = tt
-turn-file Timing started turn = tt
-turn-file Stimulus started turn = tt
-turn-file Journal started turn = turn
-turn-file Script started turn = turn
-turn-file Replies started turn = turn

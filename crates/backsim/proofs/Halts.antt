@@ -5,6 +5,7 @@ use Rattle.std.proofs.lemmas.List.Elements.{All-head}
 use Rattle.std.specs.Prelude.{◌<◌, ◌≤◌, IsErrOf}
 use Rattle.backsim_io.specs.Counts.{Grows, GrowsByPrefix, Stays}
 use Rattle.backsim_io.specs.Held.{Made, SameMade, Places}
+use Rattle.circuit_files.specs.Files.{design_of_files}
 use Rattle.design.specs.Joined.{Joined}
 use Rattle.circuit_meaning.specs.Circuit.{IsCircuit}
 use Rattle.session_meaning.specs.Session.{Setup, IsSessionOf}
@@ -19,15 +20,15 @@ use Rattle.session_loop.specs.declared.stop.Stop.{Stop as SessionStop}
 use Rattle.session_loop.specs.declared.stop.Stop.TheVariants as stops
 use Rattle.backsim.specs.Broken.{IsBroken, BrokeOff, BrokeOffIn, ServedUntil, Leaves, OnFileFault}
 use Rattle.backsim.specs.Commands.{Command}
-use Rattle.backsim.specs.Files.{design_of_files}
-use Rattle.backsim.specs.Refused.{Followed, IsScriptRefused, IsRefused, too_long}
+use Rattle.backsim.specs.Refused.{Followed, IsScriptRefused, IsRefused}
 use Rattle.backsim.specs.Session.{Given, setup_of, OfDesign, ServedAll, IsServed}
+use Rattle.backsim.specs.Texts.{too_long}
 use Rattle.backsim.specs.inner.Stops.{stop_of, IsTold, EndsWith}
 use Rattle.backsim.specs.declared.status.Place.TheVariants.{Journal, Script, Replies}
 use Rattle.backsim.specs.declared.status.Status.{Status}
 use Rattle.backsim.specs.declared.status.Status.TheVariants as statuses
 use Rattle.backsim.specs.declared.refusal.Refusal.{Refusal}
-use Rattle.backsim.specs.declared.refusal.Refusal.TheVariants.{TooLong}
+use Rattle.backsim.specs.declared.refusal.Refusal.TheVariants.{ScriptTooLong}
 use Rattle.backsim.specs.declared.refusal.Stop.{Stop}
 
 -- bytes that were written before a call that writes none, or behind one that creates no file
@@ -136,7 +137,7 @@ module _ (command : Command) (given : Given) (design : Joined) (accepted : desig
       → IsHalted (setup_of command design) command.journal given.script (Some given.script) left w w' m' m'' halt → EndsWith (stop_of halt) w' w'' status
       → status ≡ statuses.Refused → IsRefused command given left w w'' m m''
   halt-refused (Stopped stops.ScriptTooLong) left w w' w'' m m' m'' status same halted told is =
-      inr (cut-off left w w' w'' m m' m'' (λ rest. rest ≡ too_long) too_long same (long-wrote left w w' m' m'' halted) refl (subst (IsTold (TooLong Script) w' w'') is told))
+      inr (cut-off left w w' w'' m m' m'' (λ rest. rest ≡ too_long) too_long same (long-wrote left w w' m' m'' halted) refl (subst (IsTold ScriptTooLong w' w'') is told))
   halt-refused JournalUnmade left w w' w'' m m' m'' status same halted told is = absurd (let e : statuses.FileFault Journal ≡ statuses.Refused = sym told.0 ∙ is in cc)
   halt-refused JournalUnfinished left w w' w'' m m' m'' status same halted told is = absurd (let e : statuses.FileFault Journal ≡ statuses.Refused = sym told.0 ∙ is in cc)
   halt-refused (Stopped stops.ScriptUnread) left w w' w'' m m' m'' status same halted told is = absurd (let e : statuses.ReadFault Script ≡ statuses.Refused = sym told.0 ∙ is in cc)
@@ -146,7 +147,7 @@ module _ (command : Command) (given : Given) (design : Joined) (accepted : desig
 
   -- what stands where the line of a script that is too long was told, or was not
   long-leaves : (left : Option (List ℕ)) (w w' w'' : List ℕ → Type 0) (m m' m'' : List Made → Type 0) (f f' : ℕ) (status : Status) → SameMade m m'
-      → WroteFile (IsCutOff (setup_of command design) given.script) command.journal w w' m' m'' → IsTold (TooLong Script) w' w'' status → Leaves command given left w w'' m m'' f f' status
+      → WroteFile (IsCutOff (setup_of command design) given.script) command.journal w w' m' m'' → IsTold ScriptTooLong w' w'' status → Leaves command given left w w'' m m'' f f' status
   long-leaves left w w' w'' m m' m'' f f' statuses.Refused same wrote told = tt
   long-leaves left w w' w'' m m' m'' f f' (statuses.WriteFault Replies) same wrote told = inr (inr (cut-begun left w w' w'' m m' m'' same wrote told))
   long-leaves left w w' w'' m m' m'' f f' statuses.OutOfMemory same wrote told =
@@ -191,7 +192,7 @@ pub halt-no_file : (says : Type 0) (halt : Halt) (w w' : List ℕ → Type 0) (s
 halt-no_file says JournalUnmade w w' status told = subst (OnFileFault says) (sym told.0) tt
 halt-no_file says JournalUnfinished w w' status told = subst (OnFileFault says) (sym told.0) tt
 halt-no_file says (Stopped stops.ScriptUnread) w w' status told = subst (OnFileFault says) (sym told.0) tt
-halt-no_file says (Stopped stops.ScriptTooLong) w w' status told = told-no_fault says (TooLong Script) w w' status told
+halt-no_file says (Stopped stops.ScriptTooLong) w w' status told = told-no_fault says ScriptTooLong w w' status told
 halt-no_file says (Stopped stops.RepliesUnwritten) w w' status told = subst (OnFileFault says) (sym told.0) tt
 halt-no_file says (Stopped stops.JournalUnwritten) w w' status told = subst (OnFileFault says) (sym told.0) tt
 halt-no_file says (Stopped stops.OutOfMemory) w w' status told = subst (OnFileFault says) (sym told.0) tt

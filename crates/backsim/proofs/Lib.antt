@@ -1,6 +1,4 @@
 pub mod Explained
-pub mod Designed
-pub mod Firsts
 pub mod Ends
 pub mod Halts
 pub mod Asked

@@ -12,7 +12,8 @@ use Rattle.backsim.specs.declared.status.Status.TheVariants.{Ended, Words, Refus
 use Rattle.backsim.specs.Commands.{Command}
 use Rattle.backsim.specs.Places.{OnFile}
 use Rattle.backsim.specs.Session.{Given, OfDesign, ServedAll}
-use Rattle.backsim.specs.Refused.{AreRefused, IsScriptRefused, too_long}
+use Rattle.backsim.specs.Refused.{AreRefused, IsScriptRefused}
+use Rattle.backsim.specs.Texts.{too_long}
 
 -- a session with these replies and this journal broke off in a unit, or before its journal's head was whole
 abbrev pub IsBroken : Setup → List ℕ → Option (List ℕ) → List ℕ → List ℕ → Type 0

@@ -2,7 +2,6 @@ pub mod Cause
 pub mod Places
 pub mod Commands
 pub mod Texts
-pub mod Files
 pub mod Session
 pub mod Refused
 pub mod Broken

@@ -2,22 +2,22 @@
 use Rattle.std.specs.Prelude.{◌≡◌, ◌⊎◌, ⊤, ℕ, List, ◌++◌, Option, Some, Err}
 use Rattle.backsim_io.specs.Counts.{Grows, GrowsByPrefix}
 use Rattle.backsim_io.specs.Held.{Made, SameMade}
+use Rattle.circuit_files.specs.Files.{design_of_files}
+use Rattle.circuit_files.specs.Texts.{refusal_text}
+use Rattle.circuit_files.specs.declared.refusal.FileRefusal.{FileRefusal}
 use Rattle.session_meaning.specs.Broken.{IsCutOff}
 use Rattle.session_loop.specs.Halting.{WroteFile}
-use Rattle.backsim.specs.declared.status.Place.TheVariants.{Script, Replies}
+use Rattle.backsim.specs.declared.status.Place.TheVariants.{Replies}
 use Rattle.backsim.specs.declared.status.Status.{Status}
 use Rattle.backsim.specs.declared.status.Status.TheVariants.{Ended, Words, Refused, ReadFault, WriteFault, FileFault, OutOfMemory}
-use Rattle.backsim.specs.declared.refusal.Refusal.{Refusal}
-use Rattle.backsim.specs.declared.refusal.Refusal.TheVariants.{TooLong}
 use Rattle.backsim.specs.Commands.{Command}
-use Rattle.backsim.specs.Files.{design_of_files}
 use Rattle.backsim.specs.Places.{IsFile}
 use Rattle.backsim.specs.Session.{Given, OfDesign}
-use Rattle.backsim.specs.Texts.{refusal_text}
+use Rattle.backsim.specs.Texts.{too_long}
 
 -- The files are refused: such bytes were written for their refusal, no file was created, and the script is unread.
 pub record AreRefused (given : Given) (told : (List ℕ → Type 0) → (List ℕ → Type 0) → List ℕ → Type 0) (left : Option (List ℕ)) (out new_out : List ℕ → Type 0) (made new_made : List Made → Type 0) : Type 0 where
-  pub refusal : Refusal
+  pub refusal : FileRefusal
   pub refused : design_of_files given.netlist given.timing given.stimulus ≡ Err refusal
   pub line : told out new_out (refusal_text refusal)
   pub unread : left ≡ Some given.script
@@ -35,9 +35,6 @@ pub record Followed (such : List ℕ → List ℕ → Type 0) (tail : List ℕ �
 abbrev pub IsScriptRefused : Command → Given → (List ℕ → Type 0) → (List ℕ → Type 0) → (List ℕ → Type 0) → (List Made → Type 0) → (List Made → Type 0) → Type 0
 IsScriptRefused command given tail out new_out made new_made =
     OfDesign command given (λ setup. WroteFile (Followed (IsCutOff setup given.script) tail) command.journal out new_out made new_made)
-
-abbrev pub too_long : List ℕ
-too_long = refusal_text (TooLong Script)
 
 -- the files are refused, or the script: the line that tells of it stands after all else
 abbrev pub IsRefused : Command → Given → Option (List ℕ) → (List ℕ → Type 0) → (List ℕ → Type 0) → (List Made → Type 0) → (List Made → Type 0) → Type 0
@@ -65,7 +62,7 @@ EndsEarly (FileFault place) = ⊤
 EndsEarly OutOfMemory = ⊤
 
 -- The files have this refusal: its line was written under status 2, and else a part of it at most. The script is unread, and no file was created.
-pub record RefusesFiles (refusal : Refusal) (old_left left : Option (List ℕ)) (out new_out : List ℕ → Type 0) (made new_made : List Made → Type 0) (files new_files : ℕ) (status : Status) : Type 0 where
+pub record RefusesFiles (refusal : FileRefusal) (old_left left : Option (List ℕ)) (out new_out : List ℕ → Type 0) (made new_made : List Made → Type 0) (files new_files : ℕ) (status : Status) : Type 0 where
   pub ends : EndsFiles status
   pub line : status ≡ Refused → Grows out new_out (refusal_text refusal)
   pub part : GrowsByPrefix out new_out (refusal_text refusal)

@@ -1,12 +1,12 @@
 -- What a session is given, and what it serves.
 use Rattle.std.specs.Prelude.{◌≡◌, ◌≤◌, ℕ, List, length, Option, Some, Ok}
 use Rattle.backsim_io.specs.Held.{Made}
+use Rattle.circuit_files.specs.Files.{design_of_files}
 use Rattle.design.specs.Joined.{Joined}
 use Rattle.session_meaning.specs.Session.{Setup}
 use Rattle.session_meaning.specs.Ample.{IsAmpleSession}
 use Rattle.session_loop.specs.Halting.{WroteFile}
 use Rattle.backsim.specs.Commands.{Command}
-use Rattle.backsim.specs.Files.{design_of_files}
 
 -- the bytes of the three files and of the script
 pub record Given : Type 0 where

@@ -1,11 +1,7 @@
 -- What the program prints beside replies.
 use Rattle.std.specs.Prelude.{ℕ, List, [], ◌∷◌, ◌++◌, codes}
-use Rattle.std.specs.Fmt.{decimal}
-use Rattle.reply_lines.specs.Replies.{text_line}
 use Rattle.backsim.specs.declared.status.Place.{Place}
 use Rattle.backsim.specs.declared.status.Place.TheVariants.{Netlist, Timing, Stimulus, Journal, Script, Replies}
-use Rattle.backsim.specs.declared.refusal.Refusal.{Refusal}
-use Rattle.backsim.specs.declared.refusal.Refusal.TheVariants.{TooLong, Line}
 
 -- what is printed where the words are none of the forms
 abbrev pub usage : List ℕ
@@ -22,8 +18,6 @@ name_of Journal = codes "journal"
 name_of Script = codes "script"
 name_of Replies = codes "replies"
 
--- the line that tells of a refusal
-abbrev pub refusal_text : Refusal → List ℕ
-refusal_text (TooLong file) = text_line (codes "refused" ∷ name_of file ∷ codes "too" ∷ codes "long" ∷ [])
-refusal_text (Line file line cause) =
-    text_line (codes "refused" ∷ name_of file ∷ codes "line" ∷ decimal line ∷ codes "cause" ∷ decimal cause ∷ [])
+-- the line that tells of a script that is too long
+abbrev pub too_long : List ℕ
+too_long = codes "refused script too long\n"

@@ -5,7 +5,7 @@
 //! script, and standard output gets the replies to a batch as soon as its last line was read. A fault that ends a session, or a lack
 //! of memory, is told on standard error, and every end by the exit status.
 //!
-//! - `inputs` reads and joins the three files. The crate `session_loop` reads the script and serves its units, and the workers of
+//! - The crate `circuit_files` reads and joins the three files. The crate `session_loop` reads the script and serves its units, and the workers of
 //!   `batch_crew` evaluate what they need.
 //! - `serve` is all of it over any files, source and sink. Its contract says which status comes only where
 //!   which count of faults rose, and what was written of the files' design and the script where a session
@@ -24,7 +24,6 @@
 //! ```
 #![tactic(auto)]
 
-mod inputs;
 mod refusal;
 mod serve;
 mod status;

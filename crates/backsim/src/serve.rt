@@ -3,27 +3,27 @@
 ghost use Rattle.std.specs.Prelude.{◌≡◌, ◌<◌, ◌≤◌, ◌⊎◌, ℕ, List, [], Some, None, Ok, Err, map, length};
 ghost use Rattle.backsim_io.specs.Counts.{Grows, GrowsByPrefix};
 ghost use Rattle.backsim_io.specs.Held.{ConsumesUpTo};
+ghost use Rattle.circuit_files.specs.Files.{netlist_of, first_two, design_of_files};
+ghost use Rattle.circuit_files.specs.declared.refusal.FileRefusal.{FileRefusal};
 ghost use Rattle.command_words.specs.Words.{words_of};
 ghost use Rattle.design.specs.Joined.{Joined};
 ghost use Rattle.session_loop.specs.Halting.{IsUntouched};
 ghost use Rattle.backsim.specs.Broken.{Leaves, OnFileFault};
 ghost use Rattle.backsim.specs.Cause.{counts_of, NoneRose, Explains};
 ghost use Rattle.backsim.specs.Commands.{Command, command_of, OnSession, OnWorkload, files_read};
-ghost use Rattle.backsim.specs.Files.{netlist_of, first_two, design_of_files};
 ghost use Rattle.backsim.specs.Refused.{IsRefused, RefusesFiles, EndsEarly};
 ghost use Rattle.backsim.specs.Session.{Given, AreGiven, IsServed};
 ghost use Rattle.backsim.specs.inner.Stops.{EndsWith, EndExplains};
 ghost use Rattle.backsim.specs.Texts.{usage};
 ghost use Rattle.backsim.specs.Work.{IsWorkServed, LeavesWork};
-ghost use Rattle.backsim.specs.declared.refusal.Refusal.{Refusal};
 
-use crate::inputs::read_design;
-use crate::refusal::{Refusal, Stop};
+use crate::refusal::Stop;
 use crate::status::{Place, Status};
 use crate::usage::write_usage;
 use crate::work::serve_workload;
 use backsim_io::{Files, Sink, Source, write_all};
 use batch_crew::Workers;
+use circuit_files::read_design;
 use command_words::{Words, read_words};
 use session_loop::serve_session;
 use session_meaning::enough_budgets_are_served;
@@ -67,13 +67,13 @@ fn serve_files<F: Files, Q: Source, S: Sink, G: Gate, R: Threads + Wait + Sync>(
     ensures broken { let command = command_of netlist.now timing.now stimulus.now journal.now workers sizes.shards sizes.cells in (given : Given)
         → AreGiven (F.held files.old) (Q.left queries.old) command given
         → Leaves command given (Q.left queries.new) (S.written out.old) (S.written out.new) (F.made files.old) (F.made files.new) (F.files files.old) (F.files files.new) result }
-    ensures netlist_refused { (refusal : Refusal) (first : List ℕ)
+    ensures netlist_refused { (refusal : FileRefusal) (first : List ℕ)
         → F.held files.old netlist.now ≡ Some first → netlist_of first ≡ Err refusal
         → RefusesFiles refusal (Q.left queries.old) (Q.left queries.new) (S.written out.old) (S.written out.new) (F.made files.old) (F.made files.new) (F.files files.old) (F.files files.new) result }
-    ensures timing_refused { (refusal : Refusal) (first second : List ℕ)
+    ensures timing_refused { (refusal : FileRefusal) (first second : List ℕ)
         → F.held files.old netlist.now ≡ Some first → F.held files.old timing.now ≡ Some second → first_two first second ≡ Err refusal
         → RefusesFiles refusal (Q.left queries.old) (Q.left queries.new) (S.written out.old) (S.written out.new) (F.made files.old) (F.made files.new) (F.files files.old) (F.files files.new) result }
-    ensures files_refused { (refusal : Refusal) (first second third : List ℕ)
+    ensures files_refused { (refusal : FileRefusal) (first second third : List ℕ)
         → F.held files.old netlist.now ≡ Some first → F.held files.old timing.now ≡ Some second → F.held files.old stimulus.now ≡ Some third
         → design_of_files first second third ≡ Err refusal
         → RefusesFiles refusal (Q.left queries.old) (Q.left queries.new) (S.written out.old) (S.written out.new) (F.made files.old) (F.made files.new) (F.files files.old) (F.files files.new) result }
@@ -85,7 +85,7 @@ fn serve_files<F: Files, Q: Source, S: Sink, G: Gate, R: Threads + Wait + Sync>(
 {
     let design = match read_design(alloc, netlist, timing, stimulus, files) {
         Ok(design) => design,
-        Err(stop) => return end_stopped(alloc, stop, out),
+        Err(stop) => return end_stopped(alloc, Stop::from(stop), out),
     };
     design.facts();
     enough_budgets_are_served();
@@ -149,15 +149,15 @@ pub fn serve<F: Files, Q: Source, S: Sink, G: Gate, R: Threads + Wait + Sync>(
         → AreGiven (F.held files.old) (Q.left queries.old) command given → result ≡ Status.Refused
         → IsRefused command given (Q.left queries.new) (S.written out.old) (S.written out.new) (F.made files.old) (F.made files.new))
         (words_of (map (λ word. word.now) words.now)) }
-    ensures netlist_refused { OnSession (λ command. (refusal : Refusal) (first : List ℕ)
+    ensures netlist_refused { OnSession (λ command. (refusal : FileRefusal) (first : List ℕ)
         → F.held files.old command.netlist ≡ Some first → netlist_of first ≡ Err refusal
         → RefusesFiles refusal (Q.left queries.old) (Q.left queries.new) (S.written out.old) (S.written out.new) (F.made files.old) (F.made files.new) (F.files files.old) (F.files files.new) result)
         (words_of (map (λ word. word.now) words.now)) }
-    ensures timing_refused { OnSession (λ command. (refusal : Refusal) (first second : List ℕ)
+    ensures timing_refused { OnSession (λ command. (refusal : FileRefusal) (first second : List ℕ)
         → F.held files.old command.netlist ≡ Some first → F.held files.old command.timing ≡ Some second → first_two first second ≡ Err refusal
         → RefusesFiles refusal (Q.left queries.old) (Q.left queries.new) (S.written out.old) (S.written out.new) (F.made files.old) (F.made files.new) (F.files files.old) (F.files files.new) result)
         (words_of (map (λ word. word.now) words.now)) }
-    ensures files_refused { OnSession (λ command. (refusal : Refusal) (first second third : List ℕ)
+    ensures files_refused { OnSession (λ command. (refusal : FileRefusal) (first second third : List ℕ)
         → F.held files.old command.netlist ≡ Some first → F.held files.old command.timing ≡ Some second → F.held files.old command.stimulus ≡ Some third
         → design_of_files first second third ≡ Err refusal
         → RefusesFiles refusal (Q.left queries.old) (Q.left queries.new) (S.written out.old) (S.written out.new) (F.made files.old) (F.made files.new) (F.files files.old) (F.files files.new) result)

@@ -2,7 +2,10 @@
 
 ghost use Rattle.std.specs.Prelude.{◌≡◌};
 ghost use Rattle.backsim.specs.inner.Statuses.{number_of};
+ghost use Rattle.backsim.specs.inner.Stops.{place_of};
 ghost use Rattle.backsim.specs.Texts.{name_of};
+
+use circuit_files::CircuitFile;
 
 /// Where a fault was met.
 #[derive(Clone, Copy, Debug, PartialEq, Eq)]
@@ -16,6 +19,17 @@ pub enum Place {
 }
 
 impl Place {
+    /// The place of one of the three files.
+    pub fn of_file(file: CircuitFile) -> Place
+        ensures { result ≡ place_of file }
+    {
+        match file {
+            CircuitFile::Netlist => Place::Netlist,
+            CircuitFile::Timing => Place::Timing,
+            CircuitFile::Stimulus => Place::Stimulus,
+        }
+    }
+
     /// The name of the place in what the program prints.
     pub fn name(self) -> &'static str
         ensures { result.now ≡ name_of self }
