@@ -18,7 +18,7 @@ use Rattle.backsim.specs.Commands.{Command}
 use Rattle.backsim.specs.Places.{IsFile, OnFile}
 use Rattle.backsim.specs.Refused.{AreRefused, EndsFiles, EndsEarly, RefusesFiles}
 use Rattle.backsim.specs.Session.{Given}
-use Rattle.backsim.specs.inner.Stops.{status_of, place_of, files_stop, refusal_text, IsTold, EndsWith}
+use Rattle.backsim.specs.inner.Stops.{place_of, files_stop, refusal_text, IsTold, EndsWith}
 use Rattle.backsim.specs.declared.status.Place.{Place}
 use Rattle.backsim.specs.declared.status.Place.TheVariants.{Netlist, Timing, Stimulus, Journal, Script, Replies}
 use Rattle.backsim.specs.declared.status.Status.{Status}

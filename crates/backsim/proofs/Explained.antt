@@ -14,7 +14,6 @@ use Rattle.backsim.specs.inner.Stops.{status_of, files_stop, stop_of, EndExplain
 use Rattle.backsim.specs.declared.status.Place.TheVariants.{Replies}
 use Rattle.backsim.specs.declared.status.Status.{Status}
 use Rattle.backsim.specs.declared.status.Status.TheVariants as statuses
-use Rattle.backsim.specs.declared.status.Status.TheVariants.{Ended, Words}
 use Rattle.backsim.specs.declared.refusal.Stop.{Stop}
 use Rattle.backsim.specs.declared.refusal.Stop.TheVariants.{Refused, ReadFault, WriteFault, FileFault, OutOfMemory}
 

@@ -8,8 +8,8 @@
 //! - The design is the one that the definitions of the three formats and of their join make of the files' bytes
 //!   (`specs/Files`, `design_of_files`).
 //! - What is refused is the first refusal in this order: the netlist's length, then its first fault; the same of the timing file,
-//!   and of the stimulus; then the first row that does not join. Where a file is refused, no later one is opened, so that whatever
-//!   they hold, or that one of them is missing, does not hide it (`specs/Stops`).
+//!   and of the stimulus; then the first row that does not join. Whatever the files behind a refused one hold, or that one of them
+//!   is missing, does not hide its refusal (`specs/Stops`).
 //! - A fault comes only where its count rose, or stands at its last value, and how many files were opened tells which file it is of
 //!   (`specs/Causes`). No file is created.
 //! - [`FileRefusal::text`] is the line that tells of a refusal (`specs/Texts`).

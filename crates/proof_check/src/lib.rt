@@ -26,7 +26,7 @@
 //!
 //! - **`yes NAME T V` is true**: in forward simulation of the circuit of the three files the signal NAME has the value V at the time T,
 //!   whoever wrote the proof, and also where only the three files are told and of the proof nothing is known.
-//! - What a file is refused for is told whatever stands behind it: no later file is opened, and the proof is read last.
+//! - What a file is refused for is told whatever stands behind it, also where that is missing or cannot be read. The proof stands last.
 //! - Where the line could not be written, a part of it was; under the other faults and for want of memory nothing is written. No file is
 //!   created.
 //!

@@ -1,6 +1,6 @@
 //! Reading the four files.
 
-ghost use Rattle.std.specs.Prelude.{◌≡◌, ◌≤◌, ◌<◌, ◌+◌, ℕ, List, Some, Ok, Err, IfErr, IfOk, length};
+ghost use Rattle.std.specs.Prelude.{◌≡◌, ◌≤◌, ◌<◌, ℕ, List, Some, Ok, Err, IfErr, IfOk, length};
 ghost use Rattle.backsim_io.specs.Held.{SameMade};
 ghost use Rattle.circuit_files.specs.Causes.{counts_of};
 ghost use Rattle.circuit_files.specs.Files.{netlist_of, first_two, design_of_files};
