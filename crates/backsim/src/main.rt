@@ -27,6 +27,8 @@
 mod refusal;
 mod serve;
 mod status;
+#[cfg(test)]
+mod tests;
 mod usage;
 mod work;
 
