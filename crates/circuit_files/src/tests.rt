@@ -1,10 +1,12 @@
+ghost use Rattle.std.specs.Prelude.{◌≡◌, IfOk};
+
 use crate::{CircuitFile, FileRefusal, FilesStop, read_design};
-use backsim_io::{MemFiles, Text};
+use backsim_io::{Files, MemFiles, Text};
 use std::alloc::Global;
 use std::test::Fail;
 
 /// The bytes under three names; a name with no bytes isn't held.
-type Files<'a> = [(&'a str, Option<&'a str>); 3];
+type Given<'a> = [(&'a str, Option<&'a str>); 3];
 
 const NETLIST: &str = "INPUT(a)\nOUTPUT(y)\ny = NOT(a)\n";
 
@@ -12,7 +14,9 @@ const TIMING: &str = "default 3\n";
 
 const STIMULUS: &str = "horizon 10\nset a 0 0\nset a 5 1\n";
 
-fn mem_files(alloc: Global, given: &Files<'_>, failing: &[u64]) -> Result<MemFiles, Fail> {
+fn mem_files(alloc: Global, given: &Given<'_>, failing: &[u64]) -> Result<MemFiles, Fail>
+    ensures { IfOk result (λ files. ⟦<MemFiles as Files>⟧.started files ≡ 0) }
+{
     let mut held = Vec::new(alloc);
     for (name, bytes) in given {
         if let Some(bytes) = bytes {
@@ -26,7 +30,7 @@ fn mem_files(alloc: Global, given: &Files<'_>, failing: &[u64]) -> Result<MemFil
 }
 
 /// Why these files make no design.
-fn stop_of(alloc: Global, given: &Files<'_>, failing: &[u64]) -> Result<Option<FilesStop>, Fail> {
+fn stop_of(alloc: Global, given: &Given<'_>, failing: &[u64]) -> Result<Option<FilesStop>, Fail> {
     let mut files = mem_files(alloc, given, failing)?;
     Ok(read_design(alloc, "n", "t", "s", &mut files).err())
 }

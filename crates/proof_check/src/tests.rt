@@ -1,5 +1,7 @@
+ghost use Rattle.std.specs.Prelude.{◌≡◌, IfOk};
+
 use crate::{CheckStatus, check};
-use backsim_io::{MemFiles, MemSink, Text};
+use backsim_io::{Files, MemFiles, MemSink, Text};
 use std::alloc::Global;
 use std::test::Fail;
 
@@ -22,7 +24,9 @@ const CHAIN: Held = Held {
 
 const WORDS: &[&str] = &["n", "t", "s", "p"];
 
-fn mem_files(alloc: Global, given: &Held, failing: &[u64]) -> Result<MemFiles, Fail> {
+fn mem_files(alloc: Global, given: &Held, failing: &[u64]) -> Result<MemFiles, Fail>
+    ensures { IfOk result (λ files. ⟦<MemFiles as Files>⟧.started files ≡ 0) }
+{
     let mut held = Vec::new(alloc);
     for (name, bytes) in [
         ("n", Some(given.netlist)),
