@@ -28,6 +28,8 @@ mod inputs;
 mod refusal;
 mod serve;
 mod status;
+#[cfg(test)]
+mod tests;
 mod usage;
 mod work;
 
