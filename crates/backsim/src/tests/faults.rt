@@ -1,8 +1,8 @@
 //! Each call of each object fails, and what that leaves.
 
-use super::objects::{Left, Object, ends, files_of, left_by};
+use super::objects::{Left, Object, ends, file, files_of, left_by};
 use crate::status::{Place, Status};
-use backsim_io::{MemSink, SureSink, SureSource};
+use backsim_io::{MemFiles, MemSink, SureSink, SureSource};
 use std::alloc::Global;
 use std::sync::Wait;
 use std::test::Fail;
@@ -48,7 +48,7 @@ fn runs<R: Threads + Wait + Sync>(
 ) -> Result<Option<(Vec<Status>, u64)>, Fail> {
     let mut seen = Vec::new(alloc);
     for call in 0..100u64 {
-        let left = left_by(rt, alloc, script(), faulty, call)?;
+        let left = left_by(rt, alloc, script(), 7, faulty, call)?;
         if !is_beginning(&left) {
             return Ok(None);
         }
@@ -107,10 +107,59 @@ fn each_call_of_the_replies_fails(rt: HostRuntime) -> Result<(), Fail> {
 
 #[test]
 fn the_first_write_of_a_reply_fails(rt: HostRuntime) -> Result<(), Fail> {
-    let left = left_by(&rt, rt.alloc(), b"wave y 0 11\n", Object::Replies, 0)?;
+    let left = left_by(&rt, rt.alloc(), b"wave y 0 11\n", 7, Object::Replies, 0)?;
     assert_eq!(rt; left.status, Status::WriteFault(Place::Replies));
     assert!(rt; left.replies.is_empty());
     assert!(rt; left.journal.as_slice() == head());
+    Ok(())
+}
+
+/// The batch before `go` is served when the next read fails, and the line after it is not.
+#[test]
+fn a_read_fails_between_two_batches(rt: HostRuntime) -> Result<(), Fail> {
+    let left = left_by(
+        &rt,
+        rt.alloc(),
+        b"at y 5\ngo\nat y 6\n",
+        10,
+        Object::Script,
+        1,
+    )?;
+    assert_eq!(rt; left.status, Status::ReadFault(Place::Script));
+    assert!(rt; left.replies.as_slice() == b"at y 5 1\n".as_slice());
+    Ok(())
+}
+
+#[test]
+fn a_write_fails_amid_a_reply(rt: HostRuntime) -> Result<(), Fail> {
+    let left = left_by(&rt, rt.alloc(), b"wave y 0 11\n", 4, Object::Replies, 1)?;
+    assert_eq!(rt; left.status, Status::WriteFault(Place::Replies));
+    assert!(rt; left.replies.as_slice() == b"wave".as_slice());
+    Ok(())
+}
+
+/// A session whose timing file is not held.
+fn without_timing<R: Threads + Wait + Sync>(rt: &R, alloc: Global) -> Result<Status, Fail> {
+    let mut held = Vec::new(alloc);
+    held.push(file(alloc, b"n", b"INPUT(a)\nOUTPUT(y)\ny = NOT(a)\n")?)?;
+    held.push(file(alloc, b"s", b"horizon 10\nset a 0 0\n")?)?;
+    let mut files = MemFiles::new(alloc, held, Vec::new(alloc));
+    let mut queries = SureSource::new(Vec::new(alloc));
+    let mut out = SureSink::new(alloc, 4)?;
+    Ok(ends(
+        rt,
+        alloc,
+        &["n", "t", "s", "j"],
+        &mut files,
+        &mut queries,
+        &mut out,
+    ))
+}
+
+#[test]
+fn a_file_is_missing(rt: HostRuntime) -> Result<(), Fail> {
+    let status = without_timing(&rt, rt.alloc())?;
+    assert_eq!(rt; status, Status::FileFault(Place::Timing));
     Ok(())
 }
 

@@ -27,7 +27,7 @@ pub struct Left {
     pub journal: Vec<u8>,
 }
 
-fn file(alloc: Global, name: &[u8], bytes: &[u8]) -> Result<(Text, Vec<u8>), Fail> {
+pub fn file(alloc: Global, name: &[u8], bytes: &[u8]) -> Result<(Text, Vec<u8>), Fail> {
     Ok((Text::from_bytes(alloc, name)?, bytes.to_vec(alloc)?))
 }
 
@@ -80,18 +80,21 @@ fn journal_in(alloc: Global, files: &MemFiles) -> Result<Vec<u8>, Fail> {
     }
 }
 
-/// What a session leaves in which this call of an object fails. Script and replies go in pieces of 7 bytes.
+/// What a session leaves in which this call of an object fails. Script and replies go in pieces of so many bytes.
 pub fn left_by<R: Threads + Wait + Sync>(
     rt: &R,
     alloc: Global,
     script: &[u8],
+    piece: usize,
     faulty: Object,
     call: u64,
-) -> Result<Left, Fail> {
+) -> Result<Left, Fail>
+    requires { 0 < piece }
+{
     let mut files = files_of(alloc, failing(alloc, Object::Files, faulty, call)?)?;
     let script_calls = failing(alloc, Object::Script, faulty, call)?;
-    let mut queries = MemSource::new(script.to_vec(alloc)?, 7, script_calls);
-    let mut out = MemSink::new(alloc, 7, failing(alloc, Object::Replies, faulty, call)?);
+    let mut queries = MemSource::new(script.to_vec(alloc)?, piece, script_calls);
+    let mut out = MemSink::new(alloc, piece, failing(alloc, Object::Replies, faulty, call)?);
     let status = ends(
         rt,
         alloc,
