@@ -5,20 +5,29 @@ use backsim_io::{Files, MemFiles, Text};
 use std::alloc::Global;
 use std::test::Fail;
 
-/// The bytes under three names; a name with no bytes isn't held.
-type Given<'a> = [(&'a str, Option<&'a str>); 3];
+/// What is held under the names `n`, `t` and `s`; a name with no bytes isn't held.
+#[derive(Clone, Copy)]
+struct Held {
+    netlist: &'static str,
+    timing: Option<&'static str>,
+    stimulus: &'static str,
+}
 
-const NETLIST: &str = "INPUT(a)\nOUTPUT(y)\ny = NOT(a)\n";
+const INVERTER: Held = Held {
+    netlist: "INPUT(a)\nOUTPUT(y)\ny = NOT(a)\n",
+    timing: Some("default 3\n"),
+    stimulus: "horizon 10\nset a 0 0\nset a 5 1\n",
+};
 
-const TIMING: &str = "default 3\n";
-
-const STIMULUS: &str = "horizon 10\nset a 0 0\nset a 5 1\n";
-
-fn mem_files(alloc: Global, given: &Given<'_>, failing: &[u64]) -> Result<MemFiles, Fail>
+fn mem_files(alloc: Global, given: &Held, failing: &[u64]) -> Result<MemFiles, Fail>
     ensures { IfOk result (λ files. ⟦<MemFiles as Files>⟧.started files ≡ 0) }
 {
     let mut held = Vec::new(alloc);
-    for (name, bytes) in given {
+    for (name, bytes) in [
+        ("n", Some(given.netlist)),
+        ("t", given.timing),
+        ("s", Some(given.stimulus)),
+    ] {
         if let Some(bytes) = bytes {
             held.push((
                 Text::from_bytes(alloc, name.as_bytes())?,
@@ -30,7 +39,7 @@ fn mem_files(alloc: Global, given: &Given<'_>, failing: &[u64]) -> Result<MemFil
 }
 
 /// Why these files make no design.
-fn stop_of(alloc: Global, given: &Given<'_>, failing: &[u64]) -> Result<Option<FilesStop>, Fail> {
+fn stop_of(alloc: Global, given: &Held, failing: &[u64]) -> Result<Option<FilesStop>, Fail> {
     let mut files = mem_files(alloc, given, failing)?;
     Ok(read_design(alloc, "n", "t", "s", &mut files).err())
 }
@@ -39,36 +48,37 @@ fn stop_of(alloc: Global, given: &Given<'_>, failing: &[u64]) -> Result<Option<F
 fn refusals_are_told(rt: HostRuntime) -> Result<(), Fail> {
     let rows = [
         (
-            [
-                ("n", Some("INPUT(a)\nOUTPUT(y)\ny = AND(a, nowhere)\n")),
-                ("t", None),
-                ("s", None),
-            ],
+            Held {
+                netlist: "INPUT(a)\nOUTPUT(y)\ny = AND(a, nowhere)\n",
+                timing: None,
+                ..INVERTER
+            },
             "refused netlist line 3 cause 5\n",
         ),
         (
-            [
-                ("n", Some(NETLIST)),
-                ("t", Some("default 3\ndelay y 0\n")),
-                ("s", None),
-            ],
+            Held {
+                timing: Some("default 3\ndelay y 0\n"),
+                ..INVERTER
+            },
             "refused timing line 2 cause 2\n",
         ),
         (
-            [
-                ("n", Some(NETLIST)),
-                ("t", Some("default 3\ndelay a 2\n")),
-                ("s", Some(STIMULUS)),
-            ],
+            Held {
+                timing: Some("default 3\ndelay a 2\n"),
+                ..INVERTER
+            },
             "refused timing line 2 cause 12\n",
         ),
         (
-            [("n", Some(NETLIST)), ("t", Some(TIMING)), ("s", Some(""))],
+            Held {
+                stimulus: "",
+                ..INVERTER
+            },
             "refused stimulus line 0 cause 2\n",
         ),
     ];
-    for (given, text) in rows {
-        let Some(FilesStop::Refused(refusal)) = stop_of(rt.alloc(), &given, &[])? else {
+    for (held, text) in rows {
+        let Some(FilesStop::Refused(refusal)) = stop_of(rt.alloc(), &held, &[])? else {
             return Err("not refused".into());
         };
         assert_eq!(rt; refusal.text(rt.alloc())?.as_str(), text);
@@ -83,21 +93,15 @@ fn refusals_are_told(rt: HostRuntime) -> Result<(), Fail> {
 
 #[test]
 fn faults_name_their_file(rt: HostRuntime) -> Result<(), Fail> {
-    let whole = [
-        ("n", Some(NETLIST)),
-        ("t", Some(TIMING)),
-        ("s", Some(STIMULUS)),
-    ];
-    let mut files = mem_files(rt.alloc(), &whole, &[])?;
-    let Ok(design) = read_design(rt.alloc(), "n", "t", "s", &mut files) else {
-        return Err("no design".into());
-    };
-    assert_eq!(rt; design.horizon(), 10);
+    assert_eq!(rt; stop_of(rt.alloc(), &INVERTER, &[])?, None);
     assert_eq!(rt;
-        stop_of(rt.alloc(), &whole, &[1])?,
+        stop_of(rt.alloc(), &INVERTER, &[1])?,
         Some(FilesStop::Unread(CircuitFile::Netlist))
     );
-    let missing = [("n", Some(NETLIST)), ("t", None), ("s", Some(STIMULUS))];
+    let missing = Held {
+        timing: None,
+        ..INVERTER
+    };
     assert_eq!(rt;
         stop_of(rt.alloc(), &missing, &[])?,
         Some(FilesStop::NotOpened(CircuitFile::Timing))
