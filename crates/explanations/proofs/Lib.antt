@@ -1,6 +1,5 @@
 mod Answering
 mod Asking
-mod Ended
 mod Following
 mod Gathering
 mod Looks

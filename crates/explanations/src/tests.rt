@@ -45,10 +45,10 @@ fn chain(alloc: Global) -> Result<Result<Design, JoinFault>, Fail> {
     )
 }
 
-/// What is seen of an explanation: its text, or none of a refusal; the entries; and the store that is left.
+/// What is seen of an explanation: its text, or nothing of a refusal; the entries; and the store that is left.
 #[derive(Drop)]
 struct Seen {
-    text: Option<Vec<u8>>,
+    text: Vec<u8>,
     journal: Vec<u8>,
     store: CellStore,
 }
@@ -59,12 +59,10 @@ fn text_of(
     name: &[u8],
     time: u32,
     answer: &WhyAnswer,
-) -> Result<Option<Vec<u8>>, OutOfMemory> {
+) -> Result<Vec<u8>, OutOfMemory> {
     match answer {
-        WhyAnswer::Proof { cells, value } => {
-            Ok(Some(proof_text(alloc, name, time, *value, cells)?))
-        }
-        WhyAnswer::Budget(_) => Ok(None),
+        WhyAnswer::Proof { cells, value } => Ok(proof_text(alloc, name, time, *value, cells)?),
+        WhyAnswer::Budget(_) => Ok(Vec::new(alloc)),
     }
 }
 
@@ -150,27 +148,66 @@ fn why(
     explained::<Brand>(alloc, design, store, name, query)
 }
 
+/// The same over an empty store, as the query of line 1.
+fn first_why(
+    alloc: Global,
+    design: &Design,
+    name: &[u8],
+    time: u32,
+    budget: u32,
+) -> Result<Option<Seen>, OutOfMemory>
+    ensures store { IfOk result (λ r. IfSome r (λ seen. seen.store.capacity ≡ 4)) }
+    ensures right { IfOk result (λ r. IfSome r (λ seen. AllByRecursion (IsRight design.now.circuit) seen.store.cells)) }
+{
+    let store = CellStore::new(alloc, 4)?;
+    why(alloc, design, store, 1, name, time, budget)
+}
+
+/// Why it has its value at a time, as the query of line 2, once another time was explained.
+fn next_why(
+    alloc: Global,
+    design: &Design,
+    name: &[u8],
+    first: u32,
+    time: u32,
+) -> Result<Option<Seen>, OutOfMemory> {
+    match first_why(alloc, design, name, first, 50_000)? {
+        None => Ok(None),
+        Some(
+            Seen {
+                text: _,
+                journal: _,
+                store,
+            },
+        ) => why(alloc, design, store, 2, name, time, 50_000),
+    }
+}
+
 #[test]
-fn told_cells_are_explained_too(rt: HostRuntime) -> Result<(), Fail> {
+fn the_last_of_three_buffers(rt: HostRuntime) -> Result<(), Fail> {
     let design = chain(rt.alloc())??;
-    let store = CellStore::new(rt.alloc(), 4)?;
-    let first = why(rt.alloc(), &design, store, 1, b"n3", 5, 50_000)?.expect(&rt, "a signal");
+    let seen = first_why(rt.alloc(), &design, b"n3", 5, 50_000)?.expect(&rt, "a signal");
     assert_eq!(rt;
-        first.text.expect(&rt, "a proof").as_slice(),
+        seen.text.as_slice(),
         b"why n3 5 1\ncell 2 1 11 1\ncell 3 2 11 1\ncell 1 3 11 1\nend\n".as_slice()
     );
     assert_eq!(rt;
-        first.journal.as_slice(),
+        seen.journal.as_slice(),
         b"claim 1 1 5\nclaim 1 3 4\nclaim 1 2 3\nfill 1 2 3 1 11 1\nfill 1 3 4 2 11 1\nfill 1 1 5 3 11 1\n".as_slice()
     );
-    // the cell of n3 is told, and so is what it comes from
-    let next = why(rt.alloc(), &design, first.store, 2, b"n3", 6, 50_000)?.expect(&rt, "a signal");
+    Ok(())
+}
+
+#[test]
+fn what_told_cells_come_from_is_told_too(rt: HostRuntime) -> Result<(), Fail> {
+    let design = chain(rt.alloc())??;
+    let seen = next_why(rt.alloc(), &design, b"n3", 5, 6)?.expect(&rt, "a signal");
     assert_eq!(rt;
-        next.text.expect(&rt, "a proof").as_slice(),
+        seen.text.as_slice(),
         b"why n3 6 1\ncell 2 1 11 1\ncell 3 2 11 1\ncell 1 3 11 1\nend\n".as_slice()
     );
     assert_eq!(rt;
-        next.journal.as_slice(),
+        seen.journal.as_slice(),
         b"told 2 1 6 3 11 1\ntold 2 3 5 2 11 1\ntold 2 2 4 1 11 1\n".as_slice()
     );
     Ok(())
@@ -179,12 +216,8 @@ fn told_cells_are_explained_too(rt: HostRuntime) -> Result<(), Fail> {
 #[test]
 fn a_base_answer_needs_no_line(rt: HostRuntime) -> Result<(), Fail> {
     let design = chain(rt.alloc())??;
-    let store = CellStore::new(rt.alloc(), 4)?;
-    let seen = why(rt.alloc(), &design, store, 1, b"n3", 0, 0)?.expect(&rt, "a signal");
-    assert_eq!(rt;
-        seen.text.expect(&rt, "a proof").as_slice(),
-        b"why n3 0 x\nend\n".as_slice()
-    );
+    let seen = first_why(rt.alloc(), &design, b"n3", 0, 0)?.expect(&rt, "a signal");
+    assert_eq!(rt; seen.text.as_slice(), b"why n3 0 x\nend\n".as_slice());
     assert_eq!(rt; seen.journal.as_slice(), b"".as_slice());
     Ok(())
 }
@@ -192,9 +225,8 @@ fn a_base_answer_needs_no_line(rt: HostRuntime) -> Result<(), Fail> {
 #[test]
 fn a_budget_is_too_small(rt: HostRuntime) -> Result<(), Fail> {
     let design = chain(rt.alloc())??;
-    let store = CellStore::new(rt.alloc(), 4)?;
-    let seen = why(rt.alloc(), &design, store, 1, b"n3", 5, 2)?.expect(&rt, "a signal");
-    assert_eq!(rt; seen.text.is_none(), true);
+    let seen = first_why(rt.alloc(), &design, b"n3", 5, 2)?.expect(&rt, "a signal");
+    assert_eq!(rt; seen.text.as_slice(), b"".as_slice());
     assert_eq!(rt;
         seen.journal.as_slice(),
         b"claim 1 1 5\nclaim 1 3 4\nspent 1 2 3 2\ndrop 1 3 4\ndrop 1 1 5\n".as_slice()
@@ -210,10 +242,9 @@ fn pins_behind_the_first_that_decides_are_left_out(rt: HostRuntime) -> Result<()
         "INPUT(a)\nINPUT(b)\nOUTPUT(y)\nm = BUFF(a)\nn = BUFF(b)\ny = AND(m, n)\n",
         "horizon 10\nset a 0 0\nset b 0 1\n",
     )??;
-    let store = CellStore::new(rt.alloc(), 4)?;
-    let seen = why(rt.alloc(), &design, store, 1, b"y", 5, 50_000)?.expect(&rt, "a signal");
+    let seen = first_why(rt.alloc(), &design, b"y", 5, 50_000)?.expect(&rt, "a signal");
     assert_eq!(rt;
-        seen.text.expect(&rt, "a proof").as_slice(),
+        seen.text.as_slice(),
         b"why y 5 0\ncell 3 1 11 0\ncell 2 2 11 0\nend\n".as_slice()
     );
     assert_eq!(rt;
