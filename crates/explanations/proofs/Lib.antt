@@ -1,5 +1,6 @@
 mod Answering
 mod Asking
+mod Ended
 mod Following
 mod Gathering
 mod Looks
