@@ -112,6 +112,17 @@ fn base_of(design: &Design, name: &str, time: u32) -> Option<(u32, u32, Value)> 
     Some((cell.span.start(), cell.span.end(), cell.value))
 }
 
+/// The same in the design of three files.
+fn base_in(
+    alloc: Global,
+    files: &Files,
+    name: &str,
+    time: u32,
+) -> Result<Option<(u32, u32, Value)>, Fail> {
+    let design = joined(alloc, files)??;
+    Ok(base_of(&design, name, time))
+}
+
 #[test]
 fn points_with_a_cell_at_once(rt: HostRuntime) -> Result<(), Fail> {
     let rows = [
@@ -142,24 +153,40 @@ fn points_with_a_cell_at_once(rt: HostRuntime) -> Result<(), Fail> {
         (CLOCKS, "r", 4, None),
     ];
     for (files, name, time, cell) in rows {
-        let design = joined(rt.alloc(), &files)??;
-        assert_eq!(rt; base_of(&design, name, time), cell, "{name} at {time}");
+        let found = base_in(rt.alloc(), &files, name, time)?;
+        assert_eq!(rt; found, cell, "{name} at {time}");
     }
     Ok(())
 }
 
-/// The design with the signal of this name held.
-fn held_at(
+/// The cell that a point has at once where the signal of this name is held.
+fn base_where_held(
     alloc: Global,
     design: &Design,
     site: &str,
     value: Value,
-) -> Result<Option<Design>, Fail> {
+    name: &str,
+    time: u32,
+) -> Result<Option<(u32, u32, Value)>, Fail> {
     design.facts();
     let Some(site) = design.netlist().id_of(site.as_bytes()) else {
         return Ok(None);
     };
-    Ok(Some(design.hold(alloc, site, value)?))
+    let held = design.hold(alloc, site, value)?;
+    Ok(base_of(&held, name, time))
+}
+
+/// The same in the design of three files.
+fn base_held_in(
+    alloc: Global,
+    files: &Files,
+    site: &str,
+    value: Value,
+    name: &str,
+    time: u32,
+) -> Result<Option<(u32, u32, Value)>, Fail> {
+    let design = joined(alloc, files)??;
+    base_where_held(alloc, &design, site, value, name, time)
 }
 
 #[test]
@@ -191,11 +218,7 @@ fn cells_where_a_signal_is_held(rt: HostRuntime) -> Result<(), Fail> {
         (RING, "y", Value::Zero, "y", 12, Some((0, 13, Value::Zero))),
     ];
     for (files, site, value, name, time, cell) in rows {
-        let design = joined(rt.alloc(), &files)??;
-        let found = match held_at(rt.alloc(), &design, site, value)? {
-            None => None,
-            Some(held) => base_of(&held, name, time),
-        };
+        let found = base_held_in(rt.alloc(), &files, site, value, name, time)?;
         assert_eq!(rt; found, cell, "{name} at {time}, with {site} held");
     }
     Ok(())
@@ -246,6 +269,18 @@ fn looked_at(design: &Design, name: &str, time: u32, pin: u32) -> Option<Look> {
         sees: times_of(sees),
         cell,
     })
+}
+
+/// The same in the design of three files.
+fn look_in(
+    alloc: Global,
+    files: &Files,
+    name: &str,
+    time: u32,
+    pin: u32,
+) -> Result<Option<Look>, Fail> {
+    let design = joined(alloc, files)??;
+    Ok(looked_at(&design, name, time, pin))
 }
 
 fn only_pin(kind: Kind, reads: u32, start: u32, end: u32) -> Look {
@@ -299,12 +334,8 @@ fn pins_of_evaluable_points(rt: HostRuntime) -> Result<(), Fail> {
         (CLOCKS, "r", 20, 0, only_pin(dff, 19, 20, 21)),
     ];
     for (files, name, time, pin, want) in rows {
-        let design = joined(rt.alloc(), &files)??;
-        assert_eq!(rt;
-            looked_at(&design, name, time, pin),
-            Some(want),
-            "{name} at {time}"
-        );
+        let look = look_in(rt.alloc(), &files, name, time, pin)?;
+        assert_eq!(rt; look, Some(want), "{name} at {time}");
     }
     Ok(())
 }
@@ -425,6 +456,16 @@ const C17: &str =
 const S27: &str =
     "INPUT(G0)\nINPUT(G1)\nINPUT(G2)\nINPUT(G3)\nOUTPUT(G17)\nG5 = DFF(G10)\nG6 = DFF(G11)\nG7 = DFF(G13)\nG14 = NOT(G0)\nG17 = NOT(G11)\nG8 = AND(G14, G6)\nG15 = OR(G12, G8)\nG16 = OR(G3, G8)\nG9 = NAND(G16, G15)\nG10 = NOR(G14, G11)\nG11 = NOR(G5, G9)\nG12 = NOR(G1, G7)\nG13 = NOR(G2, G12)\n";
 
+/// The design of a netlist, with the delays that hold by default and inputs that are never set.
+fn unset(alloc: Global, netlist: &'static str) -> Result<Result<Design, JoinFault>, Fail> {
+    let files = Files {
+        netlist,
+        timing: "",
+        stimulus: "horizon 10\n",
+    };
+    joined(alloc, &files)
+}
+
 /// Whether a signal lies in the fan-in cone of another.
 fn reaches(alloc: Global, design: &Design, root: &str, name: &str) -> Result<Option<bool>, Fail> {
     design.facts();
@@ -435,6 +476,17 @@ fn reaches(alloc: Global, design: &Design, root: &str, name: &str) -> Result<Opt
         return Ok(None);
     };
     Ok(Some(design.in_cone(alloc, root, signal)?))
+}
+
+/// The same in the design of a netlist.
+fn reaches_in(
+    alloc: Global,
+    netlist: &'static str,
+    root: &str,
+    name: &str,
+) -> Result<Option<bool>, Fail> {
+    let design = unset(alloc, netlist)??;
+    reaches(alloc, &design, root, name)
 }
 
 #[test]
@@ -456,34 +508,34 @@ fn cones_of_signals(rt: HostRuntime) -> Result<(), Fail> {
         (S27, "G11", "G17", false),
     ];
     for (netlist, root, name, inside) in rows {
-        let files = Files {
-            netlist,
-            timing: "",
-            stimulus: "horizon 10\n",
-        };
-        let design = joined(rt.alloc(), &files)??;
-        let reached = reaches(rt.alloc(), &design, root, name)?;
+        let reached = reaches_in(rt.alloc(), netlist, root, name)?;
         assert_eq!(rt; reached, Some(inside), "{root} and {name}");
     }
     Ok(())
 }
 
-/// For each signal whether it reads the signal of this name, however far back.
-fn reached_from(alloc: Global, design: &Design, site: &str) -> Result<Option<FlagList>, Fail> {
+/// The flag of a signal, of those that say for each signal whether it reads the site, however far back.
+fn flag_of(alloc: Global, design: &Design, site: &str, name: &str) -> Result<Option<bool>, Fail> {
     design.facts();
     let Some(site) = design.netlist().id_of(site.as_bytes()) else {
         return Ok(None);
     };
-    Ok(Some(design.reached(alloc, site)?))
+    let Some(signal) = design.netlist().id_of(name.as_bytes()) else {
+        return Ok(None);
+    };
+    let flags = design.reached(alloc, site)?;
+    Ok(Some(flags.get(signal)))
 }
 
-/// The flag of the signal of this name.
-fn flag_of(design: &Design, flags: &Option<FlagList>, name: &str) -> Option<bool> {
-    let signal = design.netlist().id_of(name.as_bytes())?;
-    match flags {
-        Some(flags) if (signal as usize) < flags.as_slice().len() => Some(flags.get(signal)),
-        _ => None,
-    }
+/// The same in the design of a netlist.
+fn flag_in(
+    alloc: Global,
+    netlist: &'static str,
+    site: &str,
+    name: &str,
+) -> Result<Option<bool>, Fail> {
+    let design = unset(alloc, netlist)??;
+    flag_of(alloc, &design, site, name)
 }
 
 #[test]
@@ -510,26 +562,13 @@ fn signals_that_are_reached(rt: HostRuntime) -> Result<(), Fail> {
         (RING.netlist, "en", "en y", ""),
     ];
     for (netlist, site, reached, free) in rows {
-        let files = Files {
-            netlist,
-            timing: "",
-            stimulus: "horizon 10\n",
-        };
-        let design = joined(rt.alloc(), &files)??;
-        let flags = reached_from(rt.alloc(), &design, site)?;
         for name in reached.split_whitespace() {
-            assert_eq!(rt;
-                flag_of(&design, &flags, name),
-                Some(true),
-                "{site} and {name}"
-            );
+            let flag = flag_in(rt.alloc(), netlist, site, name)?;
+            assert_eq!(rt; flag, Some(true), "{site} and {name}");
         }
         for name in free.split_whitespace() {
-            assert_eq!(rt;
-                flag_of(&design, &flags, name),
-                Some(false),
-                "{site} and {name}"
-            );
+            let flag = flag_in(rt.alloc(), netlist, site, name)?;
+            assert_eq!(rt; flag, Some(false), "{site} and {name}");
         }
     }
     Ok(())
