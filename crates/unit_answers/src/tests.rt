@@ -12,8 +12,7 @@ use cell_store::CellStore;
 use circuit_meaning::Run;
 use design::{Design, JoinFault};
 use gate_values::Value;
-use journal_meaning::Entry;
-use journal_text::EntryList;
+use journal_text::{EntryList, entry_text};
 use query_lines::{First, FirstItem, Item, What, Why, WhyItem};
 use reply_lines::{FirstAnswer, FirstReply, Reply, why_text};
 use std::alloc::Global;
@@ -22,7 +21,6 @@ use std::test::Fail;
 use std::thread::Threads;
 use stimulus_file::read_stimulus;
 use timing_file::read_timing;
-use valid_intervals::{Cell, Point, Span};
 use worker_gate::{Gate, Pass};
 
 /// Signal 0 is the input a, and signal 1 is the buffer y.
@@ -100,6 +98,52 @@ fn answered<R: Threads + Wait + Sync>(
     Ok(done)
 }
 
+/// The journals, line by line, with a line before those of each shard.
+fn journals_text(alloc: Global, lists: &[EntryList]) -> Result<Vec<u8>, OutOfMemory> {
+    let mut text = Vec::new(alloc);
+    for list in lists {
+        text.extend_from_slice(b"shard\n")?;
+        for entry in list.as_slice() {
+            let line = entry_text(alloc, entry)?;
+            text.extend_from_slice(&line)?;
+        }
+    }
+    Ok(text)
+}
+
+/// What came of a batch and of the trim of all cells after it: the replies, and the journals of both.
+#[derive(Drop)]
+struct BatchSeen {
+    replies: Vec<Reply>,
+    asked: Vec<u8>,
+    trimmed: Vec<u8>,
+}
+
+fn answered_and_trimmed<R: Threads + Wait + Sync>(
+    rt: &R,
+    alloc: Global,
+    design: &Design,
+) -> Result<BatchSeen, OutOfMemory> {
+    let BatchDone {
+        replies,
+        lists,
+        stores,
+    } = answered(rt, alloc, design)?;
+    let asked = journals_text(alloc, &lists)?;
+    let trim = trim_stores(alloc, design, 0, SIZES, stores)?;
+    let trimmed = journals_text(alloc, &trim.lists)?;
+    Ok(BatchSeen {
+        replies,
+        asked,
+        trimmed,
+    })
+}
+
+fn batch_seen<R: Threads + Wait + Sync>(rt: &R, alloc: Global) -> Result<BatchSeen, Fail> {
+    let design = joined(alloc)??;
+    Ok(answered_and_trimmed(rt, alloc, &design)?)
+}
+
 /// The runs of the reply at this place.
 fn runs_at(replies: &[Reply], place: usize) -> &[Run] {
     match replies.get(place) {
@@ -108,45 +152,33 @@ fn runs_at(replies: &[Reply], place: usize) -> &[Run] {
     }
 }
 
-/// The entries of a shard.
-fn entries_of(lists: &[EntryList], shard: usize) -> &[Entry] {
-    match lists.get(shard) {
-        Some(list) => list.as_slice(),
-        None => &[],
-    }
-}
-
 #[test]
 fn a_batch_is_answered_and_trimmed(rt: HostRuntime) -> Result<(), Fail> {
-    let design = joined(rt.alloc())??;
-    let done = answered(&rt, rt.alloc(), &design)?;
-    assert_eq!(rt; done.replies.len(), 2);
-    assert!(rt; matches!(done.replies.first(), Some(Reply::BadLine)));
+    let seen = batch_seen(&rt, rt.alloc())?;
+    assert_eq!(rt; seen.replies.len(), 2);
+    assert!(rt; matches!(seen.replies.first(), Some(Reply::BadLine)));
     let wave = [Run {
         time: 5,
         value: Value::One,
     }];
-    assert!(rt; runs_at(&done.replies, 1) == wave.as_slice());
-
-    let p = Point { signal: 1, time: 5 };
-    let cell = Cell {
-        span: Span::new(1, 11).expect(&rt, "an interval"),
-        value: Value::One,
-    };
-    let asked = [Entry::Claimed { q: 2, p }, Entry::Filled { q: 2, p, cell }];
-    assert_eq!(rt; done.lists.len(), 2);
-    assert!(rt; entries_of(&done.lists, 0).is_empty());
-    assert!(rt; entries_of(&done.lists, 1) == asked.as_slice());
-
-    let trimmed = trim_stores(rt.alloc(), &design, 0, SIZES, done.stores)?;
-    let evicted = [Entry::Evicted {
-        signal: 1,
-        start: 1,
-    }];
-    assert_eq!(rt; trimmed.lists.len(), 2);
-    assert!(rt; entries_of(&trimmed.lists, 0).is_empty());
-    assert!(rt; entries_of(&trimmed.lists, 1) == evicted.as_slice());
+    assert!(rt; runs_at(&seen.replies, 1) == wave.as_slice());
+    assert_eq!(rt;
+        seen.asked.as_slice(),
+        b"shard\nshard\nclaim 2 1 5\nfill 2 1 5 1 11 1\n".as_slice()
+    );
+    assert_eq!(rt;
+        seen.trimmed.as_slice(),
+        b"shard\nshard\nevict 1 1\n".as_slice()
+    );
     Ok(())
+}
+
+/// What came of a question for a first time: the reply, the journals, and how many stores are left.
+#[derive(Drop)]
+struct FirstSeen {
+    reply: FirstReply,
+    journals: Vec<u8>,
+    stores: usize,
 }
 
 /// When the signal of this name is first 1, from time 0 on, over empty stores.
@@ -155,7 +187,7 @@ fn first_one(
     design: &Design,
     name: &[u8],
     to: u32,
-) -> Result<FirstDone, OutOfMemory> {
+) -> Result<FirstSeen, OutOfMemory> {
     let item = FirstItem {
         line: 1,
         first: First {
@@ -168,48 +200,54 @@ fn first_one(
     };
     let stores = empty_stores(alloc)?;
     let done = answer_first(alloc, design, &item, SIZES, stores)?;
-    Ok(done)
+    Ok(FirstSeen {
+        reply: done.reply,
+        journals: journals_text(alloc, &done.lists)?,
+        stores: done.stores.len(),
+    })
+}
+
+fn first_seen(alloc: Global, name: &[u8], to: u32) -> Result<FirstSeen, Fail> {
+    let design = joined(alloc)??;
+    Ok(first_one(alloc, &design, name, to)?)
 }
 
 #[test]
 fn a_first_time_is_answered(rt: HostRuntime) -> Result<(), Fail> {
-    let design = joined(rt.alloc())??;
-    let found = first_one(rt.alloc(), &design, b"y", 11)?;
-    assert_eq!(rt; found.reply, FirstReply::Answer(FirstAnswer::At(1)));
-    let p = Point { signal: 1, time: 1 };
-    let cell = Cell {
-        span: Span::new(1, 11).expect(&rt, "an interval"),
-        value: Value::One,
-    };
-    let asked = [Entry::Claimed { q: 1, p }, Entry::Filled { q: 1, p, cell }];
-    assert_eq!(rt; found.lists.len(), 2);
-    assert!(rt; entries_of(&found.lists, 0).is_empty());
-    assert!(rt; entries_of(&found.lists, 1) == asked.as_slice());
-    assert_eq!(rt; found.stores.len(), 2);
+    let seen = first_seen(rt.alloc(), b"y", 11)?;
+    assert_eq!(rt; seen.reply, FirstReply::Answer(FirstAnswer::At(1)));
+    assert_eq!(rt;
+        seen.journals.as_slice(),
+        b"shard\nshard\nclaim 1 1 1\nfill 1 1 1 1 11 1\n".as_slice()
+    );
+    assert_eq!(rt; seen.stores, 2);
     Ok(())
 }
 
 #[test]
 fn a_first_time_that_is_not_asked(rt: HostRuntime) -> Result<(), Fail> {
-    let design = joined(rt.alloc())??;
-    let unknown = first_one(rt.alloc(), &design, b"z", 11)?;
-    assert_eq!(rt; unknown.reply, FirstReply::Unknown);
-    assert_eq!(rt; unknown.lists.len(), 2);
-    assert!(rt; entries_of(&unknown.lists, 1).is_empty());
-    let past = first_one(rt.alloc(), &design, b"y", 12)?;
-    assert_eq!(rt; past.reply, FirstReply::Past);
-    assert_eq!(rt; past.lists.len(), 2);
-    assert!(rt; entries_of(&past.lists, 1).is_empty());
+    let rows: [(&[u8], u32, FirstReply); 2] = [
+        (b"z", 11, FirstReply::Unknown),
+        (b"y", 12, FirstReply::Past),
+    ];
+    for (name, to, reply) in rows {
+        let seen = first_seen(rt.alloc(), name, to)?;
+        assert_eq!(rt; seen.reply, reply);
+        assert_eq!(rt; seen.journals.as_slice(), b"shard\nshard\n".as_slice());
+    }
     Ok(())
 }
 
-/// What is replied to the question why the signal of this name has its value at the time, over empty stores.
-fn why_of(
-    alloc: Global,
-    design: &Design,
-    name: &[u8],
-    time: u32,
-) -> Result<(Vec<u8>, Vec<EntryList>), OutOfMemory> {
+/// What came of a question for an explanation: the reply's text, how many journals there are, and how many entries the second has.
+#[derive(Drop)]
+struct WhySeen {
+    text: Vec<u8>,
+    lists: usize,
+    entries: usize,
+}
+
+/// Why the signal of this name has its value at the time, over empty stores.
+fn why_of(alloc: Global, design: &Design, name: &[u8], time: u32) -> Result<WhySeen, OutOfMemory> {
     let item = WhyItem {
         line: 1,
         why: Why {
@@ -220,13 +258,23 @@ fn why_of(
     };
     let stores = empty_stores(alloc)?;
     let done = answer_why(alloc, design, &item, SIZES, stores)?;
-    let text = why_text(alloc, &item.why, &done.reply)?;
-    Ok((text, done.lists))
+    Ok(WhySeen {
+        text: why_text(alloc, &item.why, &done.reply)?,
+        lists: done.lists.len(),
+        entries: match done.lists.get(1) {
+            Some(list) => list.as_slice().len(),
+            None => 0,
+        },
+    })
+}
+
+fn why_seen(alloc: Global, name: &[u8], time: u32) -> Result<WhySeen, Fail> {
+    let design = joined(alloc)??;
+    Ok(why_of(alloc, &design, name, time)?)
 }
 
 #[test]
 fn values_are_explained(rt: HostRuntime) -> Result<(), Fail> {
-    let design = joined(rt.alloc())??;
     let rows: [(&[u8], u32, &[u8], usize); 4] = [
         (b"y", 3, b"why y 3 1\ncell 1 1 11 1\nend\n", 2),
         (b"y", 0, b"why y 0 x\nend\n", 0),
@@ -234,10 +282,10 @@ fn values_are_explained(rt: HostRuntime) -> Result<(), Fail> {
         (b"y", 11, b"past y 11 12\n", 0),
     ];
     for (name, time, want, entries) in rows {
-        let (text, lists) = why_of(rt.alloc(), &design, name, time)?;
-        assert_eq!(rt; text.as_slice(), want);
-        assert_eq!(rt; lists.len(), 2);
-        assert_eq!(rt; entries_of(&lists, 1).len(), entries);
+        let seen = why_seen(rt.alloc(), name, time)?;
+        assert_eq!(rt; seen.text.as_slice(), want);
+        assert_eq!(rt; seen.lists, 2);
+        assert_eq!(rt; seen.entries, entries);
     }
     Ok(())
 }
