@@ -44,8 +44,8 @@ pins-preserved g c =
     let size : length (looked_at d c.in-Some.next.point) ≡ length L = ap (λ (z : Circuit). length (looked_at z c.in-Some.next.point)) c.requires.design ∙ ap (λ (z : Point). length (looked_at b.circuit z)) point in
     let low : n < length L = (let k = on.frame.looked in let m = on.looked in omega arith) in
     let one : Looks b.circuit (entries_of mid) (entries_of new) before after (get_or L n None ∷ []) =
-        subst (λ (l : List (Option Point)). Looks b.circuit (entries_of mid) (entries_of new) before after (get_or l n None ∷ [])) there
-        (some-of (λ (f : Frame). Looks b.circuit (entries_of mid) (entries_of new) before after (next_point d c.pins.frame ∷ [])) c.in_ok-look.field-0 c.in-Some.next c.in_ok-look.ensures.looks c.in-Some.is) in
+    subst (λ (l : List (Option Point)). Looks b.circuit (entries_of mid) (entries_of new) before after (get_or l n None ∷ [])) there
+    (some-of (λ (f : Frame). Looks b.circuit (entries_of mid) (entries_of new) before after (next_point d c.pins.frame ∷ [])) c.in_ok-look.field-0 c.in-Some.next c.in_ok-look.ensures.looks c.in-Some.is) in
     let more : take c.in-Some.next.looked L ≡ take n L ++ get_or L n None ∷ [] = ap (λ k. take k L) on.looked ∙ take_more L n None low in
     record {
       frame = on.frame;

@@ -52,7 +52,7 @@ cells-preserved g c =
     let after = get place_cmp c.ask_children.new.waiting.cells in
     let more : reverse c.push.new.self.items ≡ line ∷ reverse xs = taken-first xs c.push.new.self.items c.line.result line c.in_ok-push.ensures.items c.line.ensures in
     let looks : Looks b.circuit (entries_of mid) (entries_of new) now after (looked_at b.circuit (point_of asked)) =
-        subst (λ (p : Point). Looks b.circuit (entries_of mid) (entries_of new) now after (looked_at b.circuit p)) c.point-point.ensures (c.in_ok-ask_children.ensures.looks c.if-branch.false) in
+    subst (λ (p : Point). Looks b.circuit (entries_of mid) (entries_of new) now after (looked_at b.circuit p)) c.point-point.ensures (c.in_ok-ask_children.ensures.looks c.if-branch.false) in
     let step = steps b c.requires.lawful q c.requires.known (entries_of mid) (entries_of new) (reverse xs) (get place_cmp c.cells.waiting.cells) now after asked c.cells.invariant.gathered c.cells.invariant.sources c.in-Some.ensures.some looks in
     record {
       asking = c.in_ok-ask_children.ensures.asking;
