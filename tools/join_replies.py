@@ -17,7 +17,7 @@ def replies_of(lines):
     replies, lines = [], iter(lines)
     for line in lines:
         reply = [line]
-        while line.startswith(b"wave ") and reply[-1] != b"end":
+        while line.startswith((b"wave ", b"why ")) and reply[-1] != b"end":
             reply.append(next(lines, b"end"))
         replies.append(reply)
     return replies

@@ -25,7 +25,8 @@ def has_reply(line):
 
 
 def tells_of_session(line):
-    """Whether the line is `stats` or `trim N`, whose replies depend on what the session has done so far."""
+    """Whether the line is `stats`, `trim N` or `vcd FILE`, whose replies depend on what the session has done so far."""
     words = words_of(line)
     trims = len(words) == 2 and words[0] == b"trim" and re.fullmatch(rb"0*[0-9]{1,5}", words[1]) and int(words[1]) <= 65536
-    return words == [b"stats"] or bool(trims)
+    dumps = len(words) == 2 and words[0] == b"vcd" and re.fullmatch(rb"[!-~]+", words[1]) and not re.search(rb"[(),=]", words[1])
+    return words == [b"stats"] or bool(trims) or bool(dumps)

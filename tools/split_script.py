@@ -5,7 +5,7 @@
 
 makes FOLDER with the scripts 1.script, 2.script and so on. Each has as many lines as the whole; a line that is another part's is
 blank there, so each question keeps its number. A part's own lines stand next to one another; `go` lines stand in every part, since
-they write nothing. A `stats` or `trim` line ends the script with a message: its reply depends on the whole session."""
+they write nothing. A `stats`, `trim` or `vcd` line ends the script with a message: its reply depends on the whole session."""
 import os
 import sys
 

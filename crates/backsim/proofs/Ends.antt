@@ -20,7 +20,7 @@ use Rattle.backsim.specs.Refused.{AreRefused, EndsFiles, EndsEarly, RefusesFiles
 use Rattle.backsim.specs.Session.{Given}
 use Rattle.backsim.specs.inner.Stops.{place_of, files_stop, refusal_text, IsTold, EndsWith}
 use Rattle.backsim.specs.declared.status.Place.{Place}
-use Rattle.backsim.specs.declared.status.Place.TheVariants.{Netlist, Timing, Stimulus, Journal, Script, Replies}
+use Rattle.backsim.specs.declared.status.Place.TheVariants.{Netlist, Timing, Stimulus, Journal, Script, Replies, Vcd}
 use Rattle.backsim.specs.declared.status.Status.{Status}
 use Rattle.backsim.specs.declared.status.Status.TheVariants as statuses
 use Rattle.backsim.specs.declared.refusal.Refusal.{Refusal}
@@ -200,6 +200,7 @@ on-file says Stimulus is = is
 on-file says Journal is = tt
 on-file says Script is = tt
 on-file says Replies is = tt
+on-file says Vcd is = tt
 
 on-file-fault : (says : Type 0) (status : Status) → says → OnFileFault says status
 on-file-fault says (statuses.ReadFault place) is = on-file says place is

@@ -53,6 +53,9 @@ halt-explains old mid new (Stopped stops.ScriptTooLong) calm three same read e =
 }
 halt-explains old mid new (Stopped stops.RepliesUnwritten) calm three same read e = subst (λ (n : ℕ). Rose n new.replies) calm.replies e
 halt-explains old mid new (Stopped stops.JournalUnwritten) calm three same read e = subst (λ (n : ℕ). Rose n new.write) calm.write e
+halt-explains old mid new (Stopped stops.DumpUnmade) calm three same read e = (subst (λ (n : ℕ). Rose n new.file) calm.file e, same ∙ three)
+halt-explains old mid new (Stopped stops.DumpUnwritten) calm three same read e = subst (λ (n : ℕ). Rose n new.write) calm.write e
+halt-explains old mid new (Stopped stops.DumpUnfinished) calm three same read e = (subst (λ (n : ℕ). Rose n new.file) calm.file e, same ∙ three)
 halt-explains old mid new (Stopped stops.OutOfMemory) calm three same read e = tt
 
 -- a stop that is no refusal ends with its status

@@ -77,6 +77,9 @@ halt-leaves number work journal w w' m m' write write' file file' JournalUnfinis
 halt-leaves number work journal w w' m m' write write' file file' (Stopped stops.ScriptUnread) status is e told halted = absurd e
 halt-leaves number work journal w w' m m' write write' file file' (Stopped stops.ScriptTooLong) status is e told halted = absurd e
 halt-leaves number work journal w w' m m' write write' file file' (Stopped stops.RepliesUnwritten) status is e told halted = absurd e
+halt-leaves number work journal w w' m m' write write' file file' (Stopped stops.DumpUnmade) status is e told halted = absurd e
+halt-leaves number work journal w w' m m' write write' file file' (Stopped stops.DumpUnwritten) status is e told halted = absurd e
+halt-leaves number work journal w w' m m' write write' file file' (Stopped stops.DumpUnfinished) status is e told halted = absurd e
 
 pub halt-leaves-work : (number : ℕ) (work : Work) (journal : Text) (w w' : List ℕ → Type 0) (m m' : List Made → Type 0) (write write' file file' : ℕ) (halt : Halt) (stop : Stop) (status : Status)
     → IsWork number work → WorkExplains write write' file file' halt → stop ≡ stop_of halt → EndsWith stop w w' status

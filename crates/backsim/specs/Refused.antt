@@ -6,7 +6,7 @@ use Rattle.circuit_files.specs.Files.{design_of_files}
 use Rattle.circuit_files.specs.Texts.{refusal_text}
 use Rattle.circuit_files.specs.declared.refusal.FileRefusal.{FileRefusal}
 use Rattle.session_meaning.specs.Broken.{IsCutOff}
-use Rattle.session_loop.specs.Halting.{WroteFile}
+use Rattle.session_loop.specs.Halting.{WroteFiles}
 use Rattle.backsim.specs.declared.status.Place.TheVariants.{Replies}
 use Rattle.backsim.specs.declared.status.Status.{Status}
 use Rattle.backsim.specs.declared.status.Status.TheVariants.{Ended, Words, Refused, ReadFault, WriteFault, FileFault, OutOfMemory}
@@ -23,23 +23,23 @@ pub record AreRefused (given : Given) (told : (List ℕ → Type 0) → (List �
   pub unread : left ≡ Some given.script
   pub same_files : SameMade made new_made
 
--- replies and a journal of which `such` holds, and after the replies bytes of which `tail` holds
-pub record Followed (such : List ℕ → List ℕ → Type 0) (tail : List ℕ → Type 0) (replies journal : List ℕ) : Type 0 where
+-- replies, a journal and dumps of which `such` holds, and after the replies bytes of which `tail` holds
+pub record Followed (such : List ℕ → List ℕ → List Made → Type 0) (tail : List ℕ → Type 0) (replies journal : List ℕ) (dumps : List Made) : Type 0 where
   pub before : List ℕ
   pub rest : List ℕ
-  pub are : such before journal
+  pub are : such before journal dumps
   pub rest_is : tail rest
   pub replies_are : replies ≡ before ++ rest
 
 -- The script has more than 16,777,216 bytes: the units that as many bytes complete were served, and the replies end with such bytes.
-abbrev pub IsScriptRefused : Command → Given → (List ℕ → Type 0) → (List ℕ → Type 0) → (List ℕ → Type 0) → (List Made → Type 0) → (List Made → Type 0) → Type 0
-IsScriptRefused command given tail out new_out made new_made =
-    OfDesign command given (λ setup. WroteFile (Followed (IsCutOff setup given.script) tail) command.journal out new_out made new_made)
+abbrev pub IsScriptRefused : Command → Given → (List ℕ → Type 0) → (List ℕ → Type 0) → (List ℕ → Type 0) → (List Made → Type 0) → (List Made → Type 0) → ℕ → Type 0
+IsScriptRefused command given tail out new_out made new_made files =
+    OfDesign command given (λ setup. WroteFiles (Followed (IsCutOff setup given.script) tail) command.journal out new_out made new_made files)
 
 -- the files are refused, or the script: the line that tells of it stands after all else
-abbrev pub IsRefused : Command → Given → Option (List ℕ) → (List ℕ → Type 0) → (List ℕ → Type 0) → (List Made → Type 0) → (List Made → Type 0) → Type 0
-IsRefused command given left out new_out made new_made =
-    AreRefused given Grows left out new_out made new_made ⊎ IsScriptRefused command given (λ rest. rest ≡ too_long) out new_out made new_made
+abbrev pub IsRefused : Command → Given → Option (List ℕ) → (List ℕ → Type 0) → (List ℕ → Type 0) → (List Made → Type 0) → (List Made → Type 0) → ℕ → Type 0
+IsRefused command given left out new_out made new_made files =
+    AreRefused given Grows left out new_out made new_made ⊎ IsScriptRefused command given (λ rest. rest ≡ too_long) out new_out made new_made files
 
 -- Where something is refused, the status is 2, or that of a fault or of a lack of memory.
 

@@ -1,7 +1,7 @@
 -- What the program prints beside replies.
 use Rattle.std.specs.Prelude.{ℕ, List, [], ◌∷◌, ◌++◌, codes}
 use Rattle.backsim.specs.declared.status.Place.{Place}
-use Rattle.backsim.specs.declared.status.Place.TheVariants.{Netlist, Timing, Stimulus, Journal, Script, Replies}
+use Rattle.backsim.specs.declared.status.Place.TheVariants.{Netlist, Timing, Stimulus, Journal, Script, Replies, Vcd}
 
 -- what is printed where the words are none of the forms
 abbrev pub usage : List ℕ
@@ -17,6 +17,7 @@ name_of Stimulus = codes "stimulus"
 name_of Journal = codes "journal"
 name_of Script = codes "script"
 name_of Replies = codes "replies"
+name_of Vcd = codes "vcd"
 
 -- the line that tells of a script that is too long
 abbrev pub too_long : List ℕ

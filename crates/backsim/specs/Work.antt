@@ -51,9 +51,9 @@ work_line number replies = counts_line number (run_count replies) (one_count rep
 
 -- The session of the workload's batch.
 
--- the memo has 8 shards, with room for 16,384 cells each
+-- the memo has 8 shards, with room for 16,384 cells each; no dump is made
 abbrev pub setup_of_work : Work → Setup
-setup_of_work work = record { design = work.design; shards = 8; capacity = 16384 }
+setup_of_work work = record { design = work.design; shards = 8; capacity = 16384; names = [] }
 
 -- this holds of the workload with this number
 pub record OfWork (number : ℕ) (says : Work → Type 0) : Type 0 where

@@ -2,15 +2,17 @@
 //! they need.
 //!
 //! It is given the names of four files: a netlist, its timing, a stimulus, and a journal, which it writes. Standard input is the
-//! script, and standard output gets the replies to a batch as soon as its last line was read. A fault that ends a session, or a lack
+//! script, and standard output gets the replies to a batch as soon as its last line was read. A script may ask for dumps of waves,
+//! which are files too: at most three of a session, and none under one of the four names. A fault that ends a session, or a lack
 //! of memory, is told on standard error, and every end by the exit status.
 //!
 //! - The crate `circuit_files` reads and joins the three files. The crate `session_loop` reads the script and serves its units, and the workers of
 //!   `batch_crew` evaluate what they need.
 //! - `serve` is all of it over any files, source and sink. Its contract says which status comes only where
 //!   which count of faults rose, and what was written of the files' design and the script where a session
-//!   ends or refuses something (`specs/Session`, `specs/Refused`). Where a fault or a lack of memory ends it,
-//!   what was written is a prefix of the same (`specs/Broken`).
+//!   ends or refuses something (`specs/Session`, `specs/Refused`): the replies, the journal, and after it the dumps, which can be
+//!   read back. Where a fault or a lack of memory ends it, what was written is a prefix of the same. The contract also says which of
+//!   the created files may be unfinished at the end (`specs/Broken`).
 //! - `work` is a run of the crate `workload`'s workload: one batch without a script, in place of whose replies one line counts
 //!   them (`specs/Work`).
 //! - `refusal` writes what is wrong with a file, and `status` numbers the ways in which a session ends.

@@ -62,6 +62,10 @@ impl From<Halt> for Stop {
             Halt::Stopped(SessionStop::ScriptTooLong) => Stop::Refused(Refusal::ScriptTooLong),
             Halt::Stopped(SessionStop::RepliesUnwritten) => Stop::WriteFault(Place::Replies),
             Halt::Stopped(SessionStop::JournalUnwritten) => Stop::WriteFault(Place::Journal),
+            Halt::Stopped(SessionStop::DumpUnmade | SessionStop::DumpUnfinished) => {
+                Stop::FileFault(Place::Vcd)
+            }
+            Halt::Stopped(SessionStop::DumpUnwritten) => Stop::WriteFault(Place::Vcd),
             Halt::Stopped(SessionStop::OutOfMemory) => Stop::OutOfMemory,
         }
     }

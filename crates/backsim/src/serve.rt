@@ -8,7 +8,7 @@ ghost use Rattle.circuit_files.specs.declared.refusal.FileRefusal.{FileRefusal};
 ghost use Rattle.command_words.specs.Words.{words_of};
 ghost use Rattle.design.specs.Joined.{Joined};
 ghost use Rattle.session_loop.specs.Halting.{IsUntouched};
-ghost use Rattle.backsim.specs.Broken.{Leaves, OnFileFault};
+ghost use Rattle.backsim.specs.Broken.{Leaves, LeavesOpen, OnFileFault};
 ghost use Rattle.backsim.specs.Cause.{counts_of, NoneRose, Explains};
 ghost use Rattle.backsim.specs.Commands.{Command, command_of, OnSession, OnWorkload, files_read};
 ghost use Rattle.backsim.specs.Refused.{IsRefused, RefusesFiles, EndsEarly};
@@ -26,7 +26,7 @@ use batch_crew::Workers;
 use circuit_files::read_design;
 use command_words::{Words, read_words};
 use session_loop::serve_session;
-use session_meaning::enough_budgets_are_served;
+use session_meaning::{dumps_are_read_back, enough_budgets_are_served};
 use std::alloc::Global;
 use std::sync::Wait;
 use std::thread::Threads;
@@ -60,10 +60,10 @@ fn serve_files<F: Files, Q: Source, S: Sink, G: Gate, R: Threads + Wait + Sync>(
     ensures no_usage { ¬ (result ≡ Status.Words) }
     ensures session { let command = command_of netlist.now timing.now stimulus.now journal.now workers sizes.shards sizes.cells in (given : Given)
         → AreGiven (F.held files.old) (Q.left queries.old) command given → result ≡ Status.Ended
-        → IsServed command given (S.written out.old) (S.written out.new) (F.made files.old) (F.made files.new) }
+        → IsServed command given (S.written out.old) (S.written out.new) (F.made files.old) (F.made files.new) (F.files files.new) }
     ensures refused { let command = command_of netlist.now timing.now stimulus.now journal.now workers sizes.shards sizes.cells in (given : Given)
         → AreGiven (F.held files.old) (Q.left queries.old) command given → result ≡ Status.Refused
-        → IsRefused command given (Q.left queries.new) (S.written out.old) (S.written out.new) (F.made files.old) (F.made files.new) }
+        → IsRefused command given (Q.left queries.new) (S.written out.old) (S.written out.new) (F.made files.old) (F.made files.new) (F.files files.new) }
     ensures broken { let command = command_of netlist.now timing.now stimulus.now journal.now workers sizes.shards sizes.cells in (given : Given)
         → AreGiven (F.held files.old) (Q.left queries.old) command given
         → Leaves command given (Q.left queries.new) (S.written out.old) (S.written out.new) (F.made files.old) (F.made files.new) (F.files files.old) (F.files files.new) result }
@@ -80,8 +80,7 @@ fn serve_files<F: Files, Q: Source, S: Sink, G: Gate, R: Threads + Wait + Sync>(
     ensures untouched { OnFileFault
         (IsUntouched (Q.left queries.old) (Q.left queries.new) (S.written out.old) (S.written out.new) (F.made files.old) (F.made files.new) (F.files files.old) (F.files files.new)) result }
     ensures at_most { (script : List ℕ) → Q.left queries.old ≡ Some script → ConsumesUpTo (Some script) (Q.left queries.new) 16777217 }
-    ensures one { result ≡ Status.Ended → F.files files.new ≡ 1 }
-    ensures finished { result ≡ Status.Ended → F.unfinished files.new ≡ [] }
+    ensures unfinished { LeavesOpen (F.unfinished files.new) result }
 {
     let design = match read_design(alloc, netlist, timing, stimulus, files) {
         Ok(design) => design,
@@ -89,8 +88,12 @@ fn serve_files<F: Files, Q: Source, S: Sink, G: Gate, R: Threads + Wait + Sync>(
     };
     design.facts();
     enough_budgets_are_served();
+    dumps_are_read_back();
     let crew = Workers::new(rt, gate, workers);
-    match serve_session(&crew, alloc, &design, sizes, journal, files, queries, out) {
+    let inputs = [netlist, timing, stimulus];
+    match serve_session(
+        &crew, alloc, &design, sizes, &inputs, journal, files, queries, out,
+    ) {
         Ok(()) => Status::Ended,
         Err(halt) => end_stopped(alloc, Stop::from(halt), out),
     }
@@ -141,13 +144,12 @@ pub fn serve<F: Files, Q: Source, S: Sink, G: Gate, R: Threads + Wait + Sync>(
     ensures no_queries { words_of (map (λ word. word.now) words.now) ≡ None → queries.new ≡ queries.old }
     ensures session { OnSession (λ command. (given : Given)
         → AreGiven (F.held files.old) (Q.left queries.old) command given → result ≡ Status.Ended
-        → IsServed command given (S.written out.old) (S.written out.new) (F.made files.old) (F.made files.new))
+        → IsServed command given (S.written out.old) (S.written out.new) (F.made files.old) (F.made files.new) (F.files files.new))
         (words_of (map (λ word. word.now) words.now)) }
-    ensures one { OnSession (λ command. result ≡ Status.Ended → F.files files.new ≡ 1) (words_of (map (λ word. word.now) words.now)) }
-    ensures finished { OnSession (λ command. result ≡ Status.Ended → F.unfinished files.new ≡ []) (words_of (map (λ word. word.now) words.now)) }
+    ensures unfinished { OnSession (λ command. LeavesOpen (F.unfinished files.new) result) (words_of (map (λ word. word.now) words.now)) }
     ensures refused { OnSession (λ command. (given : Given)
         → AreGiven (F.held files.old) (Q.left queries.old) command given → result ≡ Status.Refused
-        → IsRefused command given (Q.left queries.new) (S.written out.old) (S.written out.new) (F.made files.old) (F.made files.new))
+        → IsRefused command given (Q.left queries.new) (S.written out.old) (S.written out.new) (F.made files.old) (F.made files.new) (F.files files.new))
         (words_of (map (λ word. word.now) words.now)) }
     ensures netlist_refused { OnSession (λ command. (refusal : FileRefusal) (first : List ℕ)
         → F.held files.old command.netlist ≡ Some first → netlist_of first ≡ Err refusal

@@ -16,6 +16,8 @@ pub enum Place {
     Journal,
     Script,
     Replies,
+    /// A dump of waves.
+    Vcd,
 }
 
 impl Place {
@@ -41,6 +43,7 @@ impl Place {
             Place::Journal => "journal",
             Place::Script => "script",
             Place::Replies => "replies",
+            Place::Vcd => "vcd",
         }
     }
 }

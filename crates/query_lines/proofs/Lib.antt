@@ -1,6 +1,7 @@
 pub mod Feeding
 pub mod Requests
 pub mod Limits
+pub mod Names
 pub mod OwnLines
 pub mod Determined
 pub mod Completed

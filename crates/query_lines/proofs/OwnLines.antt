@@ -18,6 +18,7 @@ use Rattle.query_lines.specs.Reading.{numbered_lines, script_units}
 use Rattle.query_lines.specs.Readers.{Reader, HasRead}
 use Rattle.query_lines.specs.Fit.{HaveOwnLines, HasOwnLines, IsFit}
 use Rattle.query_lines.proofs.Limits.{units-within}
+use Rattle.query_lines.proofs.Names.{units-named}
 
 -- pending items with lines of their own, below the next line's number
 record ArePending (next : ℕ) (items : List Item) : Type 0 where
@@ -78,6 +79,7 @@ step-own horizon number pending (lines.Trim cells) p = with_unit-own number pend
 step-own horizon number pending Stats p = with_unit-own number pending units.Stats tt p
 step-own horizon number pending (lines.First first) p = with_unit-own number pending (units.First (record { line = number; first = first })) tt p
 step-own horizon number pending (lines.Why why) p = with_unit-own number pending (units.Why (record { line = number; why = why })) tt p
+step-own horizon number pending (lines.Vcd file) p = with_unit-own number pending (units.Vcd file) tt p
 
 units_from-own : (horizon first : ℕ) (pending : List Item) (texts : List Line) → ArePending first pending → All HasOwnLines (units_from horizon pending (enumerate_from first texts))
 units_from-own horizon first pending [] p = closed-own pending p.own
@@ -91,7 +93,7 @@ units-own horizon script = units_from-own horizon 1 [] (map line_of (lines_in sc
 
 -- all units of a script are fit
 pub units-fit : (horizon : ℕ) (script : List ℕ) → horizon ≤ 1000000 → All (IsFit horizon) (script_units horizon script)
-units-fit horizon script bound k d h = record { within = units-within horizon script bound k d h; own = units-own horizon script k d h }
+units-fit horizon script bound k d h = record { within = units-within horizon script bound k d h; own = units-own horizon script k d h; named = units-named horizon script k d h }
 
 first-part : {X : Type 0} (P : X → Type 0) (part back : List X) → All P (part ++ back) → All P part
 first-part P [] back all = All-nil P

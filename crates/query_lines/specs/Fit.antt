@@ -1,8 +1,11 @@
 -- What whoever serves the units of a script may count on.
-use Rattle.std.specs.Prelude.{◌≡◌, ◌≢◌, ⊤, ℕ, ◌≤◌, List, All, AllPairs}
+use Rattle.std.specs.Prelude.{◌≡◌, ◌≢◌, ⊤, ℕ, ◌≤◌, IsTrue, List, All, AllPairs}
+use Rattle.text_rules.specs.Text.{is_name}
+use Rattle.query_lines.specs.declared.line.What.{What}
+use Rattle.query_lines.specs.declared.line.What.TheVariants as whats
 use Rattle.query_lines.specs.declared.unit.Item.{Item}
 use Rattle.query_lines.specs.declared.unit.Unit.{Unit as ScriptUnit}
-use Rattle.query_lines.specs.declared.unit.Unit.TheVariants.{Batch, Trim, Stats, First, Why}
+use Rattle.query_lines.specs.declared.unit.Unit.TheVariants.{Batch, Trim, Stats, First, Why, Vcd}
 use Rattle.query_lines.specs.Reading.{script_units, completed_units}
 use Rattle.query_lines.specs.Readers.{Reader, HasRead}
 use Rattle.query_lines.specs.Laws.{IsWithinLimits}
@@ -18,15 +21,32 @@ HasOwnLines (Trim cells) = ⊤
 HasOwnLines Stats = ⊤
 HasOwnLines (First item) = ⊤
 HasOwnLines (Why item) = ⊤
+HasOwnLines (Vcd file) = ⊤
 
 -- No two items of a unit have one line.
 abbrev pub UnitsHaveOwnLines : Type 0
 UnitsHaveOwnLines = (horizon : ℕ) (script : List ℕ) → All HasOwnLines (script_units horizon script)
 
--- a unit within its limits, whose items have lines of their own
+-- what an item asks for is called by a name
+abbrev pub AsksByName : What → Type 0
+AsksByName (whats.Wave name from to budget) = IsTrue (is_name name)
+AsksByName (whats.At name time budget) = IsTrue (is_name name)
+AsksByName whats.Bad = ⊤
+
+-- Whatever a unit names has a name by the rules.
+abbrev pub HasNames : ScriptUnit → Type 0
+HasNames (Batch items) = All (λ item. AsksByName item.what) items
+HasNames (Trim cells) = ⊤
+HasNames Stats = ⊤
+HasNames (First item) = IsTrue (is_name item.first.name)
+HasNames (Why item) = IsTrue (is_name item.why.name)
+HasNames (Vcd file) = IsTrue (is_name file)
+
+-- a unit within its limits, whose items have lines of their own, and whose names are names
 pub record IsFit (horizon : ℕ) (unit : ScriptUnit) : Type 0 where
   pub within : IsWithinLimits horizon unit
   pub own : HasOwnLines unit
+  pub named : HasNames unit
 
 -- The units that a reader has given are fit to be served.
 abbrev pub ReadUnitsAreFit : Type 0

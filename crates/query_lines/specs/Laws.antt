@@ -8,7 +8,7 @@ use Rattle.query_lines.specs.declared.unit.Item.{Item}
 use Rattle.query_lines.specs.declared.unit.FirstItem.{FirstItem}
 use Rattle.query_lines.specs.declared.unit.WhyItem.{WhyItem}
 use Rattle.query_lines.specs.declared.unit.Unit.{Unit as ScriptUnit}
-use Rattle.query_lines.specs.declared.unit.Unit.TheVariants.{Batch, Trim, Stats, First, Why}
+use Rattle.query_lines.specs.declared.unit.Unit.TheVariants.{Batch, Trim, Stats, First, Why, Vcd}
 use Rattle.query_lines.specs.Units.{budgets, lengths, units_of}
 use Rattle.query_lines.specs.Reading.{script_units}
 
@@ -19,6 +19,7 @@ pub data Request : Type 0 where
   Counts : Request
   Seek : FirstItem → Request
   Explain : WhyItem → Request
+  Dump : List ℕ → Request
 
 abbrev pub requests_in : ScriptUnit → List Request
 requests_in (Batch items) = map Answer items
@@ -26,6 +27,7 @@ requests_in (Trim cells) = Leave cells ∷ []
 requests_in Stats = Counts ∷ []
 requests_in (First item) = Seek item ∷ []
 requests_in (Why item) = Explain item ∷ []
+requests_in (Vcd file) = Dump file ∷ []
 
 abbrev pub requests_on : ℕ → Line → List Request
 requests_on number Blank = []
@@ -36,6 +38,7 @@ requests_on number (lines.Trim cells) = Leave cells ∷ []
 requests_on number lines.Stats = Counts ∷ []
 requests_on number (lines.First first) = Seek (record { line = number; first = first }) ∷ []
 requests_on number (lines.Why why) = Explain (record { line = number; why = why }) ∷ []
+requests_on number (lines.Vcd file) = Dump file ∷ []
 
 -- The units are the lines' requests in their order: none is lost, none is told twice.
 abbrev pub UnitsKeepRequests : Type 0
@@ -55,6 +58,7 @@ IsWithinLimits horizon (Trim cells) = cells ≤ 65536
 IsWithinLimits horizon Stats = ⊤
 IsWithinLimits horizon (First item) = item.first.budget ≤ 500000
 IsWithinLimits horizon (Why item) = item.why.budget ≤ 500000
+IsWithinLimits horizon (Vcd file) = ⊤
 
 -- The units of a script are within their limits.
 abbrev pub UnitsAreWithinLimits : Type 0

@@ -7,7 +7,7 @@ use Rattle.text_rules.specs.declared.Amount.{Amount}
 use Rattle.text_rules.specs.declared.Amount.TheVariants as amounts
 use Rattle.text_rules.specs.Text.{amount, content, is_name, words}
 use Rattle.query_lines.specs.declared.line.Line.{Line}
-use Rattle.query_lines.specs.declared.line.Line.TheVariants.{Blank, Ask, Go, Trim, Stats, First, Why, Bad}
+use Rattle.query_lines.specs.declared.line.Line.TheVariants.{Blank, Ask, Go, Trim, Stats, First, Why, Vcd, Bad}
 use Rattle.query_lines.specs.declared.line.What.TheVariants.{Wave, At}
 
 abbrev pub within : Amount → Option ℕ
@@ -84,6 +84,12 @@ why_of [] = Bad
 why_of (name ∷ []) = Bad
 why_of (name ∷ time ∷ budget) = why_of_parts name (instant time) (budget_of budget)
 
+-- after `vcd`: FILE
+abbrev pub dump_of : List (List ℕ) → Line
+dump_of [] = Bad
+dump_of (file ∷ []) = if is_name file then Vcd file else Bad
+dump_of (file ∷ word ∷ words) = Bad
+
 abbrev pub trim_of_part : Option ℕ → Line
 trim_of_part (Some n) = Trim n
 trim_of_part None = Bad
@@ -108,7 +114,8 @@ command_of keyword words =
     if bytes_eq keyword (codes "trim") then trim_of words else (
     if bytes_eq keyword (codes "stats") then alone Stats words else (
     if bytes_eq keyword (codes "first") then first_of words else (
-    if bytes_eq keyword (codes "why") then why_of words else Bad))))))
+    if bytes_eq keyword (codes "why") then why_of words else (
+    if bytes_eq keyword (codes "vcd") then dump_of words else Bad)))))))
 
 abbrev pub by_words : List (List ℕ) → Line
 by_words [] = Blank

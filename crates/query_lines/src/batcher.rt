@@ -115,6 +115,7 @@ impl Batcher {
                 first,
             }))),
             Line::Why(why) => self.close(Some(Unit::Why(WhyItem { line: number, why }))),
+            Line::Vcd(file) => self.close(Some(Unit::Vcd(file))),
         }
     }
 

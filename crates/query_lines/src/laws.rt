@@ -22,13 +22,16 @@ pub fn units_have_own_lines()
     ensures { UnitsHaveOwnLines }
 {}
 
-/// The units that a reader has given so far are within their limits, and their
-/// items stand on different lines.
+/// The units that a reader has given so far are within their limits, their items
+/// stand on different lines, and whatever they name, a signal or a file, has a
+/// name by the rules.
 pub fn read_units_are_fit()
     ensures { ReadUnitsAreFit }
 {}
 
-/// The same holds of all the units of a script.
+/// The same holds of all the units of a script: they are within their limits,
+/// their items stand on different lines, and whatever they name has a name by the
+/// rules.
 pub fn script_units_are_fit()
     ensures { ScriptUnitsAreFit }
 {}

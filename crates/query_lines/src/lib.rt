@@ -2,13 +2,13 @@
 //!
 //! A script is a text of lines. `wave` and `at` lines ask for the values of a
 //! signal, and are the **items** of batches, as is a line of no known form,
-//! which gets a reply too. `go` runs the pending batch; `trim`, `stats`, `first`
-//! and `why` are served by themselves. So a script is a list of **units**, each of which is
+//! which gets a reply too. `go` runs the pending batch; `trim`, `stats`, `first`,
+//! `why` and `vcd` are served by themselves. So a script is a list of **units**, each of which is
 //! served as a whole: `specs/Lines` says what a line means, `specs/Units` where
 //! a batch ends, and `specs/Laws` what holds of all units: they are the lines'
 //! requests in their order, and each batch is within its limits. `specs/Fit` is
 //! what whoever serves them may count on besides: the items of a batch stand on
-//! different lines, and the units given so far are those that the lines which have
+//! different lines, whatever a unit names has a name by the rules, and the units given so far are those that the lines which have
 //! ended in the bytes read so far complete (`completed_units` in `specs/Reading`).
 //!
 //! The script comes byte by byte, and may stop at any byte. `ScriptReader` takes
@@ -30,7 +30,7 @@
 //! }
 //! ```
 //!
-//! A byte costs constant time, and memory is taken only for an item's name, for
+//! A byte costs constant time, and memory is taken only for a line's name, for
 //! pending items and for units. A line is read in time in proportion to its
 //! length, and an item is moved into its batch once. `LineCutter` keeps its line in an array of 4,096 bytes,
 //! and takes no memory.

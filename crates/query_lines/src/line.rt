@@ -78,6 +78,8 @@ pub enum Line {
     First(First),
     /// `why NAME T [BUDGET]`: tell why a signal has its value at a time.
     Why(Why),
+    /// `vcd FILE`: write the waves of the last batch to this file.
+    Vcd(Text),
     /// None of these, a number above its limit, or more than 4,096 bytes.
     Bad,
 }
@@ -266,6 +268,17 @@ fn why_of(alloc: Global, rest: &[u8]) -> Result<Line, OutOfMemory>
     why_of_parts(alloc, name, instant(time), budget_of(rest))
 }
 
+fn dump_of(alloc: Global, rest: &[u8]) -> Result<Line, OutOfMemory>
+    ensures { IfOk result (λ line. line ≡ lines.dump_of (words rest.now)) }
+{
+    match next_word(rest) {
+        Some((file, rest)) if is_name(file) && next_word(rest).is_none() => {
+            Ok(Line::Vcd(Text::from_bytes(alloc, file)?))
+        }
+        _ => Ok(Line::Bad),
+    }
+}
+
 fn trim_of(rest: &[u8]) -> Line
     ensures { result ≡ lines.trim_of (words rest.now) }
 {
@@ -307,6 +320,8 @@ fn command_of(alloc: Global, keyword: &[u8], rest: &[u8]) -> Result<Line, OutOfM
         first_of(alloc, rest)
     } else if keyword == b"why".as_slice() {
         why_of(alloc, rest)
+    } else if keyword == b"vcd".as_slice() {
+        dump_of(alloc, rest)
     } else {
         Ok(Line::Bad)
     }

@@ -13,6 +13,7 @@ enum Said {
     Stats,
     First(Value, u32, u32, u32),
     Why(u32, u32),
+    Vcd,
     Bad,
 }
 
@@ -33,13 +34,14 @@ fn form_of(line: &Line) -> Said {
         Line::Stats => Said::Stats,
         Line::First(first) => Said::First(first.value, first.from, first.to, first.budget),
         Line::Why(why) => Said::Why(why.time, why.budget),
+        Line::Vcd(_) => Said::Vcd,
         Line::Bad | Line::Ask(What::Bad) => Said::Bad,
     }
 }
 
 #[test]
 fn lines_have_their_forms(rt: HostRuntime) -> Result<(), Fail> {
-    let rows: [(&[u8], Said); 51] = [
+    let rows: [(&[u8], Said); 55] = [
         (b"", Said::Blank),
         (b" \t # wave y 0 11\r", Said::Blank),
         (b"wave y 0 11", Said::Wave(0, 11, 50_000)),
@@ -75,7 +77,7 @@ fn lines_have_their_forms(rt: HostRuntime) -> Result<(), Fail> {
         (b"stats", Said::Stats),
         (b"stats 1", Said::Bad),
         (b"hello", Said::Bad),
-        (b"vcd dump", Said::Bad),
+        (b"dump w", Said::Bad),
         (b"first y 1 0 11", Said::First(Value::One, 0, 11, 50_000)),
         (b"first y X 5 5 7 # budget", Said::First(Value::X, 5, 5, 7)),
         (
@@ -98,7 +100,11 @@ fn lines_have_their_forms(rt: HostRuntime) -> Result<(), Fail> {
         (b"why y 6 500001", Said::Bad),
         (b"why y 6 7 8", Said::Bad),
         (b"why y=z 6", Said::Bad),
-        (b"vcd w", Said::Bad),
+        (b"vcd w", Said::Vcd),
+        (b" vcd vcd # name", Said::Vcd),
+        (b"vcd", Said::Bad),
+        (b"vcd a b", Said::Bad),
+        (b"vcd a(b", Said::Bad),
         (b"stuck y 0 y 0 11", Said::Bad),
     ];
     for (text, want) in rows {
@@ -115,6 +121,7 @@ enum Shape {
     Stats,
     First(u32),
     Why(u32),
+    Vcd(usize),
 }
 
 fn shape_of(unit: &Unit) -> Shape {
@@ -124,6 +131,7 @@ fn shape_of(unit: &Unit) -> Shape {
         Unit::Stats => Shape::Stats,
         Unit::First(item) => Shape::First(item.line),
         Unit::Why(item) => Shape::Why(item.line),
+        Unit::Vcd(file) => Shape::Vcd(file.bytes().len()),
     }
 }
 
@@ -214,8 +222,8 @@ fn a_stream_is_cut_into_lines(rt: HostRuntime) -> Result<(), Fail> {
 
 #[test]
 fn units_close_where_they_must(rt: HostRuntime) -> Result<(), Fail> {
-    use Shape::{First, Items, Stats, Trim, Why};
-    let rows: [(&[u8], &[Shape]); 10] = [
+    use Shape::{First, Items, Stats, Trim, Vcd, Why};
+    let rows: [(&[u8], &[Shape]); 11] = [
         (b"", &[]),
         (b"go\n\n# nothing is pending\ngo", &[]),
         (b"at y 5\ngo\nat y 6", &[Items(1), Items(1)]),
@@ -231,6 +239,10 @@ fn units_close_where_they_must(rt: HostRuntime) -> Result<(), Fail> {
         (
             b"at y 5\nat y 6\nfirst y 1 0 11\nfirst y 0 0 11\nat y 7\nfirst y 2 0 11\nwhy y 7",
             &[Items(2), First(3), First(4), Items(2), Why(7)],
+        ),
+        (
+            b"vcd w\nat y 5\nvcd wide\nvcd a b\nat y 6",
+            &[Vcd(1), Items(1), Vcd(4), Items(2)],
         ),
         (
             b"wave y 0 11 500000\nwave y 0 11 499999\nat y 1 1",

@@ -3,6 +3,7 @@
 ghost use Rattle.std.specs.Prelude.{◌≡◌};
 
 use crate::line::{First, What, Why};
+use backsim_io::Text;
 use std::marker::Model;
 
 /// An item of a batch: the number of its line, counted from 1, and what the
@@ -78,6 +79,8 @@ pub enum Unit {
     First(FirstItem),
     /// Tell why a signal has the value that it has at a time.
     Why(WhyItem),
+    /// Write the waves of the last batch to this file.
+    Vcd(Text),
 }
 
 /// A list of units.

@@ -16,6 +16,8 @@ use Rattle.query_lines.specs.declared.line.Why.{Why}
 use Rattle.reply_lines.specs.declared.reply.WhyAnswer.TheVariants as explained
 use Rattle.reply_lines.specs.declared.reply.WhyReply.{WhyReply}
 use Rattle.reply_lines.specs.declared.reply.WhyReply.TheVariants as whys
+use Rattle.reply_lines.specs.declared.reply.VcdReply.{VcdReply}
+use Rattle.reply_lines.specs.declared.reply.VcdReply.TheVariants as dumps
 use Rattle.why_proofs.specs.Spelling.{proof_lines}
 
 -- A reply that an item may get: a bad line, and it alone, gets BadLine, and a wave of one instant has one run.
@@ -96,6 +98,13 @@ why_lines why whys.Unknown = text_line (codes "unknown" ∷ why.name ∷ [])
 why_lines why whys.Past = text_line (codes "past" ∷ why.name ∷ decimal why.time ∷ decimal (why.time + 1) ∷ [])
 why_lines why (whys.Answer (explained.Proof cells value)) = proof_lines why.name why.time value cells
 why_lines why (whys.Answer (explained.Budget budget)) = text_line (codes "budget" ∷ why.name ∷ decimal budget ∷ [])
+
+-- the text of the reply to a line that asks for a dump under this name
+abbrev pub vcd_line : List ℕ → VcdReply → List ℕ
+vcd_line file dumps.Taken = text_line (codes "vcd" ∷ codes "taken" ∷ file ∷ [])
+vcd_line file dumps.NoBatch = text_line (codes "vcd" ∷ codes "none" ∷ [])
+vcd_line file dumps.Full = text_line (codes "vcd" ∷ codes "full" ∷ [])
+vcd_line file (dumps.Made wires) = text_line (codes "vcd" ∷ file ∷ codes "wires" ∷ decimal wires ∷ [])
 
 -- the text of the reply to a trim that removed so many cells
 abbrev pub trimmed_line : ℕ → List ℕ

@@ -50,6 +50,19 @@ pub enum WhyAnswer {
     Budget(u32),
 }
 
+/// What is replied to a line that asks for a dump of the last batch's waves.
+#[derive(Clone, Copy, Debug, PartialEq, Eq)]
+pub enum VcdReply {
+    /// A file of the session has that name already.
+    Taken,
+    /// No batch was served before.
+    NoBatch,
+    /// As many dumps were made as a session may make.
+    Full,
+    /// The dump was made, with so many wires.
+    Made(u32),
+}
+
 /// What is replied to the question for an explanation.
 #[derive(Drop)]
 pub enum WhyReply {

@@ -147,3 +147,20 @@ fn explanations_have_their_texts(rt: HostRuntime) -> Result<(), Fail> {
     assert_eq!(rt; text.as_slice(), b"why n3 4294967294 0\nend\n".as_slice());
     Ok(())
 }
+
+#[test]
+fn dumps_have_their_texts(rt: HostRuntime) -> Result<(), Fail> {
+    let alloc = rt.alloc();
+    let rows: [(&[u8], VcdReply, &[u8]); 4] = [
+        (b"j", VcdReply::Taken, b"vcd taken j\n"),
+        (b"w", VcdReply::NoBatch, b"vcd none\n"),
+        (b"w", VcdReply::Full, b"vcd full\n"),
+        (b"w", VcdReply::Made(2), b"vcd w wires 2\n"),
+    ];
+    for (file, reply, want) in rows {
+        let file = Text::from_bytes(alloc, file)?;
+        let text = dump_text(alloc, &file, reply)?;
+        assert_eq!(rt; text.as_slice(), want);
+    }
+    Ok(())
+}

@@ -4,10 +4,10 @@ ghost use Rattle.std.specs.Prelude.{◌≡◌, ◌++◌, ◌∷◌, [], flat_map
 ghost use Rattle.std.specs.Fmt.{decimal};
 ghost use Rattle.gate_values.specs.Spelling.{byte_of_value};
 ghost use Rattle.reply_lines.specs.Replies as replies;
-ghost use Rattle.reply_lines.specs.Replies.{Suits, text_of, text_line, run_line, first_line, first_found, why_lines, trimmed_line, stats_line};
+ghost use Rattle.reply_lines.specs.Replies.{Suits, text_of, text_line, run_line, first_line, first_found, why_lines, vcd_line, trimmed_line, stats_line};
 
-use crate::reply::{FirstAnswer, FirstReply, Reply, WhyAnswer, WhyReply};
-use backsim_io::OutOfMemory;
+use crate::reply::{FirstAnswer, FirstReply, Reply, VcdReply, WhyAnswer, WhyReply};
+use backsim_io::{OutOfMemory, Text};
 use circuit_meaning::Run;
 use gate_values::Value;
 use itoa::Buffer;
@@ -234,6 +234,28 @@ pub fn why_text(alloc: Global, why: &Why, reply: &WhyReply) -> Result<Vec<u8>, O
         WhyReply::Answer(WhyAnswer::Budget(budget)) => put_budget(&mut text, name, *budget)?,
         WhyReply::Answer(WhyAnswer::Proof { cells, value }) => {
             return proof_text(alloc, name, why.time, *value, cells);
+        }
+    }
+    Ok(text)
+}
+
+/// The text of the reply to a line that asks for a dump under this name: one line.
+pub fn dump_text(alloc: Global, file: &Text, reply: VcdReply) -> Result<Vec<u8>, OutOfMemory>
+    ensures { IfOk result (λ text. text.items ≡ vcd_line file.now reply) }
+{
+    let mut text = Vec::new(alloc);
+    put(&mut text, b"vcd", b' ')?;
+    match reply {
+        VcdReply::Taken => {
+            put(&mut text, b"taken", b' ')?;
+            put(&mut text, file.bytes(), b'\n')?;
+        }
+        VcdReply::NoBatch => put(&mut text, b"none", b'\n')?,
+        VcdReply::Full => put(&mut text, b"full", b'\n')?,
+        VcdReply::Made(wires) => {
+            put(&mut text, file.bytes(), b' ')?;
+            put(&mut text, b"wires", b' ')?;
+            put_number(&mut text, wires as u64, b'\n')?;
         }
     }
     Ok(text)

@@ -1,17 +1,23 @@
 -- Texts that grow, piece by piece.
 use Rattle.std.proofs.Common.{◌≡◌, ℕ, zero, suc, List, [], ◌∷◌, ◌++◌, take, drop, Result, Ok, Err, refl, sym, ap, subst, ◌∙◌, append_assoc, append-nil}
-use Rattle.std.specs.Prelude.{OnErr}
+use Rattle.std.specs.Prelude.{OnErr, IfErr, IsErrAnd}
 use Rattle.std.proofs.lemmas.List.{take-append-drop}
 use Rattle.backsim_io.specs.Counts.{Grows, GrowsByPrefix}
 use Rattle.backsim_io.specs.Held.{Made, grown, FileGrows, FileGrowsByPrefix}
 use Rattle.session_meaning.specs.Broken.{IsPrefix}
 use Rattle.session_meaning.proofs.Journals.{prefix-same, prefix-again}
-use Rattle.session_loop.specs.inner.Growing.{GoesOn, FileGoesOn, GrowsPart, FileGrowsPart}
+use Rattle.session_loop.specs.Halting.{session_files}
+use Rattle.session_loop.specs.inner.Growing.{GoesOn, FilesGoOn, GrowsPart, FileGrowsPart}
 
 -- what holds anyhow
 pub on-err : {T E X : Type 0} (result : Result T E) → X → OnErr result X
 on-err (Ok x) is = tt
 on-err (Err e) is = is
+
+-- what holds of the error that is handed on
+pub err-is : {T E : Type 0} (P : E → Type 0) (was : E) (result : Result T E) → IsErrAnd result (λ e. e ≡ was) → P was → IfErr result P
+err-is P was (Ok x) handed holds = tt
+err-is P was (Err e) handed holds = subst P (sym handed) holds
 
 pub grows-none : (w : List ℕ → Type 0) → Grows w w []
 grows-none w before h = subst w (sym (append-nil before)) h
@@ -73,8 +79,13 @@ goes-none w before = ([], sym (append-nil before), grows-none w)
 pub goes-more : (u v w : List ℕ → Type 0) (a b c : List ℕ) → GoesOn u v a b → GoesOn v w b c → GoesOn u w a c
 goes-more u v w a b c f g = (f.0 ++ g.0, g.1 ∙ ap (λ l. l ++ g.0) f.1 ∙ append_assoc a f.0 g.0, grows-more u v w f.0 g.0 f.2 g.2)
 
-pub file-goes-none : (m : List Made → Type 0) (slot : ℕ) (before : List ℕ) → FileGoesOn m m slot before before
-file-goes-none m slot before = ([], sym (append-nil before), file-none m slot)
+-- the files of a session that go on
+pub files-none : (m : List Made → Type 0) (journal : List ℕ) (dumps : List Made) → FilesGoOn m m journal dumps journal dumps
+files-none m journal dumps name h = h
 
-pub file-goes-more : (u v w : List Made → Type 0) (slot : ℕ) (a b c : List ℕ) → FileGoesOn u v slot a b → FileGoesOn v w slot b c → FileGoesOn u w slot a c
-file-goes-more u v w slot a b c f g = (f.0 ++ g.0, g.1 ∙ ap (λ l. l ++ g.0) f.1 ∙ append_assoc a f.0 g.0, file-more u v w slot f.0 g.0 f.2 g.2)
+pub files-more : (u v w : List Made → Type 0) (a b c : List ℕ) (p q r : List Made) → FilesGoOn u v a p b q → FilesGoOn v w b q c r → FilesGoOn u w a p c r
+files-more u v w a b c p q r f g name h = g name (f name h)
+
+-- the journal is the first of them
+pub journal-grows : (u v : List Made → Type 0) (journal more : List ℕ) (dumps : List Made) → FileGrows u v 0 more → FilesGoOn u v journal dumps (journal ++ more) dumps
+journal-grows u v journal more dumps grows name h = grows (session_files name journal dumps) h

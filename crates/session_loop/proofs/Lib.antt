@@ -1,8 +1,11 @@
 pub mod Growing
+pub mod Named
 pub mod Served
+pub mod Units
 pub mod Taken
 pub mod Scripts
 pub mod Files
 pub mod Pieces
 pub mod WorkDone
 pub mod EmptyStores
+pub mod Dumping

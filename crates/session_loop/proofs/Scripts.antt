@@ -9,17 +9,19 @@ use Rattle.query_lines.specs.Reading.{script_units, completed_units}
 use Rattle.query_lines.specs.Readers.{Reader, HasRead}
 use Rattle.query_lines.proofs.Completed.{given-completed}
 use Rattle.session_meaning.specs.Session.{Setup, Opened, opened, IsSession, IsSessionOf}
-use Rattle.session_meaning.specs.Broken.{journal_of, IsBroken, IsBrokenIn, IsCutOff}
+use Rattle.session_meaning.specs.Broken.{journal_of, BreaksIn, IsCutOff}
 use Rattle.session_loop.specs.declared.desk.Desk.{Desk}
+use Rattle.session_loop.specs.declared.desk.LastBatch.{LastBatch}
 use Rattle.session_loop.specs.declared.stop.Stop.{Stop}
-use Rattle.session_loop.specs.declared.stop.Stop.TheVariants.{ScriptUnread, ScriptTooLong, RepliesUnwritten, JournalUnwritten, OutOfMemory}
+use Rattle.session_loop.specs.declared.stop.Stop.TheVariants.{ScriptUnread, ScriptTooLong, RepliesUnwritten, JournalUnwritten, DumpUnmade, DumpUnwritten, DumpUnfinished, OutOfMemory}
 use Rattle.unit_answers.specs.Stores.{cells_of}
-use Rattle.session_loop.specs.inner.Desks.{Keeps as KeepsDesk, no_counts}
+use Rattle.session_loop.specs.inner.Desks.{Shows, Keeps as KeepsDesk, no_counts}
 use Rattle.session_loop.specs.Faults.{Faults, Explains}
-use Rattle.session_loop.specs.inner.Faults.{UnitExplains}
-use Rattle.session_loop.specs.inner.Serving.{Serves, Stops, TakesServed, TakesStopped, EndsServed, EndsStopped, HasServed, Wrote}
+use Rattle.session_loop.specs.inner.Faults.{UnitsExplain}
+use Rattle.session_loop.specs.inner.Serving.{BreaksAt, Serves, Stops, TakesServed, TakesStopped, EndsServed, EndsStopped, HasServed, Wrote}
 use Rattle.session_loop.specs.Serving.{IsServedUntil, IsStopped}
-use Rattle.session_loop.proofs.Served.{serves-none, serves-more, stops-more}
+use Rattle.session_loop.proofs.Served.{count-of, serves-none, serves-more, stops-more}
+use Rattle.session_loop.proofs.Units.{explains-from}
 
 -- all of a script was taken
 all-taken : (script : List ℕ) (first left next : Option (List ℕ)) (bytes into : List ℕ) (n : ℕ) → first ≡ Some script → Consumes first left bytes → Consumes left next (take n into) → n ≡ 0 → IsAtEnd next → script ≡ bytes
@@ -53,34 +55,43 @@ kept (Some xs) (Some ys) None bytes took same = absurd same
 kept (Some xs) (Some ys) (Some zs) bytes took same = took ∙ ap (λ l. bytes ++ l) (sym same)
 
 -- what a stop of a unit tells, it tells of a session
-pub explains-of : (old new : Faults) (stop : Stop) → UnitExplains old.replies new.replies old.writes new.writes stop → Explains old new stop
+pub explains-of : (old new : Faults) (stop : Stop) → UnitsExplain old.replies new.replies old.writes new.writes old.files new.files stop → Explains old new stop
 explains-of old new ScriptUnread h = absurd h
 explains-of old new ScriptTooLong h = absurd h
 explains-of old new RepliesUnwritten h = h
 explains-of old new JournalUnwritten h = h
+explains-of old new DumpUnmade h = h
+explains-of old new DumpUnwritten h = h
+explains-of old new DumpUnfinished h = h
 explains-of old new OutOfMemory h = h
 
-pub explains-after : (old new : Faults) (mid_replies mid_writes : ℕ) (stop : Stop) → mid_replies ≡ old.replies → mid_writes ≡ old.writes → UnitExplains mid_replies new.replies mid_writes new.writes stop → Explains old new stop
-explains-after old new mid_replies mid_writes stop same_replies same_writes h =
-    explains-of old new stop (subst (λ r. UnitExplains r new.replies old.writes new.writes stop) same_replies (subst (λ w. UnitExplains mid_replies new.replies w new.writes stop) same_writes h))
+pub explains-after : (old new : Faults) (mid_replies mid_writes mid_files : ℕ) (stop : Stop) → mid_replies ≡ old.replies → mid_writes ≡ old.writes → mid_files ≡ old.files
+    → UnitsExplain mid_replies new.replies mid_writes new.writes mid_files new.files stop → Explains old new stop
+explains-after old new mid_replies mid_writes mid_files stop same_replies same_writes same_files h =
+    explains-of old new stop (explains-from old.replies mid_replies new.replies old.writes mid_writes new.writes old.files mid_files new.files stop same_replies same_writes same_files h)
 
-stopped-is : (setup : Setup) (script : List ℕ) (left : Option (List ℕ)) (r r' w w' : ℕ) (stop : Stop) (replies journal : List ℕ) → UnitExplains r r' w w' stop → IsBrokenIn setup script replies journal → IsStopped setup script left stop replies journal
-stopped-is setup script left r r' w w' ScriptUnread replies journal h b = absurd h
-stopped-is setup script left r r' w w' ScriptTooLong replies journal h b = absurd h
-stopped-is setup script left r r' w w' RepliesUnwritten replies journal h b = b
-stopped-is setup script left r r' w w' JournalUnwritten replies journal h b = b
-stopped-is setup script left r r' w w' OutOfMemory replies journal h b = b
+-- where a stop of a unit breaks off, the session of the script stopped
+stopped-is : (setup : Setup) (script : List ℕ) (left : Option (List ℕ)) (r r' w w' f f' : ℕ) (stop : Stop) (replies journal : List ℕ) (dumps : List Made) → UnitsExplain r r' w w' f f' stop
+    → BreaksIn setup script (λ units. BreaksAt setup units replies journal dumps stop) → IsStopped setup script left stop replies journal dumps
+stopped-is setup script left r r' w w' f f' ScriptUnread replies journal dumps h b = absurd h
+stopped-is setup script left r r' w w' f f' ScriptTooLong replies journal dumps h b = absurd h
+stopped-is setup script left r r' w w' f f' RepliesUnwritten replies journal dumps h b = b
+stopped-is setup script left r r' w w' f f' JournalUnwritten replies journal dumps h b = b
+stopped-is setup script left r r' w w' f f' DumpUnmade replies journal dumps h b = b
+stopped-is setup script left r r' w w' f f' DumpUnwritten replies journal dumps h b = b
+stopped-is setup script left r r' w w' f f' DumpUnfinished replies journal dumps h b = b
+stopped-is setup script left r r' w w' f f' OutOfMemory replies journal dumps h b = b
 
-module _ (setup : Setup) (slot : ℕ) (desk : Desk) (fresh : KeepsDesk setup desk opened) where
+module _ (setup : Setup) (desk : Desk) (fresh : KeepsDesk setup desk opened) where
   -- nothing was read
-  pub has-none : (first : Option (List ℕ)) (reader : Reader) (out : List ℕ → Type 0) (made : List Made → Type 0) → HasRead setup.design.circuit.horizon [] [] reader → HasServed setup 0 first first reader desk desk slot out out made made
+  pub has-none : (first : Option (List ℕ)) (reader : Reader) (out : List ℕ → Type 0) (made : List Made → Type 0) → HasRead setup.design.circuit.horizon [] [] reader → HasServed setup 0 first first reader desk desk out out made made
   has-none first reader out made read = record {
     bytes = [];
     long = refl;
     took = none first;
     units = [];
     read = read;
-    served = serves-none setup desk slot out made;
+    served = serves-none setup desk out made;
   }
     where
       none : (o : Option (List ℕ)) → Consumes o o []
@@ -89,8 +100,8 @@ module _ (setup : Setup) (slot : ℕ) (desk : Desk) (fresh : KeepsDesk setup des
 
   -- a block more was taken and served
   pub has-more : (taken now : ℕ) (first left next : Option (List ℕ)) (a b : Reader) (x y : Desk) (n m : ℕ) (into rest : List ℕ) (out mid new_out : List ℕ → Type 0) (made mid_made new_made : List Made → Type 0)
-      → HasServed setup taken first left a desk x slot out mid made mid_made → Consumes left next (take n into) → m ≡ n → n ≤ length into → now ≡ taken + length (take m (into ++ rest))
-      → TakesServed setup a b (take m (into ++ rest)) x y slot mid new_out mid_made new_made → HasServed setup now first next b desk y slot out new_out made new_made
+      → HasServed setup taken first left a desk x out mid made mid_made → Consumes left next (take n into) → m ≡ n → n ≤ length into → now ≡ taken + length (take m (into ++ rest))
+      → TakesServed setup a b (take m (into ++ rest)) x y mid new_out mid_made new_made → HasServed setup now first next b desk y out new_out made new_made
   has-more taken now first left next a b x y n m into rest out mid new_out made mid_made new_made so_far took same within is takes =
       let bytes : take m (into ++ rest) ≡ take n into = ap (λ (k : ℕ). take k (into ++ rest)) same ∙ take-append-le n into rest within in
       record {
@@ -99,55 +110,61 @@ module _ (setup : Setup) (slot : ℕ) (desk : Desk) (fresh : KeepsDesk setup des
         took = Consumes-trans first left next so_far.bytes (take m (into ++ rest)) so_far.took (subst (Consumes left next) (sym bytes) took);
         units = so_far.units ++ takes.units;
         read = takes.reads setup.design.circuit.horizon so_far.bytes so_far.units so_far.read;
-        served = serves-more setup desk x y so_far.units takes.units slot out mid new_out made mid_made new_made so_far.served takes.served;
+        served = serves-more setup desk x y so_far.units takes.units out mid new_out made mid_made new_made so_far.served takes.served;
       }
 
   -- units were served from the session's start
-  wrote-session : (units : List ScriptUnit) (later : Desk) (out new_out : List ℕ → Type 0) (made new_made : List Made → Type 0) → Serves setup desk later units slot out new_out made new_made → Wrote setup (IsSession setup units) slot out new_out made new_made
-  wrote-session units later out new_out made new_made served =
+  wrote-session : (units : List ScriptUnit) (later : Desk) (out new_out : List ℕ → Type 0) (made new_made : List Made → Type 0) (files : ℕ) → files ≡ length later.dumps.made.items + 1
+      → Serves setup desk later units out new_out made new_made → Wrote setup (IsSession setup units) out new_out made new_made files
+  wrote-session units later out new_out made new_made files many served =
       let s = served [] opened Opened fresh in
       record {
         replies = s.next.out;
         journal = journal_of setup s.next;
-        are = record { course = s.next; served = s.session; out_is = refl; journal_is = refl };
+        dumps = s.next.dumps;
+        are = record { course = s.next; served = s.session; out_is = refl; journal_is = refl; dumps_are = refl };
         replied = s.replied;
         recorded = s.recorded;
+        count = count-of setup later s.next files s.keeps many;
       }
 
-  wrote-map : (are such : List ℕ → List ℕ → Type 0) (out new_out : List ℕ → Type 0) (made new_made : List Made → Type 0) → ((replies journal : List ℕ) → are replies journal → such replies journal)
-      → Wrote setup are slot out new_out made new_made → Wrote setup such slot out new_out made new_made
-  wrote-map are such out new_out made new_made f w = record { replies = w.replies; journal = w.journal; are = f w.replies w.journal w.are; replied = w.replied; recorded = w.recorded }
+  wrote-map : (are such : List ℕ → List ℕ → List Made → Type 0) (out new_out : List ℕ → Type 0) (made new_made : List Made → Type 0) (files : ℕ)
+      → ((replies journal : List ℕ) (dumps : List Made) → are replies journal dumps → such replies journal dumps)
+      → Wrote setup are out new_out made new_made files → Wrote setup such out new_out made new_made files
+  wrote-map are such out new_out made new_made files f w =
+      record { replies = w.replies; journal = w.journal; dumps = w.dumps; are = f w.replies w.journal w.dumps w.are; replied = w.replied; recorded = w.recorded; count = w.count }
 
-  wrote-broken : (units : List ScriptUnit) (out new_out : List ℕ → Type 0) (made new_made : List Made → Type 0) → Stops setup desk units slot out new_out made new_made → Wrote setup (IsBroken setup units) slot out new_out made new_made
-  wrote-broken units out new_out made new_made stopped =
+  wrote-broken : (units : List ScriptUnit) (out new_out : List ℕ → Type 0) (made new_made : List Made → Type 0) (files : ℕ) (stop : Stop)
+      → Stops setup desk units out new_out made new_made files stop → Wrote setup (λ replies journal dumps. BreaksAt setup units replies journal dumps stop) out new_out made new_made files
+  wrote-broken units out new_out made new_made files stop stopped =
       let s = stopped [] opened Opened fresh in
-      record { replies = s.replies; journal = s.journal; are = s.broken; replied = s.replied; recorded = s.recorded }
+      record { replies = s.replies; journal = s.journal; dumps = s.dumps; are = s.broken; replied = s.replied; recorded = s.recorded; count = s.count }
 
   module _ (script : List ℕ) (first : Option (List ℕ)) (is : first ≡ Some script) where
     -- the script ended, and what was left of it was served
-    pub all-served : (taken : ℕ) (left next : Option (List ℕ)) (n : ℕ) (into : List ℕ) (reader : Reader) (x y : Desk) (out mid new_out : List ℕ → Type 0) (made mid_made new_made : List Made → Type 0)
-        → HasServed setup taken first left reader desk x slot out mid made mid_made → Consumes left next (take n into) → n ≡ 0 → IsAtEnd next
-        → EndsServed setup reader x y slot mid new_out mid_made new_made → Wrote setup (IsSessionOf setup script) slot out new_out made new_made
-    all-served taken left next n into reader x y out mid new_out made mid_made new_made so_far took none end ends =
+    pub all-served : (taken : ℕ) (left next : Option (List ℕ)) (n : ℕ) (into : List ℕ) (reader : Reader) (x y : Desk) (out mid new_out : List ℕ → Type 0) (made mid_made new_made : List Made → Type 0) (files : ℕ)
+        → HasServed setup taken first left reader desk x out mid made mid_made → Consumes left next (take n into) → n ≡ 0 → IsAtEnd next → files ≡ length y.dumps.made.items + 1
+        → EndsServed setup reader x y mid new_out mid_made new_made → Wrote setup (IsSessionOf setup script) out new_out made new_made files
+    all-served taken left next n into reader x y out mid new_out made mid_made new_made files so_far took none end many ends =
         let all = all-taken script first left next so_far.bytes into n is so_far.took took none end in
         let horizon = setup.design.circuit.horizon in
-        subst (λ us. Wrote setup (IsSession setup us) slot out new_out made new_made) (sym (ap (script_units horizon) all ∙ ends.whole horizon so_far.bytes so_far.units so_far.read))
-        (wrote-session (so_far.units ++ ends.units) y out new_out made new_made (serves-more setup desk x y so_far.units ends.units slot out mid new_out made mid_made new_made so_far.served ends.served))
+        subst (λ us. Wrote setup (IsSession setup us) out new_out made new_made files) (sym (ap (script_units horizon) all ∙ ends.whole horizon so_far.bytes so_far.units so_far.read))
+        (wrote-session (so_far.units ++ ends.units) y out new_out made new_made files many (serves-more setup desk x y so_far.units ends.units out mid new_out made mid_made new_made so_far.served ends.served))
 
     pub all-short : (taken : ℕ) (left next : Option (List ℕ)) (n : ℕ) (into : List ℕ) (reader : Reader) (x : Desk) (out mid : List ℕ → Type 0) (made mid_made : List Made → Type 0)
-        → HasServed setup taken first left reader desk x slot out mid made mid_made → Consumes left next (take n into) → n ≡ 0 → IsAtEnd next → taken ≤ 16777216 → length script ≤ 16777216
+        → HasServed setup taken first left reader desk x out mid made mid_made → Consumes left next (take n into) → n ≡ 0 → IsAtEnd next → taken ≤ 16777216 → length script ≤ 16777216
     all-short taken left next n into reader x out mid made mid_made so_far took none end most =
         omega (arith, ap length (all-taken script first left next so_far.bytes into n is so_far.took took none end), so_far.long, most)
 
     -- the script ended, and the session broke off in what was left of it
-    pub end-stopped : (taken : ℕ) (left next after : Option (List ℕ)) (n : ℕ) (into : List ℕ) (reader : Reader) (x : Desk) (r r' w w' : ℕ) (stop : Stop) (out mid new_out : List ℕ → Type 0) (made mid_made new_made : List Made → Type 0)
-        → setup.design.circuit.horizon ≤ 1000000 → HasServed setup taken first left reader desk x slot out mid made mid_made → Consumes left next (take n into) → n ≡ 0 → IsAtEnd next → UnitExplains r r' w w' stop
-        → EndsStopped setup reader x slot mid new_out mid_made new_made → Wrote setup (IsStopped setup script after stop) slot out new_out made new_made
-    end-stopped taken left next after n into reader x r r' w w' stop out mid new_out made mid_made new_made bound so_far took none end cause ends =
+    pub end-stopped : (taken : ℕ) (left next after : Option (List ℕ)) (n : ℕ) (into : List ℕ) (reader : Reader) (x : Desk) (r r' w w' f f' : ℕ) (stop : Stop) (out mid new_out : List ℕ → Type 0) (made mid_made new_made : List Made → Type 0) (files : ℕ)
+        → setup.design.circuit.horizon ≤ 1000000 → HasServed setup taken first left reader desk x out mid made mid_made → Consumes left next (take n into) → n ≡ 0 → IsAtEnd next → UnitsExplain r r' w w' f f' stop
+        → EndsStopped setup reader x mid new_out mid_made new_made files stop → Wrote setup (IsStopped setup script after stop) out new_out made new_made files
+    end-stopped taken left next after n into reader x r r' w w' f f' stop out mid new_out made mid_made new_made files bound so_far took none end cause ends =
         let all = all-taken script first left next so_far.bytes into n is so_far.took took none end in
         let horizon = setup.design.circuit.horizon in
-        wrote-map (IsBroken setup (so_far.units ++ ends.units)) (IsStopped setup script after stop) out new_out made new_made
-        (λ replies journal broken. stopped-is setup script after r r' w w' stop replies journal cause (record {
+        wrote-map (λ replies journal dumps. BreaksAt setup (so_far.units ++ ends.units) replies journal dumps stop) (IsStopped setup script after stop) out new_out made new_made files
+        (λ replies journal dumps broken. stopped-is setup script after r r' w w' f f' stop replies journal dumps cause (record {
           taken = so_far.bytes;
           taken_are = ([], all ∙ sym (append-nil so_far.bytes));
           units = so_far.units ++ ends.units;
@@ -157,13 +174,13 @@ module _ (setup : Setup) (slot : ℕ) (desk : Desk) (fresh : KeepsDesk setup des
           ];
           broken = broken;
         }))
-        (wrote-broken (so_far.units ++ ends.units) out new_out made new_made (stops-more setup desk x so_far.units ends.units slot out mid new_out made mid_made new_made so_far.served ends.stopped))
+        (wrote-broken (so_far.units ++ ends.units) out new_out made new_made files stop (stops-more setup desk x so_far.units ends.units out mid new_out made mid_made new_made files stop so_far.served ends.stopped))
 
     -- the session broke off in a block
-    pub block-stopped : (taken : ℕ) (left next after : Option (List ℕ)) (reader : Reader) (x : Desk) (n m : ℕ) (into rest : List ℕ) (r r' w w' : ℕ) (stop : Stop) (out mid new_out : List ℕ → Type 0) (made mid_made new_made : List Made → Type 0)
-        → setup.design.circuit.horizon ≤ 1000000 → HasServed setup taken first left reader desk x slot out mid made mid_made → Consumes left next (take n into) → m ≤ n → n ≤ length into → UnitExplains r r' w w' stop
-        → TakesStopped setup reader (take m (into ++ rest)) x slot mid new_out mid_made new_made → Wrote setup (IsStopped setup script after stop) slot out new_out made new_made
-    block-stopped taken left next after reader x n m into rest r r' w w' stop out mid new_out made mid_made new_made bound so_far took small within cause stops =
+    pub block-stopped : (taken : ℕ) (left next after : Option (List ℕ)) (reader : Reader) (x : Desk) (n m : ℕ) (into rest : List ℕ) (r r' w w' f f' : ℕ) (stop : Stop) (out mid new_out : List ℕ → Type 0) (made mid_made new_made : List Made → Type 0) (files : ℕ)
+        → setup.design.circuit.horizon ≤ 1000000 → HasServed setup taken first left reader desk x out mid made mid_made → Consumes left next (take n into) → m ≤ n → n ≤ length into → UnitsExplain r r' w w' f f' stop
+        → TakesStopped setup reader (take m (into ++ rest)) x mid new_out mid_made new_made files stop → Wrote setup (IsStopped setup script after stop) out new_out made new_made files
+    block-stopped taken left next after reader x n m into rest r r' w w' f f' stop out mid new_out made mid_made new_made files bound so_far took small within cause stops =
         let split = split-script script first left next so_far.bytes (take n into) is so_far.took took in
         let tail = stops.front_is.0 ++ (drop m (take n into) ++ split.0) in
         let horizon = setup.design.circuit.horizon in
@@ -171,36 +188,37 @@ module _ (setup : Setup) (slot : ℕ) (desk : Desk) (fresh : KeepsDesk setup des
         split.1
         ∙ ap (λ (l : List ℕ). (so_far.bytes ++ l) ++ split.0) (block-front n m into rest small within ∙ ap (λ (l : List ℕ). l ++ drop m (take n into)) stops.front_is.1)
         ∙ regroup so_far.bytes stops.front stops.front_is.0 (drop m (take n into)) split.0 in
-        wrote-map (IsBroken setup (so_far.units ++ stops.units)) (IsStopped setup script after stop) out new_out made new_made
-        (λ replies journal broken. stopped-is setup script after r r' w w' stop replies journal cause (record {
+        wrote-map (λ replies journal dumps. BreaksAt setup (so_far.units ++ stops.units) replies journal dumps stop) (IsStopped setup script after stop) out new_out made new_made files
+        (λ replies journal dumps broken. stopped-is setup script after r r' w w' f f' stop replies journal dumps cause (record {
           taken = so_far.bytes ++ stops.front;
           taken_are = (tail, script-is);
           units = so_far.units ++ stops.units;
           completed = inl (given-completed horizon (so_far.bytes ++ stops.front) (so_far.units ++ stops.units) stops.later (stops.reads horizon so_far.bytes so_far.units so_far.read) bound);
           broken = broken;
         }))
-        (wrote-broken (so_far.units ++ stops.units) out new_out made new_made (stops-more setup desk x so_far.units stops.units slot out mid new_out made mid_made new_made so_far.served stops.stopped))
+        (wrote-broken (so_far.units ++ stops.units) out new_out made new_made files stop (stops-more setup desk x so_far.units stops.units out mid new_out made mid_made new_made files stop so_far.served stops.stopped))
       where
         regroup : (a b c d e : List ℕ) → (a ++ ((b ++ c) ++ d)) ++ e ≡ (a ++ b) ++ (c ++ (d ++ e))
         regroup a b c d e = simp append_assoc
 
     -- the next block was not read
-    pub unread : (taken : ℕ) (left next : Option (List ℕ)) (reader : Reader) (x : Desk) (out mid : List ℕ → Type 0) (made mid_made : List Made → Type 0)
-        → setup.design.circuit.horizon ≤ 1000000 → HasServed setup taken first left reader desk x slot out mid made mid_made → Keeps left next → Wrote setup (IsServedUntil setup script next) slot out mid made mid_made
-    unread taken left next reader x out mid made mid_made bound so_far same =
-        wrote-map (IsSession setup so_far.units) (IsServedUntil setup script next) out mid made mid_made
-        (λ replies journal session. record {
+    pub unread : (taken : ℕ) (left next : Option (List ℕ)) (reader : Reader) (x : Desk) (out mid : List ℕ → Type 0) (made mid_made : List Made → Type 0) (files : ℕ)
+        → setup.design.circuit.horizon ≤ 1000000 → HasServed setup taken first left reader desk x out mid made mid_made → files ≡ length x.dumps.made.items + 1 → Keeps left next
+        → Wrote setup (IsServedUntil setup script next) out mid made mid_made files
+    unread taken left next reader x out mid made mid_made files bound so_far many same =
+        wrote-map (IsSession setup so_far.units) (IsServedUntil setup script next) out mid made mid_made files
+        (λ replies journal dumps session. record {
           taken = so_far.bytes;
           took = kept (Some script) left next so_far.bytes (subst (λ f. Consumes f left so_far.bytes) is so_far.took) same;
-          served = subst (λ us. IsSession setup us replies journal) (given-completed setup.design.circuit.horizon so_far.bytes so_far.units reader so_far.read bound) session;
+          served = subst (λ us. IsSession setup us replies journal dumps) (given-completed setup.design.circuit.horizon so_far.bytes so_far.units reader so_far.read bound) session;
         })
-        (wrote-session so_far.units x out mid made mid_made so_far.served)
+        (wrote-session so_far.units x out mid made mid_made files many so_far.served)
 
     -- more bytes were read than a script may have
-    pub cut-off : (taken : ℕ) (left next : Option (List ℕ)) (a b : Reader) (x y : Desk) (n m : ℕ) (into rest : List ℕ) (out mid new_out : List ℕ → Type 0) (made mid_made new_made : List Made → Type 0)
-        → setup.design.circuit.horizon ≤ 1000000 → HasServed setup taken first left a desk x slot out mid made mid_made → Consumes left next (take n into) → m < n → n ≤ length into → taken + m ≡ 16777216
-        → TakesServed setup a b (take m (into ++ rest)) x y slot mid new_out mid_made new_made → Wrote setup (IsCutOff setup script) slot out new_out made new_made
-    cut-off taken left next a b x y n m into rest out mid new_out made mid_made new_made bound so_far took more within limit takes =
+    pub cut-off : (taken : ℕ) (left next : Option (List ℕ)) (a b : Reader) (x y : Desk) (n m : ℕ) (into rest : List ℕ) (out mid new_out : List ℕ → Type 0) (made mid_made new_made : List Made → Type 0) (files : ℕ)
+        → setup.design.circuit.horizon ≤ 1000000 → HasServed setup taken first left a desk x out mid made mid_made → Consumes left next (take n into) → m < n → n ≤ length into → taken + m ≡ 16777216 → files ≡ length y.dumps.made.items + 1
+        → TakesServed setup a b (take m (into ++ rest)) x y mid new_out mid_made new_made → Wrote setup (IsCutOff setup script) out new_out made new_made files
+    cut-off taken left next a b x y n m into rest out mid new_out made mid_made new_made files bound so_far took more within limit many takes =
         let split = split-script script first left next so_far.bytes (take n into) is so_far.took took in
         let cut = take m (into ++ rest) in
         let script-is : script ≡ (so_far.bytes ++ cut) ++ (drop m (take n into) ++ split.0) =
@@ -214,12 +232,12 @@ module _ (setup : Setup) (slot : ℕ) (desk : Desk) (fresh : KeepsDesk setup des
         let horizon = setup.design.circuit.horizon in
         let completed : units ≡ completed_units horizon (take 16777216 script) =
         given-completed horizon (so_far.bytes ++ cut) units b (takes.reads horizon so_far.bytes so_far.units so_far.read) bound ∙ ap (completed_units horizon) (sym front) in
-        wrote-map (IsSession setup units) (IsCutOff setup script) out new_out made new_made
-        (λ replies journal session. record {
+        wrote-map (IsSession setup units) (IsCutOff setup script) out new_out made new_made files
+        (λ replies journal dumps session. record {
           long = longer split.0 split.1;
-          served = subst (λ us. IsSession setup us replies journal) completed session;
+          served = subst (λ us. IsSession setup us replies journal dumps) completed session;
         })
-        (wrote-session units y out new_out made new_made (serves-more setup desk x y so_far.units takes.units slot out mid new_out made mid_made new_made so_far.served takes.served))
+        (wrote-session units y out new_out made new_made files many (serves-more setup desk x y so_far.units takes.units out mid new_out made mid_made new_made so_far.served takes.served))
       where
         regroup : (x y z t : List ℕ) → (x ++ (y ++ z)) ++ t ≡ (x ++ y) ++ (z ++ t)
         regroup x y z t = simp append_assoc
@@ -232,23 +250,29 @@ module _ (setup : Setup) (slot : ℕ) (desk : Desk) (fresh : KeepsDesk setup des
 
     -- how much was read
     pub read-some : (taken most : ℕ) (left next : Option (List ℕ)) (reader : Reader) (x : Desk) (more : List ℕ) (out mid : List ℕ → Type 0) (made mid_made : List Made → Type 0)
-        → HasServed setup taken first left reader desk x slot out mid made mid_made → Consumes left next more → taken + length more ≤ most → ConsumesUpTo (Some script) next most
+        → HasServed setup taken first left reader desk x out mid made mid_made → Consumes left next more → taken + length more ≤ most → ConsumesUpTo (Some script) next most
     read-some taken most left next reader x more out mid made mid_made so_far took small =
         (so_far.bytes ++ more, Consumes-trans (Some script) left next so_far.bytes more (subst (λ f. Consumes f left so_far.bytes) is so_far.took) took, omega (arith, length-append so_far.bytes more, so_far.long, small))
 
     pub read-none : (taken most : ℕ) (left next : Option (List ℕ)) (reader : Reader) (x : Desk) (out mid : List ℕ → Type 0) (made mid_made : List Made → Type 0)
-        → HasServed setup taken first left reader desk x slot out mid made mid_made → Keeps left next → taken ≤ most → ConsumesUpTo (Some script) next most
+        → HasServed setup taken first left reader desk x out mid made mid_made → Keeps left next → taken ≤ most → ConsumesUpTo (Some script) next most
     read-none taken most left next reader x out mid made mid_made so_far same small =
         (so_far.bytes, kept (Some script) left next so_far.bytes (subst (λ f. Consumes f left so_far.bytes) is so_far.took) same, omega (arith, so_far.long, small))
 
 -- a session begins
-pub fresh-desk : (setup : Setup) (desk : Desk) → ((shard : ℕ) → shard < setup.shards → cells_of desk.stores.items shard ≡ []) → desk.counts ≡ no_counts → KeepsDesk setup desk opened
-fresh-desk setup desk empty none = record {
+pub fresh-desk : (setup : Setup) (desk : Desk) → ((shard : ℕ) → shard < setup.shards → cells_of desk.stores.items shard ≡ []) → desk.counts ≡ no_counts
+    → desk.dumps.last ≡ None → desk.dumps.own.items ≡ setup.names → desk.dumps.made.items ≡ [] → KeepsDesk setup desk opened
+fresh-desk setup desk empty none last own made = record {
   cells = empty;
   counts = record {
     sections_are = ap (λ c. c.sections) none;
     batches = ap (λ c. c.batches) none;
     fills = ap (λ c. c.fills) none;
     evictions = ap (λ c. c.evictions) none;
+  };
+  dumps = record {
+    shows = subst (λ (l : Option LastBatch). Shows setup.design l None) (sym last) tt;
+    own = own;
+    made = made;
   };
 }

@@ -1,8 +1,9 @@
 -- A unit that its parts served is a unit of the session; where a part failed, the session breaks off in it.
-use Rattle.std.proofs.Common.{◌≡◌, ℕ, Bool, suc, ◌+◌, ◌<◌, List, [], ◌∷◌, ◌++◌, length, get_or, take, drop, filter, sum_by, refl, sym, ap, subst, ◌∙◌, append_assoc, append-nil, length-append, arith}
+use Rattle.std.proofs.Common.{◌≡◌, ℕ, Bool, suc, ◌+◌, ◌<◌, List, [], ◌∷◌, ◌++◌, length, get_or, map, filter, sum_by, Option, Some, refl, sym, ap, subst, ◌∙◌, append_assoc, append-nil, length-append, arith}
+use Rattle.std.specs.Prelude.{⊤}
+use Rattle.std.proofs.Math.ListN.{length-map}
 use Rattle.std.proofs.lemmas.List.Sums.{fold-append, sum_by-append, sum_by-cons}
 use Rattle.std.specs.List.{range_with_len}
-use Rattle.std.proofs.lemmas.List.{take_more, take-append-drop}
 use Rattle.std.proofs.lemmas.List.Elements.{filter-append}
 use Rattle.valid_intervals.specs.declared.SignalCell.{SignalCell}
 use Rattle.cell_store.specs.Recency.{Contents}
@@ -29,15 +30,23 @@ use Rattle.session_meaning.specs.Replies.{replies_text}
 use Rattle.session_meaning.specs.Written.{kind_of, numbered}
 use Rattle.session_meaning.specs.Session.{Setup, Course, IsServed, Session, Served, batch_of, first_batch, why_batch, with_section, with_reply, counts_line, cells_stored, trim_entries, is_batch, is_fill, is_eviction, entries_that}
 use Rattle.session_meaning.specs.Broken.{IsPrefix, journal_of, IsBroken}
+use Rattle.session_meaning.specs.Dumps.{wires_of}
 use Rattle.session_meaning.proofs.Journals.{journal-more, broken-none, broken-more, broken-at, prefix-same, prefix-more, prefix-behind}
+use Rattle.session_meaning.proofs.Dumps.{begun-same, dump-broken-more}
+use Rattle.vcd_answers.specs.Wires.{Wire}
 use Rattle.session_loop.specs.declared.desk.Counts.{Counts}
 use Rattle.session_loop.specs.declared.desk.Desk.{Desk}
-use Rattle.session_loop.specs.inner.Growing.{GrowsPart, FileGrowsPart}
+use Rattle.session_loop.specs.declared.desk.Dumps.{Dumps}
+use Rattle.session_loop.specs.declared.desk.LastBatch.{LastBatch}
+use Rattle.session_loop.specs.declared.stop.Stop.{Stop}
+use Rattle.session_loop.specs.declared.stop.Stop.TheVariants.{ScriptUnread, ScriptTooLong, RepliesUnwritten, JournalUnwritten, DumpUnmade, DumpUnwritten, DumpUnfinished, OutOfMemory}
+use Rattle.session_loop.specs.inner.Faults.{UnitExplains}
+use Rattle.session_loop.specs.inner.Growing.{FilesGoOn, GrowsPart, FileGrowsPart}
 use Rattle.unit_answers.specs.Stores.{AreStores, cells_of}
 use Rattle.unit_answers.specs.Done.{IsBatchDone, IsFirstDone, IsWhyDone, IsTrimDone}
-use Rattle.session_loop.specs.inner.Desks.{IsCount, IsCounted, batches_in, Keeps}
-use Rattle.session_loop.specs.inner.Serving.{ServedTo, StoppedIn, Serves, Stops, IsAnswered}
-use Rattle.session_loop.proofs.Growing.{goes-none, goes-more, file-goes-none, file-goes-more}
+use Rattle.session_loop.specs.inner.Desks.{IsCount, IsCounted, batches_in, Shows, KeepsDumps, Keeps}
+use Rattle.session_loop.specs.inner.Serving.{ServedTo, BreaksAt, StoppedIn, Serves, Stops, IsAnswered}
+use Rattle.session_loop.proofs.Growing.{goes-none, goes-more, files-none, files-more, journal-grows}
 
 entries-more : (test : Entry → Bool) (sections : List SectionEntries) (section : SectionEntries) → own section.purpose ≡ (λ es. es)
     → entries_that test (sections ++ section ∷ []) ≡ entries_that test sections + sum_by (count test) section.lists
@@ -56,6 +65,28 @@ batches-more sections section =
     one Trims lists = refl
     one (Forces b) lists = refl
 
+-- a stop of a unit that makes no dump
+abbrev pub IsOfUnit : Stop → Type 0
+IsOfUnit ScriptUnread = ⊥
+IsOfUnit ScriptTooLong = ⊥
+IsOfUnit RepliesUnwritten = ⊤
+IsOfUnit JournalUnwritten = ⊤
+IsOfUnit DumpUnmade = ⊥
+IsOfUnit DumpUnwritten = ⊥
+IsOfUnit DumpUnfinished = ⊥
+IsOfUnit OutOfMemory = ⊤
+
+-- the counts of faults tell so
+pub of-unit : (replies new_replies writes new_writes : ℕ) (stop : Stop) → UnitExplains replies new_replies writes new_writes stop → IsOfUnit stop
+of-unit replies new_replies writes new_writes ScriptUnread cause = cause
+of-unit replies new_replies writes new_writes ScriptTooLong cause = cause
+of-unit replies new_replies writes new_writes RepliesUnwritten cause = tt
+of-unit replies new_replies writes new_writes JournalUnwritten cause = tt
+of-unit replies new_replies writes new_writes DumpUnmade cause = cause
+of-unit replies new_replies writes new_writes DumpUnwritten cause = cause
+of-unit replies new_replies writes new_writes DumpUnfinished cause = cause
+of-unit replies new_replies writes new_writes OutOfMemory cause = tt
+
 module _ (setup : Setup) where
   counts-more : (counts later : Counts) (sections : List SectionEntries) (section : SectionEntries) → own section.purpose ≡ (λ es. es) → IsCount counts sections → IsCounted counts (kind_of section.purpose) section.lists later → IsCount later (sections ++ section ∷ [])
   counts-more counts later sections section mine c more = record {
@@ -65,82 +96,127 @@ module _ (setup : Setup) where
     evictions = more.evictions ∙ ap (λ n. n + sum_by (count is_eviction) section.lists) c.evictions ∙ sym (entries-more is_eviction sections section mine);
   }
 
-  module _ (units : List ScriptUnit) (unit : ScriptUnit) (now : Course) (desk : Desk) (session : Session setup units now) (keeps : Keeps setup desk now) (slot : ℕ) (out new_out : List ℕ → Type 0) (made new_made : List Made → Type 0) where
-    module _ (purpose : Purpose) (lists : List (List Entry)) (text : List ℕ) (served : IsServed setup now unit (with_section now purpose lists text)) (number : ℕ) (is : number ≡ desk.counts.sections + 1) where
+  -- what is kept for dumps, where no dump is made
+  kept-dumps : (dumps later : Dumps) (now next : Course) → later ≡ dumps → next.waves ≡ now.waves → next.dumps ≡ now.dumps → KeepsDumps setup dumps now → KeepsDumps setup later next
+  kept-dumps dumps later now next same waves made keeps = record {
+    shows = subst (Shows setup.design later.last) (sym waves) (ap-shows (sym same));
+    own = ap (λ d. d.own.items) same ∙ keeps.own;
+    made = ap (λ d. d.made.items) same ∙ keeps.made ∙ ap (map (λ (dump : Made). dump.name)) (sym made);
+  }
+    where
+      ap-shows : dumps ≡ later → Shows setup.design later.last now.waves
+      ap-shows e = subst (λ (d : Dumps). Shows setup.design d.last now.waves) e keeps.shows
+
+  -- how many files are created: the journal, and the dumps
+  pub count-of : (desk : Desk) (now : Course) (files : ℕ) → Keeps setup desk now → files ≡ length desk.dumps.made.items + 1 → files ≡ length now.dumps + 1
+  count-of desk now files keeps many = many ∙ ap (λ n. n + 1) (ap length keeps.dumps.made ∙ length-map now.dumps (λ (dump : Made). dump.name))
+
+  -- a stop that isn't one of a dump
+  breaks-in : (us : List ScriptUnit) (replies journal : List ℕ) (dumps : List Made) (stop : Stop) → IsOfUnit stop → IsBroken setup us replies journal dumps → BreaksAt setup us replies journal dumps stop
+  breaks-in us replies journal dumps ScriptUnread cause broken = absurd cause
+  breaks-in us replies journal dumps ScriptTooLong cause broken = absurd cause
+  breaks-in us replies journal dumps RepliesUnwritten cause broken = broken
+  breaks-in us replies journal dumps JournalUnwritten cause broken = broken
+  breaks-in us replies journal dumps DumpUnmade cause broken = absurd cause
+  breaks-in us replies journal dumps DumpUnwritten cause broken = absurd cause
+  breaks-in us replies journal dumps DumpUnfinished cause broken = absurd cause
+  breaks-in us replies journal dumps OutOfMemory cause broken = broken
+
+  module _ (units : List ScriptUnit) (unit : ScriptUnit) (now : Course) (desk : Desk) (session : Session setup units now) (keeps : Keeps setup desk now) (out new_out : List ℕ → Type 0) (made new_made : List Made → Type 0) where
+    module _ (purpose : Purpose) (lists : List (List Entry)) (text : List ℕ) (waves : Option (List Wire)) where
+      -- a section more, and these waves
       abbrev pub next : Course
-      next = with_section now purpose lists text
+      next = record (with_section now purpose lists text) { waves = waves }
 
-      abbrev pub section-text : List ℕ
-      section-text = section_lines (numbered number (record { purpose = purpose; lists = lists }))
+      module _ (served : IsServed setup now unit next) (number : ℕ) (is : number ≡ desk.counts.sections + 1) where
+        abbrev pub section-text : List ℕ
+        section-text = section_lines (numbered number (record { purpose = purpose; lists = lists }))
 
-      journal-is : journal_of setup next ≡ journal_of setup now ++ section-text
-      journal-is = journal-more setup now purpose lists text number (is ∙ ap (λ n. n + 1) keeps.counts.sections_are)
+        journal-is : journal_of setup next ≡ journal_of setup now ++ section-text
+        journal-is = journal-more setup now purpose lists text number (is ∙ ap (λ n. n + 1) keeps.counts.sections_are)
 
-      -- with a section of its own
-      pub section-served : (later : Desk) → own purpose ≡ (λ es. es) → IsCounted desk.counts (kind_of purpose) lists later.counts
-          → ((shard : ℕ) → shard < setup.shards → cells_of later.stores.items shard ≡ (replay (fresh (cells_of desk.stores.items shard)) (get_or lists shard [])).cells)
-          → Grows out new_out text → FileGrows made new_made slot section-text → ServedTo setup (units ++ unit ∷ []) now later slot out new_out made new_made
-      section-served later mine counted leaves replied recorded =
-          let s : SectionEntries = record { purpose = purpose; lists = lists } in
-          record {
-            next = next;
-            session = Served unit session served;
-            keeps = record {
-              cells = λ shard h.
-                  leaves shard h ∙ ap (λ cells. (replay (fresh cells) (get_or lists shard [])).cells) (keeps.cells shard h)
-                  ∙ ap (λ (f : List Entry → List Entry). (replay (fresh (cells_after shard now.sections)) (f (get_or lists shard []))).cells) (sym mine)
-                  ∙ sym (fold-append (cells_left shard) [] now.sections (s ∷ []));
-              counts = counts-more desk.counts later.counts now.sections s mine keeps.counts counted;
-            };
-            replied = (text, refl, replied);
-            recorded = (section-text, journal-is, recorded);
-          }
+        -- with a section of its own
+        pub section-served : (later : Desk) → own purpose ≡ (λ es. es) → IsCounted desk.counts (kind_of purpose) lists later.counts
+            → ((shard : ℕ) → shard < setup.shards → cells_of later.stores.items shard ≡ (replay (fresh (cells_of desk.stores.items shard)) (get_or lists shard [])).cells)
+            → KeepsDumps setup later.dumps next
+            → Grows out new_out text → FileGrows made new_made 0 section-text → ServedTo setup (units ++ unit ∷ []) now later out new_out made new_made
+        section-served later mine counted leaves dumps replied recorded =
+            let s : SectionEntries = record { purpose = purpose; lists = lists } in
+            record {
+              next = next;
+              session = Served unit session served;
+              keeps = record {
+                cells = λ shard h.
+                    leaves shard h ∙ ap (λ cells. (replay (fresh cells) (get_or lists shard [])).cells) (keeps.cells shard h)
+                    ∙ ap (λ (f : List Entry → List Entry). (replay (fresh (cells_after shard now.sections)) (f (get_or lists shard []))).cells) (sym mine)
+                    ∙ sym (fold-append (cells_left shard) [] now.sections (s ∷ []));
+                counts = counts-more desk.counts later.counts now.sections s mine keeps.counts counted;
+                dumps = dumps;
+              };
+              replied = (text, refl, replied);
+              recorded = subst (λ j. FilesGoOn made new_made (journal_of setup now) now.dumps j now.dumps) (sym journal-is) (journal-grows made new_made (journal_of setup now) section-text now.dumps recorded);
+            }
 
-      -- a part of its replies and a part of its section
-      pub section-stopped : GrowsPart out new_out text → FileGrowsPart made new_made slot section-text → StoppedIn setup (units ++ unit ∷ []) now slot out new_out made new_made
-      section-stopped replied recorded = record {
-        replies = now.out ++ replied.0;
-        journal = journal_of setup now ++ recorded.0;
-        broken = broken-at setup units unit now next (now.out ++ replied.0) (journal_of setup now ++ recorded.0) session served
-            (prefix-more now.out replied.0) (prefix-more (journal_of setup now) recorded.0) (prefix-behind now.out replied.0 text replied.1)
-            (subst (λ j. IsPrefix (journal_of setup now ++ recorded.0) j) (sym journal-is) (prefix-behind (journal_of setup now) recorded.0 section-text recorded.1));
-        replied = (replied.0, refl, replied.2);
-        recorded = (recorded.0, refl, recorded.2);
-      }
+        -- a part of its replies and a part of its section
+        pub section-stopped : (files : ℕ) (stop : Stop) → files ≡ length desk.dumps.made.items + 1 → IsOfUnit stop
+            → GrowsPart out new_out text → FileGrowsPart made new_made 0 section-text → StoppedIn setup (units ++ unit ∷ []) now out new_out made new_made files stop
+        section-stopped files stop many cause replied recorded = record {
+          replies = now.out ++ replied.0;
+          journal = journal_of setup now ++ recorded.0;
+          dumps = now.dumps;
+          broken = breaks-in (units ++ unit ∷ []) (now.out ++ replied.0) (journal_of setup now ++ recorded.0) now.dumps stop cause
+              (broken-at setup units unit now next (now.out ++ replied.0) (journal_of setup now ++ recorded.0) now.dumps session served
+              (prefix-more now.out replied.0) (prefix-more (journal_of setup now) recorded.0) (prefix-behind now.out replied.0 text replied.1)
+              (subst (λ j. IsPrefix (journal_of setup now ++ recorded.0) j) (sym journal-is) (prefix-behind (journal_of setup now) recorded.0 section-text recorded.1))
+              ([], sym (append-nil now.dumps)) (begun-same now.dumps) (λ _ _. refl));
+          replied = (replied.0, refl, replied.2);
+          recorded = journal-grows made new_made (journal_of setup now) recorded.0 now.dumps recorded.2;
+          count = count-of desk now files keeps many;
+        }
 
     -- a reply alone
-    pub reply-served : (text : List ℕ) → IsServed setup now unit (with_reply now text) → Grows out new_out text → ServedTo setup (units ++ unit ∷ []) now desk slot out new_out made made
+    pub reply-served : (text : List ℕ) → IsServed setup now unit (with_reply now text) → Grows out new_out text → ServedTo setup (units ++ unit ∷ []) now desk out new_out made made
     reply-served text served replied = record {
       next = with_reply now text;
       session = Served unit session served;
-      keeps = record { cells = keeps.cells; counts = keeps.counts };
+      keeps = record { cells = keeps.cells; counts = keeps.counts; dumps = kept-dumps desk.dumps desk.dumps now (with_reply now text) refl refl refl keeps.dumps };
       replied = (text, refl, replied);
-      recorded = file-goes-none made slot (journal_of setup now);
+      recorded = files-none made (journal_of setup now) now.dumps;
     }
 
-    pub reply-stopped : (text : List ℕ) → IsServed setup now unit (with_reply now text) → GrowsPart out new_out text → StoppedIn setup (units ++ unit ∷ []) now slot out new_out made made
-    reply-stopped text served replied = record {
+    pub reply-stopped : (text : List ℕ) (files : ℕ) (stop : Stop) → IsServed setup now unit (with_reply now text) → files ≡ length desk.dumps.made.items + 1 → IsOfUnit stop
+        → GrowsPart out new_out text → StoppedIn setup (units ++ unit ∷ []) now out new_out made made files stop
+    reply-stopped text files stop served many cause replied = record {
       replies = now.out ++ replied.0;
       journal = journal_of setup now;
-      broken = broken-at setup units unit now (with_reply now text) (now.out ++ replied.0) (journal_of setup now) session served
-          (prefix-more now.out replied.0) (prefix-same (journal_of setup now)) (prefix-behind now.out replied.0 text replied.1) (prefix-same (journal_of setup now));
+      dumps = now.dumps;
+      broken = breaks-in (units ++ unit ∷ []) (now.out ++ replied.0) (journal_of setup now) now.dumps stop cause
+          (broken-at setup units unit now (with_reply now text) (now.out ++ replied.0) (journal_of setup now) now.dumps session served
+          (prefix-more now.out replied.0) (prefix-same (journal_of setup now)) (prefix-behind now.out replied.0 text replied.1) (prefix-same (journal_of setup now))
+          ([], sym (append-nil now.dumps)) (begun-same now.dumps) (λ _ _. refl));
       replied = (replied.0, refl, replied.2);
-      recorded = file-goes-none made slot (journal_of setup now);
+      recorded = files-none made (journal_of setup now) now.dumps;
+      count = count-of desk now files keeps many;
     }
 
   -- nothing of the next units was written
-  pub stops-none : (desk : Desk) (more : List ScriptUnit) (slot : ℕ) (out : List ℕ → Type 0) (made : List Made → Type 0) → Stops setup desk more slot out out made made
-  stops-none desk more slot out made units now session keeps = record {
+  pub stops-none : (desk : Desk) (more : List ScriptUnit) (out : List ℕ → Type 0) (made : List Made → Type 0) (files : ℕ) → files ≡ length desk.dumps.made.items + 1 → Stops setup desk more out out made made files OutOfMemory
+  stops-none desk more out made files many units now session keeps = record {
     replies = now.out;
     journal = journal_of setup now;
-    broken = broken-more setup units more now.out (journal_of setup now) (broken-none setup units now session);
+    dumps = now.dumps;
+    broken = broken-more setup units more now.out (journal_of setup now) now.dumps (broken-none setup units now session);
     replied = goes-none out now.out;
-    recorded = file-goes-none made slot (journal_of setup now);
+    recorded = files-none made (journal_of setup now) now.dumps;
+    count = count-of desk now files keeps many;
   }
 
   -- A batch.
-  module _ (items : List Item) (desk : Desk) (replies : List Reply) (lists : List (List Entry)) (left : List Contents) (done : IsBatchDone setup items desk.stores.items replies lists left) (counts : Counts) (counted : IsCounted desk.counts Batch lists counts) (slot : ℕ) (out new_out : List ℕ → Type 0) (made new_made : List Made → Type 0) where
-    is-served : (now : Course) → Keeps setup desk now → IsServed setup now (units.Batch items) (with_section now (Asks (batch_of setup items)) lists (replies_text items replies))
+  module _ (items : List Item) (desk : Desk) (replies : List Reply) (lists : List (List Entry)) (left : List Contents) (done : IsBatchDone setup items desk.stores.items replies lists left) (counts : Counts) (counted : IsCounted desk.counts Batch lists counts) (out new_out : List ℕ → Type 0) (made new_made : List Made → Type 0) where
+    abbrev shown : Option (List Wire)
+    shown = Some (wires_of setup.design items replies)
+
+    is-served : (now : Course) → Keeps setup desk now → IsServed setup now (units.Batch items) (record (with_section now (Asks (batch_of setup items)) lists (replies_text items replies)) { waves = shown })
     is-served now keeps = record {
       lists = lists;
       replies = replies;
@@ -150,19 +226,29 @@ module _ (setup : Setup) where
       leads = refl;
     }
 
-    pub batch-served : (later : Desk) → later.counts ≡ counts → later.stores.items ≡ left → Grows out new_out (replies_text items replies)
-        → FileGrows made new_made slot (section_lines (record { kind = Batch; number = counts.sections; shards = lists })) → Serves setup desk later (units.Batch items ∷ []) slot out new_out made new_made
-    batch-served later same stores replied recorded us now session keeps =
-        section-served us (units.Batch items) now desk session keeps slot out new_out made new_made (Asks (batch_of setup items)) lists (replies_text items replies) (is-served now keeps) counts.sections counted.sections
-        later refl (subst (λ c. IsCounted desk.counts Batch lists c) (sym same) counted) (λ shard h. ap (λ l. cells_of l shard) stores ∙ done.leaves shard h) replied recorded
+    -- its items and its replies are the last ones
+    pub batch-served : (later : Desk) (last : LastBatch) → later.counts ≡ counts → later.stores.items ≡ left → last.items ≡ items → last.replies.items ≡ replies
+        → later.dumps ≡ record { last = Some last; own = desk.dumps.own; made = desk.dumps.made } → Grows out new_out (replies_text items replies)
+        → FileGrows made new_made 0 (section_lines (record { kind = Batch; number = counts.sections; shards = lists })) → Serves setup desk later (units.Batch items ∷ []) out new_out made new_made
+    batch-served later last same stores asked answered dumps replied recorded us now session keeps =
+        section-served us (units.Batch items) now desk session keeps out new_out made new_made (Asks (batch_of setup items)) lists (replies_text items replies) shown (is-served now keeps) counts.sections counted.sections
+        later refl (subst (λ c. IsCounted desk.counts Batch lists c) (sym same) counted) (λ shard h. ap (λ l. cells_of l shard) stores ∙ done.leaves shard h)
+        (record {
+          shows = subst (λ (d : Dumps). Shows setup.design d.last shown) (sym dumps) (ap (λ l. wires_of setup.design l replies) (sym asked) ∙ ap (wires_of setup.design last.items) (sym answered));
+          own = ap (λ d. d.own.items) dumps ∙ keeps.dumps.own;
+          made = ap (λ d. d.made.items) dumps ∙ keeps.dumps.made;
+        })
+        replied recorded
 
-    pub batch-stopped : GrowsPart out new_out (replies_text items replies) → FileGrowsPart made new_made slot (section_lines (record { kind = Batch; number = counts.sections; shards = lists }))
-        → Stops setup desk (units.Batch items ∷ []) slot out new_out made new_made
-    batch-stopped replied recorded us now session keeps =
-        section-stopped us (units.Batch items) now desk session keeps slot out new_out made new_made (Asks (batch_of setup items)) lists (replies_text items replies) (is-served now keeps) counts.sections counted.sections replied recorded
+    pub batch-stopped : (files : ℕ) (stop : Stop) → files ≡ length desk.dumps.made.items + 1 → IsOfUnit stop
+        → GrowsPart out new_out (replies_text items replies) → FileGrowsPart made new_made 0 (section_lines (record { kind = Batch; number = counts.sections; shards = lists }))
+        → Stops setup desk (units.Batch items ∷ []) out new_out made new_made files stop
+    batch-stopped files stop many cause replied recorded us now session keeps =
+        section-stopped us (units.Batch items) now desk session keeps out new_out made new_made (Asks (batch_of setup items)) lists (replies_text items replies) shown (is-served now keeps) counts.sections counted.sections
+        files stop many cause replied recorded
 
   -- A trim.
-  module _ (most : ℕ) (desk : Desk) (lists : List (List Entry)) (left : List Contents) (done : IsTrimDone setup most desk.stores.items lists left) (counts : Counts) (counted : IsCounted desk.counts Trim lists counts) (slot : ℕ) (out new_out : List ℕ → Type 0) (made new_made : List Made → Type 0) where
+  module _ (most : ℕ) (desk : Desk) (lists : List (List Entry)) (left : List Contents) (done : IsTrimDone setup most desk.stores.items lists left) (counts : Counts) (counted : IsCounted desk.counts Trim lists counts) (out new_out : List ℕ → Type 0) (made new_made : List Made → Type 0) where
     is-trimmed : (now : Course) → Keeps setup desk now → IsServed setup now (units.Trim most) (with_section now Trims lists (trimmed_line (sum_by length lists)))
     is-trimmed now keeps = record {
       lists = lists;
@@ -172,29 +258,36 @@ module _ (setup : Setup) where
       leads = refl;
     }
 
-    pub trim-served : (later : Desk) → later.counts ≡ counts → later.stores.items ≡ left → Grows out new_out (trimmed_line (sum_by length lists))
-        → FileGrows made new_made slot (section_lines (record { kind = Trim; number = counts.sections; shards = lists })) → Serves setup desk later (units.Trim most ∷ []) slot out new_out made new_made
-    trim-served later same stores replied recorded us now session keeps =
-        section-served us (units.Trim most) now desk session keeps slot out new_out made new_made Trims lists (trimmed_line (sum_by length lists)) (is-trimmed now keeps) counts.sections counted.sections
-        later refl (subst (λ c. IsCounted desk.counts Trim lists c) (sym same) counted) (λ shard h. ap (λ l. cells_of l shard) stores ∙ done.leaves shard h) replied recorded
+    pub trim-served : (later : Desk) → later.counts ≡ counts → later.stores.items ≡ left → later.dumps ≡ desk.dumps → Grows out new_out (trimmed_line (sum_by length lists))
+        → FileGrows made new_made 0 (section_lines (record { kind = Trim; number = counts.sections; shards = lists })) → Serves setup desk later (units.Trim most ∷ []) out new_out made new_made
+    trim-served later same stores dumps replied recorded us now session keeps =
+        let text = trimmed_line (sum_by length lists) in
+        section-served us (units.Trim most) now desk session keeps out new_out made new_made Trims lists text now.waves (is-trimmed now keeps) counts.sections counted.sections
+        later refl (subst (λ c. IsCounted desk.counts Trim lists c) (sym same) counted) (λ shard h. ap (λ l. cells_of l shard) stores ∙ done.leaves shard h)
+        (kept-dumps desk.dumps later.dumps now (with_section now Trims lists text) dumps refl refl keeps.dumps) replied recorded
 
-    pub trim-stopped : GrowsPart out new_out (trimmed_line (sum_by length lists)) → FileGrowsPart made new_made slot (section_lines (record { kind = Trim; number = counts.sections; shards = lists }))
-        → Stops setup desk (units.Trim most ∷ []) slot out new_out made new_made
-    trim-stopped replied recorded us now session keeps =
-        section-stopped us (units.Trim most) now desk session keeps slot out new_out made new_made Trims lists (trimmed_line (sum_by length lists)) (is-trimmed now keeps) counts.sections counted.sections replied recorded
+    pub trim-stopped : (files : ℕ) (stop : Stop) → files ≡ length desk.dumps.made.items + 1 → IsOfUnit stop
+        → GrowsPart out new_out (trimmed_line (sum_by length lists)) → FileGrowsPart made new_made 0 (section_lines (record { kind = Trim; number = counts.sections; shards = lists }))
+        → Stops setup desk (units.Trim most ∷ []) out new_out made new_made files stop
+    trim-stopped files stop many cause replied recorded us now session keeps =
+        section-stopped us (units.Trim most) now desk session keeps out new_out made new_made Trims lists (trimmed_line (sum_by length lists)) now.waves (is-trimmed now keeps) counts.sections counted.sections
+        files stop many cause replied recorded
 
   -- A question with a batch of its own.
-  module _ (unit : ScriptUnit) (b : BatchRecord) (desk : Desk) (text : List ℕ) (lists : List (List Entry)) (left : List Contents) (done : IsAnswered setup desk unit b text lists left) (counts : Counts) (counted : IsCounted desk.counts Batch lists counts) (slot : ℕ) (out new_out : List ℕ → Type 0) (made new_made : List Made → Type 0) where
-    pub question-served : (later : Desk) → later.counts ≡ counts → later.stores.items ≡ left → Grows out new_out text
-        → FileGrows made new_made slot (section_lines (record { kind = Batch; number = counts.sections; shards = lists })) → Serves setup desk later (unit ∷ []) slot out new_out made new_made
-    question-served later same stores replied recorded us now session keeps =
-        section-served us unit now desk session keeps slot out new_out made new_made (Asks b) lists text (done.serves now keeps) counts.sections counted.sections
-        later refl (subst (λ c. IsCounted desk.counts Batch lists c) (sym same) counted) (λ shard h. ap (λ l. cells_of l shard) stores ∙ done.leaves shard h) replied recorded
+  module _ (unit : ScriptUnit) (b : BatchRecord) (desk : Desk) (text : List ℕ) (lists : List (List Entry)) (left : List Contents) (done : IsAnswered setup desk unit b text lists left) (counts : Counts) (counted : IsCounted desk.counts Batch lists counts) (out new_out : List ℕ → Type 0) (made new_made : List Made → Type 0) where
+    pub question-served : (later : Desk) → later.counts ≡ counts → later.stores.items ≡ left → later.dumps ≡ desk.dumps → Grows out new_out text
+        → FileGrows made new_made 0 (section_lines (record { kind = Batch; number = counts.sections; shards = lists })) → Serves setup desk later (unit ∷ []) out new_out made new_made
+    question-served later same stores dumps replied recorded us now session keeps =
+        section-served us unit now desk session keeps out new_out made new_made (Asks b) lists text now.waves (done.serves now keeps) counts.sections counted.sections
+        later refl (subst (λ c. IsCounted desk.counts Batch lists c) (sym same) counted) (λ shard h. ap (λ l. cells_of l shard) stores ∙ done.leaves shard h)
+        (kept-dumps desk.dumps later.dumps now (with_section now (Asks b) lists text) dumps refl refl keeps.dumps) replied recorded
 
-    pub question-stopped : GrowsPart out new_out text → FileGrowsPart made new_made slot (section_lines (record { kind = Batch; number = counts.sections; shards = lists }))
-        → Stops setup desk (unit ∷ []) slot out new_out made new_made
-    question-stopped replied recorded us now session keeps =
-        section-stopped us unit now desk session keeps slot out new_out made new_made (Asks b) lists text (done.serves now keeps) counts.sections counted.sections replied recorded
+    pub question-stopped : (files : ℕ) (stop : Stop) → files ≡ length desk.dumps.made.items + 1 → IsOfUnit stop
+        → GrowsPart out new_out text → FileGrowsPart made new_made 0 (section_lines (record { kind = Batch; number = counts.sections; shards = lists }))
+        → Stops setup desk (unit ∷ []) out new_out made new_made files stop
+    question-stopped files stop many cause replied recorded us now session keeps =
+        section-stopped us unit now desk session keeps out new_out made new_made (Asks b) lists text now.waves (done.serves now keeps) counts.sections counted.sections
+        files stop many cause replied recorded
 
   pub first-answered : (item : FirstItem) (desk : Desk) (reply : FirstReply) (lists : List (List Entry)) (left : List Contents) → IsFirstDone setup item desk.stores.items reply lists left
       → IsAnswered setup desk (units.First item) (first_batch setup item) (first_line item.first reply) lists left
@@ -233,7 +326,7 @@ module _ (setup : Setup) where
       let rest = stored-from stores (first + 1) cells (λ i h. same (suc i) (omega (arith, h)) ∙ ap cells (omega arith)) in
       sum_by-cons (λ (s : Contents). length s.cells) x stores ∙ omega (arith, here, rest) ∙ sym (sum_by-cons (λ shard. length (cells shard)) first (range_with_len (first + 1) (length stores)))
 
-  module _ (desk : Desk) (stores : AreStores setup desk.stores.items) (slot : ℕ) (out new_out : List ℕ → Type 0) (made : List Made → Type 0) where
+  module _ (desk : Desk) (stores : AreStores setup desk.stores.items) (out new_out : List ℕ → Type 0) (made : List Made → Type 0) where
     abbrev pub told : List ℕ
     told = stats_line desk.counts.batches desk.counts.fills desk.counts.evictions (sum_by (λ s. length s.cells) desk.stores.items)
 
@@ -245,25 +338,25 @@ module _ (setup : Setup) where
         ∙ ap (λ n. stats_line (length (filter (λ s. is_batch s.purpose) now.sections)) n desk.counts.evictions (cells_stored setup.shards now.sections)) keeps.counts.fills
         ∙ ap (λ n. stats_line (length (filter (λ s. is_batch s.purpose) now.sections)) (entries_that is_fill now.sections) n (cells_stored setup.shards now.sections)) keeps.counts.evictions
 
-    pub stats-served : Grows out new_out told → Serves setup desk desk (units.Stats ∷ []) slot out new_out made made
-    stats-served replied us now session keeps = reply-served us units.Stats now desk session keeps slot out new_out made made told (ap (with_reply now) (told-is now keeps)) replied
+    pub stats-served : Grows out new_out told → Serves setup desk desk (units.Stats ∷ []) out new_out made made
+    stats-served replied us now session keeps = reply-served us units.Stats now desk session keeps out new_out made made told (ap (with_reply now) (told-is now keeps)) replied
 
-    pub stats-stopped : GrowsPart out new_out told → Stops setup desk (units.Stats ∷ []) slot out new_out made made
-    stats-stopped replied us now session keeps = reply-stopped us units.Stats now desk session keeps slot out new_out made made told (ap (with_reply now) (told-is now keeps)) replied
+    pub stats-stopped : (files : ℕ) (stop : Stop) → files ≡ length desk.dumps.made.items + 1 → IsOfUnit stop → GrowsPart out new_out told → Stops setup desk (units.Stats ∷ []) out new_out made made files stop
+    stats-stopped files stop many cause replied us now session keeps = reply-stopped us units.Stats now desk session keeps out new_out made made told files stop (ap (with_reply now) (told-is now keeps)) many cause replied
 
   -- One unit after another.
-  pub serves-none : (desk : Desk) (slot : ℕ) (out : List ℕ → Type 0) (made : List Made → Type 0) → Serves setup desk desk [] slot out out made made
-  serves-none desk slot out made units now session keeps = record {
+  pub serves-none : (desk : Desk) (out : List ℕ → Type 0) (made : List Made → Type 0) → Serves setup desk desk [] out out made made
+  serves-none desk out made units now session keeps = record {
     next = now;
     session = subst (λ us. Session setup us now) (sym (append-nil units)) session;
     keeps = keeps;
     replied = goes-none out now.out;
-    recorded = file-goes-none made slot (journal_of setup now);
+    recorded = files-none made (journal_of setup now) now.dumps;
   }
 
-  pub serves-more : (a b c : Desk) (us vs : List ScriptUnit) (slot : ℕ) (out mid new_out : List ℕ → Type 0) (made mid_made new_made : List Made → Type 0)
-      → Serves setup a b us slot out mid made mid_made → Serves setup b c vs slot mid new_out mid_made new_made → Serves setup a c (us ++ vs) slot out new_out made new_made
-  serves-more a b c us vs slot out mid new_out made mid_made new_made first then units now session keeps =
+  pub serves-more : (a b c : Desk) (us vs : List ScriptUnit) (out mid new_out : List ℕ → Type 0) (made mid_made new_made : List Made → Type 0)
+      → Serves setup a b us out mid made mid_made → Serves setup b c vs mid new_out mid_made new_made → Serves setup a c (us ++ vs) out new_out made new_made
+  serves-more a b c us vs out mid new_out made mid_made new_made first then units now session keeps =
       let f = first units now session keeps in
       let g = then (units ++ us) f.next f.session f.keeps in
       record {
@@ -271,44 +364,46 @@ module _ (setup : Setup) where
         session = subst (λ l. Session setup l g.next) (append_assoc units us vs) g.session;
         keeps = g.keeps;
         replied = goes-more out mid new_out now.out f.next.out g.next.out f.replied g.replied;
-        recorded = file-goes-more made mid_made new_made slot (journal_of setup now) (journal_of setup f.next) (journal_of setup g.next) f.recorded g.recorded;
+        recorded = files-more made mid_made new_made (journal_of setup now) (journal_of setup f.next) (journal_of setup g.next) now.dumps f.next.dumps g.next.dumps f.recorded g.recorded;
       }
 
   -- a stop after units that were served
-  pub stops-more : (a b : Desk) (us vs : List ScriptUnit) (slot : ℕ) (out mid new_out : List ℕ → Type 0) (made mid_made new_made : List Made → Type 0)
-      → Serves setup a b us slot out mid made mid_made → Stops setup b vs slot mid new_out mid_made new_made → Stops setup a (us ++ vs) slot out new_out made new_made
-  stops-more a b us vs slot out mid new_out made mid_made new_made first then units now session keeps =
+  pub stops-more : (a b : Desk) (us vs : List ScriptUnit) (out mid new_out : List ℕ → Type 0) (made mid_made new_made : List Made → Type 0) (files : ℕ) (stop : Stop)
+      → Serves setup a b us out mid made mid_made → Stops setup b vs mid new_out mid_made new_made files stop → Stops setup a (us ++ vs) out new_out made new_made files stop
+  stops-more a b us vs out mid new_out made mid_made new_made files stop first then units now session keeps =
       let f = first units now session keeps in
       let g = then (units ++ us) f.next f.session f.keeps in
       record {
         replies = g.replies;
         journal = g.journal;
-        broken = subst (λ l. IsBroken setup l g.replies g.journal) (append_assoc units us vs) g.broken;
+        dumps = g.dumps;
+        broken = subst (λ l. BreaksAt setup l g.replies g.journal g.dumps stop) (append_assoc units us vs) g.broken;
         replied = goes-more out mid new_out now.out f.next.out g.replies f.replied g.replied;
-        recorded = file-goes-more made mid_made new_made slot (journal_of setup now) (journal_of setup f.next) g.journal f.recorded g.recorded;
+        recorded = files-more made mid_made new_made (journal_of setup now) (journal_of setup f.next) g.journal now.dumps f.next.dumps g.dumps f.recorded g.recorded;
+        count = g.count;
       }
 
+  breaks-more : (us more : List ScriptUnit) (replies journal : List ℕ) (dumps : List Made) (stop : Stop) → BreaksAt setup us replies journal dumps stop → BreaksAt setup (us ++ more) replies journal dumps stop
+  breaks-more us more replies journal dumps ScriptUnread broken = broken-more setup us more replies journal dumps broken
+  breaks-more us more replies journal dumps ScriptTooLong broken = broken-more setup us more replies journal dumps broken
+  breaks-more us more replies journal dumps RepliesUnwritten broken = broken-more setup us more replies journal dumps broken
+  breaks-more us more replies journal dumps JournalUnwritten broken = broken-more setup us more replies journal dumps broken
+  breaks-more us more replies journal dumps DumpUnmade broken = dump-broken-more setup us more replies journal dumps broken
+  breaks-more us more replies journal dumps DumpUnwritten broken = dump-broken-more setup us more replies journal dumps broken
+  breaks-more us more replies journal dumps DumpUnfinished broken = dump-broken-more setup us more replies journal dumps broken
+  breaks-more us more replies journal dumps OutOfMemory broken = broken-more setup us more replies journal dumps broken
+
   -- a stop in the first of these units
-  pub stops-longer : (desk : Desk) (us more : List ScriptUnit) (slot : ℕ) (out new_out : List ℕ → Type 0) (made new_made : List Made → Type 0)
-      → Stops setup desk us slot out new_out made new_made → Stops setup desk (us ++ more) slot out new_out made new_made
-  stops-longer desk us more slot out new_out made new_made stop units now session keeps =
-      let s = stop units now session keeps in
+  pub stops-longer : (desk : Desk) (us more : List ScriptUnit) (out new_out : List ℕ → Type 0) (made new_made : List Made → Type 0) (files : ℕ) (stop : Stop)
+      → Stops setup desk us out new_out made new_made files stop → Stops setup desk (us ++ more) out new_out made new_made files stop
+  stops-longer desk us more out new_out made new_made files stop stopped units now session keeps =
+      let s = stopped units now session keeps in
       record {
         replies = s.replies;
         journal = s.journal;
-        broken = subst (λ l. IsBroken setup l s.replies s.journal) (append_assoc units us more) (broken-more setup (units ++ us) more s.replies s.journal s.broken);
+        dumps = s.dumps;
+        broken = subst (λ l. BreaksAt setup l s.replies s.journal s.dumps stop) (append_assoc units us more) (breaks-more (units ++ us) more s.replies s.journal s.dumps stop s.broken);
         replied = s.replied;
         recorded = s.recorded;
+        count = s.count;
       }
-
-  -- along a list of units
-  pub serves-next : (a b c : Desk) (us : List ScriptUnit) (i : ℕ) (unit : ScriptUnit) (slot : ℕ) (out mid new_out : List ℕ → Type 0) (made mid_made new_made : List Made → Type 0) → i < length us → unit ≡ get_or us i unit
-      → Serves setup a b (take i us) slot out mid made mid_made → Serves setup b c (unit ∷ []) slot mid new_out mid_made new_made → Serves setup a c (take (i + 1) us) slot out new_out made new_made
-  serves-next a b c us i unit slot out mid new_out made mid_made new_made within is first then =
-      subst (λ l. Serves setup a c l slot out new_out made new_made) (ap (λ x. take i us ++ x ∷ []) is ∙ sym (take_more us i unit within)) (serves-more a b c (take i us) (unit ∷ []) slot out mid new_out made mid_made new_made first then)
-
-  pub stops-next : (a b : Desk) (us : List ScriptUnit) (i : ℕ) (unit : ScriptUnit) (slot : ℕ) (out mid new_out : List ℕ → Type 0) (made mid_made new_made : List Made → Type 0) → i < length us → unit ≡ get_or us i unit
-      → Serves setup a b (take i us) slot out mid made mid_made → Stops setup b (unit ∷ []) slot mid new_out mid_made new_made → Stops setup a us slot out new_out made new_made
-  stops-next a b us i unit slot out mid new_out made mid_made new_made within is first then =
-      subst (λ l. Stops setup a l slot out new_out made new_made) (ap (λ l. l ++ drop (i + 1) us) (ap (λ x. take i us ++ x ∷ []) is ∙ sym (take_more us i unit within)) ∙ take-append-drop (i + 1) us)
-      (stops-longer a (take i us ++ unit ∷ []) (drop (i + 1) us) slot out new_out made new_made (stops-more a b (take i us) (unit ∷ []) slot out mid new_out made mid_made new_made first then))

@@ -1,6 +1,6 @@
 -- The bytes of a script are taken and served.
 use Rattle.std.proofs.Common.{◌≡◌, ℕ, ◌+◌, ◌<◌, ◌≤◌, List, [], ◌∷◌, ◌++◌, length, get_or, take, drop, Result, Ok, Err, refl, sym, ap, subst, ◌∙◌, append_assoc, append-nil, length-append, arith, inl, inr}
-use Rattle.std.specs.Prelude.{IfOk, OnErr, All}
+use Rattle.std.specs.Prelude.{IfOk, IfErr, All}
 use Rattle.std.proofs.lemmas.List.Elements.{All-same}
 use Rattle.std.proofs.lemmas.List.{take_more, take-append-drop}
 use Rattle.backsim_io.specs.Held.{Made}
@@ -10,6 +10,8 @@ use Rattle.query_lines.specs.Fit.{IsFit}
 use Rattle.query_lines.proofs.OwnLines.{units-fit, given-fit, last-fit}
 use Rattle.session_meaning.specs.Session.{Setup}
 use Rattle.session_loop.specs.declared.desk.Desk.{Desk}
+use Rattle.session_loop.specs.declared.stop.Stop.{Stop}
+use Rattle.session_loop.specs.declared.stop.Stop.TheVariants.{OutOfMemory}
 use Rattle.session_loop.specs.inner.Serving.{Serves, Stops, HasTaken, Reads, Ends, TakesServed, TakesStopped, EndsServed, EndsStopped}
 use Rattle.session_loop.proofs.Served.{serves-none, serves-more, stops-none, stops-more}
 
@@ -37,54 +39,54 @@ reads-more a b c xs ys us vs first next horizon script given read =
     (subst (λ l. HasRead horizon (script ++ xs ++ ys) l c) (append_assoc given us vs)
     (next horizon (script ++ xs) (given ++ us) (first horizon script given read)))
 
-module _ (setup : Setup) (slot : ℕ) where
-  pub takes-none : (reader : Reader) (desk : Desk) (out : List ℕ → Type 0) (made : List Made → Type 0) → TakesServed setup reader reader [] desk desk slot out out made made
-  takes-none reader desk out made = record { units = []; reads = reads-none reader; served = serves-none setup desk slot out made }
+module _ (setup : Setup) where
+  pub takes-none : (reader : Reader) (desk : Desk) (out : List ℕ → Type 0) (made : List Made → Type 0) → TakesServed setup reader reader [] desk desk out out made made
+  takes-none reader desk out made = record { units = []; reads = reads-none reader; served = serves-none setup desk out made }
 
-  pub takes-next : (a b c : Reader) (bytes : List ℕ) (i : ℕ) (units given : List ScriptUnit) (x y z : Desk) (out mid new_out : List ℕ → Type 0) (made mid_made new_made : List Made → Type 0) → i < length bytes
-      → TakesServed setup a b (take i bytes) x y slot out mid made mid_made → Reads b c (get_or bytes i 0 ∷ []) units → given ≡ units
-      → Serves setup y z given slot mid new_out mid_made new_made → TakesServed setup a c (take (i + 1) bytes) x z slot out new_out made new_made
-  takes-next a b c bytes i units given x y z out mid new_out made mid_made new_made within first reads are served =
-      subst (λ l. TakesServed setup a c l x z slot out new_out made new_made) (sym (take_more bytes i 0 within)) (record {
+  pub takes-next : (a b c : Reader) (bytes : List ℕ) (i : ℕ) (units : List ScriptUnit) (x y z : Desk) (out mid new_out : List ℕ → Type 0) (made mid_made new_made : List Made → Type 0) → i < length bytes
+      → TakesServed setup a b (take i bytes) x y out mid made mid_made → Reads b c (get_or bytes i 0 ∷ []) units
+      → Serves setup y z units mid new_out mid_made new_made → TakesServed setup a c (take (i + 1) bytes) x z out new_out made new_made
+  takes-next a b c bytes i units x y z out mid new_out made mid_made new_made within first reads served =
+      subst (λ l. TakesServed setup a c l x z out new_out made new_made) (sym (take_more bytes i 0 within)) (record {
         units = first.units ++ units;
         reads = reads-more a b c (take i bytes) (get_or bytes i 0 ∷ []) first.units units first.reads reads;
-        served = serves-more setup x y z first.units units slot out mid new_out made mid_made new_made first.served (subst (λ l. Serves setup y z l slot mid new_out mid_made new_made) are served);
+        served = serves-more setup x y z first.units units out mid new_out made mid_made new_made first.served served;
       })
 
   -- no further unit was given
-  pub takes-rest : (a b : Reader) (bytes : List ℕ) (i : ℕ) (x y : Desk) (out mid : List ℕ → Type 0) (made mid_made : List Made → Type 0)
-      → TakesServed setup a b (take i bytes) x y slot out mid made mid_made → TakesStopped setup a bytes x slot out mid made mid_made
-  takes-rest a b bytes i x y out mid made mid_made first = record {
+  pub takes-rest : (a b : Reader) (bytes : List ℕ) (i : ℕ) (x y : Desk) (out mid : List ℕ → Type 0) (made mid_made : List Made → Type 0) (files : ℕ) → files ≡ length y.dumps.made.items + 1
+      → TakesServed setup a b (take i bytes) x y out mid made mid_made → TakesStopped setup a bytes x out mid made mid_made files OutOfMemory
+  takes-rest a b bytes i x y out mid made mid_made files count first = record {
     front = take i bytes;
     front_is = (drop i bytes, sym (take-append-drop i bytes));
     later = b;
     units = first.units ++ [];
     reads = subst (Reads a b (take i bytes)) (sym (append-nil first.units)) first.reads;
-    stopped = stops-more setup x y first.units [] slot out mid mid made mid_made mid_made first.served (stops-none setup y [] slot mid mid_made);
+    stopped = stops-more setup x y first.units [] out mid mid made mid_made mid_made files OutOfMemory first.served (stops-none setup y [] mid mid_made files count);
   }
 
   -- the session broke off in the units that a byte gave
-  pub takes-stop : (a b c : Reader) (bytes : List ℕ) (i : ℕ) (units given : List ScriptUnit) (x y : Desk) (out mid new_out : List ℕ → Type 0) (made mid_made new_made : List Made → Type 0) → i < length bytes
-      → TakesServed setup a b (take i bytes) x y slot out mid made mid_made → Reads b c (get_or bytes i 0 ∷ []) units → given ≡ units
-      → Stops setup y given slot mid new_out mid_made new_made → TakesStopped setup a bytes x slot out new_out made new_made
-  takes-stop a b c bytes i units given x y out mid new_out made mid_made new_made within first reads are stopped = record {
+  pub takes-stop : (a b c : Reader) (bytes : List ℕ) (i : ℕ) (units : List ScriptUnit) (x y : Desk) (out mid new_out : List ℕ → Type 0) (made mid_made new_made : List Made → Type 0) (files : ℕ) (stop : Stop) → i < length bytes
+      → TakesServed setup a b (take i bytes) x y out mid made mid_made → Reads b c (get_or bytes i 0 ∷ []) units
+      → Stops setup y units mid new_out mid_made new_made files stop → TakesStopped setup a bytes x out new_out made new_made files stop
+  takes-stop a b c bytes i units x y out mid new_out made mid_made new_made files stop within first reads stopped = record {
     front = take i bytes ++ get_or bytes i 0 ∷ [];
     front_is = (drop (i + 1) bytes, sym (take-append-drop (i + 1) bytes) ∙ ap (λ l. l ++ drop (i + 1) bytes) (take_more bytes i 0 within));
     later = c;
     units = first.units ++ units;
     reads = reads-more a b c (take i bytes) (get_or bytes i 0 ∷ []) first.units units first.reads reads;
-    stopped = stops-more setup x y first.units units slot out mid new_out made mid_made new_made first.served (subst (λ l. Stops setup y l slot mid new_out mid_made new_made) are stopped);
+    stopped = stops-more setup x y first.units units out mid new_out made mid_made new_made files stop first.served stopped;
   }
 
-  pub ends-served : {E : Type 0} (reader : Reader) (units given : List ScriptUnit) (x : Desk) (result : Result Desk E) (out new_out : List ℕ → Type 0) (made new_made : List Made → Type 0) → Ends reader units → given ≡ units
-      → IfOk result (λ y. Serves setup x y given slot out new_out made new_made) → IfOk result (λ y. EndsServed setup reader x y slot out new_out made new_made)
-  ends-served reader units given x (Ok y) out new_out made new_made whole are served = record { units = units; whole = whole; served = subst (λ l. Serves setup x y l slot out new_out made new_made) are served }
-  ends-served reader units given x (Err e) out new_out made new_made whole are served = served
+  pub ends-served : {E : Type 0} (reader : Reader) (units : List ScriptUnit) (x : Desk) (result : Result Desk E) (out new_out : List ℕ → Type 0) (made new_made : List Made → Type 0) → Ends reader units
+      → IfOk result (λ y. Serves setup x y units out new_out made new_made) → IfOk result (λ y. EndsServed setup reader x y out new_out made new_made)
+  ends-served reader units x (Ok y) out new_out made new_made whole served = record { units = units; whole = whole; served = served }
+  ends-served reader units x (Err e) out new_out made new_made whole served = served
 
-  pub ends-stopped : {E : Type 0} (reader : Reader) (units given : List ScriptUnit) (x : Desk) (result : Result Desk E) (out new_out : List ℕ → Type 0) (made new_made : List Made → Type 0) → Ends reader units → given ≡ units
-      → OnErr result (Stops setup x given slot out new_out made new_made) → OnErr result (EndsStopped setup reader x slot out new_out made new_made)
-  ends-stopped reader units given x (Ok y) out new_out made new_made whole are stopped = stopped
-  ends-stopped reader units given x (Err e) out new_out made new_made whole are stopped = record { units = units; whole = inl whole; stopped = subst (λ l. Stops setup x l slot out new_out made new_made) are stopped }
+  pub ends-stopped : {T : Type 0} (reader : Reader) (units : List ScriptUnit) (x : Desk) (result : Result T Stop) (out new_out : List ℕ → Type 0) (made new_made : List Made → Type 0) (files : ℕ) → Ends reader units
+      → IfErr result (Stops setup x units out new_out made new_made files) → IfErr result (EndsStopped setup reader x out new_out made new_made files)
+  ends-stopped reader units x (Ok y) out new_out made new_made files whole stopped = stopped
+  ends-stopped reader units x (Err stop) out new_out made new_made files whole stopped = record { units = units; whole = inl whole; stopped = stopped }
 
-  pub ends-none : (reader : Reader) (x : Desk) (out : List ℕ → Type 0) (made : List Made → Type 0) → EndsStopped setup reader x slot out out made made
-  ends-none reader x out made = record { units = []; whole = inr refl; stopped = stops-none setup x [] slot out made }
+  pub ends-none : (reader : Reader) (x : Desk) (out : List ℕ → Type 0) (made : List Made → Type 0) (files : ℕ) → files ≡ length x.dumps.made.items + 1 → EndsStopped setup reader x out out made made files OutOfMemory
+  ends-none reader x out made files count = record { units = []; whole = inr refl; stopped = stops-none setup x [] out made files count }

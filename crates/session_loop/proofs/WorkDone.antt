@@ -11,7 +11,8 @@ use Rattle.query_lines.specs.declared.unit.Item.{Item}
 use Rattle.query_lines.specs.declared.unit.Unit.TheVariants as units
 use Rattle.reply_lines.specs.declared.reply.Reply.{Reply}
 use Rattle.session_meaning.specs.Replies.{replies_text}
-use Rattle.session_meaning.specs.Session.{Setup, Course, Opened, opened, batch_of, with_section, IsBatchServed}
+use Rattle.session_meaning.specs.Dumps.{wires_of}
+use Rattle.session_meaning.specs.Session.{Setup, Course, Opened, opened, batch_of, with_section, with_waves, IsBatchServed}
 use Rattle.session_meaning.specs.Broken.{IsPrefix, journal_of}
 use Rattle.session_meaning.proofs.Journals.{journal-more, broken-at, prefix-same, prefix-behind}
 use Rattle.unit_answers.specs.Stores.{cells_of}
@@ -39,7 +40,7 @@ module _ (setup : Setup) (items : List Item) (name : List ℕ) where
   -- The batch was answered over empty stores.
   module _ (opening left : List Contents) (empty : (shard : ℕ) → shard < setup.shards → cells_of opening shard ≡ []) (replies : List Reply) (lists : List (List Entry)) (done : IsBatchDone setup items opening replies lists left) where
     abbrev next : Course
-    next = with_section opened (Asks (batch_of setup items)) lists (replies_text items replies)
+    next = with_waves (with_section opened (Asks (batch_of setup items)) lists (replies_text items replies)) (wires_of setup.design items replies)
 
     abbrev pub work_text : List ℕ
     work_text = section_lines (record { kind = Batch; number = 1; shards = lists })
@@ -60,24 +61,25 @@ module _ (setup : Setup) (items : List Item) (name : List ℕ) where
         ∙ ap (λ l. l ++ work_text) (append-nil (head_line setup.shards setup.capacity))
 
     -- its section was written
-    pub worked : (slot : ℕ) (m0 m1 m2 : List Made → Type 0) → slot ≡ 0 → Stands name (head_line setup.shards setup.capacity) m0 m1 → FileGrows m1 m2 slot work_text → WroteJournal (IsWork setup items replies) name m0 m2
+    pub worked : (m0 m1 m2 : List Made → Type 0) → Stands name (head_line setup.shards setup.capacity) m0 m1 → FileGrows m1 m2 0 work_text → WroteJournal (IsWork setup items replies) name m0 m2
     unfolding served
-    worked slot m0 m1 m2 first stands grows = record {
+    worked m0 m1 m2 stands grows = record {
       journal = head_line setup.shards setup.capacity ++ work_text;
       are = record { next = next; served = served; replies_are = refl; journal_is = sym whole };
-      created = stands-more name (head_line setup.shards setup.capacity) work_text slot m0 m1 m2 first stands grows;
+      created = stands-more name (head_line setup.shards setup.capacity) work_text m0 m1 m2 stands grows;
     }
 
     -- its section was begun
-    pub work-stopped : (slot : ℕ) (m0 m1 m2 : List Made → Type 0) → slot ≡ 0 → Stands name (head_line setup.shards setup.capacity) m0 m1 → FileGrowsPart m1 m2 slot work_text → WroteJournal (IsWorkBegun setup items) name m0 m2
-    work-stopped slot m0 m1 m2 first stands part =
+    pub work-stopped : (m0 m1 m2 : List Made → Type 0) → Stands name (head_line setup.shards setup.capacity) m0 m1 → FileGrowsPart m1 m2 0 work_text → WroteJournal (IsWorkBegun setup items) name m0 m2
+    work-stopped m0 m1 m2 stands part =
         let head = head_line setup.shards setup.capacity in
         record {
           journal = head ++ part.0;
-          are = inr (broken-at setup [] (units.Batch items) opened next [] (head ++ part.0) Opened served (prefix-same [])
+          are = inr (broken-at setup [] (units.Batch items) opened next [] (head ++ part.0) [] Opened served (prefix-same [])
               (part.0, ap (λ l. l ++ part.0) (sym (append-nil head))) (replies_text items replies, refl)
-              (subst (IsPrefix (head ++ part.0)) (sym whole) (prefix-behind head part.0 work_text part.1)));
-          created = stands-more name head part.0 slot m0 m1 m2 first stands part.2;
+              (subst (IsPrefix (head ++ part.0)) (sym whole) (prefix-behind head part.0 work_text part.1))
+              ([], refl) tt (λ _ _. refl));
+          created = stands-more name head part.0 m0 m1 m2 stands part.2;
         }
 
   -- the journal stays as it is while it is finished

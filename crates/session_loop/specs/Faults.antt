@@ -2,7 +2,7 @@
 use Rattle.std.specs.Prelude.{◌≡◌, ⊤, ℕ}
 use Rattle.backsim_io.specs.Counts.{Rose}
 use Rattle.session_loop.specs.declared.stop.Stop.{Stop}
-use Rattle.session_loop.specs.declared.stop.Stop.TheVariants.{ScriptUnread, ScriptTooLong, RepliesUnwritten, JournalUnwritten, OutOfMemory}
+use Rattle.session_loop.specs.declared.stop.Stop.TheVariants.{ScriptUnread, ScriptTooLong, RepliesUnwritten, JournalUnwritten, DumpUnmade, DumpUnwritten, DumpUnfinished, OutOfMemory}
 use Rattle.session_loop.specs.declared.halt.Halt.{Halt}
 use Rattle.session_loop.specs.declared.halt.Halt.TheVariants.{JournalUnmade, Stopped, JournalUnfinished}
 
@@ -19,6 +19,9 @@ Explains old new ScriptUnread = Rose old.script new.script
 Explains old new ScriptTooLong = (new.script ≡ old.script) × (new.replies ≡ old.replies) × (new.writes ≡ old.writes) × (new.files ≡ old.files)
 Explains old new RepliesUnwritten = Rose old.replies new.replies
 Explains old new JournalUnwritten = Rose old.writes new.writes
+Explains old new DumpUnmade = Rose old.files new.files
+Explains old new DumpUnwritten = Rose old.writes new.writes
+Explains old new DumpUnfinished = Rose old.files new.files
 Explains old new OutOfMemory = ⊤
 
 -- a halt of a session
@@ -34,5 +37,8 @@ WorkExplains writes new_writes files new_files (Stopped ScriptUnread) = ⊥
 WorkExplains writes new_writes files new_files (Stopped ScriptTooLong) = ⊥
 WorkExplains writes new_writes files new_files (Stopped RepliesUnwritten) = ⊥
 WorkExplains writes new_writes files new_files (Stopped JournalUnwritten) = Rose writes new_writes
+WorkExplains writes new_writes files new_files (Stopped DumpUnmade) = ⊥
+WorkExplains writes new_writes files new_files (Stopped DumpUnwritten) = ⊥
+WorkExplains writes new_writes files new_files (Stopped DumpUnfinished) = ⊥
 WorkExplains writes new_writes files new_files (Stopped OutOfMemory) = ⊤
 WorkExplains writes new_writes files new_files JournalUnfinished = Rose files new_files

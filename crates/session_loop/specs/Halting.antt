@@ -1,5 +1,5 @@
 -- A session with its journal, from the creation of the file to its end.
-use Rattle.std.specs.Prelude.{◌≡◌, ⊤, ℕ, ◌⊎◌, List, [], ◌∷◌, Option}
+use Rattle.std.specs.Prelude.{◌≡◌, ⊤, ℕ, ◌+◌, ◌⊎◌, List, [], ◌∷◌, ◌++◌, length, Option}
 use Rattle.backsim_io.specs.Counts.{Grows, Stays}
 use Rattle.backsim_io.specs.Held.{Made, SameMade}
 use Rattle.journal_text.specs.Spelling.{head_line}
@@ -9,22 +9,29 @@ use Rattle.reply_lines.specs.declared.reply.Reply.{Reply}
 use Rattle.session_meaning.specs.Session.{Setup, Course, opened, IsBatchServed, IsSessionOf}
 use Rattle.session_meaning.specs.Broken.{IsPrefix, journal_of, IsHeadBegun, IsBroken}
 use Rattle.session_loop.specs.declared.stop.Stop.{Stop}
-use Rattle.session_loop.specs.declared.stop.Stop.TheVariants.{ScriptUnread, ScriptTooLong, RepliesUnwritten, JournalUnwritten, OutOfMemory}
+use Rattle.session_loop.specs.declared.stop.Stop.TheVariants.{ScriptUnread, ScriptTooLong, RepliesUnwritten, JournalUnwritten, DumpUnmade, DumpUnwritten, DumpUnfinished, OutOfMemory}
 use Rattle.session_loop.specs.declared.halt.Halt.{Halt}
 use Rattle.session_loop.specs.declared.halt.Halt.TheVariants.{JournalUnmade, Stopped, JournalUnfinished}
-use Rattle.session_loop.specs.Serving.{IsStopped}
+use Rattle.session_loop.specs.Serving.{IsStopped, StopsOpen}
 
 -- The one file that was created has this name and these bytes, where none had been created before.
 abbrev pub Stands : List ℕ → List ℕ → (List Made → Type 0) → (List Made → Type 0) → Type 0
 Stands name bytes made new_made = made [] → new_made (record { name = name; bytes = bytes } ∷ [])
 
--- Replies and a journal of which `such` holds were written.
-pub record WroteFile (such : List ℕ → List ℕ → Type 0) (name : List ℕ) (out new_out : List ℕ → Type 0) (made new_made : List Made → Type 0) : Type 0 where
+-- the files of a session: its journal under this name, and after it the dumps
+abbrev pub session_files : List ℕ → List ℕ → List Made → List Made
+session_files name journal dumps = record { name = name; bytes = journal } ∷ dumps
+
+-- Replies, a journal and dumps of which `such` holds were written: the journal and the dumps are the files that were created, where none
+-- had been created before.
+pub record WroteFiles (such : List ℕ → List ℕ → List Made → Type 0) (name : List ℕ) (out new_out : List ℕ → Type 0) (made new_made : List Made → Type 0) (files : ℕ) : Type 0 where
   pub replies : List ℕ
   pub journal : List ℕ
-  pub are : such replies journal
+  pub dumps : List Made
+  pub are : such replies journal dumps
   pub replied : Grows out new_out replies
-  pub created : Stands name journal made new_made
+  pub created : made [] → new_made (session_files name journal dumps)
+  pub count : files ≡ length dumps + 1
 
 -- the stops that come before the script is read: the head is not written, or there is no memory
 abbrev pub IsEarly : Stop → Type 0
@@ -32,20 +39,29 @@ IsEarly ScriptUnread = ⊥
 IsEarly ScriptTooLong = ⊥
 IsEarly RepliesUnwritten = ⊥
 IsEarly JournalUnwritten = ⊤
+IsEarly DumpUnmade = ⊥
+IsEarly DumpUnwritten = ⊥
+IsEarly DumpUnfinished = ⊥
 IsEarly OutOfMemory = ⊤
 
 -- the source was not read, and a part of the head at most was written
-pub record IsUnbegun (setup : Setup) (old_left left : Option (List ℕ)) (stop : Stop) (replies journal : List ℕ) : Type 0 where
+pub record IsUnbegun (setup : Setup) (old_left left : Option (List ℕ)) (stop : Stop) (replies journal : List ℕ) (dumps : List Made) : Type 0 where
   pub early : IsEarly stop
   pub unread : left ≡ old_left
-  pub head : IsHeadBegun setup replies journal
+  pub head : IsHeadBegun setup replies journal dumps
 
 -- what stands where a session halts
-abbrev pub IsHalted : Setup → List ℕ → List ℕ → Option (List ℕ) → Option (List ℕ) → (List ℕ → Type 0) → (List ℕ → Type 0) → (List Made → Type 0) → (List Made → Type 0) → Halt → Type 0
-IsHalted setup name script old_left left out new_out made new_made JournalUnmade = Stays out new_out × SameMade made new_made × (left ≡ old_left)
-IsHalted setup name script old_left left out new_out made new_made (Stopped stop) =
-    WroteFile (IsUnbegun setup old_left left stop) name out new_out made new_made ⊎ WroteFile (IsStopped setup script left stop) name out new_out made new_made
-IsHalted setup name script old_left left out new_out made new_made JournalUnfinished = WroteFile (IsSessionOf setup script) name out new_out made new_made
+abbrev pub IsHalted : Setup → List ℕ → List ℕ → Option (List ℕ) → Option (List ℕ) → (List ℕ → Type 0) → (List ℕ → Type 0) → (List Made → Type 0) → (List Made → Type 0) → ℕ → Halt → Type 0
+IsHalted setup name script old_left left out new_out made new_made files JournalUnmade = Stays out new_out × SameMade made new_made × (left ≡ old_left)
+IsHalted setup name script old_left left out new_out made new_made files (Stopped stop) =
+    WroteFiles (IsUnbegun setup old_left left stop) name out new_out made new_made files ⊎ WroteFiles (IsStopped setup script left stop) name out new_out made new_made files
+IsHalted setup name script old_left left out new_out made new_made files JournalUnfinished = WroteFiles (IsSessionOf setup script) name out new_out made new_made files
+
+-- Which files a halt leaves unfinished, beside those that were before: the journal, once it was created, and what a stop leaves.
+abbrev pub HaltsOpen : List ℕ → List ℕ → Halt → Type 0
+HaltsOpen old new JournalUnmade = new ≡ old
+HaltsOpen old new (Stopped stop) = StopsOpen (old ++ 0 ∷ []) new stop
+HaltsOpen old new JournalUnfinished = new ≡ old ++ 0 ∷ []
 
 -- Where the journal was not created, nothing was replied, and the script and the created files are as they were.
 pub record IsUntouched (old_left left : Option (List ℕ)) (out new_out : List ℕ → Type 0) (made new_made : List Made → Type 0) (files new_files : ℕ) : Type 0 where
@@ -75,7 +91,7 @@ IsWorkDone setup items journal = (replies : List Reply) × IsWork setup items re
 
 -- a part of the head at most was written, or a part of the batch's section after it
 abbrev pub IsWorkBegun : Setup → List Item → List ℕ → Type 0
-IsWorkBegun setup items journal = IsPrefix journal (head_line setup.shards setup.capacity) ⊎ IsBroken setup (Batch items ∷ []) [] journal
+IsWorkBegun setup items journal = IsPrefix journal (head_line setup.shards setup.capacity) ⊎ IsBroken setup (Batch items ∷ []) [] journal []
 
 -- what stands where a session of one batch halts
 abbrev pub IsWorkHalted : Setup → List Item → List ℕ → (List Made → Type 0) → (List Made → Type 0) → Halt → Type 0

@@ -30,6 +30,7 @@
 
 mod counting;
 mod desk;
+mod dump;
 mod halt;
 mod journal;
 mod question;

@@ -1,17 +1,20 @@
 //! Questions that are batches of their own: for a first time, and for an explanation.
 
-ghost use Rattle.std.specs.Prelude.{◌≡◌, ◌<◌, ◌≤◌, ◌∷◌, [], length, Contains, IfErr, IfOk, OnErr, OnOk};
+ghost use Rattle.std.specs.Prelude.{◌≡◌, ◌+◌, ◌<◌, ◌≤◌, ◌∷◌, [], ℕ, List, length, Contains, IfErr, IfOk, OnOk};
 ghost use Rattle.batch_meaning.specs.Batches.{Batch as BatchRecord};
 ghost use Rattle.query_lines.specs.declared.unit.Unit.{Unit as UnitRecord};
 ghost use Rattle.query_lines.specs.declared.unit.Unit.TheVariants as kinds;
 ghost use Rattle.session_meaning.specs.Session.{Setup};
-ghost use Rattle.unit_answers.specs.Stores.{setup_of, AreStores};
+ghost use Rattle.unit_answers.specs.Stores.{setup_of};
 ghost use Rattle.session_loop.specs.declared.desk.Desk.{Desk as DeskRecord};
+ghost use Rattle.session_loop.specs.Serving.{session_of};
+ghost use Rattle.session_loop.specs.inner.Desks.{IsDesk};
 ghost use Rattle.session_loop.specs.inner.Faults.{UnitExplains};
 ghost use Rattle.session_loop.specs.inner.Serving.{IsAnswered, Serves, Stops};
 
 use crate::counting::counted;
-use crate::desk::{Counts, Desk};
+use crate::desk::{Counts, Desk, Dumps};
+use crate::journal::JOURNAL;
 use crate::section::{write_reply, write_section};
 use crate::stop::Stop;
 use backsim_io::{Files, Sink};
@@ -36,19 +39,21 @@ fn write_answered<F: Files, S: Sink>(
     alloc: Global,
     answered: Answered,
     counts: Counts,
-    slot: u32,
+    dumps: Dumps,
     files: &mut F,
     out: &mut S,
 ) -> Result<Desk, Stop>
     requires few { length answered.lists.items ≤ 4294967295 }
-    requires unfinished { Contains (F.unfinished files.old) slot }
+    requires files { F.files files.old ≡ length dumps.made.items + 1 }
+    requires unfinished { Contains (F.unfinished files.old) 0 }
     ensures stores { IfOk result (λ later. later.stores.items ≡ answered.stores.items) }
-    ensures served { (setup : Setup) (desk : DeskRecord) (unit : UnitRecord) (batch : BatchRecord) → desk.counts ≡ counts
+    ensures kept { IfOk result (λ later. later.dumps ≡ dumps) }
+    ensures served { (setup : Setup) (desk : DeskRecord) (unit : UnitRecord) (batch : BatchRecord) → desk.counts ≡ counts → desk.dumps ≡ dumps
         → IsAnswered setup desk unit batch answered.text.items answered.lists.items answered.stores.items
-        → IfOk result (λ later. Serves setup desk later (unit ∷ []) slot (S.written out.old) (S.written out.new) (F.made files.old) (F.made files.new)) }
-    ensures stopped { (setup : Setup) (desk : DeskRecord) (unit : UnitRecord) (batch : BatchRecord) → desk.counts ≡ counts
+        → IfOk result (λ later. Serves setup desk later (unit ∷ []) (S.written out.old) (S.written out.new) (F.made files.old) (F.made files.new)) }
+    ensures stopped { (setup : Setup) (desk : DeskRecord) (unit : UnitRecord) (batch : BatchRecord) → desk.counts ≡ counts → desk.dumps ≡ dumps
         → IsAnswered setup desk unit batch answered.text.items answered.lists.items answered.stores.items
-        → OnErr result (Stops setup desk (unit ∷ []) slot (S.written out.old) (S.written out.new) (F.made files.old) (F.made files.new)) }
+        → IfErr result (Stops setup desk (unit ∷ []) (S.written out.old) (S.written out.new) (F.made files.old) (F.made files.new) (F.files files.new)) }
     ensures cause { IfErr result (UnitExplains (S.faults out.old) (S.faults out.new) (F.write_faults files.old) (F.write_faults files.new)) }
     ensures calm_replies { OnOk result (S.faults out.new ≡ S.faults out.old) }
     ensures calm_journal { OnOk result (F.write_faults files.new ≡ F.write_faults files.old) }
@@ -67,12 +72,13 @@ fn write_answered<F: Files, S: Sink>(
         SectionKind::Batch,
         counts.sections,
         &answered.lists,
-        slot,
+        JOURNAL,
         files,
     )?;
     Ok(Desk {
         stores: answered.stores,
         counts,
+        dumps,
     })
 }
 
@@ -83,16 +89,17 @@ pub fn serve_first<F: Files, S: Sink>(
     item: &FirstItem,
     sizes: Sizes,
     desk: Desk,
-    slot: u32,
     files: &mut F,
     out: &mut S,
 ) -> Result<Desk, Stop>
     requires shards { (0 < sizes.shards) × (sizes.shards ≤ 64) }
-    requires stores { AreStores (setup_of design.now sizes) desk.stores.items }
-    requires unfinished { Contains (F.unfinished files.old) slot }
-    ensures stores { IfOk result (λ later. AreStores (setup_of design.now sizes) later.stores.items) }
-    ensures served { IfOk result (λ later. Serves (setup_of design.now sizes) desk later (kinds.First item.now ∷ []) slot (S.written out.old) (S.written out.new) (F.made files.old) (F.made files.new)) }
-    ensures stopped { OnErr result (Stops (setup_of design.now sizes) desk (kinds.First item.now ∷ []) slot (S.written out.old) (S.written out.new) (F.made files.old) (F.made files.new)) }
+    requires desk { IsDesk (setup_of design.now sizes) desk }
+    requires files { F.files files.old ≡ length desk.dumps.made.items + 1 }
+    requires unfinished { Contains (F.unfinished files.old) 0 }
+    ensures desk { IfOk result (λ later. IsDesk (setup_of design.now sizes) later) }
+    ensures count { IfOk result (λ later. F.files files.new ≡ length later.dumps.made.items + 1) }
+    ensures served { (names : List (List ℕ)) → IfOk result (λ later. Serves (session_of design.now sizes names) desk later (kinds.First item.now ∷ []) (S.written out.old) (S.written out.new) (F.made files.old) (F.made files.new)) }
+    ensures stopped { (names : List (List ℕ)) → IfErr result (Stops (session_of design.now sizes names) desk (kinds.First item.now ∷ []) (S.written out.old) (S.written out.new) (F.made files.old) (F.made files.new) (F.files files.new)) }
     ensures cause { IfErr result (UnitExplains (S.faults out.old) (S.faults out.new) (F.write_faults files.old) (F.write_faults files.new)) }
     ensures calm_replies { OnOk result (S.faults out.new ≡ S.faults out.old) }
     ensures calm_journal { OnOk result (F.write_faults files.new ≡ F.write_faults files.old) }
@@ -102,14 +109,18 @@ pub fn serve_first<F: Files, S: Sink>(
     ensures files { F.files files.new ≡ F.files files.old }
     ensures unfinished { F.unfinished files.new ≡ F.unfinished files.old }
 {
-    let counts = desk.counts;
-    let done = answer_first(alloc, design, item, sizes, desk.stores)?;
+    let Desk {
+        stores,
+        counts,
+        dumps,
+    } = desk;
+    let done = answer_first(alloc, design, item, sizes, stores)?;
     let answered = Answered {
         text: first_text(alloc, &item.first, done.reply)?,
         lists: done.lists,
         stores: done.stores,
     };
-    write_answered(alloc, answered, counts, slot, files, out)
+    write_answered(alloc, answered, counts, dumps, files, out)
 }
 
 /// Serves a question for an explanation: its reply, then its section, which is a batch's.
@@ -119,16 +130,17 @@ pub fn serve_why<F: Files, S: Sink>(
     item: &WhyItem,
     sizes: Sizes,
     desk: Desk,
-    slot: u32,
     files: &mut F,
     out: &mut S,
 ) -> Result<Desk, Stop>
     requires shards { (0 < sizes.shards) × (sizes.shards ≤ 64) }
-    requires stores { AreStores (setup_of design.now sizes) desk.stores.items }
-    requires unfinished { Contains (F.unfinished files.old) slot }
-    ensures stores { IfOk result (λ later. AreStores (setup_of design.now sizes) later.stores.items) }
-    ensures served { IfOk result (λ later. Serves (setup_of design.now sizes) desk later (kinds.Why item.now ∷ []) slot (S.written out.old) (S.written out.new) (F.made files.old) (F.made files.new)) }
-    ensures stopped { OnErr result (Stops (setup_of design.now sizes) desk (kinds.Why item.now ∷ []) slot (S.written out.old) (S.written out.new) (F.made files.old) (F.made files.new)) }
+    requires desk { IsDesk (setup_of design.now sizes) desk }
+    requires files { F.files files.old ≡ length desk.dumps.made.items + 1 }
+    requires unfinished { Contains (F.unfinished files.old) 0 }
+    ensures desk { IfOk result (λ later. IsDesk (setup_of design.now sizes) later) }
+    ensures count { IfOk result (λ later. F.files files.new ≡ length later.dumps.made.items + 1) }
+    ensures served { (names : List (List ℕ)) → IfOk result (λ later. Serves (session_of design.now sizes names) desk later (kinds.Why item.now ∷ []) (S.written out.old) (S.written out.new) (F.made files.old) (F.made files.new)) }
+    ensures stopped { (names : List (List ℕ)) → IfErr result (Stops (session_of design.now sizes names) desk (kinds.Why item.now ∷ []) (S.written out.old) (S.written out.new) (F.made files.old) (F.made files.new) (F.files files.new)) }
     ensures cause { IfErr result (UnitExplains (S.faults out.old) (S.faults out.new) (F.write_faults files.old) (F.write_faults files.new)) }
     ensures calm_replies { OnOk result (S.faults out.new ≡ S.faults out.old) }
     ensures calm_journal { OnOk result (F.write_faults files.new ≡ F.write_faults files.old) }
@@ -138,12 +150,16 @@ pub fn serve_why<F: Files, S: Sink>(
     ensures files { F.files files.new ≡ F.files files.old }
     ensures unfinished { F.unfinished files.new ≡ F.unfinished files.old }
 {
-    let counts = desk.counts;
-    let done = answer_why(alloc, design, item, sizes, desk.stores)?;
+    let Desk {
+        stores,
+        counts,
+        dumps,
+    } = desk;
+    let done = answer_why(alloc, design, item, sizes, stores)?;
     let answered = Answered {
         text: why_text(alloc, &item.why, &done.reply)?,
         lists: done.lists,
         stores: done.stores,
     };
-    write_answered(alloc, answered, counts, slot, files, out)
+    write_answered(alloc, answered, counts, dumps, files, out)
 }

@@ -1,18 +1,19 @@
 //! The script, read a block at a time and served a unit at a time.
 
-ghost use Rattle.std.specs.Prelude.{◌≡◌, ◌+◌, ◌<◌, ◌≤◌, ℕ, List, [], length, Some, Contains, IfErr, IfOk, OnErr, OnOk};
+ghost use Rattle.std.specs.Prelude.{◌≡◌, ◌+◌, ◌<◌, ◌≤◌, ℕ, List, [], length, Some, Contains, IfErr, IfOk, OnOk};
 ghost use Rattle.backsim_io.specs.Held.{ConsumesUpTo};
 ghost use Rattle.session_meaning.specs.Session.{IsSessionOf};
 ghost use Rattle.unit_answers.specs.Stores.{setup_of, AreStores, cells_of};
-ghost use Rattle.session_loop.specs.inner.Faults.{UnitExplains};
+ghost use Rattle.session_loop.specs.inner.Desks.{IsDesk};
+ghost use Rattle.session_loop.specs.inner.Faults.{UnitsExplain};
 ghost use Rattle.session_loop.specs.Faults.{Explains};
 ghost use Rattle.session_loop.specs.inner.Serving.{HasTaken, TakesServed, TakesStopped, EndsServed, EndsStopped, Wrote};
-ghost use Rattle.session_loop.specs.Serving.{IsStopped};
+ghost use Rattle.session_loop.specs.Serving.{session_of, IsStopped, StopsOpen};
 
-use crate::desk::{Counts, Desk};
+use crate::desk::{Counts, Desk, Dumps};
 use crate::stop::Stop;
 use crate::unit::serve_units;
-use backsim_io::{Files, Sink, Source};
+use backsim_io::{Files, Sink, Source, Text};
 use batch_crew::Crew;
 use cell_store::CellStore;
 use design::Design;
@@ -43,7 +44,6 @@ impl Script {
         bytes: &[u8],
         sizes: Sizes,
         desk: Desk,
-        slot: u32,
         files: &mut F,
         out: &mut S,
     ) -> Result<Desk, Stop>
@@ -51,37 +51,29 @@ impl Script {
         requires horizon { design.now.circuit.horizon ≤ 1000000 }
         requires read { HasTaken design.now.circuit.horizon self.old.taken self.old.reader }
         requires shards { (0 < sizes.shards) × (sizes.shards ≤ 64) }
-        requires stores { AreStores (setup_of design.now sizes) desk.stores.items }
-        requires unfinished { Contains (F.unfinished files.old) slot }
+        requires desk { IsDesk (setup_of design.now sizes) desk }
+        requires files { F.files files.old ≡ length desk.dumps.made.items + 1 }
+        requires unfinished { Contains (F.unfinished files.old) 0 }
         ensures taken { OnOk result (self.new.taken ≡ self.old.taken + length bytes.now) }
         ensures read { OnOk result (HasTaken design.now.circuit.horizon self.new.taken self.new.reader) }
-        ensures stores { IfOk result (λ later. AreStores (setup_of design.now sizes) later.stores.items) }
-        ensures served { IfOk result (λ later. TakesServed (setup_of design.now sizes) self.old.reader self.new.reader bytes.now desk later slot (S.written out.old) (S.written out.new) (F.made files.old) (F.made files.new)) }
-        ensures stopped { OnErr result (TakesStopped (setup_of design.now sizes) self.old.reader bytes.now desk slot (S.written out.old) (S.written out.new) (F.made files.old) (F.made files.new)) }
-        ensures cause { IfErr result (UnitExplains (S.faults out.old) (S.faults out.new) (F.write_faults files.old) (F.write_faults files.new)) }
+        ensures desk { IfOk result (λ later. IsDesk (setup_of design.now sizes) later) }
+        ensures count { IfOk result (λ later. F.files files.new ≡ length later.dumps.made.items + 1) }
+        ensures served { (names : List (List ℕ)) → IfOk result (λ later. TakesServed (session_of design.now sizes names) self.old.reader self.new.reader bytes.now desk later (S.written out.old) (S.written out.new) (F.made files.old) (F.made files.new)) }
+        ensures stopped { (names : List (List ℕ)) → IfErr result (TakesStopped (session_of design.now sizes names) self.old.reader bytes.now desk (S.written out.old) (S.written out.new) (F.made files.old) (F.made files.new) (F.files files.new)) }
+        ensures cause { IfErr result (UnitsExplain (S.faults out.old) (S.faults out.new) (F.write_faults files.old) (F.write_faults files.new) (F.file_faults files.old) (F.file_faults files.new)) }
         ensures calm_replies { OnOk result (S.faults out.new ≡ S.faults out.old) }
-        ensures calm_journal { OnOk result (F.write_faults files.new ≡ F.write_faults files.old) }
-        ensures file_faults { F.file_faults files.new ≡ F.file_faults files.old }
+        ensures calm_writes { OnOk result (F.write_faults files.new ≡ F.write_faults files.old) }
+        ensures calm_files { OnOk result (F.file_faults files.new ≡ F.file_faults files.old) }
         ensures read_faults { F.read_faults files.new ≡ F.read_faults files.old }
         ensures started { F.started files.new ≡ F.started files.old }
-        ensures files { F.files files.new ≡ F.files files.old }
-        ensures unfinished { F.unfinished files.new ≡ F.unfinished files.old }
+        ensures unfinished { OnOk result (F.unfinished files.new ≡ F.unfinished files.old) }
+        ensures left { IfErr result (StopsOpen (F.unfinished files.old) (F.unfinished files.new)) }
     {
         let mut desk = desk;
         for byte in bytes {
             let units = self.reader.take(*byte)?;
             self.taken += 1;
-            desk = serve_units(
-                crew,
-                alloc,
-                design,
-                units.as_slice(),
-                sizes,
-                desk,
-                slot,
-                files,
-                out,
-            )?;
+            desk = serve_units(crew, alloc, design, units, sizes, desk, files, out)?;
         }
         Ok(desk)
     }
@@ -94,7 +86,6 @@ impl Script {
         design: &Design,
         sizes: Sizes,
         desk: Desk,
-        slot: u32,
         files: &mut F,
         out: &mut S,
     ) -> Result<Desk, Stop>
@@ -102,31 +93,23 @@ impl Script {
         requires horizon { design.now.circuit.horizon ≤ 1000000 }
         requires read { HasTaken design.now.circuit.horizon self.taken self.reader }
         requires shards { (0 < sizes.shards) × (sizes.shards ≤ 64) }
-        requires stores { AreStores (setup_of design.now sizes) desk.stores.items }
-        requires unfinished { Contains (F.unfinished files.old) slot }
-        ensures served { IfOk result (λ later. EndsServed (setup_of design.now sizes) self.reader desk later slot (S.written out.old) (S.written out.new) (F.made files.old) (F.made files.new)) }
-        ensures stopped { OnErr result (EndsStopped (setup_of design.now sizes) self.reader desk slot (S.written out.old) (S.written out.new) (F.made files.old) (F.made files.new)) }
-        ensures cause { IfErr result (UnitExplains (S.faults out.old) (S.faults out.new) (F.write_faults files.old) (F.write_faults files.new)) }
+        requires desk { IsDesk (setup_of design.now sizes) desk }
+        requires files { F.files files.old ≡ length desk.dumps.made.items + 1 }
+        requires unfinished { Contains (F.unfinished files.old) 0 }
+        ensures count { IfOk result (λ later. F.files files.new ≡ length later.dumps.made.items + 1) }
+        ensures served { (names : List (List ℕ)) → IfOk result (λ later. EndsServed (session_of design.now sizes names) self.reader desk later (S.written out.old) (S.written out.new) (F.made files.old) (F.made files.new)) }
+        ensures stopped { (names : List (List ℕ)) → IfErr result (EndsStopped (session_of design.now sizes names) self.reader desk (S.written out.old) (S.written out.new) (F.made files.old) (F.made files.new) (F.files files.new)) }
+        ensures cause { IfErr result (UnitsExplain (S.faults out.old) (S.faults out.new) (F.write_faults files.old) (F.write_faults files.new) (F.file_faults files.old) (F.file_faults files.new)) }
         ensures calm_replies { OnOk result (S.faults out.new ≡ S.faults out.old) }
-        ensures calm_journal { OnOk result (F.write_faults files.new ≡ F.write_faults files.old) }
-        ensures file_faults { F.file_faults files.new ≡ F.file_faults files.old }
+        ensures calm_writes { OnOk result (F.write_faults files.new ≡ F.write_faults files.old) }
+        ensures calm_files { OnOk result (F.file_faults files.new ≡ F.file_faults files.old) }
         ensures read_faults { F.read_faults files.new ≡ F.read_faults files.old }
         ensures started { F.started files.new ≡ F.started files.old }
-        ensures files { F.files files.new ≡ F.files files.old }
-        ensures unfinished { F.unfinished files.new ≡ F.unfinished files.old }
+        ensures unfinished { OnOk result (F.unfinished files.new ≡ F.unfinished files.old) }
+        ensures left { IfErr result (StopsOpen (F.unfinished files.old) (F.unfinished files.new)) }
     {
         let units = self.reader.end()?;
-        serve_units(
-            crew,
-            alloc,
-            design,
-            units.as_slice(),
-            sizes,
-            desk,
-            slot,
-            files,
-            out,
-        )
+        serve_units(crew, alloc, design, units, sizes, desk, files, out)
     }
 }
 
@@ -137,7 +120,7 @@ pub fn serve_script<C: Crew, F: Files, Q: Source, S: Sink>(
     design: &Design,
     sizes: Sizes,
     stores: Vec<CellStore>,
-    slot: u32,
+    names: Vec<Text>,
     files: &mut F,
     queries: &mut Q,
     out: &mut S,
@@ -145,24 +128,25 @@ pub fn serve_script<C: Crew, F: Files, Q: Source, S: Sink>(
     requires shards { (0 < sizes.shards) × (sizes.shards ≤ 64) }
     requires stores { AreStores (setup_of design.now sizes) stores.items }
     requires empty { (shard : ℕ) → shard < sizes.shards → cells_of stores.items shard ≡ [] }
-    requires unfinished { Contains (F.unfinished files.old) slot }
+    requires files { F.files files.old ≡ 1 }
+    requires unfinished { Contains (F.unfinished files.old) 0 }
     ensures cause { IfErr result (Explains
         (record { script = Q.faults queries.old; replies = S.faults out.old; writes = F.write_faults files.old; files = F.file_faults files.old })
         (record { script = Q.faults queries.new; replies = S.faults out.new; writes = F.write_faults files.new; files = F.file_faults files.new })) }
     ensures calm_queries { OnOk result (Q.faults queries.new ≡ Q.faults queries.old) }
     ensures calm_replies { OnOk result (S.faults out.new ≡ S.faults out.old) }
-    ensures calm_journal { OnOk result (F.write_faults files.new ≡ F.write_faults files.old) }
-    ensures file_faults { F.file_faults files.new ≡ F.file_faults files.old }
+    ensures calm_writes { OnOk result (F.write_faults files.new ≡ F.write_faults files.old) }
+    ensures calm_files { OnOk result (F.file_faults files.new ≡ F.file_faults files.old) }
     ensures read_faults { F.read_faults files.new ≡ F.read_faults files.old }
     ensures started { F.started files.new ≡ F.started files.old }
-    ensures files { F.files files.new ≡ F.files files.old }
-    ensures unfinished { F.unfinished files.new ≡ F.unfinished files.old }
+    ensures unfinished { OnOk result (F.unfinished files.new ≡ F.unfinished files.old) }
+    ensures left { IfErr result (StopsOpen (F.unfinished files.old) (F.unfinished files.new)) }
     ensures at_most { (script : List ℕ) → Q.left queries.old ≡ Some script → ConsumesUpTo (Some script) (Q.left queries.new) 16777217 }
     ensures short { (script : List ℕ) → Q.left queries.old ≡ Some script → OnOk result (length script ≤ 16777216) }
     ensures served { (script : List ℕ) → Q.left queries.old ≡ Some script
-        → OnOk result (Wrote (setup_of design.now sizes) (IsSessionOf (setup_of design.now sizes) script) slot (S.written out.old) (S.written out.new) (F.made files.old) (F.made files.new)) }
+        → OnOk result (Wrote (session_of design.now sizes names.items) (IsSessionOf (session_of design.now sizes names.items) script) (S.written out.old) (S.written out.new) (F.made files.old) (F.made files.new) (F.files files.new)) }
     ensures stopped { (script : List ℕ) → Q.left queries.old ≡ Some script
-        → IfErr result (λ stop. Wrote (setup_of design.now sizes) (IsStopped (setup_of design.now sizes) script (Q.left queries.new) stop) slot (S.written out.old) (S.written out.new) (F.made files.old) (F.made files.new)) }
+        → IfErr result (λ stop. Wrote (session_of design.now sizes names.items) (IsStopped (session_of design.now sizes names.items) script (Q.left queries.new) stop) (S.written out.old) (S.written out.new) (F.made files.old) (F.made files.new) (F.files files.new)) }
 {
     let mut script = Script {
         reader: ScriptReader::new(alloc, design.horizon()),
@@ -176,6 +160,11 @@ pub fn serve_script<C: Crew, F: Files, Q: Source, S: Sink>(
             fills: 0,
             evictions: 0,
         },
+        dumps: Dumps {
+            last: None,
+            own: names,
+            made: Vec::new(alloc),
+        },
     };
     let mut block = [0u8; BLOCK];
     loop {
@@ -185,7 +174,7 @@ pub fn serve_script<C: Crew, F: Files, Q: Source, S: Sink>(
             return Err(Stop::ScriptUnread);
         };
         if n == 0 {
-            script.serve_end(crew, alloc, design, sizes, desk, slot, files, out)?;
+            script.serve_end(crew, alloc, design, sizes, desk, files, out)?;
             return Ok(());
         }
         desk = script.serve_bytes(
@@ -195,7 +184,6 @@ pub fn serve_script<C: Crew, F: Files, Q: Source, S: Sink>(
             &block[..n.min(left)],
             sizes,
             desk,
-            slot,
             files,
             out,
         )?;

@@ -17,6 +17,12 @@ pub enum Stop {
     RepliesUnwritten,
     /// A write to the journal failed.
     JournalUnwritten,
+    /// The file of a dump couldn't be created.
+    DumpUnmade,
+    /// A write to a dump failed.
+    DumpUnwritten,
+    /// A dump couldn't be finished.
+    DumpUnfinished,
     /// There is no memory, or a count is too great for its type.
     OutOfMemory,
 }

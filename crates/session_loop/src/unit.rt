@@ -1,15 +1,19 @@
 //! A unit is served.
 
-ghost use Rattle.std.specs.Prelude.{◌≡◌, ◌<◌, ◌≤◌, ◌∷◌, [], ℕ, List, All, Contains, IfErr, IfOk, OnErr, OnOk};
+ghost use Rattle.std.specs.Prelude.{◌≡◌, ◌+◌, ◌<◌, ◌≤◌, ◌∷◌, [], ℕ, List, length, All, Contains, IfErr, IfOk, OnOk};
 ghost use Rattle.query_lines.specs.declared.unit.Unit.TheVariants as kinds;
 ghost use Rattle.query_lines.specs.Laws.{IsWithin};
-ghost use Rattle.query_lines.specs.Fit.{HaveOwnLines, IsFit};
-ghost use Rattle.unit_answers.specs.Stores.{setup_of, AreStores};
-ghost use Rattle.session_loop.specs.inner.Faults.{UnitExplains};
+ghost use Rattle.query_lines.specs.Fit.{AsksByName, HaveOwnLines, IsFit};
+ghost use Rattle.unit_answers.specs.Stores.{setup_of};
+ghost use Rattle.session_loop.specs.Serving.{session_of, StopsOpen};
+ghost use Rattle.session_loop.specs.inner.Desks.{IsDesk};
+ghost use Rattle.session_loop.specs.inner.Faults.{UnitExplains, UnitsExplain};
 ghost use Rattle.session_loop.specs.inner.Serving.{Serves, Stops};
 
 use crate::counting::{cells_in, counted, entries_in};
-use crate::desk::Desk;
+use crate::desk::{Desk, LastBatch};
+use crate::dump::serve_vcd;
+use crate::journal::JOURNAL;
 use crate::question::{serve_first, serve_why};
 use crate::section::{write_replies, write_reply, write_section};
 use crate::stop::Stop;
@@ -17,7 +21,7 @@ use backsim_io::{Files, Sink};
 use batch_crew::Crew;
 use design::Design;
 use journal_text::SectionKind;
-use query_lines::{Item, Unit};
+use query_lines::{ItemList, Unit, UnitList};
 use reply_lines::{stats_text, trimmed_text};
 use std::alloc::Global;
 use unit_answers::{Sizes, answer_batch, trim_stores};
@@ -27,21 +31,23 @@ pub fn serve_batch<C: Crew, F: Files, S: Sink>(
     crew: &C,
     alloc: Global,
     design: &Design,
-    items: &[Item],
+    items: ItemList,
     sizes: Sizes,
     desk: Desk,
-    slot: u32,
     files: &mut F,
     out: &mut S,
 ) -> Result<Desk, Stop>
     requires shards { (0 < sizes.shards) × (sizes.shards ≤ 64) }
-    requires within { IsWithin design.now.circuit.horizon items.now }
-    requires lines { HaveOwnLines items.now }
-    requires stores { AreStores (setup_of design.now sizes) desk.stores.items }
-    requires unfinished { Contains (F.unfinished files.old) slot }
-    ensures stores { IfOk result (λ later. AreStores (setup_of design.now sizes) later.stores.items) }
-    ensures served { IfOk result (λ later. Serves (setup_of design.now sizes) desk later (kinds.Batch items.now ∷ []) slot (S.written out.old) (S.written out.new) (F.made files.old) (F.made files.new)) }
-    ensures stopped { OnErr result (Stops (setup_of design.now sizes) desk (kinds.Batch items.now ∷ []) slot (S.written out.old) (S.written out.new) (F.made files.old) (F.made files.new)) }
+    requires within { IsWithin design.now.circuit.horizon items }
+    requires lines { HaveOwnLines items }
+    requires named { All (λ item. AsksByName item.what) items }
+    requires desk { IsDesk (setup_of design.now sizes) desk }
+    requires files { F.files files.old ≡ length desk.dumps.made.items + 1 }
+    requires unfinished { Contains (F.unfinished files.old) 0 }
+    ensures desk { IfOk result (λ later. IsDesk (setup_of design.now sizes) later) }
+    ensures count { IfOk result (λ later. F.files files.new ≡ length later.dumps.made.items + 1) }
+    ensures served { (names : List (List ℕ)) → IfOk result (λ later. Serves (session_of design.now sizes names) desk later (kinds.Batch items ∷ []) (S.written out.old) (S.written out.new) (F.made files.old) (F.made files.new)) }
+    ensures stopped { (names : List (List ℕ)) → IfErr result (Stops (session_of design.now sizes names) desk (kinds.Batch items ∷ []) (S.written out.old) (S.written out.new) (F.made files.old) (F.made files.new) (F.files files.new)) }
     ensures cause { IfErr result (UnitExplains (S.faults out.old) (S.faults out.new) (F.write_faults files.old) (F.write_faults files.new)) }
     ensures calm_replies { OnOk result (S.faults out.new ≡ S.faults out.old) }
     ensures calm_journal { OnOk result (F.write_faults files.new ≡ F.write_faults files.old) }
@@ -51,23 +57,32 @@ pub fn serve_batch<C: Crew, F: Files, S: Sink>(
     ensures files { F.files files.new ≡ F.files files.old }
     ensures unfinished { F.unfinished files.new ≡ F.unfinished files.old }
 {
-    let counts = desk.counts;
-    let done = answer_batch(crew, alloc, design, items, sizes, desk.stores)?;
+    let Desk {
+        stores,
+        counts,
+        mut dumps,
+    } = desk;
+    let done = answer_batch(crew, alloc, design, items.as_slice(), sizes, stores)?;
     let Some(counts) = counted(counts, SectionKind::Batch, &done.lists) else {
         return Err(Stop::OutOfMemory);
     };
-    write_replies(alloc, items, &done.replies, out)?;
+    write_replies(alloc, items.as_slice(), &done.replies, out)?;
     write_section(
         alloc,
         SectionKind::Batch,
         counts.sections,
         &done.lists,
-        slot,
+        JOURNAL,
         files,
     )?;
+    dumps.last = Some(LastBatch {
+        items,
+        replies: done.replies,
+    });
     Ok(Desk {
         stores: done.stores,
         counts,
+        dumps,
     })
 }
 
@@ -78,15 +93,16 @@ pub fn serve_trim<F: Files, S: Sink>(
     most: u32,
     sizes: Sizes,
     desk: Desk,
-    slot: u32,
     files: &mut F,
     out: &mut S,
 ) -> Result<Desk, Stop>
-    requires stores { AreStores (setup_of design.now sizes) desk.stores.items }
-    requires unfinished { Contains (F.unfinished files.old) slot }
-    ensures stores { IfOk result (λ later. AreStores (setup_of design.now sizes) later.stores.items) }
-    ensures served { IfOk result (λ later. Serves (setup_of design.now sizes) desk later (kinds.Trim most ∷ []) slot (S.written out.old) (S.written out.new) (F.made files.old) (F.made files.new)) }
-    ensures stopped { OnErr result (Stops (setup_of design.now sizes) desk (kinds.Trim most ∷ []) slot (S.written out.old) (S.written out.new) (F.made files.old) (F.made files.new)) }
+    requires desk { IsDesk (setup_of design.now sizes) desk }
+    requires files { F.files files.old ≡ length desk.dumps.made.items + 1 }
+    requires unfinished { Contains (F.unfinished files.old) 0 }
+    ensures desk { IfOk result (λ later. IsDesk (setup_of design.now sizes) later) }
+    ensures count { IfOk result (λ later. F.files files.new ≡ length later.dumps.made.items + 1) }
+    ensures served { (names : List (List ℕ)) → IfOk result (λ later. Serves (session_of design.now sizes names) desk later (kinds.Trim most ∷ []) (S.written out.old) (S.written out.new) (F.made files.old) (F.made files.new)) }
+    ensures stopped { (names : List (List ℕ)) → IfErr result (Stops (session_of design.now sizes names) desk (kinds.Trim most ∷ []) (S.written out.old) (S.written out.new) (F.made files.old) (F.made files.new) (F.files files.new)) }
     ensures cause { IfErr result (UnitExplains (S.faults out.old) (S.faults out.new) (F.write_faults files.old) (F.write_faults files.new)) }
     ensures calm_replies { OnOk result (S.faults out.new ≡ S.faults out.old) }
     ensures calm_journal { OnOk result (F.write_faults files.new ≡ F.write_faults files.old) }
@@ -96,8 +112,12 @@ pub fn serve_trim<F: Files, S: Sink>(
     ensures files { F.files files.new ≡ F.files files.old }
     ensures unfinished { F.unfinished files.new ≡ F.unfinished files.old }
 {
-    let counts = desk.counts;
-    let done = trim_stores(alloc, design, most, sizes, desk.stores)?;
+    let Desk {
+        stores,
+        counts,
+        dumps,
+    } = desk;
+    let done = trim_stores(alloc, design, most, sizes, stores)?;
     let (Some(counts), Some(removed)) = (
         counted(counts, SectionKind::Trim, &done.lists),
         entries_in(&done.lists),
@@ -111,12 +131,13 @@ pub fn serve_trim<F: Files, S: Sink>(
         SectionKind::Trim,
         counts.sections,
         &done.lists,
-        slot,
+        JOURNAL,
         files,
     )?;
     Ok(Desk {
         stores: done.stores,
         counts,
+        dumps,
     })
 }
 
@@ -126,15 +147,16 @@ pub fn serve_stats<F: Files, S: Sink>(
     design: &Design,
     sizes: Sizes,
     desk: Desk,
-    slot: u32,
     files: &mut F,
     out: &mut S,
 ) -> Result<Desk, Stop>
-    requires stores { AreStores (setup_of design.now sizes) desk.stores.items }
-    requires unfinished { Contains (F.unfinished files.old) slot }
-    ensures stores { IfOk result (λ later. AreStores (setup_of design.now sizes) later.stores.items) }
-    ensures served { IfOk result (λ later. Serves (setup_of design.now sizes) desk later (kinds.Stats ∷ []) slot (S.written out.old) (S.written out.new) (F.made files.old) (F.made files.new)) }
-    ensures stopped { OnErr result (Stops (setup_of design.now sizes) desk (kinds.Stats ∷ []) slot (S.written out.old) (S.written out.new) (F.made files.old) (F.made files.new)) }
+    requires desk { IsDesk (setup_of design.now sizes) desk }
+    requires files { F.files files.old ≡ length desk.dumps.made.items + 1 }
+    requires unfinished { Contains (F.unfinished files.old) 0 }
+    ensures desk { IfOk result (λ later. IsDesk (setup_of design.now sizes) later) }
+    ensures count { IfOk result (λ later. F.files files.new ≡ length later.dumps.made.items + 1) }
+    ensures served { (names : List (List ℕ)) → IfOk result (λ later. Serves (session_of design.now sizes names) desk later (kinds.Stats ∷ []) (S.written out.old) (S.written out.new) (F.made files.old) (F.made files.new)) }
+    ensures stopped { (names : List (List ℕ)) → IfErr result (Stops (session_of design.now sizes names) desk (kinds.Stats ∷ []) (S.written out.old) (S.written out.new) (F.made files.old) (F.made files.new) (F.files files.new)) }
     ensures cause { IfErr result (UnitExplains (S.faults out.old) (S.faults out.new) (F.write_faults files.old) (F.write_faults files.new)) }
     ensures calm_replies { OnOk result (S.faults out.new ≡ S.faults out.old) }
     ensures calm_journal { OnOk result (F.write_faults files.new ≡ F.write_faults files.old) }
@@ -158,45 +180,37 @@ pub fn serve_unit<C: Crew, F: Files, S: Sink>(
     crew: &C,
     alloc: Global,
     design: &Design,
-    unit: &Unit,
+    unit: Unit,
     sizes: Sizes,
     desk: Desk,
-    slot: u32,
     files: &mut F,
     out: &mut S,
 ) -> Result<Desk, Stop>
     requires shards { (0 < sizes.shards) × (sizes.shards ≤ 64) }
-    requires fit { IsFit design.now.circuit.horizon unit.now }
-    requires stores { AreStores (setup_of design.now sizes) desk.stores.items }
-    requires unfinished { Contains (F.unfinished files.old) slot }
-    ensures stores { IfOk result (λ later. AreStores (setup_of design.now sizes) later.stores.items) }
-    ensures served { IfOk result (λ later. Serves (setup_of design.now sizes) desk later (unit.now ∷ []) slot (S.written out.old) (S.written out.new) (F.made files.old) (F.made files.new)) }
-    ensures stopped { OnErr result (Stops (setup_of design.now sizes) desk (unit.now ∷ []) slot (S.written out.old) (S.written out.new) (F.made files.old) (F.made files.new)) }
-    ensures cause { IfErr result (UnitExplains (S.faults out.old) (S.faults out.new) (F.write_faults files.old) (F.write_faults files.new)) }
+    requires fit { IsFit design.now.circuit.horizon unit }
+    requires desk { IsDesk (setup_of design.now sizes) desk }
+    requires files { F.files files.old ≡ length desk.dumps.made.items + 1 }
+    requires unfinished { Contains (F.unfinished files.old) 0 }
+    ensures desk { IfOk result (λ later. IsDesk (setup_of design.now sizes) later) }
+    ensures count { IfOk result (λ later. F.files files.new ≡ length later.dumps.made.items + 1) }
+    ensures served { (names : List (List ℕ)) → IfOk result (λ later. Serves (session_of design.now sizes names) desk later (unit ∷ []) (S.written out.old) (S.written out.new) (F.made files.old) (F.made files.new)) }
+    ensures stopped { (names : List (List ℕ)) → IfErr result (Stops (session_of design.now sizes names) desk (unit ∷ []) (S.written out.old) (S.written out.new) (F.made files.old) (F.made files.new) (F.files files.new)) }
+    ensures cause { IfErr result (UnitsExplain (S.faults out.old) (S.faults out.new) (F.write_faults files.old) (F.write_faults files.new) (F.file_faults files.old) (F.file_faults files.new)) }
     ensures calm_replies { OnOk result (S.faults out.new ≡ S.faults out.old) }
-    ensures calm_journal { OnOk result (F.write_faults files.new ≡ F.write_faults files.old) }
-    ensures file_faults { F.file_faults files.new ≡ F.file_faults files.old }
+    ensures calm_writes { OnOk result (F.write_faults files.new ≡ F.write_faults files.old) }
+    ensures calm_files { OnOk result (F.file_faults files.new ≡ F.file_faults files.old) }
     ensures read_faults { F.read_faults files.new ≡ F.read_faults files.old }
     ensures started { F.started files.new ≡ F.started files.old }
-    ensures files { F.files files.new ≡ F.files files.old }
-    ensures unfinished { F.unfinished files.new ≡ F.unfinished files.old }
+    ensures unfinished { OnOk result (F.unfinished files.new ≡ F.unfinished files.old) }
+    ensures left { IfErr result (StopsOpen (F.unfinished files.old) (F.unfinished files.new)) }
 {
     match unit {
-        Unit::Batch(items) => serve_batch(
-            crew,
-            alloc,
-            design,
-            items.as_slice(),
-            sizes,
-            desk,
-            slot,
-            files,
-            out,
-        ),
-        Unit::Trim(most) => serve_trim(alloc, design, *most, sizes, desk, slot, files, out),
-        Unit::Stats => serve_stats(alloc, design, sizes, desk, slot, files, out),
-        Unit::First(item) => serve_first(alloc, design, item, sizes, desk, slot, files, out),
-        Unit::Why(item) => serve_why(alloc, design, item, sizes, desk, slot, files, out),
+        Unit::Batch(items) => { serve_batch(crew, alloc, design, items, sizes, desk, files, out) }
+        Unit::Trim(most) => serve_trim(alloc, design, most, sizes, desk, files, out),
+        Unit::Stats => serve_stats(alloc, design, sizes, desk, files, out),
+        Unit::First(item) => serve_first(alloc, design, &item, sizes, desk, files, out),
+        Unit::Why(item) => serve_why(alloc, design, &item, sizes, desk, files, out),
+        Unit::Vcd(file) => serve_vcd(alloc, design, sizes, file, desk, files, out),
     }
 }
 
@@ -205,32 +219,33 @@ pub fn serve_units<C: Crew, F: Files, S: Sink>(
     crew: &C,
     alloc: Global,
     design: &Design,
-    units: &[Unit],
+    units: UnitList,
     sizes: Sizes,
     desk: Desk,
-    slot: u32,
     files: &mut F,
     out: &mut S,
 ) -> Result<Desk, Stop>
     requires shards { (0 < sizes.shards) × (sizes.shards ≤ 64) }
-    requires fit { All (IsFit design.now.circuit.horizon) units.now }
-    requires stores { AreStores (setup_of design.now sizes) desk.stores.items }
-    requires unfinished { Contains (F.unfinished files.old) slot }
-    ensures stores { IfOk result (λ later. AreStores (setup_of design.now sizes) later.stores.items) }
-    ensures served { IfOk result (λ later. Serves (setup_of design.now sizes) desk later (units.now) slot (S.written out.old) (S.written out.new) (F.made files.old) (F.made files.new)) }
-    ensures stopped { OnErr result (Stops (setup_of design.now sizes) desk (units.now) slot (S.written out.old) (S.written out.new) (F.made files.old) (F.made files.new)) }
-    ensures cause { IfErr result (UnitExplains (S.faults out.old) (S.faults out.new) (F.write_faults files.old) (F.write_faults files.new)) }
+    requires fit { All (IsFit design.now.circuit.horizon) units }
+    requires desk { IsDesk (setup_of design.now sizes) desk }
+    requires files { F.files files.old ≡ length desk.dumps.made.items + 1 }
+    requires unfinished { Contains (F.unfinished files.old) 0 }
+    ensures desk { IfOk result (λ later. IsDesk (setup_of design.now sizes) later) }
+    ensures count { IfOk result (λ later. F.files files.new ≡ length later.dumps.made.items + 1) }
+    ensures served { (names : List (List ℕ)) → IfOk result (λ later. Serves (session_of design.now sizes names) desk later (units) (S.written out.old) (S.written out.new) (F.made files.old) (F.made files.new)) }
+    ensures stopped { (names : List (List ℕ)) → IfErr result (Stops (session_of design.now sizes names) desk (units) (S.written out.old) (S.written out.new) (F.made files.old) (F.made files.new) (F.files files.new)) }
+    ensures cause { IfErr result (UnitsExplain (S.faults out.old) (S.faults out.new) (F.write_faults files.old) (F.write_faults files.new) (F.file_faults files.old) (F.file_faults files.new)) }
     ensures calm_replies { OnOk result (S.faults out.new ≡ S.faults out.old) }
-    ensures calm_journal { OnOk result (F.write_faults files.new ≡ F.write_faults files.old) }
-    ensures file_faults { F.file_faults files.new ≡ F.file_faults files.old }
+    ensures calm_writes { OnOk result (F.write_faults files.new ≡ F.write_faults files.old) }
+    ensures calm_files { OnOk result (F.file_faults files.new ≡ F.file_faults files.old) }
     ensures read_faults { F.read_faults files.new ≡ F.read_faults files.old }
     ensures started { F.started files.new ≡ F.started files.old }
-    ensures files { F.files files.new ≡ F.files files.old }
-    ensures unfinished { F.unfinished files.new ≡ F.unfinished files.old }
+    ensures unfinished { OnOk result (F.unfinished files.new ≡ F.unfinished files.old) }
+    ensures left { IfErr result (StopsOpen (F.unfinished files.old) (F.unfinished files.new)) }
 {
     let mut desk = desk;
-    for unit in units {
-        desk = serve_unit(crew, alloc, design, unit, sizes, desk, slot, files, out)?;
+    for unit in units.into_vec() {
+        desk = serve_unit(crew, alloc, design, unit, sizes, desk, files, out)?;
     }
     Ok(desk)
 }

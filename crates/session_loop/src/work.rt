@@ -8,7 +8,7 @@ ghost use Rattle.session_loop.specs.Faults.{WorkExplains};
 ghost use Rattle.session_loop.specs.Halting.{WroteJournal, IsWork, IsWorkHalted};
 
 use crate::halt::Halt;
-use crate::journal::{begin_journal, finish_journal};
+use crate::journal::{JOURNAL, begin_journal, finish_journal};
 use crate::section::write_section;
 use crate::stores::empty_stores;
 use backsim_io::Files;
@@ -47,10 +47,10 @@ pub fn serve_work<C: Crew, F: Files>(
     ensures read_faults { F.read_faults files.new ≡ F.read_faults files.old }
     ensures started { F.started files.new ≡ F.started files.old }
 {
-    let slot = begin_journal(alloc, sizes, journal, files)?;
+    begin_journal(alloc, sizes, journal, files)?;
     let stores = empty_stores(alloc, sizes)?;
     let done = answer_batch(crew, alloc, design, items, sizes, stores)?;
-    write_section(alloc, SectionKind::Batch, 1, &done.lists, slot, files)?;
-    finish_journal(slot, files)?;
+    write_section(alloc, SectionKind::Batch, 1, &done.lists, JOURNAL, files)?;
+    finish_journal(files)?;
     Ok(done.replies)
 }

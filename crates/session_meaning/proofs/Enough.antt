@@ -1,7 +1,7 @@
 -- A query whose budget is as great as its need has its wave.
 use Rattle.std.proofs.Common.{◌≡◌, ◌≢◌, ℕ, zero, suc, ◌<◌, List, [], ◌∷◌, ◌++◌, length, map, Contains, All, AllPairs, Option, Some, None, refl, sym, ap, subst, ◌∙◌, arith, ◌⊎◌, inl, inr}
 use Rattle.std.specs.List.{AllZip, slice_index_or}
-use Rattle.std.proofs.lemmas.List.Elements.{All-nil, All-cons, All-head, All-tail}
+use Rattle.std.proofs.lemmas.List.Elements.{All-head}
 use Rattle.circuit_meaning.specs.Circuit.{IsCircuit}
 use Rattle.circuit_meaning.specs.Forward.{wave}
 use Rattle.circuit_meaning.specs.declared.Run.{Run}
@@ -30,6 +30,7 @@ use Rattle.session_meaning.specs.declared.Verdict.TheVariants.{Ask, Unknown, Pas
 use Rattle.session_meaning.specs.Verdicts.{verdict_of, first_verdict, why_verdict, asked}
 use Rattle.session_meaning.specs.FirstTimes.{first_time, up_to_first, IsFirstReply}
 use Rattle.session_meaning.specs.Explanations.{IsWhyReply}
+use Rattle.session_meaning.proofs.Parts.{first-part, last-part}
 use Rattle.session_meaning.proofs.Asked.{asks-line, asked-in, in-asked}
 use Rattle.session_meaning.specs.Replies.{IsReply}
 use Rattle.session_meaning.specs.Session.{Setup, Course, batch_of, first_batch, why_batch, IsServed, IsFirstServed, IsWhyServed, Session, Opened, Served}
@@ -98,14 +99,6 @@ enough setup circuit now next items apart served room =
     replied q replies.Unknown mine most h = absurd h
     replied q replies.Past mine most h = absurd h
     replied q replies.BadLine mine most h = absurd h
-
-first-part : {X : Type 0} (P : X → Type 0) (part back : List X) → All P (part ++ back) → All P part
-first-part P [] back all = All-nil P
-first-part P (x ∷ part) back all = All-cons P x part (All-head P x (part ++ back) all) (first-part P part back (All-tail P x (part ++ back) all))
-
-last-part : {X : Type 0} (P : X → Type 0) (front part : List X) → All P (front ++ part) → All P part
-last-part P [] part all = all
-last-part P (x ∷ front) part all = last-part P front part (All-tail P x (front ++ part) all)
 
 -- Of a question for a first time.
 module _ (setup : Setup) (circuit : IsCircuit setup.design.circuit) (now next : Course) (item : FirstItem) (served : IsFirstServed setup now next item) (room : IsRoomy (first_batch setup item) served.lists) where
@@ -181,6 +174,7 @@ unit-ample setup circuit now next (units.Trim most) served own = tt
 unit-ample setup circuit now next units.Stats served own = tt
 unit-ample setup circuit now next (units.First item) served own = enough-first setup circuit now next item served
 unit-ample setup circuit now next (units.Why item) served own = enough-why setup circuit now next item served
+unit-ample setup circuit now next (units.Vcd file) served own = tt
 
 session-ample : (setup : Setup) → IsCircuit setup.design.circuit → (us : List ScriptUnit) (course : Course) → All HasOwnLines us → (session : Session setup us course) → IsAmple setup us course session
 session-ample setup circuit us course own Opened = tt
@@ -191,7 +185,7 @@ session-ample setup circuit us course own (Served {units = before} {now = now} {
 
 -- and in the session of a script, whose items have lines of their own
 pub script-ample : UnitsHaveOwnLines → EnoughBudgetsAreServed
-script-ample own setup circuit script out journal session = record {
+script-ample own setup circuit script out journal dumps session = record {
   session = session;
   ample = session-ample setup circuit (script_units setup.design.circuit.horizon script) session.course (own setup.design.circuit.horizon script) session.served;
 }

@@ -1,6 +1,7 @@
 -- Who pays enough is served: where a query's budget is as great as its need, the reply is its wave.
 use Rattle.std.specs.Prelude.{◌≡◌, ◌≢◌, ⊤, ℕ, List, Option, Some, None}
 use Rattle.std.specs.List.{AllZip}
+use Rattle.backsim_io.specs.Held.{Made}
 use Rattle.circuit_meaning.specs.Forward.{wave}
 use Rattle.batch_meaning.specs.declared.Query.{Query}
 use Rattle.journal_meaning.specs.declared.Entry.{Entry}
@@ -58,6 +59,7 @@ IsAmpleUnit setup now next (units.Trim most) served = ⊤
 IsAmpleUnit setup now next units.Stats served = ⊤
 IsAmpleUnit setup now next (units.First item) served = IsAmpleFirst setup item served.lists served.reply
 IsAmpleUnit setup now next (units.Why item) served = IsAmpleWhy setup item served.lists served.reply
+IsAmpleUnit setup now next (units.Vcd file) served = ⊤
 
 -- and in every unit of a session
 abbrev pub IsAmple : (setup : Setup) (all : List ScriptUnit) (course : Course) → Session setup all course → Type 0
@@ -66,6 +68,6 @@ IsAmple setup all course (Served {units = before} {now = now} {next = next} unit
     IsAmple setup before now session × IsAmpleUnit setup now next unit served
 
 -- the session of a whole script, in every batch of which this holds
-pub record IsAmpleSession (setup : Setup) (script out journal : List ℕ) : Type 0 where
-  pub session : IsSessionOf setup script out journal
+pub record IsAmpleSession (setup : Setup) (script out journal : List ℕ) (dumps : List Made) : Type 0 where
+  pub session : IsSessionOf setup script out journal dumps
   pub ample : IsAmple setup (script_units setup.design.circuit.horizon script) session.course session.served

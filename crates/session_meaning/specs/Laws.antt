@@ -1,10 +1,13 @@
 -- What holds of every session.
-use Rattle.std.specs.Prelude.{◌≡◌, ℕ, ◌<◌, List, []}
+use Rattle.std.specs.Prelude.{◌≡◌, ℕ, ◌<◌, ◌≤◌, List, [], All}
+use Rattle.backsim_io.specs.Held.{Made}
 use Rattle.circuit_meaning.specs.Circuit.{IsCircuit}
 use Rattle.journal_meaning.specs.Sections.{AreLegal}
 use Rattle.query_lines.specs.Fit.{HaveOwnLines}
 use Rattle.query_lines.specs.declared.unit.Item.{Item}
 use Rattle.query_lines.specs.declared.unit.Unit.{Unit as ScriptUnit}
+use Rattle.vcd_answers.specs.Wires.{Wire, AreWires}
+use Rattle.vcd_answers.specs.Dumps.{vcd_of}
 use Rattle.session_meaning.specs.Session.{Setup, Course, Session, IsBatchServed, IsSessionOf}
 use Rattle.session_meaning.specs.Ample.{IsAmpleBatch, IsAmpleSession}
 
@@ -20,5 +23,15 @@ EnoughBudgetIsServed = (setup : Setup) → IsCircuit setup.design.circuit → (n
 
 -- So it is in the session of every script.
 abbrev pub EnoughBudgetsAreServed : Type 0
-EnoughBudgetsAreServed = (setup : Setup) → IsCircuit setup.design.circuit → (script out journal : List ℕ)
-    → IsSessionOf setup script out journal → IsAmpleSession setup script out journal
+EnoughBudgetsAreServed = (setup : Setup) → IsCircuit setup.design.circuit → (script out journal : List ℕ) (dumps : List Made)
+    → IsSessionOf setup script out journal dumps → IsAmpleSession setup script out journal dumps
+
+-- the file is the text of wires that a dump can hold, so that its reader reads them back
+abbrev pub HoldsWires : Made → Type 0
+HoldsWires dump = (wires : List Wire) × AreWires wires × (dump.bytes ≡ vcd_of wires)
+
+-- In the session of a script each dump is such a file.
+abbrev pub DumpsHoldWires : Type 0
+DumpsHoldWires = (setup : Setup) → setup.design.circuit.horizon ≤ 1000000 → (script out journal : List ℕ) (dumps : List Made)
+    → IsSessionOf setup script out journal dumps
+    → All HoldsWires dumps

@@ -1,6 +1,8 @@
 -- A session: what is replied to the units of a script, and which sections its journal has. Each kind of unit has its case.
-use Rattle.std.specs.Prelude.{◌≡◌, ℕ, ◌<◌, Bool, true, false, List, [], ◌∷◌, ◌++◌, length, get_or, map, drop, reverse, filter, sum_by, None}
-use Rattle.std.specs.List.{AllZip, range_with_len}
+use Rattle.std.specs.Prelude.{◌≡◌, ℕ, ◌<◌, Bool, true, false, nat_lt, List, [], ◌∷◌, ◌++◌, length, get_or, map, drop, reverse, filter, sum_by, Option, Some, None, if◌then◌else◌}
+use Rattle.std.specs.List.{AllZip, list_any, range_with_len}
+use Rattle.std.specs.Str.{bytes_eq}
+use Rattle.backsim_io.specs.Held.{Made}
 use Rattle.valid_intervals.specs.declared.SignalCell.{SignalCell}
 use Rattle.journal_meaning.specs.declared.Entry.{Entry}
 use Rattle.journal_meaning.specs.declared.Entry.TheVariants.{Filled, Evicted}
@@ -16,30 +18,39 @@ use Rattle.query_lines.specs.declared.unit.Unit.{Unit as ScriptUnit}
 use Rattle.query_lines.specs.declared.unit.Unit.TheVariants as units
 use Rattle.reply_lines.specs.declared.reply.FirstReply.{FirstReply}
 use Rattle.reply_lines.specs.declared.reply.Reply.{Reply}
+use Rattle.reply_lines.specs.declared.reply.VcdReply.TheVariants as dumps
 use Rattle.reply_lines.specs.declared.reply.WhyReply.{WhyReply}
 use Rattle.query_lines.specs.Reading.{script_units}
-use Rattle.reply_lines.specs.Replies.{first_line, why_lines, trimmed_line, stats_line}
+use Rattle.reply_lines.specs.Replies.{first_line, why_lines, vcd_line, trimmed_line, stats_line}
 use Rattle.design.specs.Joined.{Joined}
+use Rattle.vcd_answers.specs.Wires.{Wire}
+use Rattle.vcd_answers.specs.Dumps.{vcd_of}
 use Rattle.session_meaning.specs.Verdicts.{verdict_of, queries_of, first_verdict, why_verdict, asked}
 use Rattle.session_meaning.specs.Replies.{IsReply, replies_text}
+use Rattle.session_meaning.specs.Dumps.{wires_of}
 use Rattle.session_meaning.specs.FirstTimes.{up_to_first, IsFirstReply}
 use Rattle.session_meaning.specs.Explanations.{IsWhyReply}
 use Rattle.session_meaning.specs.Written.{journal_text}
 
--- what is the same throughout a session: the design, how many shards the memo has, and for how many cells each has room
+-- what is the same throughout a session: the design, how many shards the memo has, for how many cells each has room, and the names of
+-- the session's own files
 pub record Setup : Type 0 where
   pub design : Joined
   pub shards : ℕ
   pub capacity : ℕ
+  pub names : List (List ℕ)
 
--- what a session has come to: the sections of its journal, and the text of its replies
+-- what a session has come to: the sections of its journal, the text of its replies, the waves of its last batch if it had one, and the
+-- files of its dumps
 pub record Course : Type 0 where
   pub sections : List SectionEntries
   pub out : List ℕ
+  pub waves : Option (List Wire)
+  pub dumps : List Made
 
 -- as it begins
 abbrev pub opened : Course
-opened = record { sections = []; out = [] }
+opened = record { sections = []; out = []; waves = None; dumps = [] }
 
 -- one reply more
 abbrev pub with_reply : Course → List ℕ → Course
@@ -49,6 +60,10 @@ with_reply now text = record now { out = now.out ++ text }
 abbrev pub with_section : Course → Purpose → List (List Entry) → List ℕ → Course
 with_section now purpose lists text =
     record now { sections = now.sections ++ record { purpose = purpose; lists = lists } ∷ []; out = now.out ++ text }
+
+-- these waves in place of those of the batch before
+abbrev pub with_waves : Course → List Wire → Course
+with_waves now wires = record now { waves = Some wires }
 
 -- A batch of items.
 
@@ -69,7 +84,7 @@ pub record IsBatchServed (setup : Setup) (now next : Course) (items : List Item)
   pub legal : (shard : ℕ) → shard < setup.shards
       → IsLegalBatch (batch_of setup items) shard (cells_after shard now.sections) (get_or lists shard [])
   pub right : AllZip (λ item reply. IsReply setup.design.circuit (of_batch lists) (verdict_of setup.design item) reply) items replies
-  pub leads : next ≡ with_section now (Asks (batch_of setup items)) lists (replies_text items replies)
+  pub leads : next ≡ with_waves (with_section now (Asks (batch_of setup items)) lists (replies_text items replies)) (wires_of setup.design items replies)
 
 -- A question for a first time.
 
@@ -129,6 +144,28 @@ pub record IsTrimServed (setup : Setup) (now next : Course) (most : ℕ) : Type 
   pub evicts : (shard : ℕ) → shard < setup.shards → get_or lists shard [] ≡ trim_entries most (cells_after shard now.sections)
   pub leads : next ≡ with_section now Trims lists (trimmed_line (sum_by length lists))
 
+-- A dump.
+
+-- the name is that of one of the session's own files, or of a dump
+abbrev pub is_taken : Setup → Course → List ℕ → Bool
+is_taken setup now file = list_any (bytes_eq file) (setup.names ++ map (λ dump. dump.name) now.dumps)
+
+-- one dump more
+abbrev pub with_dump : Course → List ℕ → List Wire → Course
+with_dump now file wires = record now {
+  out = now.out ++ vcd_line file (dumps.Made (length wires));
+  dumps = now.dumps ++ record { name = file; bytes = vcd_of wires } ∷ [];
+}
+
+-- a dump of the last batch's waves, if there was a batch, and fewer than three dumps were made
+abbrev pub with_last : Course → List ℕ → Option (List Wire) → Course
+with_last now file None = with_reply now (vcd_line file dumps.NoBatch)
+with_last now file (Some wires) = if nat_lt (length now.dumps) 3 then with_dump now file wires else with_reply now (vcd_line file dumps.Full)
+
+-- what a line that asks for a dump under this name leads to
+abbrev pub with_vcd : Setup → Course → List ℕ → Course
+with_vcd setup now file = if is_taken setup now file then with_reply now (vcd_line file dumps.Taken) else with_last now file now.waves
+
 -- The counts.
 
 abbrev pub is_batch : Purpose → Bool
@@ -165,6 +202,7 @@ IsServed setup now (units.Trim most) next = IsTrimServed setup now next most
 IsServed setup now units.Stats next = next ≡ with_reply now (counts_line setup now.sections)
 IsServed setup now (units.First item) next = IsFirstServed setup now next item
 IsServed setup now (units.Why item) next = IsWhyServed setup now next item
+IsServed setup now (units.Vcd file) next = next ≡ with_vcd setup now file
 
 -- What a session comes to by these units, one after another.
 pub data Session (setup : Setup) : List ScriptUnit → Course → Type 0 where
@@ -172,13 +210,14 @@ pub data Session (setup : Setup) : List ScriptUnit → Course → Type 0 where
   Served : {units : List ScriptUnit} {now next : Course} (unit : ScriptUnit)
       → Session setup units now → IsServed setup now unit next → Session setup (units ++ unit ∷ []) next
 
--- The session of these units has these replies, and this journal, whose head comes first.
-pub record IsSession (setup : Setup) (units : List ScriptUnit) (out journal : List ℕ) : Type 0 where
+-- The session of these units has these replies, this journal, whose head comes first, and these dumps.
+pub record IsSession (setup : Setup) (units : List ScriptUnit) (out journal : List ℕ) (dumps : List Made) : Type 0 where
   pub course : Course
   pub served : Session setup units course
   pub out_is : out ≡ course.out
   pub journal_is : journal ≡ journal_text setup.shards setup.capacity course.sections
+  pub dumps_are : dumps ≡ course.dumps
 
 -- The same of the units of a whole script.
-abbrev pub IsSessionOf : Setup → List ℕ → List ℕ → List ℕ → Type 0
-IsSessionOf setup script out journal = IsSession setup (script_units setup.design.circuit.horizon script) out journal
+abbrev pub IsSessionOf : Setup → List ℕ → List ℕ → List ℕ → List Made → Type 0
+IsSessionOf setup script out journal dumps = IsSession setup (script_units setup.design.circuit.horizon script) out journal dumps

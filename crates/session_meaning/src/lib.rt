@@ -1,24 +1,29 @@
 //! What a session means: what is replied to the units of a script, and which journal stands beside the replies.
 //!
 //! A session serves the units of a script one after another, over a memo whose shards keep cells from unit to unit. It writes
-//! two texts that only grow: the replies, and the journal.
+//! two texts that only grow: the replies, and the journal. And it makes up to three files, its dumps: each has the waves that the
+//! last batch before it replied.
 //!
 //! - [`Verdict`] is what becomes of an item of a batch, and `specs/Verdicts` the one of each item. `specs/Replies` says which
 //!   reply is right, over the entries of the item's batch.
 //! - `specs/Written` is how sections are written into the journal: numbered one after another, each by its kind.
+//! - `specs/Dumps` is what a dump shows of a batch: a wire for each wave that was replied, as `vcd_answers` defines wires.
 //! - `specs/Session` is a session, as the list of the units that were served. Each kind of unit is a case of its own, which says
-//!   what the session comes to by one such unit; the clauses are its fields.
-//! - `specs/Broken` is a session that stopped early: some units whole, and of the next one a beginning of what it writes.
+//!   what the session comes to by one such unit; the clauses are its fields. A line that asks for a dump adds a file, or the reply
+//!   says why not: the name is taken, there was no batch, or three dumps were made.
+//! - `specs/Broken` is a session that stopped early: some units whole, and of the next one a beginning of what it writes. Of the
+//!   files of the dumps at most the last is in part, and a session may break off in a dump, before the reply.
 //! - `specs/Ample` is a session in which every query whose budget is as great as its need has its wave.
-//! - `specs/Laws` holds what follows for every session. The functions below carry these laws as their contracts, and do nothing.
+//! - `specs/Laws` holds what follows for every session: its lists are legal, budgets that are great enough are served, and each
+//!   dump can be read back. The functions below carry these laws as their contracts, and do nothing.
 //!
 //! Nothing here costs anything: no function does anything, and a verdict is a few numbers, which are copied.
 #![tactic(auto)]
 
-ghost use Rattle.session_meaning.specs.Laws.{SessionsAreLegal, EnoughBudgetIsServed, EnoughBudgetsAreServed};
+ghost use Rattle.session_meaning.specs.Laws.{SessionsAreLegal, EnoughBudgetIsServed, EnoughBudgetsAreServed, DumpsHoldWires};
 
 use batch_meaning::Query;
-use query_lines::units_have_own_lines;
+use query_lines::{script_units_are_fit, units_have_own_lines};
 
 /// What becomes of an item: a query is asked, or there is none.
 #[derive(Clone, Copy, Debug, PartialEq, Eq)]
@@ -49,4 +54,11 @@ pub fn enough_budgets_are_served()
     ensures { EnoughBudgetsAreServed }
 {
     units_have_own_lines();
+}
+
+/// Each dump of the session of a script is the text of wires that a dump can hold: `vcd_answers::read_vcd` reads them back.
+pub fn dumps_are_read_back()
+    ensures { DumpsHoldWires }
+{
+    script_units_are_fit();
 }

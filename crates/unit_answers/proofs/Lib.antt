@@ -10,3 +10,4 @@ pub mod Whys
 pub mod EmptyStores
 pub mod Opening
 pub mod Running
+pub mod Dumping

@@ -1,3 +1,4 @@
 pub mod Stores
 pub mod Done
+pub mod Dumps
 pub mod inner

@@ -7,8 +7,9 @@ use Rattle.design.specs.Joined.{Joined}
 use Rattle.session_meaning.specs.Session.{Setup}
 use Rattle.unit_answers.specs.declared.sizes.Sizes.{Sizes}
 
+-- a design with a memo of these sizes; what a unit comes to over the stores does not depend on the names of files
 abbrev pub setup_of : Joined → Sizes → Setup
-setup_of design sizes = record { design = design; shards = sizes.shards; capacity = sizes.cells }
+setup_of design sizes = record { design = design; shards = sizes.shards; capacity = sizes.cells; names = [] }
 
 -- the cells of the shard with this number
 abbrev pub cells_of : List Contents → ℕ → List SignalCell

@@ -6,7 +6,7 @@
 //! the stores that are left. [`answer_first`] answers when a signal first has a value: it opens and closes the shards in the same way,
 //! and asks for one cell after another (`first_times`), with no crew; so does [`answer_why`], which answers why a signal has its value at a
 //! time by a proof (`explanations`). [`trim_stores`] evicts the least recent cells. `specs/Done` says
-//! what each comes to.
+//! what each comes to. [`dump_waves`] writes the waves that a batch was replied as a dump (`vcd_answers`), and asks nothing.
 //!
 //! A caller may rely on this, whoever the crew is: each journal is legal from the cells that its store held, each item and each question
 //! has a right reply, and the stores hold what the journals lead to. So the next unit is served over them in the same
@@ -26,6 +26,7 @@
 #![tactic(auto)]
 
 mod batch;
+mod dump;
 mod first;
 mod replies;
 mod run;
@@ -36,6 +37,7 @@ mod trim;
 mod why;
 
 pub use batch::{BatchDone, answer_batch};
+pub use dump::{Dump, dump_waves};
 pub use first::{FirstDone, answer_first};
 pub use sizes::Sizes;
 pub use trim::{TrimDone, trim_stores};

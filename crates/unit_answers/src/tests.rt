@@ -26,6 +26,10 @@ use worker_gate::{Gate, Pass};
 /// Signal 0 is the input a, and signal 1 is the buffer y.
 const NETLIST: &str = "INPUT(a)\nOUTPUT(y)\ny = BUFF(a)\n";
 
+/// What shows y at the time 5 and nothing else.
+const DUMP: &str =
+    "$timescale 1 ns $end\n$scope module top $end\n$var wire 1 ! y $end\n$upscope $end\n$enddefinitions $end\n#0\nx!\n#5\n1!\n#6\nx!\n";
+
 const SIZES: Sizes = Sizes {
     shards: 2,
     cells: 4,
@@ -70,13 +74,13 @@ fn empty_stores(alloc: Global) -> Result<Vec<CellStore>, OutOfMemory>
     Ok(stores)
 }
 
-/// A bad line, and then y at the time 5, asked over empty stores. The workers leave the strand to settlement.
+/// A bad line, and then y at the time 5, asked over empty stores, and the dump of the replies. The workers leave the strand to settlement.
 fn answered<R: Threads + Wait + Sync>(
     rt: &R,
     alloc: Global,
     design: &Design,
-) -> Result<BatchDone, OutOfMemory>
-    ensures { IfOk result (λ done. AreStores (setup_of design.now SIZES) done.stores.items) }
+) -> Result<(BatchDone, Dump), OutOfMemory>
+    ensures { IfOk result (λ seen. AreStores (setup_of design.now SIZES) seen.0.stores.items) }
 {
     let items = [
         Item {
@@ -95,7 +99,8 @@ fn answered<R: Threads + Wait + Sync>(
     let stores = empty_stores(alloc)?;
     let crew = Workers::new(rt, &Shut, 1);
     let done = answer_batch(&crew, alloc, design, &items, SIZES, stores)?;
-    Ok(done)
+    let dump = dump_waves(alloc, design, &items, &done.replies)?;
+    Ok((done, dump))
 }
 
 /// The journals, line by line, with a line before those of each shard.
@@ -111,10 +116,11 @@ fn journals_text(alloc: Global, lists: &[EntryList]) -> Result<Vec<u8>, OutOfMem
     Ok(text)
 }
 
-/// What came of a batch and of the trim of all cells after it: the replies, and the journals of both.
+/// What came of a batch and of the trim of all cells after it: the replies and their dump, and the journals of both.
 #[derive(Drop)]
 struct BatchSeen {
     replies: Vec<Reply>,
+    dump: Dump,
     asked: Vec<u8>,
     trimmed: Vec<u8>,
 }
@@ -124,16 +130,18 @@ fn answered_and_trimmed<R: Threads + Wait + Sync>(
     alloc: Global,
     design: &Design,
 ) -> Result<BatchSeen, OutOfMemory> {
+    let (done, dump) = answered(rt, alloc, design)?;
     let BatchDone {
         replies,
         lists,
         stores,
-    } = answered(rt, alloc, design)?;
+    } = done;
     let asked = journals_text(alloc, &lists)?;
     let trim = trim_stores(alloc, design, 0, SIZES, stores)?;
     let trimmed = journals_text(alloc, &trim.lists)?;
     Ok(BatchSeen {
         replies,
+        dump,
         asked,
         trimmed,
     })
@@ -162,6 +170,8 @@ fn a_batch_is_answered_and_trimmed(rt: HostRuntime) -> Result<(), Fail> {
         value: Value::One,
     }];
     assert!(rt; runs_at(&seen.replies, 1) == wave.as_slice());
+    assert_eq!(rt; seen.dump.wires, 1);
+    assert_eq!(rt; seen.dump.text.as_slice(), DUMP.as_bytes());
     assert_eq!(rt;
         seen.asked.as_slice(),
         b"shard\nshard\nclaim 2 1 5\nfill 2 1 5 1 11 1\n".as_slice()

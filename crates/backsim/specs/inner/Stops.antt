@@ -11,7 +11,7 @@ use Rattle.circuit_files.specs.declared.stop.FilesStop.{FilesStop}
 use Rattle.circuit_files.specs.declared.stop.FilesStop.TheVariants as files
 use Rattle.backsim.specs.Texts.{too_long}
 use Rattle.backsim.specs.declared.status.Place.{Place}
-use Rattle.backsim.specs.declared.status.Place.TheVariants.{Netlist, Timing, Stimulus, Journal, Script, Replies}
+use Rattle.backsim.specs.declared.status.Place.TheVariants.{Netlist, Timing, Stimulus, Journal, Script, Replies, Vcd}
 use Rattle.backsim.specs.declared.status.Status.{Status}
 use Rattle.backsim.specs.declared.status.Status.TheVariants as statuses
 use Rattle.backsim.specs.declared.refusal.Refusal.{Refusal}
@@ -47,6 +47,9 @@ stop_of (Stopped stops.ScriptUnread) = ReadFault Script
 stop_of (Stopped stops.ScriptTooLong) = Refused ScriptTooLong
 stop_of (Stopped stops.RepliesUnwritten) = WriteFault Replies
 stop_of (Stopped stops.JournalUnwritten) = WriteFault Journal
+stop_of (Stopped stops.DumpUnmade) = FileFault Vcd
+stop_of (Stopped stops.DumpUnwritten) = WriteFault Vcd
+stop_of (Stopped stops.DumpUnfinished) = FileFault Vcd
 stop_of (Stopped stops.OutOfMemory) = OutOfMemory
 stop_of JournalUnfinished = FileFault Journal
 

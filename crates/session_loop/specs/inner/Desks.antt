@@ -1,14 +1,24 @@
 -- What a session keeps from one unit to the next.
-use Rattle.std.specs.Prelude.{◌≡◌, ℕ, ◌+◌, ◌<◌, List, length, filter, sum_by}
+use Rattle.std.specs.Prelude.{◌≡◌, ⊤, ℕ, ◌+◌, ◌<◌, List, length, map, filter, sum_by, nat_le, ◌||◌, if◌then◌else◌, Option, Some, None}
+use Rattle.std.specs.List.{list_any}
+use Rattle.std.specs.Str.{bytes_eq}
 use Rattle.journal_meaning.specs.declared.Entry.{Entry}
 use Rattle.journal_meaning.specs.Sections.{SectionEntries, cells_after}
 use Rattle.journal_meaning.specs.Counts.{count}
 use Rattle.journal_text.specs.declared.sections.SectionKind.{SectionKind}
 use Rattle.journal_text.specs.declared.sections.SectionKind.TheVariants.{Batch, Trim, Held}
 use Rattle.session_meaning.specs.Session.{Setup, Course, is_batch, is_fill, is_eviction, entries_that}
-use Rattle.unit_answers.specs.Stores.{cells_of}
+use Rattle.design.specs.Joined.{Joined}
+use Rattle.reply_lines.specs.declared.reply.VcdReply.{VcdReply}
+use Rattle.reply_lines.specs.declared.reply.VcdReply.TheVariants as replies
+use Rattle.vcd_answers.specs.Wires.{Wire}
+use Rattle.session_meaning.specs.Dumps.{wires_of}
+use Rattle.unit_answers.specs.Stores.{cells_of, AreStores}
+use Rattle.unit_answers.specs.Dumps.{AreReplied}
 use Rattle.session_loop.specs.declared.desk.Counts.{Counts}
 use Rattle.session_loop.specs.declared.desk.Desk.{Desk}
+use Rattle.session_loop.specs.declared.desk.Dumps.{Dumps}
+use Rattle.session_loop.specs.declared.desk.LastBatch.{LastBatch}
 
 -- the counts are those of the sections
 pub record IsCount (counts : Counts) (sections : List SectionEntries) : Type 0 where
@@ -33,7 +43,41 @@ pub record IsCounted (old : Counts) (kind : SectionKind) (lists : List (List Ent
   pub fills : new.fills ≡ old.fills + sum_by (count is_fill) lists
   pub evictions : new.evictions ≡ old.evictions + sum_by (count is_eviction) lists
 
+-- these are the waves of the last batch, if there was one
+abbrev pub Shows : Joined → Option LastBatch → Option (List Wire) → Type 0
+Shows d None None = ⊤
+Shows d None (Some wires) = ⊥
+Shows d (Some last) None = ⊥
+Shows d (Some last) (Some wires) = wires ≡ wires_of d last.items last.replies.items
+
+-- what is kept for dumps is what the session has come to
+pub record KeepsDumps (setup : Setup) (dumps : Dumps) (now : Course) : Type 0 where
+  pub shows : Shows setup.design dumps.last now.waves
+  pub own : dumps.own.items ≡ setup.names
+  pub made : dumps.made.items ≡ map (λ dump. dump.name) now.dumps
+
+-- why no dump is made under this name, if none is
+abbrev pub refused_last : Option LastBatch → ℕ → Option VcdReply
+refused_last None made = Some replies.NoBatch
+refused_last (Some last) made = if nat_le 3 made then Some replies.Full else None
+
+abbrev pub refused : Dumps → List ℕ → Option VcdReply
+refused dumps file = if list_any (bytes_eq file) dumps.own.items || list_any (bytes_eq file) dumps.made.items
+    then Some replies.Taken
+    else refused_last dumps.last (length dumps.made.items)
+
+-- the waves of the last batch can be shown, if there was one
+abbrev pub IsShowable : Joined → Option LastBatch → Type 0
+IsShowable d None = ⊤
+IsShowable d (Some last) = AreReplied d last.items last.replies.items
+
+-- what the next unit can be served over: stores for the shards, and a last batch that can be shown
+pub record IsDesk (setup : Setup) (desk : Desk) : Type 0 where
+  pub stores : AreStores setup desk.stores.items
+  pub shown : IsShowable setup.design desk.dumps.last
+
 -- what is kept is what the session has come to
 pub record Keeps (setup : Setup) (desk : Desk) (now : Course) : Type 0 where
   pub cells : (shard : ℕ) → shard < setup.shards → cells_of desk.stores.items shard ≡ cells_after shard now.sections
   pub counts : IsCount desk.counts now.sections
+  pub dumps : KeepsDumps setup desk.dumps now

@@ -1,9 +1,10 @@
 -- Two places that texts are written to: a sink, and a created file.
-use Rattle.std.specs.Prelude.{◌≡◌, ℕ, List, ◌++◌, codes}
+use Rattle.std.specs.Prelude.{◌≡◌, ℕ, ◌⊎◌, List, [], ◌∷◌, ◌++◌, length, codes}
 use Rattle.journal_text.specs.Spelling.{field, line_feed}
 use Rattle.backsim_io.specs.Counts.{Grows}
 use Rattle.backsim_io.specs.Held.{Made, FileGrows}
 use Rattle.session_meaning.specs.Broken.{IsPrefix}
+use Rattle.session_loop.specs.Halting.{session_files}
 
 -- the bytes taken so far went on as a text did
 abbrev pub GoesOn : (List ℕ → Type 0) → (List ℕ → Type 0) → List ℕ → List ℕ → Type 0
@@ -12,6 +13,18 @@ GoesOn old new before after = (more : List ℕ) × (after ≡ before ++ more) ×
 -- the bytes of the file at this place went on as a text did
 abbrev pub FileGoesOn : (List Made → Type 0) → (List Made → Type 0) → ℕ → List ℕ → List ℕ → Type 0
 FileGoesOn old new slot before after = (more : List ℕ) × (after ≡ before ++ more) × FileGrows old new slot more
+
+-- the files of a session went on: its journal, whatever its name, and its dumps
+abbrev pub FilesGoOn : (List Made → Type 0) → (List Made → Type 0) → List ℕ → List Made → List ℕ → List Made → Type 0
+FilesGoOn old new journal dumps later_journal later_dumps = (name : List ℕ) → old (session_files name journal dumps) → new (session_files name later_journal later_dumps)
+
+-- whatever so many files were created before, these were created after them
+abbrev pub Adds : (List Made → Type 0) → (List Made → Type 0) → ℕ → List Made → Type 0
+Adds old new count more = (before : List Made) → length before ≡ count → old before → new (before ++ more)
+
+-- of a dump nothing was created, or a file with a part of its text
+abbrev pub IsDumpPart : List ℕ → List ℕ → List Made → Type 0
+IsDumpPart name text more = (more ≡ []) ⊎ ((part : List ℕ) × IsPrefix part text × (more ≡ record { name = name; bytes = part } ∷ []))
 
 -- a part at the front of a text was written
 abbrev pub GrowsPart : (List ℕ → Type 0) → (List ℕ → Type 0) → List ℕ → Type 0

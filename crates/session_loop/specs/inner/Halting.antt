@@ -1,5 +1,5 @@
 -- What only the proofs and the private functions of this crate speak of, beside `Halting`.
-use Rattle.std.specs.Prelude.{◌≡◌, ⊤, ℕ, ◌⊎◌, List, [], ◌∷◌}
+use Rattle.std.specs.Prelude.{◌≡◌, ⊤, ℕ, ◌+◌, ◌⊎◌, List, [], ◌∷◌}
 use Rattle.backsim_io.specs.Held.{Made, SameMade}
 use Rattle.session_meaning.specs.Broken.{IsPrefix}
 use Rattle.session_loop.specs.declared.halt.Halt.{Halt}
@@ -9,5 +9,5 @@ use Rattle.session_loop.specs.Halting.{Stands}
 -- what stands where a journal isn't begun: nothing, or a part of its head
 abbrev pub IsHeadHalted : List ℕ → List ℕ → (List Made → Type 0) → (List Made → Type 0) → ℕ → ℕ → Halt → Type 0
 IsHeadHalted name head made new_made files new_files JournalUnmade = SameMade made new_made × (new_files ≡ files)
-IsHeadHalted name head made new_made files new_files (Stopped stop) = (part : List ℕ) × IsPrefix part head × Stands name part made new_made
+IsHeadHalted name head made new_made files new_files (Stopped stop) = (part : List ℕ) × IsPrefix part head × Stands name part made new_made × (new_files ≡ files + 1)
 IsHeadHalted name head made new_made files new_files JournalUnfinished = ⊥

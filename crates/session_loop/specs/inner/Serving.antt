@@ -1,5 +1,5 @@
 -- What only the proofs and the private functions of this crate speak of, beside `Serving`.
-use Rattle.std.specs.Prelude.{◌≡◌, ℕ, ◌<◌, ◌⊎◌, List, [], ◌++◌, length, get_or, Option}
+use Rattle.std.specs.Prelude.{◌≡◌, ℕ, ◌+◌, ◌<◌, ◌⊎◌, List, [], ◌++◌, length, get_or, Option}
 use Rattle.std.specs.Io.KnownBytes.{Consumes}
 use Rattle.backsim_io.specs.Held.{Made}
 use Rattle.cell_store.specs.Recency.{Contents}
@@ -12,37 +12,52 @@ use Rattle.query_lines.specs.declared.unit.Unit.{Unit as ScriptUnit}
 use Rattle.query_lines.specs.Reading.{script_units}
 use Rattle.query_lines.specs.Readers.{Reader, HasRead}
 use Rattle.session_meaning.specs.Session.{Setup, Course, IsServed, Session, opened, with_section}
-use Rattle.session_meaning.specs.Broken.{IsPrefix, journal_of, IsBroken}
+use Rattle.session_meaning.specs.Broken.{IsPrefix, journal_of, IsBroken, IsBrokenInDump}
 use Rattle.unit_answers.specs.Stores.{cells_of}
 use Rattle.session_loop.specs.declared.desk.Desk.{Desk}
 use Rattle.session_loop.specs.inner.Desks.{Keeps}
-use Rattle.session_loop.specs.inner.Growing.{GoesOn, FileGoesOn}
+use Rattle.session_loop.specs.declared.stop.Stop.{Stop}
+use Rattle.session_loop.specs.declared.stop.Stop.TheVariants.{ScriptUnread, ScriptTooLong, RepliesUnwritten, JournalUnwritten, DumpUnmade, DumpUnwritten, DumpUnfinished, OutOfMemory}
+use Rattle.session_loop.specs.inner.Growing.{GoesOn, FilesGoOn}
 
 -- From what the session had come to, it was served to the end of these units.
-pub record ServedTo (setup : Setup) (units : List ScriptUnit) (now : Course) (desk : Desk) (slot : ℕ) (out new_out : List ℕ → Type 0) (made new_made : List Made → Type 0) : Type 0 where
+pub record ServedTo (setup : Setup) (units : List ScriptUnit) (now : Course) (desk : Desk) (out new_out : List ℕ → Type 0) (made new_made : List Made → Type 0) : Type 0 where
   pub next : Course
   pub session : Session setup units next
   pub keeps : Keeps setup desk next
   pub replied : GoesOn out new_out now.out next.out
-  pub recorded : FileGoesOn made new_made slot (journal_of setup now) (journal_of setup next)
+  pub recorded : FilesGoOn made new_made (journal_of setup now) now.dumps (journal_of setup next) next.dumps
 
--- From what the session had come to, it broke off within these units.
-pub record StoppedIn (setup : Setup) (units : List ScriptUnit) (now : Course) (slot : ℕ) (out new_out : List ℕ → Type 0) (made new_made : List Made → Type 0) : Type 0 where
+-- where a stop breaks off: in a dump before its reply, or in any unit
+abbrev pub BreaksAt : Setup → List ScriptUnit → List ℕ → List ℕ → List Made → Stop → Type 0
+BreaksAt setup units replies journal dumps DumpUnmade = IsBrokenInDump setup units replies journal dumps
+BreaksAt setup units replies journal dumps DumpUnwritten = IsBrokenInDump setup units replies journal dumps
+BreaksAt setup units replies journal dumps DumpUnfinished = IsBrokenInDump setup units replies journal dumps
+BreaksAt setup units replies journal dumps ScriptUnread = IsBroken setup units replies journal dumps
+BreaksAt setup units replies journal dumps ScriptTooLong = IsBroken setup units replies journal dumps
+BreaksAt setup units replies journal dumps RepliesUnwritten = IsBroken setup units replies journal dumps
+BreaksAt setup units replies journal dumps JournalUnwritten = IsBroken setup units replies journal dumps
+BreaksAt setup units replies journal dumps OutOfMemory = IsBroken setup units replies journal dumps
+
+-- From what the session had come to, it broke off within these units, and so many files are created.
+pub record StoppedIn (setup : Setup) (units : List ScriptUnit) (now : Course) (out new_out : List ℕ → Type 0) (made new_made : List Made → Type 0) (files : ℕ) (stop : Stop) : Type 0 where
   pub replies : List ℕ
   pub journal : List ℕ
-  pub broken : IsBroken setup units replies journal
+  pub dumps : List Made
+  pub broken : BreaksAt setup units replies journal dumps stop
   pub replied : GoesOn out new_out now.out replies
-  pub recorded : FileGoesOn made new_made slot (journal_of setup now) journal
+  pub recorded : FilesGoOn made new_made (journal_of setup now) now.dumps journal dumps
+  pub count : files ≡ length dumps + 1
 
 -- Whatever was served before, these units were served after it.
-abbrev pub Serves : Setup → Desk → Desk → List ScriptUnit → ℕ → (List ℕ → Type 0) → (List ℕ → Type 0) → (List Made → Type 0) → (List Made → Type 0) → Type 0
-Serves setup desk later more slot out new_out made new_made = (units : List ScriptUnit) (now : Course)
-    → Session setup units now → Keeps setup desk now → ServedTo setup (units ++ more) now later slot out new_out made new_made
+abbrev pub Serves : Setup → Desk → Desk → List ScriptUnit → (List ℕ → Type 0) → (List ℕ → Type 0) → (List Made → Type 0) → (List Made → Type 0) → Type 0
+Serves setup desk later more out new_out made new_made = (units : List ScriptUnit) (now : Course)
+    → Session setup units now → Keeps setup desk now → ServedTo setup (units ++ more) now later out new_out made new_made
 
 -- Whatever was served before, the session broke off within these units after it.
-abbrev pub Stops : Setup → Desk → List ScriptUnit → ℕ → (List ℕ → Type 0) → (List ℕ → Type 0) → (List Made → Type 0) → (List Made → Type 0) → Type 0
-Stops setup desk more slot out new_out made new_made = (units : List ScriptUnit) (now : Course)
-    → Session setup units now → Keeps setup desk now → StoppedIn setup (units ++ more) now slot out new_out made new_made
+abbrev pub Stops : Setup → Desk → List ScriptUnit → (List ℕ → Type 0) → (List ℕ → Type 0) → (List Made → Type 0) → (List Made → Type 0) → ℕ → Stop → Type 0
+Stops setup desk more out new_out made new_made files stop = (units : List ScriptUnit) (now : Course)
+    → Session setup units now → Keeps setup desk now → StoppedIn setup (units ++ more) now out new_out made new_made files stop
 
 -- A question with a batch of its own was answered by this text and these lists, whatever was served before, and the stores are as the
 -- lists leave them.
@@ -66,45 +81,47 @@ Ends reader units = (horizon : ℕ) (script : List ℕ) (given : List ScriptUnit
     → HasRead horizon script given reader → script_units horizon script ≡ given ++ units
 
 -- the reader takes these bytes, and the units that it gives are served
-pub record TakesServed (setup : Setup) (reader later : Reader) (bytes : List ℕ) (desk left : Desk) (slot : ℕ) (out new_out : List ℕ → Type 0) (made new_made : List Made → Type 0) : Type 0 where
+pub record TakesServed (setup : Setup) (reader later : Reader) (bytes : List ℕ) (desk left : Desk) (out new_out : List ℕ → Type 0) (made new_made : List Made → Type 0) : Type 0 where
   pub units : List ScriptUnit
   pub reads : Reads reader later bytes units
-  pub served : Serves setup desk left units slot out new_out made new_made
+  pub served : Serves setup desk left units out new_out made new_made
 
 -- the reader takes some of these bytes, and the session breaks off in the units that it gives
-pub record TakesStopped (setup : Setup) (reader : Reader) (bytes : List ℕ) (desk : Desk) (slot : ℕ) (out new_out : List ℕ → Type 0) (made new_made : List Made → Type 0) : Type 0 where
+pub record TakesStopped (setup : Setup) (reader : Reader) (bytes : List ℕ) (desk : Desk) (out new_out : List ℕ → Type 0) (made new_made : List Made → Type 0) (files : ℕ) (stop : Stop) : Type 0 where
   pub front : List ℕ
   pub front_is : IsPrefix front bytes
   pub later : Reader
   pub units : List ScriptUnit
   pub reads : Reads reader later front units
-  pub stopped : Stops setup desk units slot out new_out made new_made
+  pub stopped : Stops setup desk units out new_out made new_made files stop
 
 -- the script ends, and the units that are left are served
-pub record EndsServed (setup : Setup) (reader : Reader) (desk left : Desk) (slot : ℕ) (out new_out : List ℕ → Type 0) (made new_made : List Made → Type 0) : Type 0 where
+pub record EndsServed (setup : Setup) (reader : Reader) (desk left : Desk) (out new_out : List ℕ → Type 0) (made new_made : List Made → Type 0) : Type 0 where
   pub units : List ScriptUnit
   pub whole : Ends reader units
-  pub served : Serves setup desk left units slot out new_out made new_made
+  pub served : Serves setup desk left units out new_out made new_made
 
 -- the script ends, and the session breaks off in the units that are left, or before they were given
-pub record EndsStopped (setup : Setup) (reader : Reader) (desk : Desk) (slot : ℕ) (out new_out : List ℕ → Type 0) (made new_made : List Made → Type 0) : Type 0 where
+pub record EndsStopped (setup : Setup) (reader : Reader) (desk : Desk) (out new_out : List ℕ → Type 0) (made new_made : List Made → Type 0) (files : ℕ) (stop : Stop) : Type 0 where
   pub units : List ScriptUnit
   pub whole : Ends reader units ⊎ (units ≡ [])
-  pub stopped : Stops setup desk units slot out new_out made new_made
+  pub stopped : Stops setup desk units out new_out made new_made files stop
 
 -- So many bytes left the source; their reader gave units, and these were served.
-pub record HasServed (setup : Setup) (taken : ℕ) (first left : Option (List ℕ)) (reader : Reader) (desk later : Desk) (slot : ℕ) (out new_out : List ℕ → Type 0) (made new_made : List Made → Type 0) : Type 0 where
+pub record HasServed (setup : Setup) (taken : ℕ) (first left : Option (List ℕ)) (reader : Reader) (desk later : Desk) (out new_out : List ℕ → Type 0) (made new_made : List Made → Type 0) : Type 0 where
   pub bytes : List ℕ
   pub long : length bytes ≡ taken
   pub took : Consumes first left bytes
   pub units : List ScriptUnit
   pub read : HasRead setup.design.circuit.horizon bytes units reader
-  pub served : Serves setup desk later units slot out new_out made new_made
+  pub served : Serves setup desk later units out new_out made new_made
 
--- such replies and such a journal were written, after the head
-pub record Wrote (setup : Setup) (such : List ℕ → List ℕ → Type 0) (slot : ℕ) (out new_out : List ℕ → Type 0) (made new_made : List Made → Type 0) : Type 0 where
+-- such replies, such a journal and such dumps were written, after the head, and so many files are created
+pub record Wrote (setup : Setup) (such : List ℕ → List ℕ → List Made → Type 0) (out new_out : List ℕ → Type 0) (made new_made : List Made → Type 0) (files : ℕ) : Type 0 where
   pub replies : List ℕ
   pub journal : List ℕ
-  pub are : such replies journal
+  pub dumps : List Made
+  pub are : such replies journal dumps
   pub replied : GoesOn out new_out [] replies
-  pub recorded : FileGoesOn made new_made slot (journal_of setup opened) journal
+  pub recorded : FilesGoOn made new_made (journal_of setup opened) [] journal dumps
+  pub count : files ≡ length dumps + 1

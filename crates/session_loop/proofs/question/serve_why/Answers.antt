@@ -1,9 +1,11 @@
-use Rattle.std.proofs.Common.{refl, sym, subst, List, ℕ, arith}
+use Rattle.std.proofs.Common.{◌≡◌, refl, sym, subst, List, ℕ, arith}
 use Rattle.query_lines.specs.declared.unit.Unit.TheVariants.{Why}
 use Rattle.session_meaning.specs.Session.{why_batch}
 use Rattle.unit_answers.specs.Stores.{setup_of}
+use Rattle.session_loop.specs.Serving.{session_of}
 use Rattle.session_loop.specs.inner.Serving.{IsAnswered}
-use Rattle.session_loop.proofs.Growing.{on-err}
+use Rattle.session_loop.proofs.Growing.{err-is}
+use Rattle.session_loop.proofs.Named.{question-named}
 use Rattle.session_loop.proofs.Served.{stops-none, why-answered}
 use Rattle.session_loop.proofs.question.serve_why.Goals as goal
 
@@ -13,25 +15,27 @@ write_answered-requires-clause-few g c = let count = c.in_ok-done.ensures.count 
 
 -- no journals were made
 pub returns-in_err-done-clause-stopped : goal.returns-in_err-done-clause-stopped
-returns-in_err-done-clause-stopped g c = on-err c.from_residual.result (stops-none (setup_of c.args.design.now c.args.sizes) c.args.desk _ c.args.slot _ _)
+returns-in_err-done-clause-stopped g c names =
+    err-is _ _ c.from_residual.result c.from_residual.ensures.1 (stops-none (session_of c.args.design.now c.args.sizes names) c.args.desk _ _ _ _ c.requires.files)
 
 pub returns-in_err-why_text-clause-stopped : goal.returns-in_err-why_text-clause-stopped
-returns-in_err-why_text-clause-stopped g c = on-err c.from_residual-in_err-why_text.result (stops-none (setup_of c.args.design.now c.args.sizes) c.args.desk _ c.args.slot _ _)
+returns-in_err-why_text-clause-stopped g c names =
+    err-is _ _ c.from_residual-in_err-why_text.result c.from_residual-in_err-why_text.ensures.1 (stops-none (session_of c.args.design.now c.args.sizes names) c.args.desk _ _ _ _ c.requires.files)
 
 pub returns-clause-served : goal.returns-clause-served
-returns-clause-served g c =
-    let setup = setup_of c.args.design.now c.args.sizes in
+returns-clause-served g c names =
+    let setup = session_of c.args.design.now c.args.sizes names in
     let item = c.args.item.now in
     let done = c.in_ok-done.done in
-    c.write_answered.ensures.served setup c.args.desk (Why item) (why_batch setup item) refl
+    c.write_answered.ensures.served setup c.args.desk (Why item) (why_batch setup item) refl refl
     (subst (λ (text : List ℕ). IsAnswered setup c.args.desk (Why item) (why_batch setup item) text done.lists.items done.stores.items) (sym c.in_ok-why_text.ensures)
-    (why-answered setup item c.args.desk done.reply done.lists.items done.stores.items c.in_ok-done.ensures))
+    (why-answered setup item c.args.desk done.reply done.lists.items done.stores.items (question-named (setup_of c.args.design.now c.args.sizes) names _ _ c.args.desk.stores.items done.lists.items done.stores.items c.in_ok-done.ensures)))
 
 pub returns-clause-stopped : goal.returns-clause-stopped
-returns-clause-stopped g c =
-    let setup = setup_of c.args.design.now c.args.sizes in
+returns-clause-stopped g c names =
+    let setup = session_of c.args.design.now c.args.sizes names in
     let item = c.args.item.now in
     let done = c.in_ok-done.done in
-    c.write_answered.ensures.stopped setup c.args.desk (Why item) (why_batch setup item) refl
+    c.write_answered.ensures.stopped setup c.args.desk (Why item) (why_batch setup item) refl refl
     (subst (λ (text : List ℕ). IsAnswered setup c.args.desk (Why item) (why_batch setup item) text done.lists.items done.stores.items) (sym c.in_ok-why_text.ensures)
-    (why-answered setup item c.args.desk done.reply done.lists.items done.stores.items c.in_ok-done.ensures))
+    (why-answered setup item c.args.desk done.reply done.lists.items done.stores.items (question-named (setup_of c.args.design.now c.args.sizes) names _ _ c.args.desk.stores.items done.lists.items done.stores.items c.in_ok-done.ensures)))

@@ -1,4 +1,4 @@
-use Rattle.std.proofs.Common.{refl, sym, subst, ◌∙◌}
+use Rattle.std.proofs.Common.{◌≡◌, ◌+◌, length, refl, sym, subst, ◌∙◌}
 use Rattle.std.proofs.lemmas.Result.{err_from_is_err_and}
 use Rattle.backsim_io.specs.Counts.{Grows}
 use Rattle.backsim_io.specs.Held.{FileGrows}
@@ -6,26 +6,27 @@ use Rattle.journal_text.specs.Spelling.{section_lines}
 use Rattle.journal_text.specs.declared.sections.SectionKind.TheVariants.{Batch}
 use Rattle.session_loop.specs.inner.Growing.{GrowsPart, FileGrowsPart}
 use Rattle.session_loop.specs.inner.Desks.{IsCounted}
-use Rattle.session_loop.proofs.Growing.{on-err, part-whole, file-part-none}
-use Rattle.session_loop.proofs.Served.{stops-none, question-served, question-stopped}
+use Rattle.session_loop.proofs.Growing.{err-is, part-whole, file-part-none}
+use Rattle.session_loop.proofs.Served.{of-unit, stops-none, question-served, question-stopped}
 use Rattle.session_loop.proofs.question.write_answered.Goals as goal
 
 -- there are too many entries to count
 pub returns-in_default-clause-stopped : goal.returns-in_default-clause-stopped
-returns-in_default-clause-stopped g c setup desk unit b same done = stops-none setup desk _ c.args.slot _ _
+returns-in_default-clause-stopped g c setup desk unit b same dumps done = stops-none setup desk _ _ _ _ (subst (λ d. g.F.Files.files c.args.files.now ≡ length d.made.items + 1) (sym dumps) c.requires.files)
 
 -- the reply was begun
 pub returns-in_err-write_reply-clause-stopped : goal.returns-in_err-write_reply-clause-stopped
-returns-in_err-write_reply-clause-stopped g c setup desk unit b same done =
+returns-in_err-write_reply-clause-stopped g c setup desk unit b same dumps done =
     let W = g.S.Sink.written in
     let M = g.F.Files.made in
     let lists = c.args.answered.lists.items in
-    on-err c.from_residual.result
+    err-is _ _ c.from_residual.result c.from_residual.ensures.1
     (question-stopped setup unit b desk c.args.answered.text.items lists c.args.answered.stores.items done
-    c.in-Some.counts (subst (λ k. IsCounted k Batch lists c.in-Some.counts) (sym same) (subst (λ l. IsCounted c.args.counts Batch l c.in-Some.counts) c.deref.ensures.value c.in-Some.ensures)) c.args.slot
+    c.in-Some.counts (subst (λ k. IsCounted k Batch lists c.in-Some.counts) (sym same) (subst (λ l. IsCounted c.args.counts Batch l c.in-Some.counts) c.deref.ensures.value c.in-Some.ensures))
     (W c.args.out.now) (W c.write_reply.new.out) (M c.args.files.now) (M c.args.files.now)
+    (g.F.Files.files c.args.files.now) c.in_err-write_reply.field-0.0 (subst (λ d. g.F.Files.files c.args.files.now ≡ length d.made.items + 1) (sym dumps) c.requires.files) (of-unit _ _ _ _ _ (c.in_err-write_reply.ensures.cause 0))
     (subst (GrowsPart (W c.args.out.now) (W c.write_reply.new.out)) c.deref-2.ensures.value c.in_err-write_reply.ensures.begun)
-    (file-part-none (M c.args.files.now) c.args.slot _))
+    (file-part-none (M c.args.files.now) 0 _))
 
 pub returns-in_err-write_reply-clause-cause : goal.returns-in_err-write_reply-clause-cause
 returns-in_err-write_reply-clause-cause g c =
@@ -34,17 +35,18 @@ returns-in_err-write_reply-clause-cause g c =
 
 -- the section was begun
 pub returns-in_err-write_section-clause-stopped : goal.returns-in_err-write_section-clause-stopped
-returns-in_err-write_section-clause-stopped g c setup desk unit b same done =
+returns-in_err-write_section-clause-stopped g c setup desk unit b same dumps done =
     let W = g.S.Sink.written in
     let M = g.F.Files.made in
     let lists = c.args.answered.lists.items in
-    on-err c.from_residual-in_err-write_section.result
+    err-is _ _ c.from_residual-in_err-write_section.result c.from_residual-in_err-write_section.ensures.1
     (question-stopped setup unit b desk c.args.answered.text.items lists c.args.answered.stores.items done
-    c.in-Some.counts (subst (λ k. IsCounted k Batch lists c.in-Some.counts) (sym same) (subst (λ l. IsCounted c.args.counts Batch l c.in-Some.counts) c.deref.ensures.value c.in-Some.ensures)) c.args.slot
+    c.in-Some.counts (subst (λ k. IsCounted k Batch lists c.in-Some.counts) (sym same) (subst (λ l. IsCounted c.args.counts Batch l c.in-Some.counts) c.deref.ensures.value c.in-Some.ensures))
     (W c.args.out.now) (W c.write_reply.new.out) (M c.args.files.now) (M c.write_section.new.files)
+    (g.F.Files.files c.write_section.new.files) c.in_err-write_section.field-0.0 (subst (λ d. g.F.Files.files c.write_section.new.files ≡ length d.made.items + 1) (sym dumps) (c.write_section.ensures.files ∙ c.requires.files)) (of-unit _ _ _ _ _ (c.in_err-write_section.ensures.cause 0))
     (part-whole (W c.args.out.now) (W c.write_reply.new.out) c.args.answered.text.items
     (subst (Grows (W c.args.out.now) (W c.write_reply.new.out)) c.deref-2.ensures.value c.in_ok-write_reply.ensures.written))
-    (subst (λ l. FileGrowsPart (M c.args.files.now) (M c.write_section.new.files) c.args.slot (section_lines (record { kind = Batch; number = c.in-Some.counts.sections; shards = l }))) c.deref-3.ensures.value c.in_err-write_section.ensures.begun))
+    (subst (λ l. FileGrowsPart (M c.args.files.now) (M c.write_section.new.files) 0 (section_lines (record { kind = Batch; number = c.in-Some.counts.sections; shards = l }))) c.deref-3.ensures.value c.in_err-write_section.ensures.begun))
 
 pub returns-in_err-write_section-clause-cause : goal.returns-in_err-write_section-clause-cause
 returns-in_err-write_section-clause-cause g c =
@@ -52,13 +54,13 @@ returns-in_err-write_section-clause-cause g c =
     rw (p.1, p.2, c.in_ok-write_reply.ensures.calm) (c.in_err-write_section.ensures.cause (g.S.Sink.faults c.args.out.now))
 
 pub returns-clause-served : goal.returns-clause-served
-returns-clause-served g c setup desk unit b same done =
+returns-clause-served g c setup desk unit b same dumps done =
     let W = g.S.Sink.written in
     let M = g.F.Files.made in
     let lists = c.args.answered.lists.items in
     question-served setup unit b desk c.args.answered.text.items lists c.args.answered.stores.items done
-    c.in-Some.counts (subst (λ k. IsCounted k Batch lists c.in-Some.counts) (sym same) (subst (λ l. IsCounted c.args.counts Batch l c.in-Some.counts) c.deref.ensures.value c.in-Some.ensures)) c.args.slot
+    c.in-Some.counts (subst (λ k. IsCounted k Batch lists c.in-Some.counts) (sym same) (subst (λ l. IsCounted c.args.counts Batch l c.in-Some.counts) c.deref.ensures.value c.in-Some.ensures))
     (W c.args.out.now) (W c.write_reply.new.out) (M c.args.files.now) (M c.write_section.new.files)
-    (record { stores = c.args.answered.stores; counts = c.in-Some.counts }) refl refl
+    (record { stores = c.args.answered.stores; counts = c.in-Some.counts; dumps = c.args.dumps }) refl refl (sym dumps)
     (subst (Grows (W c.args.out.now) (W c.write_reply.new.out)) c.deref-2.ensures.value c.in_ok-write_reply.ensures.written)
-    (subst (λ l. FileGrows (M c.args.files.now) (M c.write_section.new.files) c.args.slot (section_lines (record { kind = Batch; number = c.in-Some.counts.sections; shards = l }))) c.deref-3.ensures.value c.in_ok-write_section.ensures.written)
+    (subst (λ l. FileGrows (M c.args.files.now) (M c.write_section.new.files) 0 (section_lines (record { kind = Batch; number = c.in-Some.counts.sections; shards = l }))) c.deref-3.ensures.value c.in_ok-write_section.ensures.written)

@@ -1,29 +1,30 @@
-use Rattle.std.proofs.Common.{ℕ, ◌≤◌, refl, subst, ◌∙◌, [], take, drop, arith, length-append, length-drop, length-take}
+use Rattle.std.proofs.Common.{◌≡◌, ℕ, ◌+◌, ◌≤◌, None, refl, sym, ap, subst, ◌∙◌, [], length, take, drop, arith, length-append, length-drop, length-take}
 use Rattle.std.proofs.lemmas.Result.{err_from_is_err_and}
 use Rattle.query_lines.specs.Readers.{HasRead}
-use Rattle.unit_answers.specs.Stores.{setup_of}
+use Rattle.session_loop.specs.Serving.{session_of, StopsOpen}
 use Rattle.session_loop.specs.inner.Desks.{no_counts}
 use Rattle.session_loop.specs.declared.desk.Desk.{Desk}
-use Rattle.session_loop.proofs.Scripts.{fresh-desk, has-none, has-more, all-served, end-stopped, block-stopped, unread, cut-off, read-some}
+use Rattle.session_loop.proofs.Growing.{err-is}
+use Rattle.session_loop.proofs.Scripts.{fresh-desk, has-none, has-more, all-served, end-stopped, block-stopped, unread, cut-off, read-some, explains-after}
 use Rattle.session_loop.proofs.script.serve_script.Goals as goal
 
 pub loop-n-init : goal.loop-n-init
 loop-n-init g c =
-    let setup = setup_of c.args.design.now c.args.sizes in
-    let desk : Desk = record { stores = c.args.stores; counts = no_counts } in
+    let setup = session_of c.args.design.now c.args.sizes c.args.names.items in
+    let desk : Desk = record { stores = c.args.stores; counts = no_counts; dumps = record { last = None; own = c.args.names; made = c.new-2.result } } in
     record {
       block = refl;
       most = omega arith;
       read = ([], [], at-horizon, refl);
-      stores = c.requires.stores;
-      served = has-none setup c.args.slot desk (fresh-desk setup desk c.requires.empty refl) (g.Q.Source.left c.args.queries.now) c.new.result (g.S.Sink.written c.args.out.now) (g.F.Files.made c.args.files.now) at-horizon;
+      desk = record { stores = c.requires.stores; shown = tt };
+      count = subst (λ n. g.F.Files.files c.args.files.now ≡ n + 1) (sym (ap length c.new-2.ensures.items)) c.requires.files;
+      served = has-none setup desk (fresh-desk setup desk c.requires.empty refl refl refl c.new-2.ensures.items) (g.Q.Source.left c.args.queries.now) c.new.result (g.S.Sink.written c.args.out.now) (g.F.Files.made c.args.files.now) at-horizon;
       calm_queries = refl;
       calm_replies = refl;
-      calm_journal = refl;
-      file_faults = refl;
+      calm_writes = refl;
+      calm_files = refl;
       read_faults = refl;
       started = refl;
-      files = refl;
       unfinished = refl;
     }
   where
@@ -33,8 +34,8 @@ loop-n-init g c =
 -- a block more was taken and served
 pub loop-n-preserved : goal.loop-n-preserved
 loop-n-preserved g c =
-    let setup = setup_of c.args.design.now c.args.sizes in
-    let desk : Desk = record { stores = c.args.stores; counts = no_counts } in
+    let setup = session_of c.args.design.now c.args.sizes c.args.names.items in
+    let desk : Desk = record { stores = c.args.stores; counts = no_counts; dumps = record { last = None; own = c.args.names; made = c.new-2.result } } in
     let W = g.S.Sink.written in
     let M = g.F.Files.made in
     let held = c.loop-n.invariant in
@@ -44,28 +45,28 @@ loop-n-preserved g c =
       block = omega (arith, held.block, length-append {A = ℕ}, length-drop {A = ℕ}, length-take {A = ℕ}, c.min-room.ensures);
       most = omega (arith, held.most, served.taken, c.min.ensures, length-take {A = ℕ});
       read = served.read;
-      stores = served.stores;
-      served = has-more setup c.args.slot desk (fresh-desk setup desk c.requires.empty refl) c.loop-n.script.taken c.serve_bytes.new.self.taken (g.Q.Source.left c.args.queries.now) (g.Q.Source.left c.loop-n.queries) (g.Q.Source.left c.read.new.self) c.loop-n.script.reader c.serve_bytes.new.self.reader
+      desk = served.desk;
+      count = served.count;
+      served = has-more setup desk (fresh-desk setup desk c.requires.empty refl refl refl c.new-2.ensures.items) c.loop-n.script.taken c.serve_bytes.new.self.taken (g.Q.Source.left c.args.queries.now) (g.Q.Source.left c.loop-n.queries) (g.Q.Source.left c.read.new.self) c.loop-n.script.reader c.serve_bytes.new.self.reader
           c.loop-n.desk c.in_ok-desk.desk c.in-Ok.n c.min.result c.read.new.into (drop c.min-room.result c.loop-n.block)
           (W c.args.out.now) (W c.loop-n.out) (W c.serve_bytes.new.out) (M c.args.files.now) (M c.loop-n.files) (M c.serve_bytes.new.files)
-          held.served read.bytes.0 (omega (arith, c.min.ensures, c.if-n-left.false)) read.bound.0 served.taken served.served;
+          held.served read.bytes.0 (omega (arith, c.min.ensures, c.if-n-left.false)) read.bound.0 served.taken (served.served c.args.names.items);
       calm_queries = read.calm ∙ held.calm_queries;
       calm_replies = served.calm_replies ∙ held.calm_replies;
-      calm_journal = served.calm_journal ∙ held.calm_journal;
-      file_faults = served.file_faults ∙ held.file_faults;
+      calm_writes = served.calm_writes ∙ held.calm_writes;
+      calm_files = served.calm_files ∙ held.calm_files;
       read_faults = served.read_faults ∙ held.read_faults;
       started = served.started ∙ held.started;
-      files = served.files ∙ held.files;
       unfinished = served.unfinished ∙ held.unfinished;
     }
 
 -- the next block was not read
 pub returns-in_default-clause-stopped : goal.returns-in_default-clause-stopped
 returns-in_default-clause-stopped g c script is =
-    let setup = setup_of c.args.design.now c.args.sizes in
-    let desk : Desk = record { stores = c.args.stores; counts = no_counts } in
-    unread setup c.args.slot desk (fresh-desk setup desk c.requires.empty refl) script (g.Q.Source.left c.args.queries.now) is c.loop-n.script.taken (g.Q.Source.left c.loop-n.queries) (g.Q.Source.left c.read.new.self) c.loop-n.script.reader c.loop-n.desk
-    (g.S.Sink.written c.args.out.now) (g.S.Sink.written c.loop-n.out) (g.F.Files.made c.args.files.now) (g.F.Files.made c.loop-n.files) small c.loop-n.invariant.served c.in_default.ensures.bytes
+    let setup = session_of c.args.design.now c.args.sizes c.args.names.items in
+    let desk : Desk = record { stores = c.args.stores; counts = no_counts; dumps = record { last = None; own = c.args.names; made = c.new-2.result } } in
+    unread setup desk (fresh-desk setup desk c.requires.empty refl refl refl c.new-2.ensures.items) script (g.Q.Source.left c.args.queries.now) is c.loop-n.script.taken (g.Q.Source.left c.loop-n.queries) (g.Q.Source.left c.read.new.self) c.loop-n.script.reader c.loop-n.desk
+    (g.S.Sink.written c.args.out.now) (g.S.Sink.written c.loop-n.out) (g.F.Files.made c.args.files.now) (g.F.Files.made c.loop-n.files) _ small c.loop-n.invariant.served c.loop-n.invariant.count c.in_default.ensures.bytes
   where
     small : c.args.design.now.circuit.horizon ≤ 1000000
     small = subst (λ h. h ≤ 1000000) c.horizon.ensures.horizon c.horizon.ensures.limit
@@ -73,17 +74,17 @@ returns-in_default-clause-stopped g c script is =
 -- the script ended, and the session broke off in what was left of it
 pub returns-in_err-serve_end-clause-stopped : goal.returns-in_err-serve_end-clause-stopped
 returns-in_err-serve_end-clause-stopped g c script is =
-    let setup = setup_of c.args.design.now c.args.sizes in
-    let desk : Desk = record { stores = c.args.stores; counts = no_counts } in
+    let setup = session_of c.args.design.now c.args.sizes c.args.names.items in
+    let desk : Desk = record { stores = c.args.stores; counts = no_counts; dumps = record { last = None; own = c.args.names; made = c.new-2.result } } in
     let W = g.S.Sink.written in
     let M = g.F.Files.made in
     let read = c.in-Ok.ensures in
     let p = err_from_is_err_and c.from_residual.result c.from_residual.ensures.1 in
     rw (p.1, p.2)
-    (end-stopped setup c.args.slot desk (fresh-desk setup desk c.requires.empty refl) script (g.Q.Source.left c.args.queries.now) is c.loop-n.script.taken (g.Q.Source.left c.loop-n.queries) (g.Q.Source.left c.read.new.self) (g.Q.Source.left c.read.new.self) c.in-Ok.n c.read.new.into c.loop-n.script.reader c.loop-n.desk
-    _ _ _ _ c.in_err-serve_end.field-0.0
-    (W c.args.out.now) (W c.loop-n.out) (W c.serve_end.new.out) (M c.args.files.now) (M c.loop-n.files) (M c.serve_end.new.files)
-    small c.loop-n.invariant.served read.bytes.0 c.if-n-eq0.true (read.bytes.1 c.if-n-eq0.true (omega (arith, c.min-room.ensures, c.loop-n.invariant.block, length-take {A = ℕ}))) c.in_err-serve_end.ensures.cause c.in_err-serve_end.ensures.stopped)
+    (end-stopped setup desk (fresh-desk setup desk c.requires.empty refl refl refl c.new-2.ensures.items) script (g.Q.Source.left c.args.queries.now) is c.loop-n.script.taken (g.Q.Source.left c.loop-n.queries) (g.Q.Source.left c.read.new.self) (g.Q.Source.left c.read.new.self) c.in-Ok.n c.read.new.into c.loop-n.script.reader c.loop-n.desk
+    _ _ _ _ _ _ c.in_err-serve_end.field-0.0
+    (W c.args.out.now) (W c.loop-n.out) (W c.serve_end.new.out) (M c.args.files.now) (M c.loop-n.files) (M c.serve_end.new.files) _
+    small c.loop-n.invariant.served read.bytes.0 c.if-n-eq0.true (read.bytes.1 c.if-n-eq0.true (omega (arith, c.min-room.ensures, c.loop-n.invariant.block, length-take {A = ℕ}))) c.in_err-serve_end.ensures.cause (c.in_err-serve_end.ensures.stopped c.args.names.items))
   where
     small : c.args.design.now.circuit.horizon ≤ 1000000
     small = subst (λ h. h ≤ 1000000) c.horizon.ensures.horizon c.horizon.ensures.limit
@@ -91,62 +92,84 @@ returns-in_err-serve_end-clause-stopped g c script is =
 -- the script ended, and what was left of it was served
 pub returns-then-n-eq0-clause-served : goal.returns-then-n-eq0-clause-served
 returns-then-n-eq0-clause-served g c script is =
-    let setup = setup_of c.args.design.now c.args.sizes in
-    let desk : Desk = record { stores = c.args.stores; counts = no_counts } in
+    let setup = session_of c.args.design.now c.args.sizes c.args.names.items in
+    let desk : Desk = record { stores = c.args.stores; counts = no_counts; dumps = record { last = None; own = c.args.names; made = c.new-2.result } } in
     let W = g.S.Sink.written in
     let M = g.F.Files.made in
     let read = c.in-Ok.ensures in
-    all-served setup c.args.slot desk (fresh-desk setup desk c.requires.empty refl) script (g.Q.Source.left c.args.queries.now) is c.loop-n.script.taken (g.Q.Source.left c.loop-n.queries) (g.Q.Source.left c.read.new.self) c.in-Ok.n c.read.new.into c.loop-n.script.reader c.loop-n.desk c.in_ok-serve_end.field-0
-    (W c.args.out.now) (W c.loop-n.out) (W c.serve_end.new.out) (M c.args.files.now) (M c.loop-n.files) (M c.serve_end.new.files)
-    c.loop-n.invariant.served read.bytes.0 c.if-n-eq0.true (read.bytes.1 c.if-n-eq0.true (omega (arith, c.min-room.ensures, c.loop-n.invariant.block, length-take {A = ℕ}))) c.in_ok-serve_end.ensures.served
+    all-served setup desk (fresh-desk setup desk c.requires.empty refl refl refl c.new-2.ensures.items) script (g.Q.Source.left c.args.queries.now) is c.loop-n.script.taken (g.Q.Source.left c.loop-n.queries) (g.Q.Source.left c.read.new.self) c.in-Ok.n c.read.new.into c.loop-n.script.reader c.loop-n.desk c.in_ok-serve_end.field-0
+    (W c.args.out.now) (W c.loop-n.out) (W c.serve_end.new.out) (M c.args.files.now) (M c.loop-n.files) (M c.serve_end.new.files) _
+    c.loop-n.invariant.served read.bytes.0 c.if-n-eq0.true (read.bytes.1 c.if-n-eq0.true (omega (arith, c.min-room.ensures, c.loop-n.invariant.block, length-take {A = ℕ}))) c.in_ok-serve_end.ensures.count (c.in_ok-serve_end.ensures.served c.args.names.items)
 
 -- the session broke off in a block
 pub returns-in_err-desk-clause-stopped : goal.returns-in_err-desk-clause-stopped
 returns-in_err-desk-clause-stopped g c script is =
-    let setup = setup_of c.args.design.now c.args.sizes in
-    let desk : Desk = record { stores = c.args.stores; counts = no_counts } in
+    let setup = session_of c.args.design.now c.args.sizes c.args.names.items in
+    let desk : Desk = record { stores = c.args.stores; counts = no_counts; dumps = record { last = None; own = c.args.names; made = c.new-2.result } } in
     let W = g.S.Sink.written in
     let M = g.F.Files.made in
     let read = c.in-Ok.ensures in
     let p = err_from_is_err_and c.from_residual-in_err-desk.result c.from_residual-in_err-desk.ensures.1 in
     rw (p.1, p.2)
-    (block-stopped setup c.args.slot desk (fresh-desk setup desk c.requires.empty refl) script (g.Q.Source.left c.args.queries.now) is c.loop-n.script.taken (g.Q.Source.left c.loop-n.queries) (g.Q.Source.left c.read.new.self) (g.Q.Source.left c.read.new.self) c.loop-n.script.reader c.loop-n.desk c.in-Ok.n c.min.result c.read.new.into (drop c.min-room.result c.loop-n.block)
-    _ _ _ _ c.in_err-desk.field-0.0
-    (W c.args.out.now) (W c.loop-n.out) (W c.serve_bytes.new.out) (M c.args.files.now) (M c.loop-n.files) (M c.serve_bytes.new.files)
-    small c.loop-n.invariant.served read.bytes.0 (omega (arith, c.min.ensures)) read.bound.0 c.in_err-desk.ensures.cause c.in_err-desk.ensures.stopped)
+    (block-stopped setup desk (fresh-desk setup desk c.requires.empty refl refl refl c.new-2.ensures.items) script (g.Q.Source.left c.args.queries.now) is c.loop-n.script.taken (g.Q.Source.left c.loop-n.queries) (g.Q.Source.left c.read.new.self) (g.Q.Source.left c.read.new.self) c.loop-n.script.reader c.loop-n.desk c.in-Ok.n c.min.result c.read.new.into (drop c.min-room.result c.loop-n.block)
+    _ _ _ _ _ _ c.in_err-desk.field-0.0
+    (W c.args.out.now) (W c.loop-n.out) (W c.serve_bytes.new.out) (M c.args.files.now) (M c.loop-n.files) (M c.serve_bytes.new.files) _
+    small c.loop-n.invariant.served read.bytes.0 (omega (arith, c.min.ensures)) read.bound.0 c.in_err-desk.ensures.cause (c.in_err-desk.ensures.stopped c.args.names.items))
   where
     small : c.args.design.now.circuit.horizon ≤ 1000000
     small = subst (λ h. h ≤ 1000000) c.horizon.ensures.horizon c.horizon.ensures.limit
 
 pub returns-in_err-desk-clause-at_most : goal.returns-in_err-desk-clause-at_most
 returns-in_err-desk-clause-at_most g c script is =
-    let setup = setup_of c.args.design.now c.args.sizes in
-    let desk : Desk = record { stores = c.args.stores; counts = no_counts } in
+    let setup = session_of c.args.design.now c.args.sizes c.args.names.items in
+    let desk : Desk = record { stores = c.args.stores; counts = no_counts; dumps = record { last = None; own = c.args.names; made = c.new-2.result } } in
     let read = c.in-Ok.ensures in
-    read-some setup c.args.slot desk (fresh-desk setup desk c.requires.empty refl) script (g.Q.Source.left c.args.queries.now) is c.loop-n.script.taken 16777217 (g.Q.Source.left c.loop-n.queries) (g.Q.Source.left c.read.new.self) c.loop-n.script.reader c.loop-n.desk (take c.in-Ok.n c.read.new.into)
+    read-some setup desk (fresh-desk setup desk c.requires.empty refl refl refl c.new-2.ensures.items) script (g.Q.Source.left c.args.queries.now) is c.loop-n.script.taken 16777217 (g.Q.Source.left c.loop-n.queries) (g.Q.Source.left c.read.new.self) c.loop-n.script.reader c.loop-n.desk (take c.in-Ok.n c.read.new.into)
     (g.S.Sink.written c.args.out.now) (g.S.Sink.written c.loop-n.out) (g.F.Files.made c.args.files.now) (g.F.Files.made c.loop-n.files) c.loop-n.invariant.served read.bytes.0
     (omega (arith, c.min-room.ensures, c.loop-n.invariant.block, c.loop-n.invariant.most, length-take {A = ℕ}, read.bound))
 
 -- the script is too long
 pub returns-then-n-left-clause-stopped : goal.returns-then-n-left-clause-stopped
 returns-then-n-left-clause-stopped g c script is =
-    let setup = setup_of c.args.design.now c.args.sizes in
-    let desk : Desk = record { stores = c.args.stores; counts = no_counts } in
+    let setup = session_of c.args.design.now c.args.sizes c.args.names.items in
+    let desk : Desk = record { stores = c.args.stores; counts = no_counts; dumps = record { last = None; own = c.args.names; made = c.new-2.result } } in
     let W = g.S.Sink.written in
     let M = g.F.Files.made in
     let read = c.in-Ok.ensures in
-    cut-off setup c.args.slot desk (fresh-desk setup desk c.requires.empty refl) script (g.Q.Source.left c.args.queries.now) is c.loop-n.script.taken (g.Q.Source.left c.loop-n.queries) (g.Q.Source.left c.read.new.self) c.loop-n.script.reader c.serve_bytes.new.self.reader c.loop-n.desk c.in_ok-desk.desk c.in-Ok.n c.min.result c.read.new.into (drop c.min-room.result c.loop-n.block)
-    (W c.args.out.now) (W c.loop-n.out) (W c.serve_bytes.new.out) (M c.args.files.now) (M c.loop-n.files) (M c.serve_bytes.new.files)
-    small c.loop-n.invariant.served read.bytes.0 (omega (arith, c.min.ensures, c.if-n-left.true)) read.bound.0 (omega (arith, c.min.ensures, c.if-n-left.true, c.loop-n.invariant.most)) c.in_ok-desk.ensures.served
+    cut-off setup desk (fresh-desk setup desk c.requires.empty refl refl refl c.new-2.ensures.items) script (g.Q.Source.left c.args.queries.now) is c.loop-n.script.taken (g.Q.Source.left c.loop-n.queries) (g.Q.Source.left c.read.new.self) c.loop-n.script.reader c.serve_bytes.new.self.reader c.loop-n.desk c.in_ok-desk.desk c.in-Ok.n c.min.result c.read.new.into (drop c.min-room.result c.loop-n.block)
+    (W c.args.out.now) (W c.loop-n.out) (W c.serve_bytes.new.out) (M c.args.files.now) (M c.loop-n.files) (M c.serve_bytes.new.files) _
+    small c.loop-n.invariant.served read.bytes.0 (omega (arith, c.min.ensures, c.if-n-left.true)) read.bound.0 (omega (arith, c.min.ensures, c.if-n-left.true, c.loop-n.invariant.most)) c.in_ok-desk.ensures.count (c.in_ok-desk.ensures.served c.args.names.items)
   where
     small : c.args.design.now.circuit.horizon ≤ 1000000
     small = subst (λ h. h ≤ 1000000) c.horizon.ensures.horizon c.horizon.ensures.limit
 
 pub returns-then-n-left-clause-at_most : goal.returns-then-n-left-clause-at_most
 returns-then-n-left-clause-at_most g c script is =
-    let setup = setup_of c.args.design.now c.args.sizes in
-    let desk : Desk = record { stores = c.args.stores; counts = no_counts } in
+    let setup = session_of c.args.design.now c.args.sizes c.args.names.items in
+    let desk : Desk = record { stores = c.args.stores; counts = no_counts; dumps = record { last = None; own = c.args.names; made = c.new-2.result } } in
     let read = c.in-Ok.ensures in
-    read-some setup c.args.slot desk (fresh-desk setup desk c.requires.empty refl) script (g.Q.Source.left c.args.queries.now) is c.loop-n.script.taken 16777217 (g.Q.Source.left c.loop-n.queries) (g.Q.Source.left c.read.new.self) c.loop-n.script.reader c.loop-n.desk (take c.in-Ok.n c.read.new.into)
+    read-some setup desk (fresh-desk setup desk c.requires.empty refl refl refl c.new-2.ensures.items) script (g.Q.Source.left c.args.queries.now) is c.loop-n.script.taken 16777217 (g.Q.Source.left c.loop-n.queries) (g.Q.Source.left c.read.new.self) c.loop-n.script.reader c.loop-n.desk (take c.in-Ok.n c.read.new.into)
     (g.S.Sink.written c.args.out.now) (g.S.Sink.written c.loop-n.out) (g.F.Files.made c.args.files.now) (g.F.Files.made c.loop-n.files) c.loop-n.invariant.served read.bytes.0
     (omega (arith, c.min-room.ensures, c.loop-n.invariant.block, c.loop-n.invariant.most, length-take {A = ℕ}, read.bound))
+
+-- the counts of faults
+pub returns-in_err-serve_end-clause-cause : goal.returns-in_err-serve_end-clause-cause
+returns-in_err-serve_end-clause-cause g c =
+    let held = c.loop-n.invariant in
+    err-is _ _ c.from_residual.result c.from_residual.ensures.1 (explains-after _ _ _ _ _ c.in_err-serve_end.field-0.0 held.calm_replies held.calm_writes held.calm_files c.in_err-serve_end.ensures.cause)
+
+pub returns-in_err-desk-clause-cause : goal.returns-in_err-desk-clause-cause
+returns-in_err-desk-clause-cause g c =
+    let held = c.loop-n.invariant in
+    err-is _ _ c.from_residual-in_err-desk.result c.from_residual-in_err-desk.ensures.1 (explains-after _ _ _ _ _ c.in_err-desk.field-0.0 held.calm_replies held.calm_writes held.calm_files c.in_err-desk.ensures.cause)
+
+-- which files are left unfinished
+pub returns-in_err-serve_end-clause-left : goal.returns-in_err-serve_end-clause-left
+returns-in_err-serve_end-clause-left g c =
+    err-is _ _ c.from_residual.result c.from_residual.ensures.1
+    (subst (λ u. StopsOpen u (g.F.Files.unfinished c.serve_end.new.files) c.in_err-serve_end.field-0.0) c.loop-n.invariant.unfinished c.in_err-serve_end.ensures.left)
+
+pub returns-in_err-desk-clause-left : goal.returns-in_err-desk-clause-left
+returns-in_err-desk-clause-left g c =
+    err-is _ _ c.from_residual-in_err-desk.result c.from_residual-in_err-desk.ensures.1
+    (subst (λ u. StopsOpen u (g.F.Files.unfinished c.serve_bytes.new.files) c.in_err-desk.field-0.0) c.loop-n.invariant.unfinished c.in_err-desk.ensures.left)

@@ -1,36 +1,44 @@
-use Rattle.std.proofs.Common.{refl, subst}
+use Rattle.std.proofs.Common.{◌≡◌, Some, refl, sym, ap, subst, ◌∙◌}
 use Rattle.std.proofs.lemmas.Result.{err_from_is_err_and}
 use Rattle.backsim_io.specs.Counts.{Grows}
 use Rattle.backsim_io.specs.Held.{FileGrows}
 use Rattle.journal_text.specs.Spelling.{section_lines}
 use Rattle.journal_text.specs.declared.sections.SectionKind.TheVariants.{Batch}
 use Rattle.session_meaning.specs.Replies.{replies_text}
+use Rattle.session_loop.specs.declared.desk.Dumps.{Dumps}
+use Rattle.session_loop.specs.declared.desk.LastBatch.{LastBatch}
 use Rattle.session_loop.specs.inner.Growing.{GrowsPart, FileGrowsPart}
 use Rattle.unit_answers.specs.Stores.{setup_of}
+use Rattle.session_loop.specs.Serving.{session_of}
 use Rattle.session_loop.specs.inner.Desks.{IsCounted}
-use Rattle.session_loop.proofs.Growing.{on-err, part-whole, file-part-none}
-use Rattle.session_loop.proofs.Served.{stops-none, batch-served, batch-stopped}
+use Rattle.session_loop.proofs.Growing.{err-is, part-whole, file-part-none}
+use Rattle.session_loop.proofs.Named.{batch-named, batch-shown}
+use Rattle.session_loop.proofs.Served.{of-unit, stops-none, batch-served, batch-stopped}
 use Rattle.session_loop.proofs.unit.serve_batch.Goals as goal
 
 -- no journals were made
 pub returns-in_err-done-clause-stopped : goal.returns-in_err-done-clause-stopped
-returns-in_err-done-clause-stopped g c = on-err c.from_residual.result (stops-none (setup_of c.args.design.now c.args.sizes) c.args.desk _ c.args.slot _ _)
+returns-in_err-done-clause-stopped g c names =
+    err-is _ _ c.from_residual.result c.from_residual.ensures.1 (stops-none (session_of c.args.design.now c.args.sizes names) c.args.desk _ _ _ _ c.requires.files)
 
 pub returns-in_default-clause-stopped : goal.returns-in_default-clause-stopped
-returns-in_default-clause-stopped g c = stops-none (setup_of c.args.design.now c.args.sizes) c.args.desk _ c.args.slot _ _
+returns-in_default-clause-stopped g c names = stops-none (session_of c.args.design.now c.args.sizes names) c.args.desk _ _ _ _ c.requires.files
 
 -- the replies were begun
 pub returns-in_err-write_replies-clause-stopped : goal.returns-in_err-write_replies-clause-stopped
-returns-in_err-write_replies-clause-stopped g c =
+returns-in_err-write_replies-clause-stopped g c names =
     let done = c.in_ok-done.done in
+    let items = c.args.items in
     let W = g.S.Sink.written in
     let M = g.F.Files.made in
-    on-err c.from_residual-in_err-write_replies.result
-    (batch-stopped (setup_of c.args.design.now c.args.sizes) c.args.items.now c.args.desk done.replies.items done.lists.items done.stores.items c.in_ok-done.ensures
-    c.in-Some.counts (subst (λ l. IsCounted c.args.desk.counts Batch l c.in-Some.counts) c.deref.ensures.value c.in-Some.ensures) c.args.slot
+    err-is _ _ c.from_residual-in_err-write_replies.result c.from_residual-in_err-write_replies.ensures.1
+    (batch-stopped (session_of c.args.design.now c.args.sizes names) items c.args.desk done.replies.items done.lists.items done.stores.items
+    (batch-named (setup_of c.args.design.now c.args.sizes) names items c.as_slice.result.now c.args.desk.stores.items done.replies.items done.lists.items done.stores.items c.as_slice.ensures c.in_ok-done.ensures)
+    c.in-Some.counts (subst (λ l. IsCounted c.args.desk.counts Batch l c.in-Some.counts) c.deref.ensures.value c.in-Some.ensures)
     (W c.args.out.now) (W c.write_replies.new.out) (M c.args.files.now) (M c.args.files.now)
-    (subst (λ r. GrowsPart (W c.args.out.now) (W c.write_replies.new.out) (replies_text c.args.items.now r)) c.deref-2.ensures.value c.in_err-write_replies.ensures.begun)
-    (file-part-none (M c.args.files.now) c.args.slot _))
+    (g.F.Files.files c.args.files.now) c.in_err-write_replies.field-0.0 c.requires.files (of-unit _ _ _ _ _ (c.in_err-write_replies.ensures.cause 0))
+    (subst (GrowsPart (W c.args.out.now) (W c.write_replies.new.out)) (ap (λ l. replies_text l c.deref-2.result.now) c.as_slice-2.ensures ∙ ap (replies_text items) c.deref-2.ensures.value) c.in_err-write_replies.ensures.begun)
+    (file-part-none (M c.args.files.now) 0 _))
 
 pub returns-in_err-write_replies-clause-cause : goal.returns-in_err-write_replies-clause-cause
 returns-in_err-write_replies-clause-cause g c =
@@ -39,30 +47,47 @@ returns-in_err-write_replies-clause-cause g c =
 
 -- the section was begun
 pub returns-in_err-write_section-clause-stopped : goal.returns-in_err-write_section-clause-stopped
-returns-in_err-write_section-clause-stopped g c =
+returns-in_err-write_section-clause-stopped g c names =
     let done = c.in_ok-done.done in
+    let items = c.args.items in
     let W = g.S.Sink.written in
     let M = g.F.Files.made in
-    on-err c.from_residual-in_err-write_section.result
-    (batch-stopped (setup_of c.args.design.now c.args.sizes) c.args.items.now c.args.desk done.replies.items done.lists.items done.stores.items c.in_ok-done.ensures
-    c.in-Some.counts (subst (λ l. IsCounted c.args.desk.counts Batch l c.in-Some.counts) c.deref.ensures.value c.in-Some.ensures) c.args.slot
+    err-is _ _ c.from_residual-in_err-write_section.result c.from_residual-in_err-write_section.ensures.1
+    (batch-stopped (session_of c.args.design.now c.args.sizes names) items c.args.desk done.replies.items done.lists.items done.stores.items
+    (batch-named (setup_of c.args.design.now c.args.sizes) names items c.as_slice.result.now c.args.desk.stores.items done.replies.items done.lists.items done.stores.items c.as_slice.ensures c.in_ok-done.ensures)
+    c.in-Some.counts (subst (λ l. IsCounted c.args.desk.counts Batch l c.in-Some.counts) c.deref.ensures.value c.in-Some.ensures)
     (W c.args.out.now) (W c.write_replies.new.out) (M c.args.files.now) (M c.write_section.new.files)
-    (part-whole (W c.args.out.now) (W c.write_replies.new.out) (replies_text c.args.items.now done.replies.items) (subst (λ r. Grows (W c.args.out.now) (W c.write_replies.new.out) (replies_text c.args.items.now r)) c.deref-2.ensures.value c.in_ok-write_replies.ensures.written))
-    (subst (λ l. FileGrowsPart (M c.args.files.now) (M c.write_section.new.files) c.args.slot (section_lines (record { kind = Batch; number = c.in-Some.counts.sections; shards = l }))) c.deref-3.ensures.value c.in_err-write_section.ensures.begun))
+    (g.F.Files.files c.write_section.new.files) c.in_err-write_section.field-0.0 (c.write_section.ensures.files ∙ c.requires.files) (of-unit _ _ _ _ _ (c.in_err-write_section.ensures.cause 0))
+    (part-whole (W c.args.out.now) (W c.write_replies.new.out) (replies_text items done.replies.items)
+    (subst (Grows (W c.args.out.now) (W c.write_replies.new.out)) (ap (λ l. replies_text l c.deref-2.result.now) c.as_slice-2.ensures ∙ ap (replies_text items) c.deref-2.ensures.value) c.in_ok-write_replies.ensures.written))
+    (subst (λ l. FileGrowsPart (M c.args.files.now) (M c.write_section.new.files) 0 (section_lines (record { kind = Batch; number = c.in-Some.counts.sections; shards = l }))) c.deref-3.ensures.value c.in_err-write_section.ensures.begun))
 
 pub returns-in_err-write_section-clause-cause : goal.returns-in_err-write_section-clause-cause
 returns-in_err-write_section-clause-cause g c =
     let p = err_from_is_err_and c.from_residual-in_err-write_section.result c.from_residual-in_err-write_section.ensures.1 in
     rw (p.1, p.2, c.in_ok-write_replies.ensures.calm) (c.in_err-write_section.ensures.cause (g.S.Sink.faults c.args.out.now))
 
-pub returns-clause-served : goal.returns-clause-served
-returns-clause-served g c =
+-- its waves can be shown
+pub returns-clause-desk : goal.returns-clause-desk
+returns-clause-desk g c =
     let done = c.in_ok-done.done in
+    record {
+      stores = c.in_ok-done.ensures.stores;
+      shown = batch-shown (setup_of c.args.design.now c.args.sizes) c.args.items c.as_slice.result.now c.args.desk.stores.items done.replies.items done.lists.items done.stores.items c.as_slice.ensures c.in_ok-done.ensures c.requires.within c.requires.named;
+    }
+
+pub returns-clause-served : goal.returns-clause-served
+returns-clause-served g c names =
+    let done = c.in_ok-done.done in
+    let items = c.args.items in
     let W = g.S.Sink.written in
     let M = g.F.Files.made in
-    batch-served (setup_of c.args.design.now c.args.sizes) c.args.items.now c.args.desk done.replies.items done.lists.items done.stores.items c.in_ok-done.ensures
-    c.in-Some.counts (subst (λ l. IsCounted c.args.desk.counts Batch l c.in-Some.counts) c.deref.ensures.value c.in-Some.ensures) c.args.slot
+    let last : LastBatch = record { items = items; replies = done.replies } in
+    let dumps : Dumps = record { last = Some last; own = c.args.desk.dumps.own; made = c.args.desk.dumps.made } in
+    batch-served (session_of c.args.design.now c.args.sizes names) items c.args.desk done.replies.items done.lists.items done.stores.items
+    (batch-named (setup_of c.args.design.now c.args.sizes) names items c.as_slice.result.now c.args.desk.stores.items done.replies.items done.lists.items done.stores.items c.as_slice.ensures c.in_ok-done.ensures)
+    c.in-Some.counts (subst (λ l. IsCounted c.args.desk.counts Batch l c.in-Some.counts) c.deref.ensures.value c.in-Some.ensures)
     (W c.args.out.now) (W c.write_replies.new.out) (M c.args.files.now) (M c.write_section.new.files)
-    (record { stores = done.stores; counts = c.in-Some.counts }) refl refl
-    (subst (λ r. Grows (W c.args.out.now) (W c.write_replies.new.out) (replies_text c.args.items.now r)) c.deref-2.ensures.value c.in_ok-write_replies.ensures.written)
-    (subst (λ l. FileGrows (M c.args.files.now) (M c.write_section.new.files) c.args.slot (section_lines (record { kind = Batch; number = c.in-Some.counts.sections; shards = l }))) c.deref-3.ensures.value c.in_ok-write_section.ensures.written)
+    (record { stores = done.stores; counts = c.in-Some.counts; dumps = dumps }) last refl refl refl refl refl
+    (subst (Grows (W c.args.out.now) (W c.write_replies.new.out)) (ap (λ l. replies_text l c.deref-2.result.now) c.as_slice-2.ensures ∙ ap (replies_text items) c.deref-2.ensures.value) c.in_ok-write_replies.ensures.written)
+    (subst (λ l. FileGrows (M c.args.files.now) (M c.write_section.new.files) 0 (section_lines (record { kind = Batch; number = c.in-Some.counts.sections; shards = l }))) c.deref-3.ensures.value c.in_ok-write_section.ensures.written)

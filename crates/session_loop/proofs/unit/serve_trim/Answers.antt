@@ -7,34 +7,40 @@ use Rattle.journal_text.specs.declared.sections.SectionKind.TheVariants.{Trim}
 use Rattle.reply_lines.specs.Replies.{trimmed_line}
 use Rattle.session_loop.specs.inner.Growing.{GrowsPart, FileGrowsPart}
 use Rattle.unit_answers.specs.Stores.{setup_of}
+use Rattle.session_loop.specs.Serving.{session_of}
 use Rattle.session_loop.specs.inner.Desks.{IsCounted}
-use Rattle.session_loop.proofs.Growing.{on-err, part-whole, file-part-none}
-use Rattle.session_loop.proofs.Served.{stops-none, trim-served, trim-stopped}
+use Rattle.session_loop.proofs.Growing.{err-is, part-whole, file-part-none}
+use Rattle.session_loop.proofs.Named.{trim-named}
+use Rattle.session_loop.proofs.Served.{of-unit, stops-none, trim-served, trim-stopped}
 use Rattle.session_loop.proofs.unit.serve_trim.Goals as goal
 
 -- no entries were made
 pub returns-in_err-done-clause-stopped : goal.returns-in_err-done-clause-stopped
-returns-in_err-done-clause-stopped g c = on-err c.from_residual.result (stops-none (setup_of c.args.design.now c.args.sizes) c.args.desk _ c.args.slot _ _)
+returns-in_err-done-clause-stopped g c names =
+    err-is _ _ c.from_residual.result c.from_residual.ensures.1 (stops-none (session_of c.args.design.now c.args.sizes names) c.args.desk _ _ _ _ c.requires.files)
 
 pub returns-in_default-clause-stopped : goal.returns-in_default-clause-stopped
-returns-in_default-clause-stopped g c = stops-none (setup_of c.args.design.now c.args.sizes) c.args.desk _ c.args.slot _ _
+returns-in_default-clause-stopped g c names = stops-none (session_of c.args.design.now c.args.sizes names) c.args.desk _ _ _ _ c.requires.files
 
 pub returns-in_err-text-clause-stopped : goal.returns-in_err-text-clause-stopped
-returns-in_err-text-clause-stopped g c = on-err c.from_residual-in_err-text.result (stops-none (setup_of c.args.design.now c.args.sizes) c.args.desk _ c.args.slot _ _)
+returns-in_err-text-clause-stopped g c names =
+    err-is _ _ c.from_residual-in_err-text.result c.from_residual-in_err-text.ensures.1 (stops-none (session_of c.args.design.now c.args.sizes names) c.args.desk _ _ _ _ c.requires.files)
 
 -- the reply was begun
 pub returns-in_err-write_reply-clause-stopped : goal.returns-in_err-write_reply-clause-stopped
-returns-in_err-write_reply-clause-stopped g c =
+returns-in_err-write_reply-clause-stopped g c names =
     let done = c.in_ok-done.done in
     let some = c.in-Some-Some in
     let W = g.S.Sink.written in
     let M = g.F.Files.made in
-    on-err c.from_residual-in_err-write_reply.result
-    (trim-stopped (setup_of c.args.design.now c.args.sizes) c.args.most c.args.desk done.lists.items done.stores.items c.in_ok-done.ensures
-    some.counts (subst (λ l. IsCounted c.args.desk.counts Trim l some.counts) c.deref.ensures.value some.ensures) c.args.slot
+    err-is _ _ c.from_residual-in_err-write_reply.result c.from_residual-in_err-write_reply.ensures.1
+    (trim-stopped (session_of c.args.design.now c.args.sizes names) c.args.most c.args.desk done.lists.items done.stores.items
+    (trim-named (setup_of c.args.design.now c.args.sizes) names c.args.most c.args.desk.stores.items done.lists.items done.stores.items c.in_ok-done.ensures)
+    some.counts (subst (λ l. IsCounted c.args.desk.counts Trim l some.counts) c.deref.ensures.value some.ensures)
     (W c.args.out.now) (W c.write_reply.new.out) (M c.args.files.now) (M c.args.files.now)
+    (g.F.Files.files c.args.files.now) c.in_err-write_reply.field-0.0 c.requires.files (of-unit _ _ _ _ _ (c.in_err-write_reply.ensures.cause 0))
     (subst (GrowsPart (W c.args.out.now) (W c.write_reply.new.out)) (c.deref-3.ensures.value ∙ c.in_ok-text.ensures ∙ ap trimmed_line (some.ensures' ∙ ap (sum_by length) c.deref-2.ensures.value)) c.in_err-write_reply.ensures.begun)
-    (file-part-none (M c.args.files.now) c.args.slot _))
+    (file-part-none (M c.args.files.now) 0 _))
 
 pub returns-in_err-write_reply-clause-cause : goal.returns-in_err-write_reply-clause-cause
 returns-in_err-write_reply-clause-cause g c =
@@ -43,18 +49,20 @@ returns-in_err-write_reply-clause-cause g c =
 
 -- the section was begun
 pub returns-in_err-write_section-clause-stopped : goal.returns-in_err-write_section-clause-stopped
-returns-in_err-write_section-clause-stopped g c =
+returns-in_err-write_section-clause-stopped g c names =
     let done = c.in_ok-done.done in
     let some = c.in-Some-Some in
     let W = g.S.Sink.written in
     let M = g.F.Files.made in
-    on-err c.from_residual-in_err-write_section.result
-    (trim-stopped (setup_of c.args.design.now c.args.sizes) c.args.most c.args.desk done.lists.items done.stores.items c.in_ok-done.ensures
-    some.counts (subst (λ l. IsCounted c.args.desk.counts Trim l some.counts) c.deref.ensures.value some.ensures) c.args.slot
+    err-is _ _ c.from_residual-in_err-write_section.result c.from_residual-in_err-write_section.ensures.1
+    (trim-stopped (session_of c.args.design.now c.args.sizes names) c.args.most c.args.desk done.lists.items done.stores.items
+    (trim-named (setup_of c.args.design.now c.args.sizes) names c.args.most c.args.desk.stores.items done.lists.items done.stores.items c.in_ok-done.ensures)
+    some.counts (subst (λ l. IsCounted c.args.desk.counts Trim l some.counts) c.deref.ensures.value some.ensures)
     (W c.args.out.now) (W c.write_reply.new.out) (M c.args.files.now) (M c.write_section.new.files)
+    (g.F.Files.files c.write_section.new.files) c.in_err-write_section.field-0.0 (c.write_section.ensures.files ∙ c.requires.files) (of-unit _ _ _ _ _ (c.in_err-write_section.ensures.cause 0))
     (part-whole (W c.args.out.now) (W c.write_reply.new.out) (trimmed_line (sum_by length done.lists.items))
     (subst (Grows (W c.args.out.now) (W c.write_reply.new.out)) (c.deref-3.ensures.value ∙ c.in_ok-text.ensures ∙ ap trimmed_line (some.ensures' ∙ ap (sum_by length) c.deref-2.ensures.value)) c.in_ok-write_reply.ensures.written))
-    (subst (λ l. FileGrowsPart (M c.args.files.now) (M c.write_section.new.files) c.args.slot (section_lines (record { kind = Trim; number = some.counts.sections; shards = l }))) c.deref-4.ensures.value c.in_err-write_section.ensures.begun))
+    (subst (λ l. FileGrowsPart (M c.args.files.now) (M c.write_section.new.files) 0 (section_lines (record { kind = Trim; number = some.counts.sections; shards = l }))) c.deref-4.ensures.value c.in_err-write_section.ensures.begun))
 
 pub returns-in_err-write_section-clause-cause : goal.returns-in_err-write_section-clause-cause
 returns-in_err-write_section-clause-cause g c =
@@ -62,14 +70,15 @@ returns-in_err-write_section-clause-cause g c =
     rw (p.1, p.2, c.in_ok-write_reply.ensures.calm) (c.in_err-write_section.ensures.cause (g.S.Sink.faults c.args.out.now))
 
 pub returns-clause-served : goal.returns-clause-served
-returns-clause-served g c =
+returns-clause-served g c names =
     let done = c.in_ok-done.done in
     let some = c.in-Some-Some in
     let W = g.S.Sink.written in
     let M = g.F.Files.made in
-    trim-served (setup_of c.args.design.now c.args.sizes) c.args.most c.args.desk done.lists.items done.stores.items c.in_ok-done.ensures
-    some.counts (subst (λ l. IsCounted c.args.desk.counts Trim l some.counts) c.deref.ensures.value some.ensures) c.args.slot
+    trim-served (session_of c.args.design.now c.args.sizes names) c.args.most c.args.desk done.lists.items done.stores.items
+    (trim-named (setup_of c.args.design.now c.args.sizes) names c.args.most c.args.desk.stores.items done.lists.items done.stores.items c.in_ok-done.ensures)
+    some.counts (subst (λ l. IsCounted c.args.desk.counts Trim l some.counts) c.deref.ensures.value some.ensures)
     (W c.args.out.now) (W c.write_reply.new.out) (M c.args.files.now) (M c.write_section.new.files)
-    (record { stores = done.stores; counts = some.counts }) refl refl
+    (record { stores = done.stores; counts = some.counts; dumps = c.args.desk.dumps }) refl refl refl
     (subst (Grows (W c.args.out.now) (W c.write_reply.new.out)) (c.deref-3.ensures.value ∙ c.in_ok-text.ensures ∙ ap trimmed_line (some.ensures' ∙ ap (sum_by length) c.deref-2.ensures.value)) c.in_ok-write_reply.ensures.written)
-    (subst (λ l. FileGrows (M c.args.files.now) (M c.write_section.new.files) c.args.slot (section_lines (record { kind = Trim; number = some.counts.sections; shards = l }))) c.deref-4.ensures.value c.in_ok-write_section.ensures.written)
+    (subst (λ l. FileGrows (M c.args.files.now) (M c.write_section.new.files) 0 (section_lines (record { kind = Trim; number = some.counts.sections; shards = l }))) c.deref-4.ensures.value c.in_ok-write_section.ensures.written)

@@ -1,13 +1,17 @@
-use Rattle.std.proofs.Common.{◌≡◌, ◌≢◌, ℕ, ◌+◌, ◌-◌, ◌<◌, ◌≤◌, Bool, ◌&&◌, true, false, cond, nat_lt, nat_le, List, [], ◌∷◌, length, All, refl, sym, subst, arith}
+use Rattle.std.proofs.Common.{◌≢◌, ℕ, ◌+◌, ◌-◌, ◌≤◌, ◌&&◌, true, false, cond, nat_lt, nat_le, List, [], ◌∷◌, refl, sym, subst, arith, IsTrue}
 use Rattle.std.specs.List.{AllPairs}
 use Rattle.std.proofs.lemmas.List.Elements.{All-nil, All-cons}
 use Rattle.std.proofs.lemmas.List.Kept.{AllPairs-cons}
 use Rattle.std.proofs.lemmas.List.Sums.{sum_by-cons}
 use Rattle.query_lines.specs.declared.line.What.TheVariants as whats
 use Rattle.query_lines.specs.declared.unit.Item.{Item}
-use Rattle.query_lines.specs.Units.{budgets, budget_weight, window_length, length_weight, lengths}
+use Rattle.query_lines.specs.Fit.{AsksByName}
+use Rattle.query_lines.specs.Units.{window_length, length_weight}
 use Rattle.query_lines.specs.Laws.{IsWithin}
+use Rattle.text_rules.specs.Text.{is_name}
+use Rattle.unit_answers.specs.Dumps.{AreReplied}
 use Rattle.unit_answers.specs.Stores.{setup_of, AreStores}
+use Rattle.unit_answers.proofs.Dumping.{done-waves}
 use Rattle.unit_answers.proofs.EmptyStores.{sizes, two-empty}
 use Rattle.unit_answers.proofs.tests.answered.Goals as goal
 
@@ -43,3 +47,16 @@ answer_batch-requires-clause-within g c κs within = two-within c.in_ok-from_byt
 
 pub answer_batch-requires-clause-lines : goal.answer_batch-requires-clause-lines
 answer_batch-requires-clause-lines g c κs within = two-lines c.in_ok-from_bytes.field-0
+
+pub dump_waves-requires : goal.dump_waves-requires
+dump_waves-requires g c =
+    let d = c.args.design.now in
+    let name = c.in_ok-from_bytes.field-0 in
+    let done = c.in_ok-done.done in
+    let Named : Item → Type 0 = λ item. AsksByName item.what in
+    let word : IsTrue (is_name name) = subst (λ n. IsTrue (is_name n)) (sym c.in_ok-from_bytes.ensures) refl in
+    subst (AreReplied d (first name ∷ second name ∷ [])) (sym c.deref.ensures.value) (record {
+      within = two-within name d.circuit.horizon;
+      named = All-cons Named (first name) (second name ∷ []) tt (All-cons Named (second name) [] word (All-nil Named));
+      waves = done-waves (setup_of d sizes) (first name ∷ second name ∷ []) c.in_ok-stores.stores.items done.replies.items done.lists.items done.stores.items c.in_ok-done.ensures;
+    })

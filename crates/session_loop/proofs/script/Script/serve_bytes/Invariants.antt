@@ -1,6 +1,8 @@
 -- The bytes so far were taken and served, and met no fault.
-use Rattle.std.proofs.Common.{◌≡◌, ◌+◌, take}
-use Rattle.unit_answers.specs.Stores.{setup_of, AreStores}
+use Rattle.std.proofs.Common.{◌≡◌, ℕ, ◌+◌, List, length, take}
+use Rattle.unit_answers.specs.Stores.{setup_of}
+use Rattle.session_loop.specs.Serving.{session_of}
+use Rattle.session_loop.specs.inner.Desks.{IsDesk}
 use Rattle.session_loop.specs.inner.Serving.{HasTaken, TakesServed}
 use Rattle.session_loop.proofs.script.Script.serve_bytes.Given as goal
 
@@ -8,13 +10,13 @@ abbrev pub invariant-loop-byte : goal.invariant-loop-byte
 invariant-loop-byte g l = record {
   read : HasTaken l.design.circuit.horizon l.self.taken l.self.reader;
   taken : l.self.taken ≡ l.initial.self.taken + l.byte-index;
-  stores : AreStores (setup_of l.design l.sizes) l.desk.stores.items;
-  served : TakesServed (setup_of l.design l.sizes) l.initial.self.reader l.self.reader (take l.byte-index l.bytes) l.initial.desk l.desk l.slot (g.S.Sink.written l.initial.out) (g.S.Sink.written l.out) (g.F.Files.made l.initial.files) (g.F.Files.made l.files);
+  desk : IsDesk (setup_of l.design l.sizes) l.desk;
+  count : g.F.Files.files l.files ≡ length l.desk.dumps.made.items + 1;
+  served : (names : List (List ℕ)) → TakesServed (session_of l.design l.sizes names) l.initial.self.reader l.self.reader (take l.byte-index l.bytes) l.initial.desk l.desk (g.S.Sink.written l.initial.out) (g.S.Sink.written l.out) (g.F.Files.made l.initial.files) (g.F.Files.made l.files);
   calm_replies : g.S.Sink.faults l.out ≡ g.S.Sink.faults l.initial.out;
-  calm_journal : g.F.Files.write_faults l.files ≡ g.F.Files.write_faults l.initial.files;
-  file_faults : g.F.Files.file_faults l.files ≡ g.F.Files.file_faults l.initial.files;
+  calm_writes : g.F.Files.write_faults l.files ≡ g.F.Files.write_faults l.initial.files;
+  calm_files : g.F.Files.file_faults l.files ≡ g.F.Files.file_faults l.initial.files;
   read_faults : g.F.Files.read_faults l.files ≡ g.F.Files.read_faults l.initial.files;
   started : g.F.Files.started l.files ≡ g.F.Files.started l.initial.files;
-  files : g.F.Files.files l.files ≡ g.F.Files.files l.initial.files;
   unfinished : g.F.Files.unfinished l.files ≡ g.F.Files.unfinished l.initial.files;
 }

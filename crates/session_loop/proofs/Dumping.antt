@@ -1,0 +1,377 @@
+-- What a line that asks for a dump leads to, and how the file of a dump stands.
+use Rattle.std.proofs.Common.{◌≡◌, ℕ, zero, suc, ◌+◌, ◌<◌, Bool, true, false, cond, not, ◌&&◌, ◌||◌, ◌==◌, nat_lt, nat_le, List, [], ◌∷◌, ◌++◌, length, map, length-append, Option, Some, None, Result, Ok, Err, All, Contains, refl, sym, ap, ap₂, subst, ◌∙◌, append-nil, arith, inl, inr}
+use Rattle.std.specs.Prelude.{OnErr, OnOk, is_err}
+use Rattle.std.specs.List.{list_any, list_all}
+use Rattle.std.specs.Str.{bytes_eq, IsUtf8, IsAscii}
+use Rattle.std.proofs.lemmas.Bool.{and_parts, leb-true, ne_eqb, eq-eqb, true≢false, false≢true}
+use Rattle.std.proofs.lemmas.Bool.Decides.{nat_tests}
+use Rattle.std.proofs.lemmas.List.{map-append, length-map}
+use Rattle.std.proofs.lemmas.List.Elements.{Contains-append_right, All-head, All-tail, filter-append}
+use Rattle.std.proofs.lemmas.List.Folds.{list_any-append}
+use Rattle.std.proofs.lemmas.Str.{IsUtf8-from_ascii}
+use Rattle.backsim_io.specs.Counts.{Grows, Rose}
+use Rattle.backsim_io.specs.Held.{Made, grown, CreatesIn, FileGrows, SameMade, Places, without}
+use Rattle.text_rules.specs.Text.{is_mark, is_hash, is_name, is_name_byte}
+use Rattle.query_lines.specs.declared.unit.Unit.{Unit as ScriptUnit}
+use Rattle.query_lines.specs.declared.unit.Unit.TheVariants.{Vcd}
+use Rattle.reply_lines.specs.declared.reply.VcdReply.{VcdReply}
+use Rattle.reply_lines.specs.declared.reply.VcdReply.TheVariants as replies
+use Rattle.reply_lines.specs.Replies.{vcd_line}
+use Rattle.vcd_answers.specs.Wires.{Wire}
+use Rattle.vcd_answers.specs.Dumps.{vcd_of}
+use Rattle.session_meaning.specs.Dumps.{wires_of}
+use Rattle.session_meaning.specs.Session.{Setup, Course, Served, is_taken, with_reply, with_dump, with_last, with_vcd}
+use Rattle.session_meaning.specs.Broken.{IsPrefix, journal_of, AreBegun, IsBroken, IsBrokenInDump}
+use Rattle.session_meaning.proofs.Journals.{broken-none, broken-more, broken-at, prefix-same, prefix-more, prefix-behind}
+use Rattle.session_meaning.proofs.Dumps.{begun-same, begun-one, begun-less, dump-broken-at}
+use Rattle.session_loop.specs.declared.desk.Desk.{Desk}
+use Rattle.session_loop.specs.declared.desk.Dumps.{Dumps}
+use Rattle.session_loop.specs.declared.desk.LastBatch.{LastBatch}
+use Rattle.session_loop.specs.declared.stop.Stop.{Stop}
+use Rattle.session_loop.specs.declared.stop.Stop.TheVariants.{ScriptUnread, ScriptTooLong, RepliesUnwritten, JournalUnwritten, DumpUnmade, DumpUnwritten, DumpUnfinished, OutOfMemory}
+use Rattle.unit_answers.specs.Stores.{cells_of}
+use Rattle.session_loop.specs.Serving.{StopsOpen}
+use Rattle.session_loop.specs.Halting.{session_files}
+use Rattle.session_loop.specs.inner.Desks.{IsCount, Keeps, KeepsDumps, Shows, refused, refused_last}
+use Rattle.session_loop.specs.inner.Faults.{IsOfDump, UnitExplains, UnitsExplain}
+use Rattle.session_loop.specs.inner.Growing.{Adds, GrowsPart, IsDumpPart}
+use Rattle.session_loop.specs.inner.Serving.{BreaksAt, Serves, Stops}
+use Rattle.session_loop.proofs.Growing.{goes-none}
+
+-- ---- calls
+
+-- what a failed call ensures
+pub when-failed : {T E X : Type 0} (result : Result T E) → is_err result ≡ true → OnErr result X → X
+when-failed (Ok x) is h = absurd (false≢true is)
+when-failed (Err e) is h = h
+
+-- what a call ensures that did not fail
+pub when-passed : {T E X : Type 0} (result : Result T E) → is_err result ≡ false → OnOk result X → X
+when-passed (Ok x) is h = h
+when-passed (Err e) is h = absurd (true≢false is)
+
+-- ---- a file more
+
+-- what is written to the last of the files
+grown-last : (before : List Made) (name bytes : List ℕ)
+    → grown (before ++ record { name = name; bytes = [] } ∷ []) (length before) bytes ≡ before ++ record { name = name; bytes = bytes } ∷ []
+grown-last [] name bytes = refl
+grown-last (file ∷ before) name bytes = ap (λ l. file ∷ l) (grown-last before name bytes)
+
+-- a file was created, and these bytes were written to it
+pub adds-file : (u v w : List Made → Type 0) (count slot : ℕ) (name bytes : List ℕ) → slot ≡ count → CreatesIn u v name → FileGrows v w slot bytes
+    → Adds u w count (record { name = name; bytes = bytes } ∷ [])
+adds-file u v w count slot name bytes is creates grows before long was =
+    let made : List Made = before ++ record { name = name; bytes = [] } ∷ [] in
+    subst w (ap (λ k. grown made k bytes) (is ∙ sym long) ∙ grown-last before name bytes) (grows made (creates before was))
+
+-- and nothing since
+pub adds-then : (u v w : List Made → Type 0) (count : ℕ) (more : List Made) → Adds u v count more → SameMade v w → Adds u w count more
+adds-then u v w count more adds same before long was = same (before ++ more) (adds before long was)
+
+-- no file was created
+pub adds-none : (u v : List Made → Type 0) (count : ℕ) → SameMade u v → Adds u v count []
+adds-none u v count same before long was = subst v (sym (append-nil before)) (same before was)
+
+-- the place of a file that was just created is one that isn't finished
+pub holds-last : (before after : List ℕ) (place slot : ℕ) → after ≡ before ++ place ∷ [] → slot ≡ place → Contains after slot
+holds-last before after place slot is same = subst (λ l. Contains l slot) (sym is) (Contains-append_right before (place ∷ []) slot (0, omega arith, sym same))
+
+others-stay : (places : List ℕ) (slot : ℕ) → All (λ k. k < slot) places → without places slot ≡ places
+others-stay [] slot below = refl
+others-stay (k ∷ places) slot below =
+    let less : k < slot = All-head (λ i. i < slot) k places below in
+    let apart : (k == slot) ≡ false = ne_eqb k slot (λ e. omega arith) in
+    rw apart (ap (λ l. k ∷ l) (others-stay places slot (All-tail (λ i. i < slot) k places below)))
+
+last-goes : (slot : ℕ) → without (slot ∷ []) slot ≡ []
+last-goes slot = let same : (slot == slot) ≡ true = eq-eqb slot slot refl in rw same refl
+
+-- once the file that was created last is finished, those are left that were before
+pub others-left : (places mid after : List ℕ) (count slot : ℕ) → Places count places → slot ≡ count → mid ≡ places ++ count ∷ [] → after ≡ without mid slot → after ≡ places
+others-left places mid after count slot are same is finished =
+    finished ∙ ap (without mid) same ∙ ap (λ l. without l count) is
+    ∙ filter-append (λ k. not (k == count)) places (count ∷ [])
+    ∙ ap₂ (λ (a b : List ℕ). a ++ b) (others-stay places count are.0) (last-goes count)
+    ∙ append-nil places
+
+-- ---- names
+
+name-byte : (b : ℕ) → is_name_byte b ≡ true → b < 128
+name-byte b is =
+    let unhashed = (and_parts (nat_le 33 b && nat_le b 126 && not (is_mark b)) (not (is_hash b)) is).0 in
+    let visible = (and_parts (nat_le 33 b && nat_le b 126) (not (is_mark b)) unhashed).0 in
+    let most = leb-true b 126 (and_parts (nat_le 33 b) (nat_le b 126) visible).1 in
+    omega (arith, most)
+
+names-are-ascii : (word : List ℕ) → list_all is_name_byte word ≡ true → IsAscii word
+names-are-ascii [] is i = omega arith
+names-are-ascii (b ∷ word) is zero = name-byte b (and_parts _ _ is).0
+names-are-ascii (b ∷ word) is (suc i) = names-are-ascii word (and_parts _ _ is).1 i
+
+-- a name is text
+pub names-are-text : (word : List ℕ) → is_name word ≡ true → IsUtf8 word
+names-are-text word is = IsUtf8-from_ascii word (names-are-ascii word (and_parts _ _ is).1)
+
+-- ---- stops
+
+no-rise : Rose 0 0 → ⊥
+no-rise h = elim h [ inl less ↦ omega (arith, less) | inr last ↦ omega (arith, last) ]
+
+-- where no file is created or written to
+pub reply-explains : (replies new_replies writes new_writes files new_files : ℕ) (stop : Stop) → ((same : ℕ) → UnitExplains replies new_replies same same stop)
+    → UnitsExplain replies new_replies writes new_writes files new_files stop
+reply-explains replies new_replies writes new_writes files new_files ScriptUnread h = h 0
+reply-explains replies new_replies writes new_writes files new_files ScriptTooLong h = h 0
+reply-explains replies new_replies writes new_writes files new_files RepliesUnwritten h = h 0
+reply-explains replies new_replies writes new_writes files new_files JournalUnwritten h = absurd (no-rise (h 0))
+reply-explains replies new_replies writes new_writes files new_files DumpUnmade h = absurd (h 0)
+reply-explains replies new_replies writes new_writes files new_files DumpUnwritten h = absurd (h 0)
+reply-explains replies new_replies writes new_writes files new_files DumpUnfinished h = absurd (h 0)
+reply-explains replies new_replies writes new_writes files new_files OutOfMemory h = tt
+
+-- no dump is left unfinished by a stop that is none of a dump
+pub reply-opens : (replies new_replies writes new_writes : ℕ) (old new : List ℕ) (stop : Stop) → UnitExplains replies new_replies writes new_writes stop → new ≡ old → StopsOpen old new stop
+reply-opens replies new_replies writes new_writes old new ScriptUnread cause same = same
+reply-opens replies new_replies writes new_writes old new ScriptTooLong cause same = same
+reply-opens replies new_replies writes new_writes old new RepliesUnwritten cause same = same
+reply-opens replies new_replies writes new_writes old new JournalUnwritten cause same = same
+reply-opens replies new_replies writes new_writes old new DumpUnmade cause same = same
+reply-opens replies new_replies writes new_writes old new DumpUnwritten cause same = absurd cause
+reply-opens replies new_replies writes new_writes old new DumpUnfinished cause same = absurd cause
+reply-opens replies new_replies writes new_writes old new OutOfMemory cause same = same
+
+module _ (setup : Setup) where
+  -- a stop that is none of a dump breaks off in any unit
+  breaks-in-reply : (units : List ScriptUnit) (out journal : List ℕ) (dumps : List Made) (a a' b b' : ℕ) (stop : Stop) → UnitExplains a a' b b' stop
+      → IsBroken setup units out journal dumps → BreaksAt setup units out journal dumps stop
+  breaks-in-reply units out journal dumps a a' b b' ScriptUnread cause broken = broken
+  breaks-in-reply units out journal dumps a a' b b' ScriptTooLong cause broken = broken
+  breaks-in-reply units out journal dumps a a' b b' RepliesUnwritten cause broken = broken
+  breaks-in-reply units out journal dumps a a' b b' JournalUnwritten cause broken = broken
+  breaks-in-reply units out journal dumps a a' b b' DumpUnmade cause broken = absurd cause
+  breaks-in-reply units out journal dumps a a' b b' DumpUnwritten cause broken = absurd cause
+  breaks-in-reply units out journal dumps a a' b b' DumpUnfinished cause broken = absurd cause
+  breaks-in-reply units out journal dumps a a' b b' OutOfMemory cause broken = broken
+
+  -- a stop of a dump breaks off before its reply
+  breaks-in-dump : (units : List ScriptUnit) (out journal : List ℕ) (dumps : List Made) (stop : Stop) → IsOfDump stop → IsBrokenInDump setup units out journal dumps
+      → BreaksAt setup units out journal dumps stop
+  breaks-in-dump units out journal dumps ScriptUnread kind broken = absurd kind
+  breaks-in-dump units out journal dumps ScriptTooLong kind broken = absurd kind
+  breaks-in-dump units out journal dumps RepliesUnwritten kind broken = absurd kind
+  breaks-in-dump units out journal dumps JournalUnwritten kind broken = absurd kind
+  breaks-in-dump units out journal dumps DumpUnmade kind broken = broken
+  breaks-in-dump units out journal dumps DumpUnwritten kind broken = broken
+  breaks-in-dump units out journal dumps DumpUnfinished kind broken = broken
+  breaks-in-dump units out journal dumps OutOfMemory kind broken = absurd kind
+
+  -- ---- what the line leads to
+
+  -- three dumps are the most
+  room-or-full : (n : ℕ) → nat_lt n 3 ≡ not (nat_le 3 n)
+  room-or-full n = grind (arith, nat_tests)
+
+  module _ (now : Course) (file : List ℕ) where
+    told-room : (wires : List Wire) (full room : Bool) (reply : VcdReply) → room ≡ not full → cond full (Some replies.Full) None ≡ Some reply
+        → cond room (with_dump now file wires) (with_reply now (vcd_line file replies.Full)) ≡ with_reply now (vcd_line file reply)
+    told-room wires true room reply other is = let same : replies.Full ≡ reply = cc in rw other (ap (λ r. with_reply now (vcd_line file r)) same)
+    told-room wires false room reply other is = absurd (cc)
+
+    told-last : (last : Option LastBatch) (waves : Option (List Wire)) (reply : VcdReply) → Shows setup.design last waves → refused_last last (length now.dumps) ≡ Some reply
+        → with_last now file waves ≡ with_reply now (vcd_line file reply)
+    told-last None None reply shows is = let same : replies.NoBatch ≡ reply = cc in ap (λ r. with_reply now (vcd_line file r)) same
+    told-last None (Some wires) reply shows is = absurd shows
+    told-last (Some last) None reply shows is = absurd shows
+    told-last (Some last) (Some wires) reply shows is =
+        told-room wires (nat_le 3 (length now.dumps)) (nat_lt (length now.dumps) 3) reply (room-or-full (length now.dumps)) is
+
+    told-name : (taken : Bool) (last : Option LastBatch) (reply : VcdReply) → Shows setup.design last now.waves
+        → cond taken (Some replies.Taken) (refused_last last (length now.dumps)) ≡ Some reply
+        → cond taken (with_reply now (vcd_line file replies.Taken)) (with_last now file now.waves) ≡ with_reply now (vcd_line file reply)
+    told-name true last reply shows is = let same : replies.Taken ≡ reply = cc in ap (λ r. with_reply now (vcd_line file r)) same
+    told-name false last reply shows is = told-last last now.waves reply shows is
+
+    made-room : (wires : List Wire) (full room : Bool) → room ≡ not full → cond full (Some replies.Full) None ≡ None
+        → cond room (with_dump now file wires) (with_reply now (vcd_line file replies.Full)) ≡ with_dump now file wires
+    made-room wires true room other is = absurd (cc)
+    made-room wires false room other is = rw other refl
+
+    made-last : (last : LastBatch) (waves : Option (List Wire)) → Shows setup.design (Some last) waves → refused_last (Some last) (length now.dumps) ≡ None
+        → with_last now file waves ≡ with_dump now file (wires_of setup.design last.items last.replies.items)
+    made-last last None shows is = absurd shows
+    made-last last (Some wires) shows is =
+        made-room wires (nat_le 3 (length now.dumps)) (nat_lt (length now.dumps) 3) (room-or-full (length now.dumps)) is
+        ∙ ap (with_dump now file) shows
+
+    made-name : (taken : Bool) (last : LastBatch) → Shows setup.design (Some last) now.waves
+        → cond taken (Some replies.Taken) (refused_last (Some last) (length now.dumps)) ≡ None
+        → cond taken (with_reply now (vcd_line file replies.Taken)) (with_last now file now.waves) ≡ with_dump now file (wires_of setup.design last.items last.replies.items)
+    made-name true last shows is = absurd (cc)
+    made-name false last shows is = made-last last now.waves shows is
+
+    module _ (dumps : Dumps) (keeps : KeepsDumps setup dumps now) where
+      as-many : length dumps.made.items ≡ length now.dumps
+      as-many = ap length keeps.made ∙ length-map now.dumps (λ dump. dump.name)
+
+      taken-is : (list_any (bytes_eq file) dumps.own.items || list_any (bytes_eq file) dumps.made.items) ≡ is_taken setup now file
+      taken-is =
+          ap₂ (λ (a b : List (List ℕ)). list_any (bytes_eq file) a || list_any (bytes_eq file) b) keeps.own keeps.made
+          ∙ sym (list_any-append (bytes_eq file) setup.names (map (λ (dump : Made). dump.name) now.dumps))
+
+      refused-is : refused dumps file ≡ cond (is_taken setup now file) (Some replies.Taken) (refused_last dumps.last (length now.dumps))
+      refused-is = ap₂ (λ (b : Bool) (n : ℕ). cond b (Some replies.Taken) (refused_last dumps.last n)) taken-is as-many
+
+      -- no dump is made, and the reply says why
+      line-refused : (reply : VcdReply) → refused dumps file ≡ Some reply → with_vcd setup now file ≡ with_reply now (vcd_line file reply)
+      line-refused reply is = told-name (is_taken setup now file) dumps.last reply keeps.shows (sym refused-is ∙ is)
+
+      -- a dump is made
+      line-makes : (last : LastBatch) → dumps.last ≡ Some last → refused dumps file ≡ None
+          → with_vcd setup now file ≡ with_dump now file (wires_of setup.design last.items last.replies.items)
+      line-makes last has is =
+          made-name (is_taken setup now file) last (subst (λ l. Shows setup.design l now.waves) has keeps.shows)
+          (ap (λ l. cond (is_taken setup now file) (Some replies.Taken) (refused_last l (length now.dumps))) (sym has) ∙ sym refused-is ∙ is)
+
+  -- ---- units
+
+  module _ (desk : Desk) where
+    count-is : (now : Course) (files : ℕ) → Keeps setup desk now → files ≡ length desk.dumps.made.items + 1 → files ≡ length now.dumps + 1
+    count-is now files keeps is = is ∙ ap (λ n. n + 1) (as-many now [] desk.dumps keeps.dumps)
+
+    -- there is no memory, and nothing of the unit was written
+    pub unit-unbegun : (more : List ScriptUnit) (out : List ℕ → Type 0) (made : List Made → Type 0) (files : ℕ) → files ≡ length desk.dumps.made.items + 1
+        → Stops setup desk more out out made made files OutOfMemory
+    unit-unbegun more out made files is units now session keeps = record {
+      replies = now.out;
+      journal = journal_of setup now;
+      dumps = now.dumps;
+      broken = broken-more setup units more now.out (journal_of setup now) now.dumps (broken-none setup units now session);
+      replied = goes-none out now.out;
+      recorded = λ name was. was;
+      count = count-is now files keeps is;
+    }
+
+    module _ (file : List ℕ) where
+      -- no dump is made
+      module _ (reply : VcdReply) (is : refused desk.dumps file ≡ Some reply) (out new_out : List ℕ → Type 0) (made : List Made → Type 0) where
+        -- its reply was written
+        pub refusal-served : Grows out new_out (vcd_line file reply) → Serves setup desk desk (Vcd file ∷ []) out new_out made made
+        refusal-served replied units now session keeps = record {
+          next = with_reply now (vcd_line file reply);
+          session = Served (Vcd file) session (sym (line-refused now file desk.dumps keeps.dumps reply is));
+          keeps = record {
+            cells = keeps.cells;
+            counts = keeps.counts;
+            dumps = record { shows = keeps.dumps.shows; own = keeps.dumps.own; made = keeps.dumps.made };
+          };
+          replied = (vcd_line file reply, refl, replied);
+          recorded = λ name was. was;
+        }
+
+        -- a part of its reply was written
+        pub refusal-stopped : (files a a' b b' : ℕ) (stop : Stop) → files ≡ length desk.dumps.made.items + 1 → UnitExplains a a' b b' stop → GrowsPart out new_out (vcd_line file reply)
+            → Stops setup desk (Vcd file ∷ []) out new_out made made files stop
+        refusal-stopped files a a' b b' stop many cause replied units now session keeps =
+            let next : Course = with_reply now (vcd_line file reply) in
+            let journal : List ℕ = journal_of setup now in
+            record {
+              replies = now.out ++ replied.0;
+              journal = journal;
+              dumps = now.dumps;
+              broken = breaks-in-reply (units ++ Vcd file ∷ []) (now.out ++ replied.0) journal now.dumps a a' b b' stop cause
+                  (broken-at setup units (Vcd file) now next (now.out ++ replied.0) journal now.dumps session (sym (line-refused now file desk.dumps keeps.dumps reply is))
+                  (prefix-more now.out replied.0) (prefix-same journal) (prefix-behind now.out replied.0 (vcd_line file reply) replied.1) (prefix-same journal)
+                  ([], sym (append-nil now.dumps)) (begun-same now.dumps) (λ o j. refl));
+              replied = (replied.0, refl, replied.2);
+              recorded = λ name was. was;
+              count = count-is now files keeps many;
+            }
+
+      -- a dump is made
+      module _ (last : LastBatch) (has : desk.dumps.last ≡ Some last) (free : refused desk.dumps file ≡ None)
+          (text : List ℕ) (text-is : text ≡ vcd_of (wires_of setup.design last.items last.replies.items))
+          (count : ℕ) (many : count ≡ length desk.dumps.made.items + 1) (out new_out : List ℕ → Type 0) (made new_made : List Made → Type 0) where
+        abbrev wires : List Wire
+        wires = wires_of setup.design last.items last.replies.items
+
+        abbrev dump : Made
+        dump = record { name = file; bytes = text }
+
+        leads : (now : Course) → Keeps setup desk now → with_dump now file wires ≡ with_vcd setup now file
+        leads now keeps = sym (line-makes now file desk.dumps keeps.dumps last has free)
+
+        one-more : (now : Course) → now.dumps ++ dump ∷ [] ≡ (with_dump now file wires).dumps
+        one-more now = ap (λ bytes. now.dumps ++ record { name = file; bytes = bytes } ∷ []) text-is
+
+        go-on : (now : Course) (more : List Made) → Keeps setup desk now → Adds made new_made count more → (name journal : List ℕ)
+            → made (session_files name journal now.dumps) → new_made (session_files name journal (now.dumps ++ more))
+        go-on now more keeps adds name journal was =
+            let stand = count-is now count keeps many in
+            adds (session_files name journal now.dumps) (omega (arith, stand)) was
+
+        -- the file couldn't be created, written or finished
+        pub dump-stopped : (files : ℕ) (more : List Made) (stop : Stop) → IsOfDump stop → IsDumpPart file text more → Adds made new_made count more → files ≡ count + length more
+            → Stops setup desk (Vcd file ∷ []) out out made new_made files stop
+        dump-stopped files more stop kind part adds created units now session keeps = record {
+          replies = now.out;
+          journal = journal_of setup now;
+          dumps = now.dumps ++ more;
+          broken = breaks-in-dump (units ++ Vcd file ∷ []) now.out (journal_of setup now) (now.dumps ++ more) stop kind
+              (dump-broken-at setup units file now (now.dumps ++ more) session (more, refl) (subst (λ (c : Course). AreBegun (now.dumps ++ more) c.dumps) (leads now keeps) begun));
+          replied = goes-none out now.out;
+          recorded = λ name. go-on now more keeps adds name (journal_of setup now);
+          count = let stand = count-is now count keeps many in omega (arith, stand, created, length-append now.dumps more);
+        }
+          where
+            begun : AreBegun (now.dumps ++ more) (with_dump now file wires).dumps
+            begun = elim part [
+              | inl none ↦ subst (λ l. AreBegun l (now.dumps ++ record { name = file; bytes = vcd_of wires } ∷ [])) (sym (append-nil now.dumps) ∙ ap (λ l. now.dumps ++ l) (sym none))
+                  (begun-less now.dumps (record { name = file; bytes = vcd_of wires } ∷ []))
+              | inr one ↦ subst (λ l. AreBegun (now.dumps ++ l) (now.dumps ++ record { name = file; bytes = vcd_of wires } ∷ [])) (sym one.2)
+                  (begun-one now.dumps file one.0 (vcd_of wires) (subst (IsPrefix one.0) text-is one.1))
+            ]
+
+        -- and the reply is written
+        module _ (line : List ℕ) (line-is : line ≡ vcd_line file (replies.Made (length wires))) (adds : Adds made new_made count (dump ∷ [])) where
+          -- all of it
+          pub dump-served : (later : Desk) → later.stores ≡ desk.stores → later.counts ≡ desk.counts → later.dumps.last ≡ desk.dumps.last → later.dumps.own ≡ desk.dumps.own
+              → later.dumps.made.items ≡ desk.dumps.made.items ++ file ∷ [] → Grows out new_out line → Serves setup desk later (Vcd file ∷ []) out new_out made new_made
+          dump-served later stores counts same own names replied units now session keeps = record {
+            next = with_dump now file wires;
+            session = Served (Vcd file) session (leads now keeps);
+            keeps = record {
+              cells = λ shard h. ap (λ l. cells_of l shard) (ap (λ s. s.items) stores) ∙ keeps.cells shard h;
+              counts = subst (λ c. IsCount c now.sections) (sym counts) keeps.counts;
+              dumps = record {
+                shows = subst (λ l. Shows setup.design l now.waves) (sym same) keeps.dumps.shows;
+                own = ap (λ s. s.items) own ∙ keeps.dumps.own;
+                made = names ∙ ap (λ l. l ++ file ∷ []) keeps.dumps.made
+                    ∙ sym (map-append (λ (d : Made). d.name) now.dumps (record { name = file; bytes = vcd_of wires } ∷ []));
+              };
+            };
+            replied = (line, ap (λ l. now.out ++ l) (sym line-is), replied);
+            recorded = λ name was. subst (λ l. new_made (session_files name (journal_of setup now) l)) (one-more now) (go-on now (dump ∷ []) keeps adds name (journal_of setup now) was);
+          }
+
+          -- or a part of it
+          pub reply-stopped : (files a a' b b' : ℕ) (stop : Stop) → files ≡ count + 1 → UnitExplains a a' b b' stop → GrowsPart out new_out line
+              → Stops setup desk (Vcd file ∷ []) out new_out made new_made files stop
+          reply-stopped files a a' b b' stop created cause replied units now session keeps =
+              let next : Course = with_dump now file wires in
+              let journal : List ℕ = journal_of setup now in
+              let all : List Made = now.dumps ++ dump ∷ [] in
+              let stand = count-is now count keeps many in
+              record {
+                replies = now.out ++ replied.0;
+                journal = journal;
+                dumps = all;
+                broken = breaks-in-reply (units ++ Vcd file ∷ []) (now.out ++ replied.0) journal all a a' b b' stop cause
+                    (broken-at setup units (Vcd file) now next (now.out ++ replied.0) journal all session (leads now keeps)
+                    (prefix-more now.out replied.0) (prefix-same journal)
+                    (prefix-behind now.out replied.0 (vcd_line file (replies.Made (length wires))) (subst (IsPrefix replied.0) line-is replied.1)) (prefix-same journal)
+                    (dump ∷ [], refl) (subst (AreBegun all) (one-more now) (begun-same all)) (λ o j. one-more now));
+                replied = (replied.0, refl, replied.2);
+                recorded = λ name. go-on now (dump ∷ []) keeps adds name journal;
+                count = omega (arith, stand, created, length-append now.dumps (dump ∷ []));
+              }

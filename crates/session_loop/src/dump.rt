@@ -1,0 +1,181 @@
+//! A dump of the last batch's waves is served.
+
+ghost use Rattle.std.specs.Prelude.{◌≡◌, ◌+◌, ◌++◌, ◌<◌, ◌∷◌, [], ℕ, List, IsTrue, length, IfErr, IfOk, OnErr, OnOk, None};
+ghost use Rattle.std.specs.List.{list_any};
+ghost use Rattle.std.specs.Str.{bytes_eq};
+ghost use Rattle.backsim_io.specs.Counts.{Grows};
+ghost use Rattle.backsim_io.specs.Held.{Made};
+ghost use Rattle.text_rules.specs.Text as texts;
+ghost use Rattle.query_lines.specs.declared.unit.Unit.TheVariants as kinds;
+ghost use Rattle.reply_lines.specs.Replies.{vcd_line};
+ghost use Rattle.unit_answers.specs.Stores.{setup_of};
+ghost use Rattle.session_loop.specs.Serving.{session_of, StopsOpen};
+ghost use Rattle.session_loop.specs.inner.Desks.{IsDesk, refused};
+ghost use Rattle.session_loop.specs.inner.Faults.{IsOfDump, UnitExplains, UnitsExplain};
+ghost use Rattle.session_loop.specs.inner.Growing.{Adds, GrowsPart, IsDumpPart};
+ghost use Rattle.session_loop.specs.inner.Serving.{Serves, Stops};
+
+use crate::desk::{Desk, Dumps};
+use crate::section::write_reply;
+use crate::stop::Stop;
+use backsim_io::{Files, OutOfMemory, Sink, Text, write_file};
+use design::Design;
+use reply_lines::{VcdReply, dump_text};
+use std::alloc::Global;
+use unit_answers::{Sizes, dump_waves};
+
+/// The most dumps that a session makes.
+const MOST_DUMPS: usize = 3;
+
+/// Whether one of these names is that of the file.
+fn is_among(names: &[Text], file: &Text) -> bool
+    ensures { result ≡ list_any (bytes_eq file.now) names.now }
+{
+    names.iter().any(|name| file == name)
+}
+
+/// Why no dump is made under this name, if none is.
+fn refusal_of(dumps: &Dumps, file: &Text) -> Option<VcdReply>
+    ensures { result ≡ refused dumps.now file.now }
+{
+    if is_among(&dumps.own, file) || is_among(&dumps.made, file) {
+        Some(VcdReply::Taken)
+    } else if dumps.last.is_none() {
+        Some(VcdReply::NoBatch)
+    } else if dumps.made.len() >= MOST_DUMPS {
+        Some(VcdReply::Full)
+    } else {
+        None
+    }
+}
+
+/// Creates the file of a dump, writes its text, and finishes it.
+fn write_dump<F: Files>(name: &str, text: &[u8], files: &mut F) -> Result<(), Stop>
+    requires room { F.files files.old < 4 }
+    requires journal { 0 < F.files files.old }
+    ensures written { OnOk result (Adds (F.made files.old) (F.made files.new) (F.files files.old) (record { name = name.now; bytes = text.now } ∷ [])) }
+    ensures count { OnOk result (F.files files.new ≡ F.files files.old + 1) }
+    ensures begun { IfErr result (λ stop. (more : List Made) × IsDumpPart name.now text.now more
+        × Adds (F.made files.old) (F.made files.new) (F.files files.old) more × (F.files files.new ≡ F.files files.old + length more)) }
+    ensures cause { IfErr result (λ stop. (replies : ℕ) → UnitsExplain replies replies (F.write_faults files.old) (F.write_faults files.new) (F.file_faults files.old) (F.file_faults files.new) stop) }
+    ensures own { IfErr result IsOfDump }
+    ensures calm_writes { OnOk result (F.write_faults files.new ≡ F.write_faults files.old) }
+    ensures calm_files { OnOk result (F.file_faults files.new ≡ F.file_faults files.old) }
+    ensures read_faults { F.read_faults files.new ≡ F.read_faults files.old }
+    ensures started { F.started files.new ≡ F.started files.old }
+    ensures unfinished { OnOk result (F.unfinished files.new ≡ F.unfinished files.old) }
+    ensures left { IfErr result (StopsOpen (F.unfinished files.old) (F.unfinished files.new)) }
+{
+    let Ok(slot) = files.create(name) else {
+        return Err(Stop::DumpUnmade);
+    };
+    if write_file(files, slot, text).is_err() {
+        return Err(Stop::DumpUnwritten);
+    }
+    if files.finish(slot).is_err() {
+        return Err(Stop::DumpUnfinished);
+    }
+    Ok(())
+}
+
+/// Tells why no dump is made.
+fn refuse_dump<S: Sink>(
+    alloc: Global,
+    file: &Text,
+    reply: VcdReply,
+    out: &mut S,
+) -> Result<(), Stop>
+    ensures written { OnOk result (Grows (S.written out.old) (S.written out.new) (vcd_line file.now reply)) }
+    ensures begun { OnErr result (GrowsPart (S.written out.old) (S.written out.new) (vcd_line file.now reply)) }
+    ensures cause { IfErr result (λ stop. (writes : ℕ) → UnitExplains (S.faults out.old) (S.faults out.new) writes writes stop) }
+    ensures calm { OnOk result (S.faults out.new ≡ S.faults out.old) }
+{
+    let text = dump_text(alloc, file, reply)?;
+    write_reply(&text, out)
+}
+
+/// Adds a copy of a name.
+fn push_copy(alloc: Global, name: &Text, names: &mut Vec<Text>) -> Result<(), OutOfMemory>
+    ensures { OnOk result (names.new.items ≡ names.old.items ++ name.now ∷ []) }
+{
+    names.push(Text::from_bytes(alloc, name.bytes())?)?;
+    Ok(())
+}
+
+/// Makes a dump of the last batch's waves under a name that is free: its file, which is finished, and then its reply.
+fn make_dump<F: Files, S: Sink>(
+    alloc: Global,
+    design: &Design,
+    sizes: Sizes,
+    file: Text,
+    desk: Desk,
+    files: &mut F,
+    out: &mut S,
+) -> Result<Desk, Stop>
+    requires named { IsTrue (texts.is_name file) }
+    requires free { refused desk.dumps file ≡ None }
+    requires desk { IsDesk (setup_of design.now sizes) desk }
+    requires files { F.files files.old ≡ length desk.dumps.made.items + 1 }
+    ensures desk { IfOk result (λ later. IsDesk (setup_of design.now sizes) later) }
+    ensures count { IfOk result (λ later. F.files files.new ≡ length later.dumps.made.items + 1) }
+    ensures served { (names : List (List ℕ)) → IfOk result (λ later. Serves (session_of design.now sizes names) desk later (kinds.Vcd file ∷ []) (S.written out.old) (S.written out.new) (F.made files.old) (F.made files.new)) }
+    ensures stopped { (names : List (List ℕ)) → IfErr result (Stops (session_of design.now sizes names) desk (kinds.Vcd file ∷ []) (S.written out.old) (S.written out.new) (F.made files.old) (F.made files.new) (F.files files.new)) }
+    ensures cause { IfErr result (UnitsExplain (S.faults out.old) (S.faults out.new) (F.write_faults files.old) (F.write_faults files.new) (F.file_faults files.old) (F.file_faults files.new)) }
+    ensures calm_replies { OnOk result (S.faults out.new ≡ S.faults out.old) }
+    ensures calm_writes { OnOk result (F.write_faults files.new ≡ F.write_faults files.old) }
+    ensures calm_files { OnOk result (F.file_faults files.new ≡ F.file_faults files.old) }
+    ensures read_faults { F.read_faults files.new ≡ F.read_faults files.old }
+    ensures started { F.started files.new ≡ F.started files.old }
+    ensures unfinished { OnOk result (F.unfinished files.new ≡ F.unfinished files.old) }
+    ensures left { IfErr result (StopsOpen (F.unfinished files.old) (F.unfinished files.new)) }
+{
+    let mut desk = desk;
+    let Some(last) = &desk.dumps.last else {
+        unreachable!()
+    };
+    let dump = dump_waves(alloc, design, last.items.as_slice(), &last.replies)?;
+    let reply = dump_text(alloc, &file, VcdReply::Made(dump.wires))?;
+    push_copy(alloc, &file, &mut desk.dumps.made)?;
+    let Ok(name) = str::from_utf8(file.bytes()) else {
+        unreachable!()
+    };
+    write_dump(name, &dump.text, files)?;
+    write_reply(&reply, out)?;
+    Ok(desk)
+}
+
+/// Serves a line that asks for a dump of the last batch's waves: the file, which is written and finished, and then its reply; or the
+/// reply that says why there is none.
+pub fn serve_vcd<F: Files, S: Sink>(
+    alloc: Global,
+    design: &Design,
+    sizes: Sizes,
+    file: Text,
+    desk: Desk,
+    files: &mut F,
+    out: &mut S,
+) -> Result<Desk, Stop>
+    requires named { IsTrue (texts.is_name file) }
+    requires desk { IsDesk (setup_of design.now sizes) desk }
+    requires files { F.files files.old ≡ length desk.dumps.made.items + 1 }
+    ensures desk { IfOk result (λ later. IsDesk (setup_of design.now sizes) later) }
+    ensures count { IfOk result (λ later. F.files files.new ≡ length later.dumps.made.items + 1) }
+    ensures served { (names : List (List ℕ)) → IfOk result (λ later. Serves (session_of design.now sizes names) desk later (kinds.Vcd file ∷ []) (S.written out.old) (S.written out.new) (F.made files.old) (F.made files.new)) }
+    ensures stopped { (names : List (List ℕ)) → IfErr result (Stops (session_of design.now sizes names) desk (kinds.Vcd file ∷ []) (S.written out.old) (S.written out.new) (F.made files.old) (F.made files.new) (F.files files.new)) }
+    ensures cause { IfErr result (UnitsExplain (S.faults out.old) (S.faults out.new) (F.write_faults files.old) (F.write_faults files.new) (F.file_faults files.old) (F.file_faults files.new)) }
+    ensures calm_replies { OnOk result (S.faults out.new ≡ S.faults out.old) }
+    ensures calm_writes { OnOk result (F.write_faults files.new ≡ F.write_faults files.old) }
+    ensures calm_files { OnOk result (F.file_faults files.new ≡ F.file_faults files.old) }
+    ensures read_faults { F.read_faults files.new ≡ F.read_faults files.old }
+    ensures started { F.started files.new ≡ F.started files.old }
+    ensures unfinished { OnOk result (F.unfinished files.new ≡ F.unfinished files.old) }
+    ensures left { IfErr result (StopsOpen (F.unfinished files.old) (F.unfinished files.new)) }
+{
+    match refusal_of(&desk.dumps, &file) {
+        Some(reply) => {
+            refuse_dump(alloc, &file, reply, out)?;
+            Ok(desk)
+        }
+        None => make_dump(alloc, design, sizes, file, desk, files, out),
+    }
+}

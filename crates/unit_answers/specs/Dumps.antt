@@ -1,0 +1,28 @@
+-- What a dump of a batch's waves is made of.
+use Rattle.std.specs.Prelude.{◌≡◌, ⊤, List, All}
+use Rattle.std.specs.List.{AllZip}
+use Rattle.circuit_meaning.specs.Circuit.{Circuit}
+use Rattle.circuit_meaning.specs.Forward.{wave}
+use Rattle.query_lines.specs.declared.unit.Item.{Item}
+use Rattle.query_lines.specs.Fit.{AsksByName}
+use Rattle.query_lines.specs.Laws.{IsWithin}
+use Rattle.reply_lines.specs.declared.reply.Reply.{Reply}
+use Rattle.reply_lines.specs.declared.reply.Reply.TheVariants as replies
+use Rattle.design.specs.Joined.{Joined}
+use Rattle.session_meaning.specs.declared.Verdict.{Verdict}
+use Rattle.session_meaning.specs.declared.Verdict.TheVariants.{Ask, Unknown, Past, Bad}
+use Rattle.session_meaning.specs.Verdicts.{verdict_of}
+
+-- a reply that is a wave is that of what is asked
+abbrev pub IsOwnWave : Circuit → Verdict → Reply → Type 0
+IsOwnWave c (Ask query) (replies.Wave runs) = runs ≡ wave c query.signal query.from query.to
+IsOwnWave c Unknown (replies.Wave runs) = ⊥
+IsOwnWave c Past (replies.Wave runs) = ⊥
+IsOwnWave c Bad (replies.Wave runs) = ⊥
+IsOwnWave c verdict reply = ⊤
+
+-- A batch's items, with names by the rules, and the replies to them, of which each wave is that of what its item asks.
+pub record AreReplied (d : Joined) (items : List Item) (answers : List Reply) : Type 0 where
+  pub within : IsWithin d.circuit.horizon items
+  pub named : All (λ item. AsksByName item.what) items
+  pub waves : AllZip (λ item reply. IsOwnWave d.circuit (verdict_of d item) reply) items answers
