@@ -6,6 +6,7 @@
 Each wire is an input that changes once in so many instants, asked in a window of 62,500 instants; the windows of the 64 wires
 lie over the whole time, so that they add up to what a batch may have. Each session is run with its `vcd` line and without it, and
 the time and the memory of both are told, best of three; the difference is what the dump takes."""
+import itertools
 import os
 import subprocess
 import sys
@@ -50,13 +51,13 @@ def main():
         with tempfile.TemporaryDirectory() as folder:
             write(folder, "n", [f"INPUT(w{wire})" for wire in range(WIRES)] + ["OUTPUT(w0)"])
             write(folder, "t", ["default 1"])
-            write(folder, "s", [f"horizon {HORIZON}", *settings(period)])
-            asked = [f"wave w{wire} {STEP * wire} {min(STEP * wire + LENGTH, HORIZON + 1)}" for wire in range(WIRES)]
+            write(folder, "s", itertools.chain([f"horizon {HORIZON}"], settings(period)))
+            asked = [f"wave w{wire} {STEP * wire} {min(STEP * wire + LENGTH, HORIZON + 1)} 1" for wire in range(WIRES)]
             write(folder, "without", asked)
             write(folder, "with", asked + ["vcd w"])
             without, dumped = session(folder, "without"), session(folder, "with")
-            dump = open(os.path.join(folder, "w")).read().split("\n")
-            changes = sum(line != "" and line[0] in "01xz" for line in dump)
+            with open(os.path.join(folder, "w")) as dump:
+                changes = sum(line[0] in "01xz" for line in dump)
             size = os.path.getsize(os.path.join(folder, "w")) / 1e6
             print(f"{changes:7}  {size:7.2f}  {without[0]:8.3f} {dumped[0]:8.3f}     {without[1]:7.0f} {dumped[1]:7.0f}")
 
