@@ -1,30 +1,34 @@
-//! The loop of a session: a script is read a block at a time and served a unit at a time, and a journal is written beside the replies.
+//! The loop of a session: a script is read a block at a time and served a unit at a time, and a journal is written beside the replies,
+//! and the dumps that the script asks for.
 //!
 //! [`serve_session`] is a session of a script, and [`serve_work`] one of a single batch without a script. Both create the journal,
 //! write its head, serve over empty stores and finish the journal. What a unit comes to is the matter of `unit_answers`, and who
 //! runs the strands of a batch that of a `batch_crew::Crew`: no handle appears here. What a session means, whole or broken off, is
-//! `session_meaning`; `specs/Halting` says what stands in the journal and in the replies at each end, and `specs/Faults` what the
-//! counts of faults tell of it.
+//! `session_meaning`; `specs/Halting` says what stands in the journal, in the replies and of the dumps at each end, and
+//! `specs/Faults` what the counts of faults tell of it.
 //!
 //! What callers may rely on:
 //!
-//! - After `Ok` the replies and the journal are those of the session of exactly the script's bytes, the journal is the one file that
-//!   was created, and nothing that the call created is unfinished.
+//! - After `Ok` the replies, the journal and the dumps are those of the session of exactly the script's bytes, the files that were
+//!   created are the journal and after it the dumps, and nothing that the call created is unfinished.
 //! - The replies to a unit are written before its section, and both before the script is read again. So whoever waits for a reply
 //!   before he sends the next line is served.
-//! - A reply is one `write_all`. A section is written in pieces of at most 512 entries, so its text is never held as a whole.
+//! - A reply is one `write_all`. A section is written in pieces of at most 512 entries, so its text is never held as a whole. The text
+//!   of a dump is made whole before its file is created; the file is finished before the reply.
 //!
-//! What a failure leaves: where the journal is not created, everything is as it was. After that, what stands of the replies and of
-//! the journal is the whole of the units that were served before, and a beginning of the next one's; a journal that a halt left is
-//! not finished. Nothing is taken back, and nothing is written after a failed write.
+//! What a failure leaves: where the journal is not created, everything is as it was. After that, what stands of the replies, of the
+//! journal and of the dumps is the whole of the units that were served before, and a beginning of the next one's; a journal that a
+//! halt left is not finished, nor is a dump that could not be written or finished. Nothing is taken back, and nothing is written after
+//! a failed write.
 //!
 //! Costs: a block of 4,096 bytes of the script at a time, the stores (as many cells as there is room for, in each shard), and for a
-//! unit what answers it, its entries and its replies among it. The time beside the answers is in proportion to the bytes that are
-//! read and written.
+//! unit what answers it, its entries and its replies among it. The replies of a batch are kept for a dump until the next batch has
+//! been answered, moved and not copied. The time beside the answers is in proportion to the bytes that are read and written; that of
+//! a dump to its changes, with the sorting of them by time.
 //!
 //! ```text
 //! let sizes = Sizes { shards: 4, cells: 16_384 };
-//! serve_session(&crew, alloc, &design, sizes, "journal", &mut files, &mut queries, &mut out)?;
+//! serve_session(&crew, alloc, &design, sizes, &["netlist"], "journal", &mut files, &mut queries, &mut out)?;
 //! ```
 #![tactic(auto)]
 
