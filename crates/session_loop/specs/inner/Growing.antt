@@ -10,10 +10,6 @@ use Rattle.session_loop.specs.Halting.{session_files}
 abbrev pub GoesOn : (List ℕ → Type 0) → (List ℕ → Type 0) → List ℕ → List ℕ → Type 0
 GoesOn old new before after = (more : List ℕ) × (after ≡ before ++ more) × Grows old new more
 
--- the bytes of the file at this place went on as a text did
-abbrev pub FileGoesOn : (List Made → Type 0) → (List Made → Type 0) → ℕ → List ℕ → List ℕ → Type 0
-FileGoesOn old new slot before after = (more : List ℕ) × (after ≡ before ++ more) × FileGrows old new slot more
-
 -- the files of a session went on: its journal, whatever its name, and its dumps
 abbrev pub FilesGoOn : (List Made → Type 0) → (List Made → Type 0) → List ℕ → List Made → List ℕ → List Made → Type 0
 FilesGoOn old new journal dumps later_journal later_dumps = (name : List ℕ) → old (session_files name journal dumps) → new (session_files name later_journal later_dumps)

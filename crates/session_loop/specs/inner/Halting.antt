@@ -1,5 +1,5 @@
 -- What only the proofs and the private functions of this crate speak of, beside `Halting`.
-use Rattle.std.specs.Prelude.{◌≡◌, ⊤, ℕ, ◌+◌, ◌⊎◌, List, [], ◌∷◌}
+use Rattle.std.specs.Prelude.{◌≡◌, ℕ, ◌+◌, List}
 use Rattle.backsim_io.specs.Held.{Made, SameMade}
 use Rattle.session_meaning.specs.Broken.{IsPrefix}
 use Rattle.session_loop.specs.declared.halt.Halt.{Halt}

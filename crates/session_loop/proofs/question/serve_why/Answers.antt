@@ -1,4 +1,4 @@
-use Rattle.std.proofs.Common.{◌≡◌, refl, sym, subst, List, ℕ, arith}
+use Rattle.std.proofs.Common.{refl, sym, subst, List, ℕ, arith}
 use Rattle.query_lines.specs.declared.unit.Unit.TheVariants.{Why}
 use Rattle.session_meaning.specs.Session.{why_batch}
 use Rattle.unit_answers.specs.Stores.{setup_of}

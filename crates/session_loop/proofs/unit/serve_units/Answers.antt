@@ -1,4 +1,4 @@
-use Rattle.std.proofs.Common.{refl, sym, subst, ◌∙◌, ap, length}
+use Rattle.std.proofs.Common.{refl, subst, ◌∙◌, ap, length}
 use Rattle.query_lines.specs.Fit.{IsFit}
 use Rattle.session_loop.specs.Serving.{StopsOpen}
 use Rattle.session_loop.proofs.Growing.{err-is}
