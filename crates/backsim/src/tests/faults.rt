@@ -9,11 +9,11 @@ use std::test::Fail;
 use std::thread::Threads;
 
 fn script() -> &'static [u8] {
-    b"wave y 0 11\ntrim 1\nstats\n"
+    b"wave y 0 11\ntrim 1\nstats\nvcd w\n"
 }
 
 fn replies() -> &'static [u8] {
-    b"wave y 0 11\n0 x\n3 1\n8 0\nend\ntrimmed 1\nstats batches 1 fills 2 evictions 1 cells 1\n"
+    b"wave y 0 11\n0 x\n3 1\n8 0\nend\ntrimmed 1\nstats batches 1 fills 2 evictions 1 cells 1\nvcd w wires 1\n"
 }
 
 fn head() -> &'static [u8] {
@@ -24,13 +24,21 @@ fn journal() -> &'static [u8] {
     b"journal shards 8 cells 16384\nbatch 1\nshard 0\nshard 1\nclaim 1 1 3\nfill 1 1 3 3 8 1\nclaim 1 1 8\nfill 1 1 8 8 11 0\nshard 2\nshard 3\nshard 4\nshard 5\nshard 6\nshard 7\nend\ntrim 2\nshard 0\nshard 1\nevict 1 3\nshard 2\nshard 3\nshard 4\nshard 5\nshard 6\nshard 7\nend\n"
 }
 
-/// Whether replies and journal are beginnings of those of the whole session.
+fn dump() -> &'static [u8] {
+    b"$timescale 1 ns $end\n$scope module top $end\n$var wire 1 ! y $end\n$upscope $end\n$enddefinitions $end\n#0\nx!\n#3\n1!\n#8\n0!\n#11\nx!\n"
+}
+
+/// Whether replies, journal and dump are beginnings of those of the whole session.
 fn is_beginning(left: &Left) -> bool {
-    replies().starts_with(&left.replies) && journal().starts_with(&left.journal)
+    replies().starts_with(&left.replies)
+        && journal().starts_with(&left.journal)
+        && dump().starts_with(&left.dump)
 }
 
 fn is_whole(left: &Left) -> bool {
-    left.replies.as_slice() == replies() && left.journal.as_slice() == journal()
+    left.replies.as_slice() == replies()
+        && left.journal.as_slice() == journal()
+        && left.dump.as_slice() == dump()
 }
 
 /// Whether this status comes after the last, or is the same.
@@ -78,6 +86,9 @@ fn each_call_of_the_files_fails(rt: HostRuntime) -> Result<(), Fail> {
         Status::ReadFault(Place::Stimulus),
         Status::FileFault(Place::Journal),
         Status::WriteFault(Place::Journal),
+        Status::FileFault(Place::Vcd),
+        Status::WriteFault(Place::Vcd),
+        Status::FileFault(Place::Vcd),
         Status::FileFault(Place::Journal),
         Status::Ended,
     ];
@@ -85,23 +96,23 @@ fn each_call_of_the_files_fails(rt: HostRuntime) -> Result<(), Fail> {
     Ok(())
 }
 
-/// The 25 bytes come in four reads, and a fifth finds the end.
+/// The 31 bytes come in five reads, and a sixth finds the end.
 #[test]
 fn each_call_of_the_script_fails(rt: HostRuntime) -> Result<(), Fail> {
     let (seen, failed) = runs(&rt, rt.alloc(), Object::Script)?.expect(&rt, "beginnings");
     let want = [Status::ReadFault(Place::Script), Status::Ended];
     assert!(rt; seen.as_slice() == want.as_slice());
-    assert_eq!(rt; failed, 5);
+    assert_eq!(rt; failed, 6);
     Ok(())
 }
 
-/// The replies have 28, 10 and 44 bytes, which go in four, two and seven writes.
+/// The replies have 28, 10, 44 and 14 bytes, which go in four, two, seven and two writes.
 #[test]
 fn each_call_of_the_replies_fails(rt: HostRuntime) -> Result<(), Fail> {
     let (seen, failed) = runs(&rt, rt.alloc(), Object::Replies)?.expect(&rt, "beginnings");
     let want = [Status::WriteFault(Place::Replies), Status::Ended];
     assert!(rt; seen.as_slice() == want.as_slice());
-    assert_eq!(rt; failed, 13);
+    assert_eq!(rt; failed, 15);
     Ok(())
 }
 

@@ -25,6 +25,8 @@ pub struct Left {
     pub status: Status,
     pub replies: Vec<u8>,
     pub journal: Vec<u8>,
+    /// The first dump.
+    pub dump: Vec<u8>,
 }
 
 pub fn file(alloc: Global, name: &[u8], bytes: &[u8]) -> Result<(Text, Vec<u8>), Fail> {
@@ -72,9 +74,9 @@ fn failing(alloc: Global, object: Object, faulty: Object, call: u64) -> Result<V
     Ok(calls)
 }
 
-/// What was written into the file that was created first; nothing where there is none.
-fn journal_in(alloc: Global, files: &MemFiles) -> Result<Vec<u8>, Fail> {
-    match files.made(0) {
+/// What was written into the created file at this place; nothing where there is none.
+fn bytes_in(alloc: Global, files: &MemFiles, place: u32) -> Result<Vec<u8>, Fail> {
+    match files.made(place) {
         Some(bytes) => Ok(bytes.to_vec(alloc)?),
         None => Ok(Vec::new(alloc)),
     }
@@ -106,6 +108,7 @@ pub fn left_by<R: Threads + Wait + Sync>(
     Ok(Left {
         status,
         replies: out.bytes().to_vec(alloc)?,
-        journal: journal_in(alloc, &files)?,
+        journal: bytes_in(alloc, &files, 0)?,
+        dump: bytes_in(alloc, &files, 1)?,
     })
 }
