@@ -17,18 +17,19 @@ def replies_of(lines):
     replies, lines = [], iter(lines)
     for line in lines:
         reply = [line]
-        while line.startswith((b"wave ", b"why ")) and reply[-1] != b"end":
+        while line.startswith((b"wave ", b"why ", b"stuck ")) and reply[-1] != b"end":
             reply.append(next(lines, b"end"))
         replies.append(reply)
     return replies
 
 
 def fits(reply, number, question):
-    """Whether the reply names what its line asks: the line's number, or the signal."""
-    words = reply[0].split(b" ")
+    """Whether the reply names what its line asks: the line's number, or a signal."""
+    words, asked = reply[0].split(b" "), words_of(question)
     if words[0] == b"error":
         return words[2:] == [b"%d" % number]
-    return words[1:2] == words_of(question)[1:2]
+    names = asked[1:2] if words[0] == asked[0] or asked[0] != b"stuck" else asked[1:2] + asked[3:4]
+    return words[1] in names
 
 
 def main(folder):

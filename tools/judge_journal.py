@@ -14,6 +14,10 @@ class NotLegal(Exception):
     """Why an entry, or the form of a line, is not legal."""
 
 
+# How many cells the memo of a section `held K` has room for; it is one shard.
+HELD_CELLS = 65536
+
+
 class Shard:
     """The stored cells of one shard, the least recent first, and the claims."""
 
@@ -136,21 +140,25 @@ def judge(lines):
     if head[:2] != ["journal", "shards"] or head[3:4] != ["cells"] or len(head) != 5:
         raise NotLegal("the head is not that of a journal")
     count, capacity = number(head[2]), number(head[4])
-    shards = [Shard(place, count, capacity) for place in range(count)]
+    own = [Shard(place, count, capacity) for place in range(count)]
+    shards = own
     entries = sections = 0
-    kind = shard = None
+    kind = shard = before = None
     for line in lines:
         name, *words = line.split(" ")
         if kind is None:
-            if name not in ("batch", "trim") or words != [str(sections + 1)]:
+            if name not in ("batch", "trim", "held") or words != [str(sections + 1)]:
                 raise NotLegal("a section was to begin, with the next number")
+            if name == "held" and before != "batch":
+                raise NotLegal("a held section comes directly after a batch")
             kind, shard = name, -1
-        elif line == f"shard {shard + 1}" and shard + 1 < count:
+            shards = [Shard(0, 1, HELD_CELLS)] if kind == "held" else own
+        elif line == f"shard {shard + 1}" and shard + 1 < len(shards):
             shard += 1
-        elif line == "end" and shard + 1 == count:
+        elif line == "end" and shard + 1 == len(shards):
             for it in shards:
                 it.end()
-            sections, kind = sections + 1, None
+            sections, before, kind = sections + 1, kind, None
         elif shard < 0:
             raise NotLegal("the entries of shard 0 were to begin")
         elif kind == "trim":

@@ -15,6 +15,7 @@ for name in G0 G5 G6 G7 G8 G9 G10 G11 G13 G15 G16 G17; do
     printf '%s\n' "wave $name 0 31" "at $name 17 # a comment" '' "wave $name 20 9" "  wave $name 3 30 9000" "at $name" go "past $name 1"
     printf '%s\n' "wave $name 0 33" 'at nowhere 1' "at $name 5 600000" '# nothing' 'go on' 'stats of what' 'trim 70000' "at $name 9"
     printf '%s\n' "first $name 1 0 31" "why $name 9" 'vcd a b' 'vcd a(b' "why $name 31"
+    printf '%s\n' "stuck G9 1 $name 0 31" "stuck nowhere 0 $name 0 31" "stuck $name 0 G17 0 31 1" "stuck $name 1 nowhere 0 31" "stuck $name x G17 0 31"
     printf 'at %s 9\r\n\tgo\r\n%05000d\n\001\n' "$name" 0
 done >"$work/script"
 printf 'wave G17 0 31' >>"$work/script"  # a last line without its end

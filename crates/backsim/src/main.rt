@@ -35,27 +35,12 @@ mod usage;
 mod work;
 
 use crate::status::Status;
-use backsim_io::{OutOfMemory, RealFiles, RealSink, RealSource};
+use backsim_io::{OutOfMemory, RealFiles, RealSink, RealSource, given_words};
+use std::io;
 use std::process::ExitCode;
 use std::sync::Wait;
 use std::thread::Threads;
-use std::{env, io};
 use worker_gate::OpenGate;
-
-/// The words after the program's name. Where one of them is no text there are none, which is no form of words either.
-fn given_words(rt: &HostRuntime) -> Result<Vec<String>, OutOfMemory> {
-    let mut words = Vec::new(rt.alloc());
-    match env::args(rt) {
-        Ok(args) => {
-            for word in args.skip(1) {
-                words.push(word)?;
-            }
-            Ok(words)
-        }
-        Err(error) if error.kind() == io::ErrorKind::InvalidData => Ok(words),
-        Err(_) => Err(OutOfMemory),
-    }
-}
 
 /// Serves the words of the process over the system's files and streams. The workers run on the threads of the handle.
 fn run<R: Threads + Wait + Sync>(rt: &HostRuntime, threads: &R) -> Result<Status, OutOfMemory> {

@@ -10,25 +10,10 @@
 //! ```
 #![tactic(auto)]
 
-use backsim_io::{OutOfMemory, RealFiles, RealSink};
+use backsim_io::{OutOfMemory, RealFiles, RealSink, given_words};
 use proof_check::{CheckStatus, check};
+use std::io;
 use std::process::ExitCode;
-use std::{env, io};
-
-/// The words after the program's name. Where one of them is no text there are none, which are not four words either.
-fn given_words(rt: &HostRuntime) -> Result<Vec<String>, OutOfMemory> {
-    let mut words = Vec::new(rt.alloc());
-    match env::args(rt) {
-        Ok(args) => {
-            for word in args.skip(1) {
-                words.push(word)?;
-            }
-            Ok(words)
-        }
-        Err(error) if error.kind() == io::ErrorKind::InvalidData => Ok(words),
-        Err(_) => Err(OutOfMemory),
-    }
-}
 
 /// Checks the proof that the words of the process name, over the system's files and standard output.
 fn run(rt: &HostRuntime) -> Result<CheckStatus, OutOfMemory> {

@@ -11,7 +11,7 @@ use Rattle.std.proofs.lemmas.Bool.Decides.{nat_tests}
 use Rattle.claim_waiters.specs.Claims.{WaitedClaim, first_of, add_waiter, IsAtMost}
 use Rattle.valid_intervals.specs.Cells.{point_cmp}
 use Rattle.claim_waiters.specs.declared.table.Holding.{Holding}
-use Rattle.claim_waiters.specs.inner.View.{claim_of, claims_of}
+use Rattle.claim_waiters.specs.inner.View.{claim_of, claims_of, those_in}
 use Rattle.valid_intervals.specs.declared.Point.{Point}
 
 pub by_case_ok : {X E : Type 0} (r : Result X E) (A P : Type 0) → OnOk r A → (A → P) → OnOk r P
@@ -42,12 +42,12 @@ module _ {W R : Type 0} (items : R → List W) where
       elim (cmp p e.0) as (λ o. claims_of items (match_ordering o ((p, h) ∷ e ∷ es) ((e.0, h) ∷ es) (e ∷ insert_entry cmp es p h)) ≡ match_ordering o ((p, claim_of items h) ∷ (e.0, claim_of items e.1) ∷ claims_of items es) ((e.0, claim_of items h) ∷ claims_of items es) ((e.0, claim_of items e.1) ∷ insert_entry cmp (claims_of items es) p (claim_of items h))) [ Less ↦ refl | Equal ↦ refl | Greater ↦ ap (λ r. (e.0, claim_of items e.1) ∷ r) (insert-claims cmp es p h) ]
 
   -- a write of a claim with one more waiter
-  pub write-claims : (test : Point → Bool) (es : List (Point × Holding R)) (h k : Holding R) (w : W) → lookup test es ≡ Some h → claim_of items k ≡ record { q = h.q; waiters = items h.room ++ w ∷ [] }
+  pub write-claims : (test : Point → Bool) (es : List (Point × Holding R)) (h k : Holding R) (w : W) → lookup test es ≡ Some h → claim_of items k ≡ record { q = h.q; waiters = those_in items h.room ++ w ∷ [] }
       → claims_of items (set_value test es k) ≡ add_waiter test (claims_of items es) w
   write-claims test [] h k w found e = absurd (cc found)
   write-claims test (x ∷ xs) h k w found e =
-      (elim (test x.0) as (λ b. cond b (Some x.1) (lookup test xs) ≡ Some h → claims_of items (cond b ((x.0, k) ∷ xs) (x ∷ set_value test xs k)) ≡ cond b ((x.0, record { q = x.1.q; waiters = items x.1.room ++ w ∷ [] }) ∷ claims_of items xs) ((x.0, claim_of items x.1) ∷ add_waiter test (claims_of items xs) w)) [
-        | true ↦ λ f. ap (λ (c : WaitedClaim W). (x.0, c) ∷ claims_of items xs) (e ∙ ap (λ (y : Holding R). record { q = y.q; waiters = items y.room ++ w ∷ [] }) (some_same h x.1 (sym f)))
+      (elim (test x.0) as (λ b. cond b (Some x.1) (lookup test xs) ≡ Some h → claims_of items (cond b ((x.0, k) ∷ xs) (x ∷ set_value test xs k)) ≡ cond b ((x.0, record { q = x.1.q; waiters = those_in items x.1.room ++ w ∷ [] }) ∷ claims_of items xs) ((x.0, claim_of items x.1) ∷ add_waiter test (claims_of items xs) w)) [
+        | true ↦ λ f. ap (λ (c : WaitedClaim W). (x.0, c) ∷ claims_of items xs) (e ∙ ap (λ (y : Holding R). record { q = y.q; waiters = those_in items y.room ++ w ∷ [] }) (some_same h x.1 (sym f)))
         | false ↦ λ f. ap (λ r. (x.0, claim_of items x.1) ∷ r) (write-claims test xs h k w f e)
       ]) found
 

@@ -1,5 +1,6 @@
-ghost use Rattle.std.specs.Prelude.{◌≡◌, ◌↔◌, length, IsTrue, All, IfErr, IfSome, IsSome, None, OnErr, OnOk, Some, []};
+ghost use Rattle.std.specs.Prelude.{◌≡◌, ◌↔◌, ◌++◌, ◌∷◌, length, IsTrue, All, IfErr, IfSome, IsSome, None, OnErr, OnOk, Some, []};
 ghost use Rattle.claim_waiters.specs.Claims.{claim_at, first_of, holder_in, waiters_of, with_claim, with_waiter, without_claim, IsAtMost, IsInOrder};
+ghost use Rattle.claim_waiters.specs.inner.View.{those_in};
 
 use crate::waiter::Waiter;
 use backsim_io::OutOfMemory;
@@ -8,11 +9,34 @@ use std::collections::BTreeMap;
 use std::marker::Model;
 use valid_intervals::Point;
 
-/// A claim: its query, and who waits.
+/// A claim: its query, and the room of those that wait, which is made when the first of them comes.
 #[derive(Drop)]
-pub struct Holding<R> {
+pub struct Holding<R: Drop> {
     pub q: u32,
-    pub room: R,
+    pub room: Option<Box<R>>,
+}
+
+// Puts a waiter after the others, into a room that is made for the first; or hands it back.
+fn wait_in<W: Waiter>(
+    alloc: Global,
+    room: &mut Option<Box<W::Room>>,
+    waiter: W,
+) -> Result<(), (W, OutOfMemory)>
+    ensures ok { OnOk result (those_in W.items room.new ≡ those_in W.items room.old ++ waiter ∷ []) }
+    ensures err { OnErr result (those_in W.items room.new ≡ those_in W.items room.old) }
+    ensures back { IfErr result (λ refused. refused.0 ≡ waiter) }
+{
+    match room {
+        Some(room) => W::wait(room.as_mut(), waiter),
+        None => {
+            let Ok(mut made) = Box::new(alloc, W::none(alloc)) else {
+                return Err((waiter, OutOfMemory));
+            };
+            W::wait(made.as_mut(), waiter)?;
+            *room = Some(made);
+            Ok(())
+        }
+    }
 }
 
 /// The claims, by their points.
@@ -70,8 +94,7 @@ impl<W: Waiter> ClaimTable<W> {
         ensures ok { OnOk result (self.new ≡ with_claim self.old q p) }
         ensures err { OnErr result (self.new ≡ self.old) }
     {
-        let room = W::none(self.alloc);
-        let Ok(_) = self.map.insert(p, Holding { q, room }) else {
+        let Ok(_) = self.map.insert(p, Holding { q, room: None }) else {
             return Err(OutOfMemory);
         };
         Ok(())
@@ -93,7 +116,7 @@ impl<W: Waiter> ClaimTable<W> {
         ensures back { IfErr result (λ refused. refused.0 ≡ waiter) }
     {
         match self.map.get_mut(&p) {
-            Some(claim) => W::wait(&mut claim.room, waiter),
+            Some(claim) => wait_in(self.alloc, &mut claim.room, waiter),
             None => unreachable!(),
         }
     }
@@ -107,7 +130,10 @@ impl<W: Waiter> ClaimTable<W> {
         match self.map.remove(&p) {
             Some(claim) => {
                 let Holding { q: _, room } = claim;
-                room
+                match room {
+                    Some(room) => Box::into_inner(room),
+                    None => W::none(self.alloc),
+                }
             }
             None => unreachable!(),
         }

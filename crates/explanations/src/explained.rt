@@ -8,9 +8,8 @@ ghost use Rattle.session_meaning.specs.Explanations.{IsWhyAnswer};
 ghost use Rattle.plan_machine.specs.Sound.{IsFresh};
 ghost use Rattle.plan_machine.specs.Settle.{entries_in, journals_of};
 ghost use Rattle.plan_core.specs.Parts.{shards_in};
-ghost use Rattle.asked_cells.specs.Shards.{AreNumbered};
+ghost use Rattle.asked_cells.specs.Shards.{AreNumbered, AreUnused};
 ghost use Rattle.asked_cells.specs.Memos.{AreFreeShards, entries_of};
-ghost use Rattle.explanations.specs.Unused.{AreUnused};
 
 use crate::children::hear;
 use crate::lines::gather;

@@ -1,6 +1,6 @@
 //! A strand that runs alone.
 
-ghost use Rattle.std.specs.Prelude.{◌≡◌, ◌<◌, ℕ, true, false, length, slice_get, IfOk, OnOk, OnErr, Some, None};
+ghost use Rattle.std.specs.Prelude.{◌≡◌, ◌<◌, ℕ, true, false, length, slice_get, IfOk, IfSome, OnOk, OnErr, Some, None};
 ghost use Rattle.batch_meaning.specs.Lawful.{IsLawful};
 ghost use Rattle.strand_meaning.specs.declared.Next.TheVariants.{Ask};
 ghost use Rattle.batch_meaning.specs.Pieces.{Start};
@@ -32,10 +32,11 @@ pub enum Alone {
     Spent(Point),
 }
 
-/// The point that the strand in the place asks for.
+/// The point that the strand in the place asks for, if it asks for one.
 pub fn asked_at<B: BatchName>(places: &[Option<Paused<B>>], number: usize) -> Option<Point>
     requires { number < length places.now }
-    ensures { (s : Demand) (p : PointRecord) → slice_get places.now number ≡ Some (Some s) → next s.strand ≡ Ask p → result ≡ Some p }
+    ensures all { (s : Demand) (p : PointRecord) → slice_get places.now number ≡ Some (Some s) → next s.strand ≡ Ask p → result ≡ Some p }
+    ensures only { IfSome result (λ p. (s : Demand) × (slice_get places.now number ≡ Some (Some s)) × (next s.strand ≡ Ask p)) }
 {
     match next_at(places, number) {
         Some(Next::Ask(p)) => Some(p),

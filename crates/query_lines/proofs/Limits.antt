@@ -18,7 +18,7 @@ use Rattle.query_lines.specs.declared.line.What.TheVariants as whats
 use Rattle.query_lines.specs.declared.unit.Item.{Item}
 use Rattle.query_lines.specs.declared.unit.Unit.{Unit as ScriptUnit}
 use Rattle.query_lines.specs.declared.unit.Unit.TheVariants as units
-use Rattle.query_lines.specs.Lines.{within, number_up_to, instant, budget_of, wave_of_parts, wave_of, at_of_parts, at_of, first_of_parts, first_of, why_of_parts, why_of, dump_of, trim_of_part, trim_of, alone, by_words, line_of}
+use Rattle.query_lines.specs.Lines.{within, number_up_to, instant, budget_of, wave_of_parts, wave_of, at_of_parts, at_of, first_of_parts, first_of, why_of_parts, why_of, dump_of, level_of, stuck_of_parts, stuck_at, stuck_of, trim_of_part, trim_of, alone, by_words, line_of}
 use Rattle.query_lines.specs.Units.{LineStep, budget_weight, window_length, length_weight, budgets, lengths, closed, is_over, pending_up_to_64, with_item, line_step, units_from}
 use Rattle.query_lines.specs.Reading.{script_units}
 use Rattle.query_lines.specs.Laws.{IsWithinLimits}
@@ -33,6 +33,7 @@ IsModest Stats = ⊤
 IsModest (lines.First first) = first.budget ≤ 500000
 IsModest (lines.Why why) = why.budget ≤ 500000
 IsModest (lines.Vcd file) = ⊤
+IsModest (lines.Stuck stuck) = stuck.budget ≤ 500000
 IsModest Bad = ⊤
 
 choose : (b : Bool) (x y : Line) → IsModest x → IsModest y → IsModest (cond b x y)
@@ -105,6 +106,25 @@ dump_of-modest [] = tt
 dump_of-modest (file ∷ []) = choose (is_name file) (lines.Vcd file) Bad tt tt
 dump_of-modest (file ∷ word ∷ words) = tt
 
+stuck_of_parts-modest : (site : List ℕ) (value : Option Value) (name : List ℕ) (from to budget : Option ℕ) → IfSome budget (λ n. n ≤ 500000) → IsModest (stuck_of_parts site value name from to budget)
+stuck_of_parts-modest site None name from to budget fits = tt
+stuck_of_parts-modest site (Some value) name None to budget fits = tt
+stuck_of_parts-modest site (Some value) name (Some from) None budget fits = tt
+stuck_of_parts-modest site (Some value) name (Some from) (Some to) None fits = tt
+stuck_of_parts-modest site (Some value) name (Some from) (Some to) (Some budget) fits =
+    choose (is_name site && is_name name) (lines.Stuck (record { site = site; value = value; name = name; from = from; to = to; budget = budget })) Bad fits tt
+
+stuck_at-modest : (site : List ℕ) (value : Option Value) (words : List (List ℕ)) → IsModest (stuck_at site value words)
+stuck_at-modest site value [] = tt
+stuck_at-modest site value (name ∷ []) = tt
+stuck_at-modest site value (name ∷ from ∷ []) = tt
+stuck_at-modest site value (name ∷ from ∷ to ∷ budget) = stuck_of_parts-modest site value name (instant from) (instant to) (budget_of budget) (budget_of-fits budget)
+
+stuck_of-modest : (words : List (List ℕ)) → IsModest (stuck_of words)
+stuck_of-modest [] = tt
+stuck_of-modest (site ∷ []) = tt
+stuck_of-modest (site ∷ value ∷ rest) = stuck_at-modest site (level_of value) rest
+
 trim_of_part-modest : (cells : Option ℕ) → IfSome cells (λ n. n ≤ 65536) → IsModest (trim_of_part cells)
 trim_of_part-modest None fits = tt
 trim_of_part-modest (Some cells) fits = fits
@@ -128,7 +148,8 @@ by_words-modest (keyword ∷ words) =
     choose (bytes_eq keyword (codes "stats")) _ _ (alone-modest Stats words tt) (
     choose (bytes_eq keyword (codes "first")) _ _ (first_of-modest words) (
     choose (bytes_eq keyword (codes "why")) _ _ (why_of-modest words) (
-    choose (bytes_eq keyword (codes "vcd")) _ _ (dump_of-modest words) tt)))))))
+    choose (bytes_eq keyword (codes "vcd")) _ _ (dump_of-modest words) (
+    choose (bytes_eq keyword (codes "stuck")) _ _ (stuck_of-modest words) tt))))))))
 
 pub line_of-modest : (bytes : List ℕ) → IsModest (line_of bytes)
 unfolding line_of
@@ -215,6 +236,7 @@ step-sound horizon pending number Stats bound modest p = with_unit-sound horizon
 step-sound horizon pending number (lines.First first) bound modest p = with_unit-sound horizon pending (units.First (record { line = number; first = first })) p modest
 step-sound horizon pending number (lines.Why why) bound modest p = with_unit-sound horizon pending (units.Why (record { line = number; why = why })) p modest
 step-sound horizon pending number (lines.Vcd file) bound modest p = with_unit-sound horizon pending (units.Vcd file) p tt
+step-sound horizon pending number (lines.Stuck stuck) bound modest p = with_unit-sound horizon pending (units.Stuck (record { line = number; stuck = stuck })) p modest
 
 units_from-within : (horizon : ℕ) (pending : List Item) (first : ℕ) (texts : List (List ℕ)) → horizon ≤ 1000000 → IsPending horizon pending → All (IsWithinLimits horizon) (units_from horizon pending (enumerate_from first (map line_of texts)))
 units_from-within horizon pending first [] bound p = closed-sound horizon pending p

@@ -1,5 +1,5 @@
 -- Whatever a line names has a name by the rules, and so has whatever a unit names.
-use Rattle.std.proofs.Common.{ℕ, ◌+◌, Bool, true, false, cond, ltb, leb, IsTrue, List, [], ◌∷◌, ◌++◌, length, map, Option, Some, None, refl}
+use Rattle.std.proofs.Common.{ℕ, ◌+◌, Bool, true, false, cond, ltb, leb, ◌&&◌, IsTrue, List, [], ◌∷◌, ◌++◌, length, map, Option, Some, None, refl}
 use Rattle.std.specs.Prelude.{⊤, All, codes}
 use Rattle.std.specs.Str.{bytes_eq}
 use Rattle.std.specs.List.{enumerate_from}
@@ -14,7 +14,7 @@ use Rattle.query_lines.specs.declared.line.What.TheVariants as whats
 use Rattle.query_lines.specs.declared.unit.Item.{Item}
 use Rattle.query_lines.specs.declared.unit.Unit.{Unit as ScriptUnit}
 use Rattle.query_lines.specs.declared.unit.Unit.TheVariants as units
-use Rattle.query_lines.specs.Lines.{number_up_to, instant, budget_of, wave_of_parts, wave_of, at_of_parts, at_of, first_of_parts, first_of, why_of_parts, why_of, dump_of, trim_of_part, trim_of, alone, by_words, line_of}
+use Rattle.query_lines.specs.Lines.{number_up_to, instant, budget_of, wave_of_parts, wave_of, at_of_parts, at_of, first_of_parts, first_of, why_of_parts, why_of, dump_of, level_of, stuck_of_parts, stuck_at, stuck_of, trim_of_part, trim_of, alone, by_words, line_of}
 use Rattle.query_lines.specs.Units.{LineStep, closed, is_over, pending_up_to_64, with_item, line_step, units_from}
 use Rattle.query_lines.specs.Reading.{script_units}
 use Rattle.query_lines.specs.Fit.{AsksByName, HasNames}
@@ -29,6 +29,7 @@ IsNamed Stats = ⊤
 IsNamed (lines.First first) = IsTrue (is_name first.name)
 IsNamed (lines.Why why) = IsTrue (is_name why.name)
 IsNamed (lines.Vcd file) = IsTrue (is_name file)
+IsNamed (lines.Stuck stuck) = IsTrue (is_name stuck.site) × IsTrue (is_name stuck.name)
 IsNamed Bad = ⊤
 
 choose : (b : Bool) (x y : Line) → IsNamed x → IsNamed y → IsNamed (cond b x y)
@@ -39,6 +40,12 @@ choose false x y p q = q
 only_if : (b : Bool) (line : Line) → (IsTrue b → IsNamed line) → IsNamed (cond b line Bad)
 only_if true line named = named refl
 only_if false line named = tt
+
+-- both are true
+both : (a b : Bool) → IsTrue (a && b) → IsTrue a × IsTrue b
+both true true is = (refl, refl)
+both true false is = absurd cc
+both false b is = absurd cc
 
 wave_of_parts-named : (name : List ℕ) (from to budget : Option ℕ) → IsNamed (wave_of_parts name from to budget)
 wave_of_parts-named name None to budget = tt
@@ -92,6 +99,25 @@ dump_of-named [] = tt
 dump_of-named (file ∷ []) = only_if (is_name file) (lines.Vcd file) (λ is. is)
 dump_of-named (file ∷ word ∷ words) = tt
 
+stuck_of_parts-named : (site : List ℕ) (value : Option Value) (name : List ℕ) (from to budget : Option ℕ) → IsNamed (stuck_of_parts site value name from to budget)
+stuck_of_parts-named site None name from to budget = tt
+stuck_of_parts-named site (Some value) name None to budget = tt
+stuck_of_parts-named site (Some value) name (Some from) None budget = tt
+stuck_of_parts-named site (Some value) name (Some from) (Some to) None = tt
+stuck_of_parts-named site (Some value) name (Some from) (Some to) (Some budget) =
+    only_if (is_name site && is_name name) (lines.Stuck (record { site = site; value = value; name = name; from = from; to = to; budget = budget })) (both (is_name site) (is_name name))
+
+stuck_at-named : (site : List ℕ) (value : Option Value) (words : List (List ℕ)) → IsNamed (stuck_at site value words)
+stuck_at-named site value [] = tt
+stuck_at-named site value (name ∷ []) = tt
+stuck_at-named site value (name ∷ from ∷ []) = tt
+stuck_at-named site value (name ∷ from ∷ to ∷ budget) = stuck_of_parts-named site value name (instant from) (instant to) (budget_of budget)
+
+stuck_of-named : (words : List (List ℕ)) → IsNamed (stuck_of words)
+stuck_of-named [] = tt
+stuck_of-named (site ∷ []) = tt
+stuck_of-named (site ∷ value ∷ rest) = stuck_at-named site (level_of value) rest
+
 trim_of_part-named : (cells : Option ℕ) → IsNamed (trim_of_part cells)
 trim_of_part-named None = tt
 trim_of_part-named (Some cells) = tt
@@ -115,7 +141,8 @@ by_words-named (keyword ∷ words) =
     choose (bytes_eq keyword (codes "stats")) _ _ (alone-named Stats words tt) (
     choose (bytes_eq keyword (codes "first")) _ _ (first_of-named words) (
     choose (bytes_eq keyword (codes "why")) _ _ (why_of-named words) (
-    choose (bytes_eq keyword (codes "vcd")) _ _ (dump_of-named words) tt)))))))
+    choose (bytes_eq keyword (codes "vcd")) _ _ (dump_of-named words) (
+    choose (bytes_eq keyword (codes "stuck")) _ _ (stuck_of-named words) tt))))))))
 
 -- whatever a line names has a name
 pub line_of-named : (bytes : List ℕ) → IsNamed (line_of bytes)
@@ -171,6 +198,7 @@ step-named horizon number pending Stats named p = with_unit-named pending units.
 step-named horizon number pending (lines.First first) named p = with_unit-named pending (units.First (record { line = number; first = first })) named p
 step-named horizon number pending (lines.Why why) named p = with_unit-named pending (units.Why (record { line = number; why = why })) named p
 step-named horizon number pending (lines.Vcd file) named p = with_unit-named pending (units.Vcd file) named p
+step-named horizon number pending (lines.Stuck stuck) named p = with_unit-named pending (units.Stuck (record { line = number; stuck = stuck })) named p
 
 units_from-named : (horizon first : ℕ) (pending : List Item) (texts : List (List ℕ)) → AskByName pending → All HasNames (units_from horizon pending (enumerate_from first (map line_of texts)))
 units_from-named horizon first pending [] p = closed-named pending p

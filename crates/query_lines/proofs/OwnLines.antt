@@ -80,6 +80,7 @@ step-own horizon number pending Stats p = with_unit-own number pending units.Sta
 step-own horizon number pending (lines.First first) p = with_unit-own number pending (units.First (record { line = number; first = first })) tt p
 step-own horizon number pending (lines.Why why) p = with_unit-own number pending (units.Why (record { line = number; why = why })) tt p
 step-own horizon number pending (lines.Vcd file) p = with_unit-own number pending (units.Vcd file) tt p
+step-own horizon number pending (lines.Stuck stuck) p = with_unit-own number pending (units.Stuck (record { line = number; stuck = stuck })) tt p
 
 units_from-own : (horizon first : ℕ) (pending : List Item) (texts : List Line) → ArePending first pending → All HasOwnLines (units_from horizon pending (enumerate_from first texts))
 units_from-own horizon first pending [] p = closed-own pending p.own
@@ -95,7 +96,7 @@ units-own horizon script = units_from-own horizon 1 [] (map line_of (lines_in sc
 pub units-fit : (horizon : ℕ) (script : List ℕ) → horizon ≤ 1000000 → All (IsFit horizon) (script_units horizon script)
 units-fit horizon script bound k d h = record { within = units-within horizon script bound k d h; own = units-own horizon script k d h; named = units-named horizon script k d h }
 
-first-part : {X : Type 0} (P : X → Type 0) (part back : List X) → All P (part ++ back) → All P part
+pub first-part : {X : Type 0} (P : X → Type 0) (part back : List X) → All P (part ++ back) → All P part
 first-part P [] back all = All-nil P
 first-part P (x ∷ part) back all = All-cons P x part (All-head P x (part ++ back) all) (first-part P part back (All-tail P x (part ++ back) all))
 

@@ -9,7 +9,7 @@ use Rattle.query_lines.specs.declared.line.Line.TheVariants as lines
 use Rattle.query_lines.specs.declared.line.What.TheVariants as whats
 use Rattle.query_lines.specs.declared.unit.Item.{Item}
 use Rattle.query_lines.specs.declared.unit.Unit.{Unit as ScriptUnit}
-use Rattle.query_lines.specs.declared.unit.Unit.TheVariants.{Trim, Stats, First, Why, Vcd}
+use Rattle.query_lines.specs.declared.unit.Unit.TheVariants.{Trim, Stats, First, Why, Vcd, Stuck}
 use Rattle.query_lines.specs.Units.{LineStep, closed, is_over, pending_up_to_64, with_item, line_step, units_from}
 use Rattle.query_lines.specs.Laws.{Request, Answer, requests_in, requests_on}
 
@@ -60,6 +60,7 @@ kept-step horizon pending number lines.Stats = kept-after pending Stats
 kept-step horizon pending number (lines.First first) = kept-after pending (First (record { line = number; first = first }))
 kept-step horizon pending number (lines.Why why) = kept-after pending (Why (record { line = number; why = why }))
 kept-step horizon pending number (lines.Vcd file) = kept-after pending (Vcd file)
+kept-step horizon pending number (lines.Stuck stuck) = kept-after pending (Stuck (record { line = number; stuck = stuck }))
 
 pub told-units : (horizon : ℕ) (pending : List Item) (numbered : List (ℕ × Line)) → told (units_from horizon pending numbered) ≡ map Answer pending ++ flat_map (λ line. requests_on line.0 line.1) numbered
 told-units horizon pending [] = told-closed pending ∙ sym (append-nil (map Answer pending))

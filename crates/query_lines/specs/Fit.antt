@@ -5,7 +5,7 @@ use Rattle.query_lines.specs.declared.line.What.{What}
 use Rattle.query_lines.specs.declared.line.What.TheVariants as whats
 use Rattle.query_lines.specs.declared.unit.Item.{Item}
 use Rattle.query_lines.specs.declared.unit.Unit.{Unit as ScriptUnit}
-use Rattle.query_lines.specs.declared.unit.Unit.TheVariants.{Batch, Trim, Stats, First, Why, Vcd}
+use Rattle.query_lines.specs.declared.unit.Unit.TheVariants.{Batch, Trim, Stats, First, Why, Vcd, Stuck}
 use Rattle.query_lines.specs.Reading.{script_units, completed_units}
 use Rattle.query_lines.specs.Readers.{Reader, HasRead}
 use Rattle.query_lines.specs.Laws.{IsWithinLimits}
@@ -22,6 +22,7 @@ HasOwnLines Stats = ⊤
 HasOwnLines (First item) = ⊤
 HasOwnLines (Why item) = ⊤
 HasOwnLines (Vcd file) = ⊤
+HasOwnLines (Stuck item) = ⊤
 
 -- No two items of a unit have one line.
 abbrev pub UnitsHaveOwnLines : Type 0
@@ -41,6 +42,7 @@ HasNames Stats = ⊤
 HasNames (First item) = IsTrue (is_name item.first.name)
 HasNames (Why item) = IsTrue (is_name item.why.name)
 HasNames (Vcd file) = IsTrue (is_name file)
+HasNames (Stuck item) = IsTrue (is_name item.stuck.site) × IsTrue (is_name item.stuck.name)
 
 -- a unit within its limits, whose items have lines of their own, and whose names are names
 pub record IsFit (horizon : ℕ) (unit : ScriptUnit) : Type 0 where

@@ -7,8 +7,9 @@ use Rattle.query_lines.specs.declared.line.What.TheVariants as whats
 use Rattle.query_lines.specs.declared.unit.Item.{Item}
 use Rattle.query_lines.specs.declared.unit.FirstItem.{FirstItem}
 use Rattle.query_lines.specs.declared.unit.WhyItem.{WhyItem}
+use Rattle.query_lines.specs.declared.unit.StuckItem.{StuckItem}
 use Rattle.query_lines.specs.declared.unit.Unit.{Unit as ScriptUnit}
-use Rattle.query_lines.specs.declared.unit.Unit.TheVariants.{Batch, Trim, Stats, First, Why, Vcd}
+use Rattle.query_lines.specs.declared.unit.Unit.TheVariants.{Batch, Trim, Stats, First, Why, Vcd, Stuck}
 use Rattle.query_lines.specs.Units.{budgets, lengths, units_of}
 use Rattle.query_lines.specs.Reading.{script_units}
 
@@ -20,6 +21,7 @@ pub data Request : Type 0 where
   Seek : FirstItem → Request
   Explain : WhyItem → Request
   Dump : List ℕ → Request
+  Suppose : StuckItem → Request
 
 abbrev pub requests_in : ScriptUnit → List Request
 requests_in (Batch items) = map Answer items
@@ -28,6 +30,7 @@ requests_in Stats = Counts ∷ []
 requests_in (First item) = Seek item ∷ []
 requests_in (Why item) = Explain item ∷ []
 requests_in (Vcd file) = Dump file ∷ []
+requests_in (Stuck item) = Suppose item ∷ []
 
 abbrev pub requests_on : ℕ → Line → List Request
 requests_on number Blank = []
@@ -39,6 +42,7 @@ requests_on number lines.Stats = Counts ∷ []
 requests_on number (lines.First first) = Seek (record { line = number; first = first }) ∷ []
 requests_on number (lines.Why why) = Explain (record { line = number; why = why }) ∷ []
 requests_on number (lines.Vcd file) = Dump file ∷ []
+requests_on number (lines.Stuck stuck) = Suppose (record { line = number; stuck = stuck }) ∷ []
 
 -- The units are the lines' requests in their order: none is lost, none is told twice.
 abbrev pub UnitsKeepRequests : Type 0
@@ -59,6 +63,7 @@ IsWithinLimits horizon Stats = ⊤
 IsWithinLimits horizon (First item) = item.first.budget ≤ 500000
 IsWithinLimits horizon (Why item) = item.why.budget ≤ 500000
 IsWithinLimits horizon (Vcd file) = ⊤
+IsWithinLimits horizon (Stuck item) = item.stuck.budget ≤ 500000
 
 -- The units of a script are within their limits.
 abbrev pub UnitsAreWithinLimits : Type 0

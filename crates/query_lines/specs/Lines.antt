@@ -1,13 +1,14 @@
 -- The forms of a script's lines.
-use Rattle.std.specs.Prelude.{ℕ, nat_le, List, [], ◌∷◌, length, Option, Some, None, if◌then◌else◌, codes}
+use Rattle.std.specs.Prelude.{ℕ, nat_le, ◌&&◌, List, [], ◌∷◌, length, Option, Some, None, if◌then◌else◌, codes}
 use Rattle.std.specs.Str.{bytes_eq}
 use Rattle.gate_values.specs.declared.Value.{Value}
+use Rattle.gate_values.specs.declared.Value.TheVariants.{Zero, One}
 use Rattle.gate_values.specs.Spelling.{value_of_word}
 use Rattle.text_rules.specs.declared.Amount.{Amount}
 use Rattle.text_rules.specs.declared.Amount.TheVariants as amounts
 use Rattle.text_rules.specs.Text.{amount, content, is_name, words}
 use Rattle.query_lines.specs.declared.line.Line.{Line}
-use Rattle.query_lines.specs.declared.line.Line.TheVariants.{Blank, Ask, Go, Trim, Stats, First, Why, Vcd, Bad}
+use Rattle.query_lines.specs.declared.line.Line.TheVariants.{Blank, Ask, Go, Trim, Stats, First, Why, Vcd, Stuck, Bad}
 use Rattle.query_lines.specs.declared.line.What.TheVariants.{Wave, At}
 
 abbrev pub within : Amount → Option ℕ
@@ -90,6 +91,34 @@ dump_of [] = Bad
 dump_of (file ∷ []) = if is_name file then Vcd file else Bad
 dump_of (file ∷ word ∷ words) = Bad
 
+-- V, at which a signal is stuck
+abbrev pub level_of : List ℕ → Option Value
+level_of word = if bytes_eq word (codes "0") then Some Zero else (if bytes_eq word (codes "1") then Some One else None)
+
+-- SITE V NAME FROM TO BUDGET
+abbrev pub stuck_of_parts : List ℕ → Option Value → List ℕ → Option ℕ → Option ℕ → Option ℕ → Line
+stuck_of_parts site (Some value) name (Some from) (Some to) (Some budget) =
+    if is_name site && is_name name
+    then Stuck (record { site = site; value = value; name = name; from = from; to = to; budget = budget })
+    else Bad
+stuck_of_parts site (Some value) name (Some from) (Some to) None = Bad
+stuck_of_parts site (Some value) name (Some from) None budget = Bad
+stuck_of_parts site (Some value) name None to budget = Bad
+stuck_of_parts site None name from to budget = Bad
+
+-- after `stuck SITE V`: NAME FROM TO or NAME FROM TO BUDGET
+abbrev pub stuck_at : List ℕ → Option Value → List (List ℕ) → Line
+stuck_at site value [] = Bad
+stuck_at site value (name ∷ []) = Bad
+stuck_at site value (name ∷ from ∷ []) = Bad
+stuck_at site value (name ∷ from ∷ to ∷ budget) = stuck_of_parts site value name (instant from) (instant to) (budget_of budget)
+
+-- after `stuck`: SITE V and the rest
+abbrev pub stuck_of : List (List ℕ) → Line
+stuck_of [] = Bad
+stuck_of (site ∷ []) = Bad
+stuck_of (site ∷ value ∷ rest) = stuck_at site (level_of value) rest
+
 abbrev pub trim_of_part : Option ℕ → Line
 trim_of_part (Some n) = Trim n
 trim_of_part None = Bad
@@ -115,7 +144,8 @@ command_of keyword words =
     if bytes_eq keyword (codes "stats") then alone Stats words else (
     if bytes_eq keyword (codes "first") then first_of words else (
     if bytes_eq keyword (codes "why") then why_of words else (
-    if bytes_eq keyword (codes "vcd") then dump_of words else Bad)))))))
+    if bytes_eq keyword (codes "vcd") then dump_of words else (
+    if bytes_eq keyword (codes "stuck") then stuck_of words else Bad))))))))
 
 abbrev pub by_words : List (List ℕ) → Line
 by_words [] = Blank

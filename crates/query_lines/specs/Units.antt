@@ -1,4 +1,5 @@
--- The units of a script: batches of items, trims, requests for the counts, questions for first times and for explanations, and dumps.
+-- The units of a script: batches of items, trims, requests for the counts, questions for first times, for explanations and for waves where
+-- a signal is stuck, and dumps.
 use Rattle.std.specs.Prelude.{ℕ, ◌+◌, ◌-◌, Bool, false, ◌&&◌, ◌||◌, nat_lt, nat_le, List, [], ◌∷◌, ◌++◌, length, sum_by, if◌then◌else◌}
 use Rattle.query_lines.specs.declared.line.Line.{Line}
 use Rattle.query_lines.specs.declared.line.Line.TheVariants.{Blank, Ask, Go}
@@ -7,7 +8,7 @@ use Rattle.query_lines.specs.declared.line.What.{What}
 use Rattle.query_lines.specs.declared.line.What.TheVariants.{Wave, At, Bad}
 use Rattle.query_lines.specs.declared.unit.Item.{Item}
 use Rattle.query_lines.specs.declared.unit.Unit.{Unit as ScriptUnit}
-use Rattle.query_lines.specs.declared.unit.Unit.TheVariants.{Batch, Trim, Stats, First, Why, Vcd}
+use Rattle.query_lines.specs.declared.unit.Unit.TheVariants.{Batch, Trim, Stats, First, Why, Vcd, Stuck}
 
 -- what an item counts toward the budgets of its batch
 abbrev pub budget_weight : What → ℕ
@@ -77,6 +78,8 @@ line_step horizon pending number (lines.Why why) =
     record { units = closed pending ++ Why (record { line = number; why = why }) ∷ []; pending = [] }
 line_step horizon pending number (lines.Vcd file) =
     record { units = closed pending ++ Vcd file ∷ []; pending = [] }
+line_step horizon pending number (lines.Stuck stuck) =
+    record { units = closed pending ++ Stuck (record { line = number; stuck = stuck }) ∷ []; pending = [] }
 
 -- what a batcher shows: the horizon, and the pending items
 pub record Pending : Type 0 where

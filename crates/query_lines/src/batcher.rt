@@ -5,7 +5,7 @@ ghost use Rattle.query_lines.specs.Units as units;
 ghost use Rattle.query_lines.specs.Units.{closed, given_by, left_by, with_item};
 
 use crate::line::{Line, What};
-use crate::unit::{FirstItem, Item, ItemList, Unit, UnitList, WhyItem};
+use crate::unit::{FirstItem, Item, ItemList, StuckItem, Unit, UnitList, WhyItem};
 use backsim_io::OutOfMemory;
 use std::alloc::Global;
 use std::marker::Model;
@@ -116,6 +116,10 @@ impl Batcher {
             }))),
             Line::Why(why) => self.close(Some(Unit::Why(WhyItem { line: number, why }))),
             Line::Vcd(file) => self.close(Some(Unit::Vcd(file))),
+            Line::Stuck(stuck) => self.close(Some(Unit::Stuck(StuckItem {
+                line: number,
+                stuck,
+            }))),
         }
     }
 

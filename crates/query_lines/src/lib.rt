@@ -3,7 +3,7 @@
 //! A script is a text of lines. `wave` and `at` lines ask for the values of a
 //! signal, and are the **items** of batches, as is a line of no known form,
 //! which gets a reply too. `go` runs the pending batch; `trim`, `stats`, `first`,
-//! `why` and `vcd` are served by themselves. So a script is a list of **units**, each of which is
+//! `why`, `vcd` and `stuck` are served by themselves. So a script is a list of **units**, each of which is
 //! served as a whole: `specs/Lines` says what a line means, `specs/Units` where
 //! a batch ends, and `specs/Laws` what holds of all units: they are the lines'
 //! requests in their order, and each batch is within its limits. `specs/Fit` is
@@ -49,9 +49,9 @@ pub use laws::{
     read_units_are_completed, read_units_are_determined, read_units_are_fit, script_units_are_fit,
     units_are_within_limits, units_have_own_lines, units_keep_requests,
 };
-pub use line::{First, Line, What, Why, read_line};
+pub use line::{First, Line, Stuck, What, Why, read_line};
 pub use script::{ScriptReader, read_script};
-pub use unit::{FirstItem, Item, ItemList, Unit, UnitList, WhyItem};
+pub use unit::{FirstItem, Item, ItemList, StuckItem, Unit, UnitList, WhyItem};
 
 #[cfg(test)]
 mod tests;

@@ -61,6 +61,18 @@ pub struct Why {
     pub budget: u32,
 }
 
+/// What `stuck` asks: the waveform of a signal from one time on and below
+/// another, where the signal `site` has a value, 0 or 1, at all times.
+#[derive(Drop)]
+pub struct Stuck {
+    pub site: Text,
+    pub value: Value,
+    pub name: Text,
+    pub from: u32,
+    pub to: u32,
+    pub budget: u32,
+}
+
 /// What a line of a script says.
 #[derive(Drop)]
 pub enum Line {
@@ -80,6 +92,9 @@ pub enum Line {
     Why(Why),
     /// `vcd FILE`: write the waves of the last batch to this file.
     Vcd(Text),
+    /// `stuck SITE V NAME FROM TO [BUDGET]`: tell the waveform of a signal where
+    /// another is stuck at 0 or 1.
+    Stuck(Stuck),
     /// None of these, a number above its limit, or more than 4,096 bytes.
     Bad,
 }
@@ -279,6 +294,91 @@ fn dump_of(alloc: Global, rest: &[u8]) -> Result<Line, OutOfMemory>
     }
 }
 
+fn level_of(word: &[u8]) -> Option<Value>
+    ensures { result ≡ lines.level_of word.now }
+{
+    if word == b"0".as_slice() {
+        Some(Value::Zero)
+    } else if word == b"1".as_slice() {
+        Some(Value::One)
+    } else {
+        None
+    }
+}
+
+fn stuck_of_parts(
+    alloc: Global,
+    site: &[u8],
+    value: Option<Value>,
+    name: &[u8],
+    from: Option<u32>,
+    to: Option<u32>,
+    budget: Option<u32>,
+) -> Result<Line, OutOfMemory>
+    ensures { IfOk result (λ line. line ≡ lines.stuck_of_parts site.now value name.now from to budget) }
+{
+    match (value, from, to, budget) {
+        (Some(value), Some(from), Some(to), Some(budget)) if is_name(site) && is_name(name) => {
+            let site = Text::from_bytes(alloc, site)?;
+            let name = Text::from_bytes(alloc, name)?;
+            Ok(Line::Stuck(Stuck {
+                site,
+                value,
+                name,
+                from,
+                to,
+                budget,
+            }))
+        }
+        _ => Ok(Line::Bad),
+    }
+}
+
+fn stuck_at(
+    alloc: Global,
+    site: &[u8],
+    value: Option<Value>,
+    rest: &[u8],
+) -> Result<Line, OutOfMemory>
+    ensures { IfOk result (λ line. line ≡ lines.stuck_at site.now value (words rest.now)) }
+{
+    let (name, rest) = match next_word(rest) {
+        None => return Ok(Line::Bad),
+        Some(found) => found,
+    };
+    let (from, rest) = match next_word(rest) {
+        None => return Ok(Line::Bad),
+        Some(found) => found,
+    };
+    let (to, rest) = match next_word(rest) {
+        None => return Ok(Line::Bad),
+        Some(found) => found,
+    };
+    stuck_of_parts(
+        alloc,
+        site,
+        value,
+        name,
+        instant(from),
+        instant(to),
+        budget_of(rest),
+    )
+}
+
+fn stuck_of(alloc: Global, rest: &[u8]) -> Result<Line, OutOfMemory>
+    ensures { IfOk result (λ line. line ≡ lines.stuck_of (words rest.now)) }
+{
+    let (site, rest) = match next_word(rest) {
+        None => return Ok(Line::Bad),
+        Some(found) => found,
+    };
+    let (value, rest) = match next_word(rest) {
+        None => return Ok(Line::Bad),
+        Some(found) => found,
+    };
+    stuck_at(alloc, site, level_of(value), rest)
+}
+
 fn trim_of(rest: &[u8]) -> Line
     ensures { result ≡ lines.trim_of (words rest.now) }
 {
@@ -322,6 +422,8 @@ fn command_of(alloc: Global, keyword: &[u8], rest: &[u8]) -> Result<Line, OutOfM
         why_of(alloc, rest)
     } else if keyword == b"vcd".as_slice() {
         dump_of(alloc, rest)
+    } else if keyword == b"stuck".as_slice() {
+        stuck_of(alloc, rest)
     } else {
         Ok(Line::Bad)
     }

@@ -14,6 +14,7 @@ enum Said {
     First(Value, u32, u32, u32),
     Why(u32, u32),
     Vcd,
+    Stuck(Value, u32, u32, u32),
     Bad,
 }
 
@@ -35,13 +36,14 @@ fn form_of(line: &Line) -> Said {
         Line::First(first) => Said::First(first.value, first.from, first.to, first.budget),
         Line::Why(why) => Said::Why(why.time, why.budget),
         Line::Vcd(_) => Said::Vcd,
+        Line::Stuck(stuck) => Said::Stuck(stuck.value, stuck.from, stuck.to, stuck.budget),
         Line::Bad | Line::Ask(What::Bad) => Said::Bad,
     }
 }
 
 #[test]
 fn lines_have_their_forms(rt: HostRuntime) -> Result<(), Fail> {
-    let rows: [(&[u8], Said); 55] = [
+    let rows: [(&[u8], Said); 63] = [
         (b"", Said::Blank),
         (b" \t # wave y 0 11\r", Said::Blank),
         (b"wave y 0 11", Said::Wave(0, 11, 50_000)),
@@ -105,7 +107,18 @@ fn lines_have_their_forms(rt: HostRuntime) -> Result<(), Fail> {
         (b"vcd", Said::Bad),
         (b"vcd a b", Said::Bad),
         (b"vcd a(b", Said::Bad),
-        (b"stuck y 0 y 0 11", Said::Bad),
+        (b"stuck y 0 y 0 11", Said::Stuck(Value::Zero, 0, 11, 50_000)),
+        (
+            b"stuck s 1 stuck 007 4294967294 0 # budget",
+            Said::Stuck(Value::One, 7, 4_294_967_294, 0),
+        ),
+        (b"stuck s x y 0 11", Said::Bad),
+        (b"stuck s 2 y 0 11", Said::Bad),
+        (b"stuck s 00 y 0 11", Said::Bad),
+        (b"stuck s=t 0 y 0 11", Said::Bad),
+        (b"stuck s 0 y=z 0 11", Said::Bad),
+        (b"stuck s 0 y 0", Said::Bad),
+        (b"stuck s 0 y 0 11 7 8", Said::Bad),
     ];
     for (text, want) in rows {
         let line = read_line(rt.alloc(), text)?;
@@ -121,6 +134,7 @@ enum Shape {
     Stats,
     First(u32),
     Why(u32),
+    Stuck(u32),
     Vcd(usize),
 }
 
@@ -131,6 +145,7 @@ fn shape_of(unit: &Unit) -> Shape {
         Unit::Stats => Shape::Stats,
         Unit::First(item) => Shape::First(item.line),
         Unit::Why(item) => Shape::Why(item.line),
+        Unit::Stuck(item) => Shape::Stuck(item.line),
         Unit::Vcd(file) => Shape::Vcd(file.bytes().len()),
     }
 }
@@ -222,8 +237,8 @@ fn a_stream_is_cut_into_lines(rt: HostRuntime) -> Result<(), Fail> {
 
 #[test]
 fn units_close_where_they_must(rt: HostRuntime) -> Result<(), Fail> {
-    use Shape::{First, Items, Stats, Trim, Vcd, Why};
-    let rows: [(&[u8], &[Shape]); 11] = [
+    use Shape::{First, Items, Stats, Stuck, Trim, Vcd, Why};
+    let rows: [(&[u8], &[Shape]); 12] = [
         (b"", &[]),
         (b"go\n\n# nothing is pending\ngo", &[]),
         (b"at y 5\ngo\nat y 6", &[Items(1), Items(1)]),
@@ -239,6 +254,10 @@ fn units_close_where_they_must(rt: HostRuntime) -> Result<(), Fail> {
         (
             b"at y 5\nat y 6\nfirst y 1 0 11\nfirst y 0 0 11\nat y 7\nfirst y 2 0 11\nwhy y 7",
             &[Items(2), First(3), First(4), Items(2), Why(7)],
+        ),
+        (
+            b"at y 5\nstuck s 0 y 0 11\nstuck s x y 0 11\nstuck y 1 y 0 11",
+            &[Items(1), Stuck(2), Items(1), Stuck(4)],
         ),
         (
             b"vcd w\nat y 5\nvcd wide\nvcd a b\nat y 6",

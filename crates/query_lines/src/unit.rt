@@ -2,7 +2,7 @@
 
 ghost use Rattle.std.specs.Prelude.{◌≡◌};
 
-use crate::line::{First, What, Why};
+use crate::line::{First, Stuck, What, Why};
 use backsim_io::Text;
 use std::marker::Model;
 
@@ -66,6 +66,14 @@ pub struct WhyItem {
     pub why: Why,
 }
 
+/// A question for a wave where a signal is stuck, which is a unit of its own: the number of its line, counted from 1, and what the line
+/// asks.
+#[derive(Drop)]
+pub struct StuckItem {
+    pub line: u32,
+    pub stuck: Stuck,
+}
+
 /// What is served as a whole.
 #[derive(Drop)]
 pub enum Unit {
@@ -81,6 +89,8 @@ pub enum Unit {
     Why(WhyItem),
     /// Write the waves of the last batch to this file.
     Vcd(Text),
+    /// Tell the waveform of a signal where another is stuck.
+    Stuck(StuckItem),
 }
 
 /// A list of units.

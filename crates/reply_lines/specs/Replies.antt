@@ -16,6 +16,10 @@ use Rattle.query_lines.specs.declared.line.Why.{Why}
 use Rattle.reply_lines.specs.declared.reply.WhyAnswer.TheVariants as explained
 use Rattle.reply_lines.specs.declared.reply.WhyReply.{WhyReply}
 use Rattle.reply_lines.specs.declared.reply.WhyReply.TheVariants as whys
+use Rattle.query_lines.specs.declared.line.Stuck.{Stuck}
+use Rattle.reply_lines.specs.declared.reply.StuckAnswer.TheVariants as waves
+use Rattle.reply_lines.specs.declared.reply.StuckReply.{StuckReply}
+use Rattle.reply_lines.specs.declared.reply.StuckReply.TheVariants as stucks
 use Rattle.reply_lines.specs.declared.reply.VcdReply.{VcdReply}
 use Rattle.reply_lines.specs.declared.reply.VcdReply.TheVariants as dumps
 use Rattle.why_proofs.specs.Spelling.{proof_lines}
@@ -98,6 +102,19 @@ why_lines why whys.Unknown = text_line (codes "unknown" ∷ why.name ∷ [])
 why_lines why whys.Past = text_line (codes "past" ∷ why.name ∷ decimal why.time ∷ decimal (why.time + 1) ∷ [])
 why_lines why (whys.Answer (explained.Proof cells value)) = proof_lines why.name why.time value cells
 why_lines why (whys.Answer (explained.Budget budget)) = text_line (codes "budget" ∷ why.name ∷ decimal budget ∷ [])
+
+-- the line that repeats a question for a wave where a signal is stuck
+abbrev pub stuck_head : Stuck → List ℕ
+stuck_head stuck =
+    text_line (codes "stuck" ∷ stuck.site ∷ (byte_of_value stuck.value ∷ []) ∷ stuck.name ∷ decimal stuck.from ∷ decimal stuck.to ∷ [])
+
+-- the text of the reply to such a question: the wave, where there is one
+abbrev pub stuck_lines : Stuck → StuckReply → List ℕ
+stuck_lines stuck stucks.UnknownSite = text_line (codes "unknown" ∷ stuck.site ∷ [])
+stuck_lines stuck stucks.Unknown = text_line (codes "unknown" ∷ stuck.name ∷ [])
+stuck_lines stuck stucks.Past = text_line (codes "past" ∷ stuck.name ∷ decimal stuck.from ∷ decimal stuck.to ∷ [])
+stuck_lines stuck (stucks.Answer (waves.Wave runs)) = stuck_head stuck ++ flat_map run_line runs ++ text_line (codes "end" ∷ [])
+stuck_lines stuck (stucks.Answer (waves.Budget budget)) = text_line (codes "budget" ∷ stuck.name ∷ decimal budget ∷ [])
 
 -- the text of the reply to a line that asks for a dump under this name
 abbrev pub vcd_line : List ℕ → VcdReply → List ℕ

@@ -15,8 +15,10 @@
 mod reply;
 mod text;
 
-pub use reply::{FirstAnswer, FirstReply, Reply, VcdReply, WhyAnswer, WhyReply};
-pub use text::{dump_text, first_text, reply_text, stats_text, trimmed_text, why_text};
+pub use reply::{
+    FirstAnswer, FirstReply, Reply, StuckAnswer, StuckReply, VcdReply, WhyAnswer, WhyReply,
+};
+pub use text::{dump_text, first_text, reply_text, stats_text, stuck_text, trimmed_text, why_text};
 
 #[cfg(test)]
 mod tests;

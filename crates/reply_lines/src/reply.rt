@@ -63,6 +63,28 @@ pub enum VcdReply {
     Made(u32),
 }
 
+/// The waveform of a signal where another is stuck.
+#[derive(Drop)]
+pub enum StuckAnswer {
+    /// The maximal runs of the signal inside the window.
+    Wave(Runs),
+    /// The query needs more evaluations than this budget.
+    Budget(u32),
+}
+
+/// What is replied to the question for a waveform where a signal is stuck.
+#[derive(Drop)]
+pub enum StuckReply {
+    /// The name of the stuck signal is none.
+    UnknownSite,
+    /// The name is no signal.
+    Unknown,
+    /// The window ends behind the horizon.
+    Past,
+    /// The question was answered.
+    Answer(StuckAnswer),
+}
+
 /// What is replied to the question for an explanation.
 #[derive(Drop)]
 pub enum WhyReply {

@@ -3,7 +3,7 @@
 use super::*;
 use backsim_io::Text;
 use gate_values::Value;
-use query_lines::{First, Item, What, Why};
+use query_lines::{First, Item, Stuck, What, Why};
 use std::test::Fail;
 use why_proofs::CellList;
 use window_walks::{Run, Runs};
@@ -160,6 +160,37 @@ fn dumps_have_their_texts(rt: HostRuntime) -> Result<(), Fail> {
     for (file, reply, want) in rows {
         let file = Text::from_bytes(alloc, file)?;
         let text = dump_text(alloc, &file, reply)?;
+        assert_eq!(rt; text.as_slice(), want);
+    }
+    Ok(())
+}
+
+#[test]
+fn waves_of_stuck_circuits_have_their_texts(rt: HostRuntime) -> Result<(), Fail> {
+    let alloc = rt.alloc();
+    let stuck = Stuck {
+        site: Text::from_bytes(alloc, b"n1")?,
+        value: Value::Zero,
+        name: Text::from_bytes(alloc, b"n3")?,
+        from: 0,
+        to: 11,
+        budget: 7,
+    };
+    let mut runs = Runs::new(alloc);
+    runs.push(0, Value::X)?;
+    runs.push(2, Value::Zero)?;
+    let rows: [(StuckReply, &[u8]); 5] = [
+        (StuckReply::UnknownSite, b"unknown n1\n"),
+        (StuckReply::Unknown, b"unknown n3\n"),
+        (StuckReply::Past, b"past n3 0 11\n"),
+        (StuckReply::Answer(StuckAnswer::Budget(7)), b"budget n3 7\n"),
+        (
+            StuckReply::Answer(StuckAnswer::Wave(runs)),
+            b"stuck n1 0 n3 0 11\n0 x\n2 0\nend\n",
+        ),
+    ];
+    for (reply, want) in rows {
+        let text = stuck_text(alloc, &stuck, &reply)?;
         assert_eq!(rt; text.as_slice(), want);
     }
     Ok(())

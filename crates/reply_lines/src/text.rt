@@ -4,14 +4,16 @@ ghost use Rattle.std.specs.Prelude.{◌≡◌, ◌++◌, ◌∷◌, [], flat_map
 ghost use Rattle.std.specs.Fmt.{decimal};
 ghost use Rattle.gate_values.specs.Spelling.{byte_of_value};
 ghost use Rattle.reply_lines.specs.Replies as replies;
-ghost use Rattle.reply_lines.specs.Replies.{Suits, text_of, text_line, run_line, first_line, first_found, why_lines, vcd_line, trimmed_line, stats_line};
+ghost use Rattle.reply_lines.specs.Replies.{Suits, text_of, text_line, run_line, first_line, first_found, why_lines, stuck_head, stuck_lines, vcd_line, trimmed_line, stats_line};
 
-use crate::reply::{FirstAnswer, FirstReply, Reply, VcdReply, WhyAnswer, WhyReply};
+use crate::reply::{
+    FirstAnswer, FirstReply, Reply, StuckAnswer, StuckReply, VcdReply, WhyAnswer, WhyReply,
+};
 use backsim_io::{OutOfMemory, Text};
 use circuit_meaning::Run;
 use gate_values::Value;
 use itoa::Buffer;
-use query_lines::{First, Item, What, Why};
+use query_lines::{First, Item, Stuck, What, Why};
 use std::alloc::Global;
 use why_proofs::proof_text;
 
@@ -234,6 +236,40 @@ pub fn why_text(alloc: Global, why: &Why, reply: &WhyReply) -> Result<Vec<u8>, O
         WhyReply::Answer(WhyAnswer::Budget(budget)) => put_budget(&mut text, name, *budget)?,
         WhyReply::Answer(WhyAnswer::Proof { cells, value }) => {
             return proof_text(alloc, name, why.time, *value, cells);
+        }
+    }
+    Ok(text)
+}
+
+// Appends the line that repeats a question for a wave where a signal is stuck.
+fn put_stuck(text: &mut Vec<u8>, stuck: &Stuck) -> Result<(), OutOfMemory>
+    ensures { OnOk result (text.new.items ≡ text.old.items ++ stuck_head stuck.now) }
+{
+    put(text, b"stuck", b' ')?;
+    put(text, stuck.site.bytes(), b' ')?;
+    put(text, &[stuck.value.byte()], b' ')?;
+    put(text, stuck.name.bytes(), b' ')?;
+    put_times(text, stuck.from as u64, stuck.to as u64)
+}
+
+/// The text of the reply to a question for a wave where a signal is stuck: a line that repeats the question, a line for each run, and
+/// `end`; or one line that says why there is none.
+pub fn stuck_text(alloc: Global, stuck: &Stuck, reply: &StuckReply) -> Result<Vec<u8>, OutOfMemory>
+    ensures { IfOk result (λ text. text.items ≡ stuck_lines stuck.now reply.now) }
+{
+    let name = stuck.name.bytes();
+    let mut text = Vec::new(alloc);
+    match reply {
+        StuckReply::UnknownSite => put_unknown(&mut text, stuck.site.bytes())?,
+        StuckReply::Unknown => put_unknown(&mut text, name)?,
+        StuckReply::Past => {
+            put_window(&mut text, b"past", name, stuck.from as u64, stuck.to as u64)?;
+        }
+        StuckReply::Answer(StuckAnswer::Budget(budget)) => put_budget(&mut text, name, *budget)?,
+        StuckReply::Answer(StuckAnswer::Wave(runs)) => {
+            put_stuck(&mut text, stuck)?;
+            put_runs(&mut text, runs.as_slice())?;
+            put(&mut text, b"end", b'\n')?;
         }
     }
     Ok(text)

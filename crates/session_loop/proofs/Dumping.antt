@@ -9,7 +9,7 @@ use Rattle.std.proofs.lemmas.List.{map-append, length-map}
 use Rattle.std.proofs.lemmas.List.Elements.{Contains-append_right, All-head, All-tail, filter-append}
 use Rattle.std.proofs.lemmas.List.Folds.{list_any-append}
 use Rattle.std.proofs.lemmas.Str.{IsUtf8-from_ascii}
-use Rattle.backsim_io.specs.Counts.{Grows, Rose}
+use Rattle.backsim_io.specs.Counts.{Grows}
 use Rattle.backsim_io.specs.Held.{Made, grown, CreatesIn, FileGrows, SameMade, Places, without}
 use Rattle.text_rules.specs.Text.{is_mark, is_hash, is_name, is_name_byte}
 use Rattle.query_lines.specs.declared.unit.Unit.{Unit as ScriptUnit}
@@ -30,10 +30,9 @@ use Rattle.session_loop.specs.declared.desk.LastBatch.{LastBatch}
 use Rattle.session_loop.specs.declared.stop.Stop.{Stop}
 use Rattle.session_loop.specs.declared.stop.Stop.TheVariants.{ScriptUnread, ScriptTooLong, RepliesUnwritten, JournalUnwritten, DumpUnmade, DumpUnwritten, DumpUnfinished, OutOfMemory}
 use Rattle.unit_answers.specs.Stores.{cells_of}
-use Rattle.session_loop.specs.Serving.{StopsOpen}
 use Rattle.session_loop.specs.Halting.{session_files}
 use Rattle.session_loop.specs.inner.Desks.{IsCount, Keeps, KeepsDumps, Shows, refused, refused_last}
-use Rattle.session_loop.specs.inner.Faults.{IsOfDump, UnitExplains, UnitsExplain}
+use Rattle.session_loop.specs.inner.Faults.{IsOfDump, UnitExplains}
 use Rattle.session_loop.specs.inner.Growing.{Adds, GrowsPart, IsDumpPart}
 use Rattle.session_loop.specs.inner.Serving.{BreaksAt, Serves, Stops}
 use Rattle.session_loop.proofs.Growing.{goes-none}
@@ -114,32 +113,6 @@ pub names-are-text : (word : List ℕ) → is_name word ≡ true → IsUtf8 word
 names-are-text word is = IsUtf8-from_ascii word (names-are-ascii word (and_parts _ _ is).1)
 
 -- ---- stops
-
-no-rise : Rose 0 0 → ⊥
-no-rise h = elim h [ inl less ↦ omega (arith, less) | inr last ↦ omega (arith, last) ]
-
--- where no file is created or written to
-pub reply-explains : (replies new_replies writes new_writes files new_files : ℕ) (stop : Stop) → ((same : ℕ) → UnitExplains replies new_replies same same stop)
-    → UnitsExplain replies new_replies writes new_writes files new_files stop
-reply-explains replies new_replies writes new_writes files new_files ScriptUnread h = h 0
-reply-explains replies new_replies writes new_writes files new_files ScriptTooLong h = h 0
-reply-explains replies new_replies writes new_writes files new_files RepliesUnwritten h = h 0
-reply-explains replies new_replies writes new_writes files new_files JournalUnwritten h = absurd (no-rise (h 0))
-reply-explains replies new_replies writes new_writes files new_files DumpUnmade h = absurd (h 0)
-reply-explains replies new_replies writes new_writes files new_files DumpUnwritten h = absurd (h 0)
-reply-explains replies new_replies writes new_writes files new_files DumpUnfinished h = absurd (h 0)
-reply-explains replies new_replies writes new_writes files new_files OutOfMemory h = tt
-
--- no dump is left unfinished by a stop that is none of a dump
-pub reply-opens : (replies new_replies writes new_writes : ℕ) (old new : List ℕ) (stop : Stop) → UnitExplains replies new_replies writes new_writes stop → new ≡ old → StopsOpen old new stop
-reply-opens replies new_replies writes new_writes old new ScriptUnread cause same = same
-reply-opens replies new_replies writes new_writes old new ScriptTooLong cause same = same
-reply-opens replies new_replies writes new_writes old new RepliesUnwritten cause same = same
-reply-opens replies new_replies writes new_writes old new JournalUnwritten cause same = same
-reply-opens replies new_replies writes new_writes old new DumpUnmade cause same = same
-reply-opens replies new_replies writes new_writes old new DumpUnwritten cause same = absurd cause
-reply-opens replies new_replies writes new_writes old new DumpUnfinished cause same = absurd cause
-reply-opens replies new_replies writes new_writes old new OutOfMemory cause same = same
 
 module _ (setup : Setup) where
   -- a stop that is none of a dump breaks off in any unit

@@ -1,6 +1,7 @@
 pub mod Growing
 pub mod Named
 pub mod Served
+pub mod Questions
 pub mod Units
 pub mod Taken
 pub mod Scripts

@@ -5,15 +5,19 @@ use Rattle.std.specs.List.{AllZip}
 use Rattle.cell_store.specs.Recency.{Contents}
 use Rattle.batch_meaning.specs.Batches.{Batch}
 use Rattle.journal_meaning.specs.declared.Entry.{Entry}
+use Rattle.journal_meaning.specs.Sections.{of_batch}
 use Rattle.query_lines.specs.declared.unit.Item.{Item}
+use Rattle.query_lines.specs.declared.unit.StuckItem.{StuckItem}
 use Rattle.reply_lines.specs.declared.reply.Reply.{Reply}
-use Rattle.session_meaning.specs.Session.{Setup}
+use Rattle.reply_lines.specs.declared.reply.StuckReply.{StuckReply}
+use Rattle.session_meaning.specs.Session.{Setup, stuck_batch}
 use Rattle.query_lines.specs.Fit.{AsksByName}
 use Rattle.query_lines.specs.Laws.{IsWithin}
-use Rattle.session_meaning.specs.Verdicts.{verdict_of}
+use Rattle.session_meaning.specs.StuckSignals.{IsStuckReply}
+use Rattle.session_meaning.specs.Verdicts.{verdict_of, site_of, stuck_verdict}
 use Rattle.unit_answers.specs.Dumps.{IsOwnWave, AreReplied}
 use Rattle.unit_answers.specs.Stores.{AreStores}
-use Rattle.unit_answers.specs.Done.{IsBatchDone, IsQuestionDone, IsTrimDone}
+use Rattle.unit_answers.specs.Done.{IsBatchDone, IsQuestionDone, IsStuckDone, IsTrimDone}
 use Rattle.unit_answers.proofs.Dumping.{done-waves}
 
 module _ (setup : Setup) (names : List (List ℕ)) where
@@ -47,6 +51,15 @@ module _ (setup : Setup) (names : List (List ℕ)) where
     right = done.right;
     stores = stores-named left done.stores;
     leaves = done.leaves;
+  }
+
+  -- a question for a wave where a signal is stuck
+  pub stuck-named : (item : StuckItem) (opening : List Contents) (reply : StuckReply) (lists held : List (List Entry)) (left : List Contents)
+      → IsStuckDone setup item opening reply lists held left → IsStuckDone named item opening reply lists held left
+  stuck-named item opening reply lists held left stuck = record {
+    done = question-named (stuck_batch setup item)
+        (λ es. IsStuckReply setup.design.circuit (site_of setup.design item) (stuck_verdict setup.design item) es (of_batch held) reply) opening lists left stuck.done;
+    memo = stuck.memo;
   }
 
   -- a trim

@@ -2,7 +2,6 @@
 use Rattle.std.proofs.Common.{◌≡◌, ℕ, zero, suc, ◌+◌, ◌<◌, List, [], ◌∷◌, ◌++◌, length, length-take, get_or, take, drop, refl, sym, ap, subst, ◌∙◌, append_assoc, append-nil, arith}
 use Rattle.std.specs.Prelude.{flat_map, codes, OnOk, OnErr, Result, Ok, Err}
 use Rattle.journal_text.specs.declared.sections.SectionKind.{SectionKind}
-use Rattle.std.specs.List.{AllZip}
 use Rattle.std.proofs.lemmas.List.{take_more, take-append-drop}
 use Rattle.std.proofs.lemmas.List.Concat.{flat_map-append}
 use Rattle.std.proofs.Math.Seq.{take-add}
@@ -17,19 +16,6 @@ use Rattle.session_meaning.specs.Replies.{replies_text}
 use Rattle.session_meaning.specs.Broken.{IsPrefix}
 use Rattle.session_loop.specs.inner.Growing.{GrowsPart, FileGrowsPart, shard_line}
 use Rattle.session_loop.proofs.Growing.{grows-more, part-after, part-longer, file-more, file-part-after, file-part-longer}
-
-pub zip-length : {A B : Type 0} (P : A → B → Type 0) (xs : List A) (ys : List B) → AllZip P xs ys → length xs ≡ length ys
-zip-length P [] [] h = refl
-zip-length P (x ∷ xs) [] h = absurd h
-zip-length P [] (y ∷ ys) h = absurd h
-zip-length P (x ∷ xs) (y ∷ ys) h = ap suc (zip-length P xs ys h.1)
-
-pub zip-get : {A B : Type 0} (P : A → B → Type 0) (xs : List A) (ys : List B) (i : ℕ) (a : A) (b : B) → AllZip P xs ys → i < length xs → P (get_or xs i a) (get_or ys i b)
-zip-get P [] [] i a b h l = absurd (omega (arith, l))
-zip-get P (x ∷ xs) [] i a b h l = absurd h
-zip-get P [] (y ∷ ys) i a b h l = absurd h
-zip-get P (x ∷ xs) (y ∷ ys) zero a b h l = h.0
-zip-get P (x ∷ xs) (y ∷ ys) (suc i) a b h l = zip-get P xs ys i a b h.1 (omega (arith, l))
 
 -- the replies to the first items, and to one more
 replies-more : (items : List Item) (replies : List Reply) (i : ℕ) (a : Item) (b : Reply) → i < length items → i < length replies

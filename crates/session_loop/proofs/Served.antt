@@ -10,25 +10,20 @@ use Rattle.cell_store.specs.Recency.{Contents}
 use Rattle.backsim_io.specs.Counts.{Grows}
 use Rattle.backsim_io.specs.Held.{Made, FileGrows}
 use Rattle.journal_meaning.specs.declared.Entry.{Entry}
-use Rattle.batch_meaning.specs.Batches.{Batch as BatchRecord}
 use Rattle.journal_meaning.specs.States.{fresh}
-use Rattle.journal_meaning.specs.Replay.{IsLegalBatch, IsLegalTrim, replay}
+use Rattle.journal_meaning.specs.Replay.{IsLegalBatch, IsLegalTrim}
 use Rattle.journal_meaning.specs.Sections.{Purpose, Asks, Trims, Forces, SectionEntries, own, cells_left, cells_after}
 use Rattle.journal_meaning.specs.Counts.{count}
 use Rattle.journal_text.specs.Spelling.{section_lines}
-use Rattle.query_lines.specs.declared.unit.FirstItem.{FirstItem}
 use Rattle.query_lines.specs.declared.unit.Item.{Item}
-use Rattle.query_lines.specs.declared.unit.WhyItem.{WhyItem}
 use Rattle.query_lines.specs.declared.unit.Unit.{Unit as ScriptUnit}
 use Rattle.query_lines.specs.declared.unit.Unit.TheVariants as units
-use Rattle.reply_lines.specs.declared.reply.FirstReply.{FirstReply}
 use Rattle.reply_lines.specs.declared.reply.Reply.{Reply}
-use Rattle.reply_lines.specs.declared.reply.WhyReply.{WhyReply}
-use Rattle.reply_lines.specs.Replies.{first_line, why_lines, trimmed_line, stats_line}
+use Rattle.reply_lines.specs.Replies.{trimmed_line, stats_line}
 use Rattle.journal_text.specs.declared.sections.SectionKind.TheVariants.{Batch, Trim}
 use Rattle.session_meaning.specs.Replies.{replies_text}
 use Rattle.session_meaning.specs.Written.{kind_of, numbered}
-use Rattle.session_meaning.specs.Session.{Setup, Course, IsServed, Session, Served, batch_of, first_batch, why_batch, with_section, with_reply, counts_line, cells_stored, trim_entries, is_batch, is_fill, is_eviction, entries_that}
+use Rattle.session_meaning.specs.Session.{Setup, Course, IsServed, Session, Served, batch_of, with_section, with_reply, counts_line, cells_stored, trim_entries, is_batch, is_fill, is_eviction, entries_that}
 use Rattle.session_meaning.specs.Broken.{IsPrefix, journal_of, IsBroken}
 use Rattle.session_meaning.specs.Dumps.{wires_of}
 use Rattle.session_meaning.proofs.Journals.{journal-more, broken-none, broken-more, broken-at, prefix-same, prefix-more, prefix-behind}
@@ -43,16 +38,26 @@ use Rattle.session_loop.specs.declared.stop.Stop.TheVariants.{ScriptUnread, Scri
 use Rattle.session_loop.specs.inner.Faults.{UnitExplains}
 use Rattle.session_loop.specs.inner.Growing.{FilesGoOn, GrowsPart, FileGrowsPart}
 use Rattle.unit_answers.specs.Stores.{AreStores, cells_of}
-use Rattle.unit_answers.specs.Done.{IsBatchDone, IsFirstDone, IsWhyDone, IsTrimDone}
-use Rattle.session_loop.specs.inner.Desks.{IsCount, IsCounted, batches_in, Shows, KeepsDumps, Keeps}
-use Rattle.session_loop.specs.inner.Serving.{ServedTo, BreaksAt, StoppedIn, Serves, Stops, IsAnswered}
+use Rattle.unit_answers.specs.Done.{IsBatchDone, IsTrimDone}
+use Rattle.session_loop.specs.inner.Desks.{IsCount, IsCounted, batches_in, counted_lists, Shows, KeepsDumps, Keeps}
+use Rattle.session_loop.specs.inner.Serving.{ServedTo, BreaksAt, StoppedIn, Serves, Stops}
 use Rattle.session_loop.proofs.Growing.{goes-none, goes-more, files-none, files-more, journal-grows}
 
-entries-more : (test : Entry → Bool) (sections : List SectionEntries) (section : SectionEntries) → own section.purpose ≡ (λ es. es)
-    → entries_that test (sections ++ section ∷ []) ≡ entries_that test sections + sum_by (count test) section.lists
-entries-more test sections section mine =
+-- no entry of a memo of its own is counted
+none-counted : (lists : List (List Entry)) → sum_by (λ (entries : List Entry). 0) lists ≡ 0
+none-counted [] = refl
+none-counted (es ∷ lists) = let first = sum_by-cons (λ (entries : List Entry). 0) es lists in let rest = none-counted lists in omega (arith, first, rest)
+
+counted-own : (test : Entry → Bool) (purpose : Purpose) (lists : List (List Entry)) → sum_by (λ entries. count test (own purpose entries)) lists ≡ sum_by (count test) (counted_lists (kind_of purpose) lists)
+counted-own test (Asks b) lists = refl
+counted-own test Trims lists = refl
+counted-own test (Forces b) lists = none-counted lists
+
+entries-more : (test : Entry → Bool) (sections : List SectionEntries) (section : SectionEntries)
+    → entries_that test (sections ++ section ∷ []) ≡ entries_that test sections + sum_by (count test) (counted_lists (kind_of section.purpose) section.lists)
+entries-more test sections section =
     sum_by-append (λ (s : SectionEntries). sum_by (λ entries. count test (own s.purpose entries)) s.lists) sections (section ∷ [])
-    ∙ ap (λ n. entries_that test sections + n) (omega (arith, ap (λ (f : List Entry → List Entry). sum_by (λ entries. count test (f entries)) section.lists) mine))
+    ∙ ap (λ n. entries_that test sections + n) (omega (arith, counted-own test section.purpose section.lists))
 
 batches-more : (sections : List SectionEntries) (section : SectionEntries) → length (filter (λ s. is_batch s.purpose) (sections ++ section ∷ [])) ≡ length (filter (λ s. is_batch s.purpose) sections) + batches_in (kind_of section.purpose)
 batches-more sections section =
@@ -64,6 +69,21 @@ batches-more sections section =
     one (Asks b) lists = refl
     one Trims lists = refl
     one (Forces b) lists = refl
+
+-- the counts are those of one section more
+pub counts-more : (counts later : Counts) (sections : List SectionEntries) (section : SectionEntries) → IsCount counts sections → IsCounted counts (kind_of section.purpose) section.lists later → IsCount later (sections ++ section ∷ [])
+counts-more counts later sections section c more = record {
+  sections_are = more.sections ∙ ap (λ n. n + 1) c.sections_are ∙ sym (length-append sections (section ∷ []));
+  batches = more.batches ∙ ap (λ n. n + batches_in (kind_of section.purpose)) c.batches ∙ sym (batches-more sections section);
+  fills = more.fills ∙ ap (λ n. n + sum_by (count is_fill) (counted_lists (kind_of section.purpose) section.lists)) c.fills ∙ sym (entries-more is_fill sections section);
+  evictions = more.evictions ∙ ap (λ n. n + sum_by (count is_eviction) (counted_lists (kind_of section.purpose) section.lists)) c.evictions ∙ sym (entries-more is_eviction sections section);
+}
+
+-- the cells are those that one section more leaves
+pub cells-more : (shard : ℕ) (cells left : List SignalCell) (sections : List SectionEntries) (section : SectionEntries) → cells ≡ cells_after shard sections → left ≡ cells_left shard cells section
+    → left ≡ cells_after shard (sections ++ section ∷ [])
+cells-more shard cells left sections section was leaves =
+    leaves ∙ ap (λ l. cells_left shard l section) was ∙ sym (fold-append (cells_left shard) [] sections (section ∷ []))
 
 -- a stop of a unit that makes no dump
 abbrev pub IsOfUnit : Stop → Type 0
@@ -88,16 +108,8 @@ of-unit replies new_replies writes new_writes DumpUnfinished cause = cause
 of-unit replies new_replies writes new_writes OutOfMemory cause = tt
 
 module _ (setup : Setup) where
-  counts-more : (counts later : Counts) (sections : List SectionEntries) (section : SectionEntries) → own section.purpose ≡ (λ es. es) → IsCount counts sections → IsCounted counts (kind_of section.purpose) section.lists later → IsCount later (sections ++ section ∷ [])
-  counts-more counts later sections section mine c more = record {
-    sections_are = more.sections ∙ ap (λ n. n + 1) c.sections_are ∙ sym (length-append sections (section ∷ []));
-    batches = more.batches ∙ ap (λ n. n + batches_in (kind_of section.purpose)) c.batches ∙ sym (batches-more sections section);
-    fills = more.fills ∙ ap (λ n. n + sum_by (count is_fill) section.lists) c.fills ∙ sym (entries-more is_fill sections section mine);
-    evictions = more.evictions ∙ ap (λ n. n + sum_by (count is_eviction) section.lists) c.evictions ∙ sym (entries-more is_eviction sections section mine);
-  }
-
   -- what is kept for dumps, where no dump is made
-  kept-dumps : (dumps later : Dumps) (now next : Course) → later ≡ dumps → next.waves ≡ now.waves → next.dumps ≡ now.dumps → KeepsDumps setup dumps now → KeepsDumps setup later next
+  pub kept-dumps : (dumps later : Dumps) (now next : Course) → later ≡ dumps → next.waves ≡ now.waves → next.dumps ≡ now.dumps → KeepsDumps setup dumps now → KeepsDumps setup later next
   kept-dumps dumps later now next same waves made keeps = record {
     shows = subst (Shows setup.design later.last) (sym waves) (ap-shows (sym same));
     own = ap (λ d. d.own.items) same ∙ keeps.own;
@@ -123,56 +135,71 @@ module _ (setup : Setup) where
   breaks-in us replies journal dumps OutOfMemory cause broken = broken
 
   module _ (units : List ScriptUnit) (unit : ScriptUnit) (now : Course) (desk : Desk) (session : Session setup units now) (keeps : Keeps setup desk now) (out new_out : List ℕ → Type 0) (made new_made : List Made → Type 0) where
+    module _ (sections : List SectionEntries) (text : List ℕ) (waves : Option (List Wire)) (lines : List ℕ) where
+      -- with these sections, this text more, and these waves
+      abbrev pub leads-to : Course
+      leads-to = record { sections = sections; out = now.out ++ text; waves = waves; dumps = now.dumps }
+
+      -- the sections have these lines more
+      module _ (served : IsServed setup now unit leads-to) (journal-is : journal_of setup leads-to ≡ journal_of setup now ++ lines) where
+        -- all was written
+        pub sections-served : (later : Desk) → Keeps setup later leads-to → Grows out new_out text → FileGrows made new_made 0 lines → ServedTo setup (units ++ unit ∷ []) now later out new_out made new_made
+        sections-served later kept replied recorded = record {
+          next = leads-to;
+          session = Served unit session served;
+          keeps = kept;
+          replied = (text, refl, replied);
+          recorded = subst (λ j. FilesGoOn made new_made (journal_of setup now) now.dumps j now.dumps) (sym journal-is) (journal-grows made new_made (journal_of setup now) lines now.dumps recorded);
+        }
+
+        -- a part of the text and a part of the lines
+        pub sections-stopped : (files : ℕ) (stop : Stop) → files ≡ length desk.dumps.made.items + 1 → IsOfUnit stop
+            → GrowsPart out new_out text → FileGrowsPart made new_made 0 lines → StoppedIn setup (units ++ unit ∷ []) now out new_out made new_made files stop
+        sections-stopped files stop many cause replied recorded = record {
+          replies = now.out ++ replied.0;
+          journal = journal_of setup now ++ recorded.0;
+          dumps = now.dumps;
+          broken = breaks-in (units ++ unit ∷ []) (now.out ++ replied.0) (journal_of setup now ++ recorded.0) now.dumps stop cause
+              (broken-at setup units unit now leads-to (now.out ++ replied.0) (journal_of setup now ++ recorded.0) now.dumps session served
+              (prefix-more now.out replied.0) (prefix-more (journal_of setup now) recorded.0) (prefix-behind now.out replied.0 text replied.1)
+              (subst (λ j. IsPrefix (journal_of setup now ++ recorded.0) j) (sym journal-is) (prefix-behind (journal_of setup now) recorded.0 lines recorded.1))
+              ([], sym (append-nil now.dumps)) (begun-same now.dumps) (λ _ _. refl));
+          replied = (replied.0, refl, replied.2);
+          recorded = journal-grows made new_made (journal_of setup now) recorded.0 now.dumps recorded.2;
+          count = count-of desk now files keeps many;
+        }
+
     module _ (purpose : Purpose) (lists : List (List Entry)) (text : List ℕ) (waves : Option (List Wire)) where
+      abbrev section : SectionEntries
+      section = record { purpose = purpose; lists = lists }
+
       -- a section more, and these waves
       abbrev pub next : Course
       next = record (with_section now purpose lists text) { waves = waves }
 
       module _ (served : IsServed setup now unit next) (number : ℕ) (is : number ≡ desk.counts.sections + 1) where
         abbrev pub section-text : List ℕ
-        section-text = section_lines (numbered number (record { purpose = purpose; lists = lists }))
+        section-text = section_lines (numbered number section)
 
         journal-is : journal_of setup next ≡ journal_of setup now ++ section-text
         journal-is = journal-more setup now purpose lists text number (is ∙ ap (λ n. n + 1) keeps.counts.sections_are)
 
         -- with a section of its own
-        pub section-served : (later : Desk) → own purpose ≡ (λ es. es) → IsCounted desk.counts (kind_of purpose) lists later.counts
-            → ((shard : ℕ) → shard < setup.shards → cells_of later.stores.items shard ≡ (replay (fresh (cells_of desk.stores.items shard)) (get_or lists shard [])).cells)
+        pub section-served : (later : Desk) → IsCounted desk.counts (kind_of purpose) lists later.counts
+            → ((shard : ℕ) → shard < setup.shards → cells_of later.stores.items shard ≡ cells_left shard (cells_of desk.stores.items shard) section)
             → KeepsDumps setup later.dumps next
             → Grows out new_out text → FileGrows made new_made 0 section-text → ServedTo setup (units ++ unit ∷ []) now later out new_out made new_made
-        section-served later mine counted leaves dumps replied recorded =
-            let s : SectionEntries = record { purpose = purpose; lists = lists } in
-            record {
-              next = next;
-              session = Served unit session served;
-              keeps = record {
-                cells = λ shard h.
-                    leaves shard h ∙ ap (λ cells. (replay (fresh cells) (get_or lists shard [])).cells) (keeps.cells shard h)
-                    ∙ ap (λ (f : List Entry → List Entry). (replay (fresh (cells_after shard now.sections)) (f (get_or lists shard []))).cells) (sym mine)
-                    ∙ sym (fold-append (cells_left shard) [] now.sections (s ∷ []));
-                counts = counts-more desk.counts later.counts now.sections s mine keeps.counts counted;
-                dumps = dumps;
-              };
-              replied = (text, refl, replied);
-              recorded = subst (λ j. FilesGoOn made new_made (journal_of setup now) now.dumps j now.dumps) (sym journal-is) (journal-grows made new_made (journal_of setup now) section-text now.dumps recorded);
-            }
+        section-served later counted leaves dumps =
+            sections-served (now.sections ++ section ∷ []) text waves section-text served journal-is later (record {
+              cells = λ shard h. cells-more shard (cells_of desk.stores.items shard) (cells_of later.stores.items shard) now.sections section (keeps.cells shard h) (leaves shard h);
+              counts = counts-more desk.counts later.counts now.sections section keeps.counts counted;
+              dumps = dumps;
+            })
 
         -- a part of its replies and a part of its section
         pub section-stopped : (files : ℕ) (stop : Stop) → files ≡ length desk.dumps.made.items + 1 → IsOfUnit stop
             → GrowsPart out new_out text → FileGrowsPart made new_made 0 section-text → StoppedIn setup (units ++ unit ∷ []) now out new_out made new_made files stop
-        section-stopped files stop many cause replied recorded = record {
-          replies = now.out ++ replied.0;
-          journal = journal_of setup now ++ recorded.0;
-          dumps = now.dumps;
-          broken = breaks-in (units ++ unit ∷ []) (now.out ++ replied.0) (journal_of setup now ++ recorded.0) now.dumps stop cause
-              (broken-at setup units unit now next (now.out ++ replied.0) (journal_of setup now ++ recorded.0) now.dumps session served
-              (prefix-more now.out replied.0) (prefix-more (journal_of setup now) recorded.0) (prefix-behind now.out replied.0 text replied.1)
-              (subst (λ j. IsPrefix (journal_of setup now ++ recorded.0) j) (sym journal-is) (prefix-behind (journal_of setup now) recorded.0 section-text recorded.1))
-              ([], sym (append-nil now.dumps)) (begun-same now.dumps) (λ _ _. refl));
-          replied = (replied.0, refl, replied.2);
-          recorded = journal-grows made new_made (journal_of setup now) recorded.0 now.dumps recorded.2;
-          count = count-of desk now files keeps many;
-        }
+        section-stopped = sections-stopped (now.sections ++ section ∷ []) text waves section-text served journal-is
 
     -- a reply alone
     pub reply-served : (text : List ℕ) → IsServed setup now unit (with_reply now text) → Grows out new_out text → ServedTo setup (units ++ unit ∷ []) now desk out new_out made made
@@ -232,7 +259,7 @@ module _ (setup : Setup) where
         → FileGrows made new_made 0 (section_lines (record { kind = Batch; number = counts.sections; shards = lists })) → Serves setup desk later (units.Batch items ∷ []) out new_out made new_made
     batch-served later last same stores asked answered dumps replied recorded us now session keeps =
         section-served us (units.Batch items) now desk session keeps out new_out made new_made (Asks (batch_of setup items)) lists (replies_text items replies) shown (is-served now keeps) counts.sections counted.sections
-        later refl (subst (λ c. IsCounted desk.counts Batch lists c) (sym same) counted) (λ shard h. ap (λ l. cells_of l shard) stores ∙ done.leaves shard h)
+        later (subst (λ c. IsCounted desk.counts Batch lists c) (sym same) counted) (λ shard h. ap (λ l. cells_of l shard) stores ∙ done.leaves shard h)
         (record {
           shows = subst (λ (d : Dumps). Shows setup.design d.last shown) (sym dumps) (ap (λ l. wires_of setup.design l replies) (sym asked) ∙ ap (wires_of setup.design last.items) (sym answered));
           own = ap (λ d. d.own.items) dumps ∙ keeps.dumps.own;
@@ -263,7 +290,7 @@ module _ (setup : Setup) where
     trim-served later same stores dumps replied recorded us now session keeps =
         let text = trimmed_line (sum_by length lists) in
         section-served us (units.Trim most) now desk session keeps out new_out made new_made Trims lists text now.waves (is-trimmed now keeps) counts.sections counted.sections
-        later refl (subst (λ c. IsCounted desk.counts Trim lists c) (sym same) counted) (λ shard h. ap (λ l. cells_of l shard) stores ∙ done.leaves shard h)
+        later (subst (λ c. IsCounted desk.counts Trim lists c) (sym same) counted) (λ shard h. ap (λ l. cells_of l shard) stores ∙ done.leaves shard h)
         (kept-dumps desk.dumps later.dumps now (with_section now Trims lists text) dumps refl refl keeps.dumps) replied recorded
 
     pub trim-stopped : (files : ℕ) (stop : Stop) → files ≡ length desk.dumps.made.items + 1 → IsOfUnit stop
@@ -272,50 +299,6 @@ module _ (setup : Setup) where
     trim-stopped files stop many cause replied recorded us now session keeps =
         section-stopped us (units.Trim most) now desk session keeps out new_out made new_made Trims lists (trimmed_line (sum_by length lists)) now.waves (is-trimmed now keeps) counts.sections counted.sections
         files stop many cause replied recorded
-
-  -- A question with a batch of its own.
-  module _ (unit : ScriptUnit) (b : BatchRecord) (desk : Desk) (text : List ℕ) (lists : List (List Entry)) (left : List Contents) (done : IsAnswered setup desk unit b text lists left) (counts : Counts) (counted : IsCounted desk.counts Batch lists counts) (out new_out : List ℕ → Type 0) (made new_made : List Made → Type 0) where
-    pub question-served : (later : Desk) → later.counts ≡ counts → later.stores.items ≡ left → later.dumps ≡ desk.dumps → Grows out new_out text
-        → FileGrows made new_made 0 (section_lines (record { kind = Batch; number = counts.sections; shards = lists })) → Serves setup desk later (unit ∷ []) out new_out made new_made
-    question-served later same stores dumps replied recorded us now session keeps =
-        section-served us unit now desk session keeps out new_out made new_made (Asks b) lists text now.waves (done.serves now keeps) counts.sections counted.sections
-        later refl (subst (λ c. IsCounted desk.counts Batch lists c) (sym same) counted) (λ shard h. ap (λ l. cells_of l shard) stores ∙ done.leaves shard h)
-        (kept-dumps desk.dumps later.dumps now (with_section now (Asks b) lists text) dumps refl refl keeps.dumps) replied recorded
-
-    pub question-stopped : (files : ℕ) (stop : Stop) → files ≡ length desk.dumps.made.items + 1 → IsOfUnit stop
-        → GrowsPart out new_out text → FileGrowsPart made new_made 0 (section_lines (record { kind = Batch; number = counts.sections; shards = lists }))
-        → Stops setup desk (unit ∷ []) out new_out made new_made files stop
-    question-stopped files stop many cause replied recorded us now session keeps =
-        section-stopped us unit now desk session keeps out new_out made new_made (Asks b) lists text now.waves (done.serves now keeps) counts.sections counted.sections
-        files stop many cause replied recorded
-
-  pub first-answered : (item : FirstItem) (desk : Desk) (reply : FirstReply) (lists : List (List Entry)) (left : List Contents) → IsFirstDone setup item desk.stores.items reply lists left
-      → IsAnswered setup desk (units.First item) (first_batch setup item) (first_line item.first reply) lists left
-  first-answered item desk reply lists left done = record {
-    serves = λ now keeps. record {
-      lists = lists;
-      reply = reply;
-      count = done.count;
-      legal = λ shard h. subst (λ cells. IsLegalBatch (first_batch setup item) shard cells (get_or lists shard [])) (keeps.cells shard h) (done.legal shard h);
-      right = done.right;
-      leads = refl;
-    };
-    leaves = done.leaves;
-  }
-
-  pub why-answered : (item : WhyItem) (desk : Desk) (reply : WhyReply) (lists : List (List Entry)) (left : List Contents) → IsWhyDone setup item desk.stores.items reply lists left
-      → IsAnswered setup desk (units.Why item) (why_batch setup item) (why_lines item.why reply) lists left
-  why-answered item desk reply lists left done = record {
-    serves = λ now keeps. record {
-      lists = lists;
-      reply = reply;
-      count = done.count;
-      legal = λ shard h. subst (λ cells. IsLegalBatch (why_batch setup item) shard cells (get_or lists shard [])) (keeps.cells shard h) (done.legal shard h);
-      right = done.right;
-      leads = refl;
-    };
-    leaves = done.leaves;
-  }
 
   -- The counts.
   stored-from : (stores : List Contents) (first : ℕ) (cells : ℕ → List SignalCell) → ((i : ℕ) → i < length stores → cells_of stores i ≡ cells (first + i))

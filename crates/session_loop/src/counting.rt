@@ -3,6 +3,7 @@
 ghost use Rattle.std.specs.Prelude.{◌≡◌, length, sum_by, IfSome};
 ghost use Rattle.journal_meaning.specs.Counts.{count};
 ghost use Rattle.session_meaning.specs.Session as session;
+ghost use Rattle.session_loop.specs.inner.Desks as desks;
 ghost use Rattle.session_loop.specs.inner.Desks.{batches_in, IsCounted};
 
 use crate::desk::Counts;
@@ -67,10 +68,21 @@ fn batches_of(kind: SectionKind) -> u64
     }
 }
 
+/// The lists of a section whose entries are counted: those of the session's own memo.
+fn counted_lists(kind: SectionKind, lists: &[EntryList]) -> &[EntryList]
+    ensures { result.now ≡ desks.counted_lists kind lists.now }
+{
+    match kind {
+        SectionKind::Batch | SectionKind::Trim => lists,
+        SectionKind::Held => &[],
+    }
+}
+
 /// One section more, unless the counts are too great for their types.
 pub fn counted(counts: Counts, kind: SectionKind, lists: &[EntryList]) -> Option<Counts>
     ensures { IfSome result (λ later. IsCounted counts kind lists.now later) }
 {
+    let lists = counted_lists(kind, lists);
     Some(Counts {
         sections: counts.sections.checked_add(1)?,
         batches: counts.batches.checked_add(batches_of(kind))?,

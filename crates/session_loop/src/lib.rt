@@ -12,7 +12,8 @@
 //! - After `Ok` the replies, the journal and the dumps are those of the session of exactly the script's bytes, the files that were
 //!   created are the journal and after it the dumps, and nothing that the call created is unfinished.
 //! - The replies to a unit are written before its section, and both before the script is read again. So whoever waits for a reply
-//!   before he sends the next line is served.
+//!   before he sends the next line is served. A question for a wave where a signal is stuck has a second section, that of a memo of its
+//!   own, directly after the first; its entries are in no count.
 //! - A reply is one `write_all`. A section is written in pieces of at most 512 entries, so its text is never held as a whole. The text
 //!   of a dump is made whole before its file is created; the file is finished before the reply.
 //!
@@ -22,9 +23,9 @@
 //! a failed write.
 //!
 //! Costs: a block of 4,096 bytes of the script at a time, the stores (as many cells as there is room for, in each shard), and for a
-//! unit what answers it, its entries and its replies among it. The replies of a batch are kept for a dump until the next batch has
-//! been answered, moved and not copied. The time beside the answers is in proportion to the bytes that are read and written; that of
-//! a dump to its changes, with the sorting of them by time.
+//! unit what answers it, its entries and its replies among it. The replies of a batch are kept for a dump, moved and not copied, and
+//! given up before the next batch is answered. The time beside the answers is in proportion to the bytes that are read and written;
+//! that of a dump to its changes, with the sorting of them by time.
 //!
 //! ```text
 //! let sizes = Sizes { shards: 4, cells: 16_384 };

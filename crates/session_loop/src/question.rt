@@ -1,6 +1,7 @@
-//! Questions that are batches of their own: for a first time, and for an explanation.
+//! Questions that are batches of their own: for a first time, for an explanation, and for a wave where a signal is stuck.
 
-ghost use Rattle.std.specs.Prelude.{◌≡◌, ◌+◌, ◌<◌, ◌≤◌, ◌∷◌, [], ℕ, List, length, Contains, IfErr, IfOk, OnOk};
+ghost use Rattle.std.specs.Prelude.{◌≡◌, ◌+◌, ◌<◌, ◌≤◌, ◌∷◌, [], ℕ, List, length, Contains, IfErr, IfOk, OnErr, OnOk};
+ghost use Rattle.backsim_io.specs.Held.{FileGrows};
 ghost use Rattle.batch_meaning.specs.Batches.{Batch as BatchRecord};
 ghost use Rattle.query_lines.specs.declared.unit.Unit.{Unit as UnitRecord};
 ghost use Rattle.query_lines.specs.declared.unit.Unit.TheVariants as kinds;
@@ -8,9 +9,10 @@ ghost use Rattle.session_meaning.specs.Session.{Setup};
 ghost use Rattle.unit_answers.specs.Stores.{setup_of};
 ghost use Rattle.session_loop.specs.declared.desk.Desk.{Desk as DeskRecord};
 ghost use Rattle.session_loop.specs.Serving.{session_of};
-ghost use Rattle.session_loop.specs.inner.Desks.{IsDesk};
+ghost use Rattle.session_loop.specs.inner.Desks.{IsDesk, IsHeldCounted};
+ghost use Rattle.session_loop.specs.inner.Growing.{FileGrowsPart};
 ghost use Rattle.session_loop.specs.inner.Faults.{UnitExplains};
-ghost use Rattle.session_loop.specs.inner.Serving.{IsAnswered, Serves, Stops};
+ghost use Rattle.session_loop.specs.inner.Serving.{IsAnswered, Serves, Stops, held_text};
 
 use crate::counting::counted;
 use crate::desk::{Counts, Desk, Dumps};
@@ -21,20 +23,59 @@ use backsim_io::{Files, Sink};
 use cell_store::CellStore;
 use design::Design;
 use journal_text::{EntryList, SectionKind};
-use query_lines::{FirstItem, WhyItem};
-use reply_lines::{first_text, why_text};
+use query_lines::{FirstItem, StuckItem, WhyItem};
+use reply_lines::{first_text, stuck_text, why_text};
 use std::alloc::Global;
-use unit_answers::{Sizes, answer_first, answer_why};
+use unit_answers::{Sizes, answer_first, answer_stuck, answer_why};
 
-/// The text of the reply to a question, the journal of each shard, and the stores that are left.
+/// The text of the reply to a question, the journal of each shard, that of a memo of its own if it had one, and the stores that are left.
 #[derive(Drop)]
 struct Answered {
     text: Vec<u8>,
     lists: Vec<EntryList>,
+    held: Vec<EntryList>,
     stores: Vec<CellStore>,
 }
 
-/// Writes the reply to a question, then its section, which is a batch's.
+/// Writes the section of a memo of its own, if a question had one.
+fn write_held<F: Files>(
+    alloc: Global,
+    lists: &[EntryList],
+    counts: Counts,
+    files: &mut F,
+) -> Result<Counts, Stop>
+    requires few { length lists.now ≤ 4294967295 }
+    requires unfinished { Contains (F.unfinished files.old) 0 }
+    ensures counted { IfOk result (IsHeldCounted counts lists.now) }
+    ensures written { OnOk result (FileGrows (F.made files.old) (F.made files.new) 0 (held_text (counts.sections + 1) lists.now)) }
+    ensures begun { OnErr result (FileGrowsPart (F.made files.old) (F.made files.new) 0 (held_text (counts.sections + 1) lists.now)) }
+    ensures some { OnErr result (0 < length lists.now) }
+    ensures cause { IfErr result (λ stop. (replies : ℕ) → UnitExplains replies replies (F.write_faults files.old) (F.write_faults files.new) stop) }
+    ensures calm { OnOk result (F.write_faults files.new ≡ F.write_faults files.old) }
+    ensures file_faults { F.file_faults files.new ≡ F.file_faults files.old }
+    ensures read_faults { F.read_faults files.new ≡ F.read_faults files.old }
+    ensures started { F.started files.new ≡ F.started files.old }
+    ensures files { F.files files.new ≡ F.files files.old }
+    ensures unfinished { F.unfinished files.new ≡ F.unfinished files.old }
+{
+    if lists.is_empty() {
+        return Ok(counts);
+    }
+    let Some(later) = counted(counts, SectionKind::Held, lists) else {
+        return Err(Stop::OutOfMemory);
+    };
+    write_section(
+        alloc,
+        SectionKind::Held,
+        later.sections,
+        lists,
+        JOURNAL,
+        files,
+    )?;
+    Ok(later)
+}
+
+/// Writes the reply to a question, then its section, which is a batch's, and that of a memo of its own.
 fn write_answered<F: Files, S: Sink>(
     alloc: Global,
     answered: Answered,
@@ -44,15 +85,16 @@ fn write_answered<F: Files, S: Sink>(
     out: &mut S,
 ) -> Result<Desk, Stop>
     requires few { length answered.lists.items ≤ 4294967295 }
+    requires few_held { length answered.held.items ≤ 4294967295 }
     requires files { F.files files.old ≡ length dumps.made.items + 1 }
     requires unfinished { Contains (F.unfinished files.old) 0 }
     ensures stores { IfOk result (λ later. later.stores.items ≡ answered.stores.items) }
     ensures kept { IfOk result (λ later. later.dumps ≡ dumps) }
-    ensures served { (setup : Setup) (desk : DeskRecord) (unit : UnitRecord) (batch : BatchRecord) → desk.counts ≡ counts → desk.dumps ≡ dumps
-        → IsAnswered setup desk unit batch answered.text.items answered.lists.items answered.stores.items
+    ensures served { (setup : Setup) (desk : DeskRecord) (unit : UnitRecord) (batch own : BatchRecord) → desk.counts ≡ counts → desk.dumps ≡ dumps
+        → IsAnswered setup desk unit batch own answered.text.items answered.lists.items answered.held.items answered.stores.items
         → IfOk result (λ later. Serves setup desk later (unit ∷ []) (S.written out.old) (S.written out.new) (F.made files.old) (F.made files.new)) }
-    ensures stopped { (setup : Setup) (desk : DeskRecord) (unit : UnitRecord) (batch : BatchRecord) → desk.counts ≡ counts → desk.dumps ≡ dumps
-        → IsAnswered setup desk unit batch answered.text.items answered.lists.items answered.stores.items
+    ensures stopped { (setup : Setup) (desk : DeskRecord) (unit : UnitRecord) (batch own : BatchRecord) → desk.counts ≡ counts → desk.dumps ≡ dumps
+        → IsAnswered setup desk unit batch own answered.text.items answered.lists.items answered.held.items answered.stores.items
         → IfErr result (Stops setup desk (unit ∷ []) (S.written out.old) (S.written out.new) (F.made files.old) (F.made files.new) (F.files files.new)) }
     ensures cause { IfErr result (UnitExplains (S.faults out.old) (S.faults out.new) (F.write_faults files.old) (F.write_faults files.new)) }
     ensures calm_replies { OnOk result (S.faults out.new ≡ S.faults out.old) }
@@ -75,6 +117,7 @@ fn write_answered<F: Files, S: Sink>(
         JOURNAL,
         files,
     )?;
+    let counts = write_held(alloc, &answered.held, counts, files)?;
     Ok(Desk {
         stores: answered.stores,
         counts,
@@ -118,6 +161,7 @@ pub fn serve_first<F: Files, S: Sink>(
     let answered = Answered {
         text: first_text(alloc, &item.first, done.reply)?,
         lists: done.lists,
+        held: Vec::new(alloc),
         stores: done.stores,
     };
     write_answered(alloc, answered, counts, dumps, files, out)
@@ -159,6 +203,49 @@ pub fn serve_why<F: Files, S: Sink>(
     let answered = Answered {
         text: why_text(alloc, &item.why, &done.reply)?,
         lists: done.lists,
+        held: Vec::new(alloc),
+        stores: done.stores,
+    };
+    write_answered(alloc, answered, counts, dumps, files, out)
+}
+
+/// Serves a question for a wave where a signal is stuck: its reply, then its section, which is a batch's, and that of a memo of its own.
+pub fn serve_stuck<F: Files, S: Sink>(
+    alloc: Global,
+    design: &Design,
+    item: &StuckItem,
+    sizes: Sizes,
+    desk: Desk,
+    files: &mut F,
+    out: &mut S,
+) -> Result<Desk, Stop>
+    requires shards { (0 < sizes.shards) × (sizes.shards ≤ 64) }
+    requires desk { IsDesk (setup_of design.now sizes) desk }
+    requires files { F.files files.old ≡ length desk.dumps.made.items + 1 }
+    requires unfinished { Contains (F.unfinished files.old) 0 }
+    ensures desk { IfOk result (λ later. IsDesk (setup_of design.now sizes) later) }
+    ensures count { IfOk result (λ later. F.files files.new ≡ length later.dumps.made.items + 1) }
+    ensures served { (names : List (List ℕ)) → IfOk result (λ later. Serves (session_of design.now sizes names) desk later (kinds.Stuck item.now ∷ []) (S.written out.old) (S.written out.new) (F.made files.old) (F.made files.new)) }
+    ensures stopped { (names : List (List ℕ)) → IfErr result (Stops (session_of design.now sizes names) desk (kinds.Stuck item.now ∷ []) (S.written out.old) (S.written out.new) (F.made files.old) (F.made files.new) (F.files files.new)) }
+    ensures cause { IfErr result (UnitExplains (S.faults out.old) (S.faults out.new) (F.write_faults files.old) (F.write_faults files.new)) }
+    ensures calm_replies { OnOk result (S.faults out.new ≡ S.faults out.old) }
+    ensures calm_journal { OnOk result (F.write_faults files.new ≡ F.write_faults files.old) }
+    ensures file_faults { F.file_faults files.new ≡ F.file_faults files.old }
+    ensures read_faults { F.read_faults files.new ≡ F.read_faults files.old }
+    ensures started { F.started files.new ≡ F.started files.old }
+    ensures files { F.files files.new ≡ F.files files.old }
+    ensures unfinished { F.unfinished files.new ≡ F.unfinished files.old }
+{
+    let Desk {
+        stores,
+        counts,
+        dumps,
+    } = desk;
+    let done = answer_stuck(alloc, design, item, sizes, stores)?;
+    let answered = Answered {
+        text: stuck_text(alloc, &item.stuck, &done.reply)?,
+        lists: done.lists,
+        held: done.held,
         stores: done.stores,
     };
     write_answered(alloc, answered, counts, dumps, files, out)

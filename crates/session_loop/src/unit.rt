@@ -14,7 +14,7 @@ use crate::counting::{cells_in, counted, entries_in};
 use crate::desk::{Desk, LastBatch};
 use crate::dump::serve_vcd;
 use crate::journal::JOURNAL;
-use crate::question::{serve_first, serve_why};
+use crate::question::{serve_first, serve_stuck, serve_why};
 use crate::section::{write_replies, write_reply, write_section};
 use crate::stop::Stop;
 use backsim_io::{Files, Sink};
@@ -62,6 +62,8 @@ pub fn serve_batch<C: Crew, F: Files, S: Sink>(
         counts,
         mut dumps,
     } = desk;
+    // The last batch is given up before the next one is answered.
+    dumps.last = None;
     let done = answer_batch(crew, alloc, design, items.as_slice(), sizes, stores)?;
     let Some(counts) = counted(counts, SectionKind::Batch, &done.lists) else {
         return Err(Stop::OutOfMemory);
@@ -210,6 +212,7 @@ pub fn serve_unit<C: Crew, F: Files, S: Sink>(
         Unit::Stats => serve_stats(alloc, design, sizes, desk, files, out),
         Unit::First(item) => serve_first(alloc, design, &item, sizes, desk, files, out),
         Unit::Why(item) => serve_why(alloc, design, &item, sizes, desk, files, out),
+        Unit::Stuck(item) => serve_stuck(alloc, design, &item, sizes, desk, files, out),
         Unit::Vcd(file) => serve_vcd(alloc, design, sizes, file, desk, files, out),
     }
 }

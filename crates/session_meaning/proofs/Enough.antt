@@ -1,17 +1,23 @@
 -- A query whose budget is as great as its need has its wave.
-use Rattle.std.proofs.Common.{◌≡◌, ◌≢◌, ℕ, zero, suc, ◌<◌, List, [], ◌∷◌, ◌++◌, length, map, Contains, All, AllPairs, Option, Some, None, refl, sym, ap, subst, ◌∙◌, arith, ◌⊎◌, inl, inr}
+use Rattle.std.proofs.Common.{◌≡◌, ◌≢◌, ℕ, zero, suc, ◌<◌, List, [], ◌∷◌, ◌++◌, length, map, get_or, Contains, All, AllPairs, Option, Some, None, refl, sym, ap, subst, ◌∙◌, arith, ◌⊎◌, inl, inr}
 use Rattle.std.specs.List.{AllZip, slice_index_or}
 use Rattle.std.proofs.lemmas.List.Elements.{All-head}
-use Rattle.circuit_meaning.specs.Circuit.{IsCircuit}
+use Rattle.circuit_meaning.specs.Circuit.{Circuit, IsCircuit}
 use Rattle.circuit_meaning.specs.Forward.{wave}
 use Rattle.circuit_meaning.specs.declared.Run.{Run}
+use Rattle.valid_intervals.specs.declared.Point.{Point}
+use Rattle.circuit_meaning.proofs.Alike.{held-fits}
 use Rattle.batch_meaning.specs.declared.Query.{Query}
-use Rattle.journal_meaning.specs.Laws.{IsOwnQuery, IsRoomy, NeedsAtMost}
+use Rattle.batch_meaning.specs.Batches.{Site, NeedOf, IsNeededBy}
+use Rattle.journal_meaning.specs.Laws.{IsOwnQuery, IsRoomy, IsLegalFrom, NeedsAtMost}
+use Rattle.journal_meaning.specs.declared.Entry.{Entry}
+use Rattle.journal_meaning.specs.Replay.{IsLegalBatch}
 use Rattle.journal_meaning.specs.Sections.{of_batch, cells_after}
 use Rattle.journal_meaning.specs.Answers.{IsAnswer, IsSpent}
 use Rattle.journal_meaning.proofs.Budgets.{enough-budget}
 use Rattle.query_lines.specs.declared.unit.FirstItem.{FirstItem}
 use Rattle.query_lines.specs.declared.unit.WhyItem.{WhyItem}
+use Rattle.query_lines.specs.declared.unit.StuckItem.{StuckItem}
 use Rattle.query_lines.specs.declared.unit.Item.{Item}
 use Rattle.query_lines.specs.declared.unit.Unit.{Unit as ScriptUnit}
 use Rattle.query_lines.specs.declared.unit.Unit.TheVariants as units
@@ -25,16 +31,20 @@ use Rattle.reply_lines.specs.declared.reply.Reply.TheVariants as replies
 use Rattle.reply_lines.specs.declared.reply.WhyAnswer.TheVariants as explained
 use Rattle.reply_lines.specs.declared.reply.WhyReply.{WhyReply}
 use Rattle.reply_lines.specs.declared.reply.WhyReply.TheVariants as whys
+use Rattle.reply_lines.specs.declared.reply.StuckAnswer.TheVariants as waves
+use Rattle.reply_lines.specs.declared.reply.StuckReply.{StuckReply}
+use Rattle.reply_lines.specs.declared.reply.StuckReply.TheVariants as stucks
 use Rattle.session_meaning.specs.declared.Verdict.{Verdict}
 use Rattle.session_meaning.specs.declared.Verdict.TheVariants.{Ask, Unknown, Past, Bad}
-use Rattle.session_meaning.specs.Verdicts.{verdict_of, first_verdict, why_verdict, asked}
+use Rattle.session_meaning.specs.Verdicts.{verdict_of, first_verdict, why_verdict, site_of, stuck_verdict, asked, asked_at}
 use Rattle.session_meaning.specs.FirstTimes.{first_time, up_to_first, IsFirstReply}
 use Rattle.session_meaning.specs.Explanations.{IsWhyReply}
-use Rattle.session_meaning.proofs.Parts.{first-part, last-part}
+use Rattle.session_meaning.specs.StuckSignals.{stuck_circuit, held_batch, IsStuckAnswer, IsStuckReply, IsHeldMemo}
+use Rattle.query_lines.proofs.OwnLines.{first-part, later-part}
 use Rattle.session_meaning.proofs.Asked.{asks-line, asked-in, in-asked}
 use Rattle.session_meaning.specs.Replies.{IsReply}
-use Rattle.session_meaning.specs.Session.{Setup, Course, batch_of, first_batch, why_batch, IsServed, IsFirstServed, IsWhyServed, Session, Opened, Served}
-use Rattle.session_meaning.specs.Ample.{answer_of, IsAmpleFirst, IsAmpleWhy, IsAmpleUnit, IsAmple}
+use Rattle.session_meaning.specs.Session.{Setup, Course, batch_of, first_batch, why_batch, stuck_batch, IsServed, IsFirstServed, IsWhyServed, IsStuckServed, Session, Opened, Served}
+use Rattle.session_meaning.specs.Ample.{answer_of, IsAmpleFirst, IsAmpleWhy, IsAmpleStuck, IsAmpleUnit, IsAmple}
 use Rattle.session_meaning.specs.Laws.{EnoughBudgetIsServed, EnoughBudgetsAreServed}
 
 zip-at : {A B : Type 0} (P Q : A → B → Type 0) (xs : List A) (ys : List B)
@@ -167,6 +177,56 @@ enough-why : (setup : Setup) → IsCircuit setup.design.circuit → (now next : 
 enough-why setup circuit now next item served room query is most =
     unspent setup circuit now next item served room query (why_verdict setup.design item) served.reply is is most served.right
 
+-- Of a question for a wave where a signal is stuck.
+only-one : (query r : Query) → Contains (query ∷ []) r → r ≡ query
+only-one query r (zero, l, is) = sym is
+only-one query r (suc k, l, is) = absurd (omega (arith, l))
+
+module _ (setup : Setup) (circuit : IsCircuit setup.design.circuit) (now next : Course) (item : StuckItem) (served : IsStuckServed setup now next item)
+    (site : Site) (query : Query) (known : site_of setup.design item ≡ Some site) (asks : stuck_verdict setup.design item ≡ Ask query) where
+  abbrev c : Circuit
+  c = setup.design.circuit
+
+  stuck-queries : (stuck_batch setup item).queries ≡ query ∷ []
+  stuck-queries = ap (λ s. asked_at s (stuck_verdict setup.design item)) known ∙ ap asked asks
+
+  -- what is free and needed is needed
+  fewer : NeedsAtMost (held_batch c site query) query query.budget → NeedsAtMost (stuck_batch setup item) query query.budget
+  fewer most points apart all = most points apart (λ k d l. (subst (λ (s : Option Site). NeedOf c s query (slice_index_or points k d)) known (all k d l)).0)
+
+  good-legal : IsLegalFrom (stuck_batch setup item) (λ shard. cells_after shard now.sections) served.lists
+  good-legal = record { count = served.count; legal = served.legal }
+
+  memo : IsHeldMemo c (Some site) (Ask query) served.held
+  memo = subst (λ s. IsHeldMemo c s (Ask query) served.held) known (subst (λ v. IsHeldMemo c (site_of setup.design item) v served.held) asks served.memo)
+
+  own-legal : IsLegalFrom (held_batch c site query) (λ shard. []) served.held
+  own-legal = subst (IsLegalFrom (held_batch c site query) (λ shard. [])) (sym memo.1) (record { count = refl; legal = λ shard l. one shard l })
+    where
+      one : (shard : ℕ) → shard < 1 → IsLegalBatch (held_batch c site query) shard [] (get_or (memo.0 ∷ []) shard [])
+      one zero l = memo.2.legal
+      one (suc n) l = absurd (omega (arith, l))
+
+  served-wave : IsRoomy (stuck_batch setup item) served.lists → IsRoomy (held_batch c site query) served.held → NeedsAtMost (held_batch c site query) query query.budget
+      → (reply : StuckReply) → IsStuckReply c (Some site) (Ask query) (of_batch served.lists) (of_batch served.held) reply
+      → reply ≡ stucks.Answer (waves.Wave (wave (stuck_circuit c site) query.signal query.from query.to))
+  served-wave room own_room most (stucks.Answer (waves.Wave runs)) right = ap (λ r. stucks.Answer (waves.Wave r)) right.0
+  served-wave room own_room most (stucks.Answer (waves.Budget budget)) right = elim right.1 [
+    | inl spent ↦ none-some None _ refl (enough-budget (stuck_batch setup item) circuit (λ shard. cells_after shard now.sections) served.lists good-legal room query
+        (record { known = subst (λ qs. Contains qs query) (sym stuck-queries) (0, omega arith, refl); single = λ r has same. only-one query r (subst (λ qs. Contains qs r) stuck-queries has) }) (fewer most) None spent)
+    | inr spent ↦ none-some None _ refl (enough-budget (held_batch c site query) (held-fits c site.signal site.value circuit) (λ shard. []) served.held own-legal own_room query
+        (record { known = (0, omega arith, refl); single = λ r has same. only-one query r has }) most None spent)
+  ]
+  served-wave room own_room most stucks.UnknownSite right = absurd right
+  served-wave room own_room most stucks.Unknown right = absurd right
+  served-wave room own_room most stucks.Past right = absurd right
+
+enough-stuck : (setup : Setup) → IsCircuit setup.design.circuit → (now next : Course) (item : StuckItem) (served : IsStuckServed setup now next item) → IsAmpleStuck setup item served.lists served.held served.reply
+enough-stuck setup circuit now next item served site query known asks room own_room most =
+    served-wave setup circuit now next item served site query known asks room own_room most served.reply
+    (subst (λ s. IsStuckReply setup.design.circuit s (Ask query) (of_batch served.lists) (of_batch served.held) served.reply) known
+    (subst (λ v. IsStuckReply setup.design.circuit (site_of setup.design item) v (of_batch served.lists) (of_batch served.held) served.reply) asks served.right))
+
 -- so it is in each unit of a session
 unit-ample : (setup : Setup) → IsCircuit setup.design.circuit → (now next : Course) (unit : ScriptUnit) (served : IsServed setup now unit next) → HasOwnLines unit → IsAmpleUnit setup now next unit served
 unit-ample setup circuit now next (units.Batch items) served own = enough setup circuit now next items own served
@@ -175,12 +235,13 @@ unit-ample setup circuit now next units.Stats served own = tt
 unit-ample setup circuit now next (units.First item) served own = enough-first setup circuit now next item served
 unit-ample setup circuit now next (units.Why item) served own = enough-why setup circuit now next item served
 unit-ample setup circuit now next (units.Vcd file) served own = tt
+unit-ample setup circuit now next (units.Stuck item) served own = enough-stuck setup circuit now next item served
 
 session-ample : (setup : Setup) → IsCircuit setup.design.circuit → (us : List ScriptUnit) (course : Course) → All HasOwnLines us → (session : Session setup us course) → IsAmple setup us course session
 session-ample setup circuit us course own Opened = tt
 session-ample setup circuit us course own (Served {units = before} {now = now} {next = next} unit session served) = (
   session-ample setup circuit before now (first-part HasOwnLines before (unit ∷ []) own) session,
-  unit-ample setup circuit now next unit served (All-head HasOwnLines unit [] (last-part HasOwnLines before (unit ∷ []) own)),
+  unit-ample setup circuit now next unit served (All-head HasOwnLines unit [] (later-part HasOwnLines before (unit ∷ []) own)),
 )
 
 -- and in the session of a script, whose items have lines of their own

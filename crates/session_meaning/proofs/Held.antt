@@ -29,7 +29,7 @@ use Rattle.session_meaning.specs.Verdicts.{verdict_of}
 use Rattle.session_meaning.specs.Dumps.{wire_of, wires_of}
 use Rattle.session_meaning.specs.Session.{Setup, Course, IsServed, Session, Opened, Served, is_taken, with_reply, with_dump, with_last}
 use Rattle.session_meaning.specs.Laws.{DumpsHoldWires}
-use Rattle.session_meaning.proofs.Parts.{first-part, last-part}
+use Rattle.query_lines.proofs.OwnLines.{first-part, later-part}
 
 -- ---- the wires of a batch
 
@@ -127,12 +127,13 @@ module _ (setup : Setup) (short : setup.design.circuit.horizon ≤ 1000000) wher
   unit-held now next units.Stats served fit held = subst (λ c. IsHeld c) (sym served) (record { waves = held.waves; dumps = held.dumps })
   unit-held now next (units.First item) served fit held = subst (λ c. IsHeld c) (sym served.leads) (record { waves = held.waves; dumps = held.dumps })
   unit-held now next (units.Why item) served fit held = subst (λ c. IsHeld c) (sym served.leads) (record { waves = held.waves; dumps = held.dumps })
+  unit-held now next (units.Stuck item) served fit held = subst (λ c. IsHeld c) (sym served.leads) (record { waves = held.waves; dumps = held.dumps })
   unit-held now next (units.Vcd file) served fit held = subst (λ c. IsHeld c) (sym served) (held-with-name now file held (is_taken setup now file))
 
   session-held : (us : List ScriptUnit) (course : Course) → All (IsFit setup.design.circuit.horizon) us → Session setup us course → IsHeld course
   session-held us course fit Opened = record { waves = tt; dumps = All-nil HoldsWires }
   session-held us course fit (Served {units = before} {now = now} {next = next} unit session served) =
-      let one = All-head (IsFit setup.design.circuit.horizon) unit [] (last-part (IsFit setup.design.circuit.horizon) before (unit ∷ []) fit) in
+      let one = All-head (IsFit setup.design.circuit.horizon) unit [] (later-part (IsFit setup.design.circuit.horizon) before (unit ∷ []) fit) in
       unit-held now next unit served one (session-held before now (first-part (IsFit setup.design.circuit.horizon) before (unit ∷ []) fit) session)
 
 -- each dump of a script's session is the text of wires that a dump can hold, for its units are fit

@@ -1,4 +1,3 @@
-pub mod Parts
 pub mod Asked
 pub mod Dumps
 pub mod Held

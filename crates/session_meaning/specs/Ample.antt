@@ -8,6 +8,8 @@ use Rattle.journal_meaning.specs.declared.Entry.{Entry}
 use Rattle.journal_meaning.specs.Laws.{IsRoomy, NeedsAtMost}
 use Rattle.query_lines.specs.declared.unit.FirstItem.{FirstItem}
 use Rattle.query_lines.specs.declared.unit.WhyItem.{WhyItem}
+use Rattle.query_lines.specs.declared.unit.StuckItem.{StuckItem}
+use Rattle.batch_meaning.specs.Batches.{Site}
 use Rattle.query_lines.specs.declared.unit.Item.{Item}
 use Rattle.query_lines.specs.declared.unit.Unit.{Unit as ScriptUnit}
 use Rattle.query_lines.specs.declared.unit.Unit.TheVariants as units
@@ -20,11 +22,15 @@ use Rattle.reply_lines.specs.declared.reply.Reply.{Reply}
 use Rattle.reply_lines.specs.declared.reply.WhyAnswer.TheVariants as explained
 use Rattle.reply_lines.specs.declared.reply.WhyReply.{WhyReply}
 use Rattle.reply_lines.specs.declared.reply.WhyReply.TheVariants as whys
+use Rattle.reply_lines.specs.declared.reply.StuckAnswer.TheVariants as waves
+use Rattle.reply_lines.specs.declared.reply.StuckReply.{StuckReply}
+use Rattle.reply_lines.specs.declared.reply.StuckReply.TheVariants as stucks
 use Rattle.reply_lines.specs.declared.reply.Reply.TheVariants.{Wave}
 use Rattle.session_meaning.specs.declared.Verdict.TheVariants.{Ask}
-use Rattle.session_meaning.specs.Verdicts.{verdict_of, first_verdict, why_verdict}
+use Rattle.session_meaning.specs.Verdicts.{verdict_of, first_verdict, why_verdict, site_of, stuck_verdict}
+use Rattle.session_meaning.specs.StuckSignals.{stuck_circuit, held_batch}
 use Rattle.session_meaning.specs.FirstTimes.{first_time, up_to_first}
-use Rattle.session_meaning.specs.Session.{Setup, Course, batch_of, first_batch, why_batch, IsServed, Session, Opened, Served, IsSessionOf}
+use Rattle.session_meaning.specs.Session.{Setup, Course, batch_of, first_batch, why_batch, stuck_batch, IsServed, Session, Opened, Served, IsSessionOf}
 
 -- In a batch in which nothing is evicted, or whose needed cells fit, every query whose budget is as great as its need has its wave.
 abbrev pub IsAmpleBatch : Setup → List Item → List (List Entry) → List Reply → Type 0
@@ -52,6 +58,14 @@ IsAmpleWhy setup item lists reply = IsRoomy (why_batch setup item) lists
     → NeedsAtMost (why_batch setup item) query query.budget
     → (budget : ℕ) → reply ≢ whys.Answer (explained.Budget budget)
 
+-- Where a question for a wave where a signal is stuck has a budget as great as the need where it is stuck, it has its wave, if both memos
+-- have room.
+abbrev pub IsAmpleStuck : Setup → StuckItem → List (List Entry) → List (List Entry) → StuckReply → Type 0
+IsAmpleStuck setup item lists own reply = (site : Site) (query : Query) → site_of setup.design item ≡ Some site → stuck_verdict setup.design item ≡ Ask query
+    → IsRoomy (stuck_batch setup item) lists → IsRoomy (held_batch setup.design.circuit site query) own
+    → NeedsAtMost (held_batch setup.design.circuit site query) query query.budget
+    → reply ≡ stucks.Answer (waves.Wave (wave (stuck_circuit setup.design.circuit site) query.signal query.from query.to))
+
 -- so it is in a unit, if it asks
 abbrev pub IsAmpleUnit : (setup : Setup) (now next : Course) (unit : ScriptUnit) → IsServed setup now unit next → Type 0
 IsAmpleUnit setup now next (units.Batch items) served = IsAmpleBatch setup items served.lists served.replies
@@ -60,6 +74,7 @@ IsAmpleUnit setup now next units.Stats served = ⊤
 IsAmpleUnit setup now next (units.First item) served = IsAmpleFirst setup item served.lists served.reply
 IsAmpleUnit setup now next (units.Why item) served = IsAmpleWhy setup item served.lists served.reply
 IsAmpleUnit setup now next (units.Vcd file) served = ⊤
+IsAmpleUnit setup now next (units.Stuck item) served = IsAmpleStuck setup item served.lists served.held served.reply
 
 -- and in every unit of a session
 abbrev pub IsAmple : (setup : Setup) (all : List ScriptUnit) (course : Course) → Session setup all course → Type 0

@@ -3,6 +3,7 @@ pub mod Replies
 pub mod Written
 pub mod FirstTimes
 pub mod Explanations
+pub mod StuckSignals
 pub mod Dumps
 pub mod Session
 pub mod Broken

@@ -7,12 +7,13 @@ use Rattle.valid_intervals.specs.declared.SignalCell.{SignalCell}
 use Rattle.journal_meaning.specs.declared.Entry.{Entry}
 use Rattle.journal_meaning.specs.declared.Entry.TheVariants.{Filled, Evicted}
 use Rattle.journal_meaning.specs.States.{fresh}
-use Rattle.batch_meaning.specs.Batches.{Batch}
+use Rattle.batch_meaning.specs.Batches.{Batch, Site}
 use Rattle.journal_meaning.specs.Replay.{IsLegalBatch, IsLegalTrim}
-use Rattle.journal_meaning.specs.Sections.{Purpose, Asks, Trims, SectionEntries, own, cells_after, of_batch}
+use Rattle.journal_meaning.specs.Sections.{Purpose, Asks, Trims, Forces, SectionEntries, own, cells_after, of_batch}
 use Rattle.journal_meaning.specs.Counts.{count}
 use Rattle.query_lines.specs.declared.unit.FirstItem.{FirstItem}
 use Rattle.query_lines.specs.declared.unit.WhyItem.{WhyItem}
+use Rattle.query_lines.specs.declared.unit.StuckItem.{StuckItem}
 use Rattle.query_lines.specs.declared.unit.Item.{Item}
 use Rattle.query_lines.specs.declared.unit.Unit.{Unit as ScriptUnit}
 use Rattle.query_lines.specs.declared.unit.Unit.TheVariants as units
@@ -20,16 +21,20 @@ use Rattle.reply_lines.specs.declared.reply.FirstReply.{FirstReply}
 use Rattle.reply_lines.specs.declared.reply.Reply.{Reply}
 use Rattle.reply_lines.specs.declared.reply.VcdReply.TheVariants as dumps
 use Rattle.reply_lines.specs.declared.reply.WhyReply.{WhyReply}
+use Rattle.reply_lines.specs.declared.reply.StuckReply.{StuckReply}
 use Rattle.query_lines.specs.Reading.{script_units}
-use Rattle.reply_lines.specs.Replies.{first_line, why_lines, vcd_line, trimmed_line, stats_line}
+use Rattle.reply_lines.specs.Replies.{first_line, why_lines, stuck_lines, vcd_line, trimmed_line, stats_line}
 use Rattle.design.specs.Joined.{Joined}
 use Rattle.vcd_answers.specs.Wires.{Wire}
 use Rattle.vcd_answers.specs.Dumps.{vcd_of}
-use Rattle.session_meaning.specs.Verdicts.{verdict_of, queries_of, first_verdict, why_verdict, asked}
+use Rattle.session_meaning.specs.Verdicts.{verdict_of, queries_of, first_verdict, why_verdict, site_of, stuck_verdict, asked, asked_at}
 use Rattle.session_meaning.specs.Replies.{IsReply, replies_text}
 use Rattle.session_meaning.specs.Dumps.{wires_of}
 use Rattle.session_meaning.specs.FirstTimes.{up_to_first, IsFirstReply}
 use Rattle.session_meaning.specs.Explanations.{IsWhyReply}
+use Rattle.session_meaning.specs.StuckSignals.{held_batch, IsStuckReply, IsHeldMemo}
+use Rattle.session_meaning.specs.declared.Verdict.{Verdict}
+use Rattle.session_meaning.specs.declared.Verdict.TheVariants.{Ask}
 use Rattle.session_meaning.specs.Written.{journal_text}
 
 -- what is the same throughout a session: the design, how many shards the memo has, for how many cells each has room, and the names of
@@ -60,6 +65,10 @@ with_reply now text = record now { out = now.out ++ text }
 abbrev pub with_section : Course → Purpose → List (List Entry) → List ℕ → Course
 with_section now purpose lists text =
     record now { sections = now.sections ++ record { purpose = purpose; lists = lists } ∷ []; out = now.out ++ text }
+
+-- these sections more, with no reply
+abbrev pub with_sections : Course → List SectionEntries → Course
+with_sections now more = record now { sections = now.sections ++ more }
 
 -- these waves in place of those of the batch before
 abbrev pub with_waves : Course → List Wire → Course
@@ -129,6 +138,37 @@ pub record IsWhyServed (setup : Setup) (now next : Course) (item : WhyItem) : Ty
       → IsLegalBatch (why_batch setup item) shard (cells_after shard now.sections) (get_or lists shard [])
   pub right : IsWhyReply setup.design (of_batch lists) (why_verdict setup.design item) item.why reply
   pub leads : next ≡ with_section now (Asks (why_batch setup item)) lists (why_lines item.why reply)
+
+-- A question for a wave where a signal is stuck.
+
+-- a batch of its own, which asks for what is free of the site
+abbrev pub stuck_batch : Setup → StuckItem → Batch
+stuck_batch setup item = record {
+  circuit = setup.design.circuit;
+  shards = setup.shards;
+  capacity = setup.capacity;
+  queries = asked_at (site_of setup.design item) (stuck_verdict setup.design item);
+  site = site_of setup.design item;
+}
+
+-- the section of the memo of its own, where a query is asked
+abbrev pub held_sections : Setup → Option Site → Verdict → List (List Entry) → List SectionEntries
+held_sections setup (Some site) (Ask query) lists = record { purpose = Forces (held_batch setup.design.circuit site query); lists = lists } ∷ []
+held_sections setup site verdict lists = []
+
+-- Each shard has a list of entries, legal from the cells that the sections before leave, and the memo of its own has one; the reply is
+-- right.
+pub record IsStuckServed (setup : Setup) (now next : Course) (item : StuckItem) : Type 0 where
+  pub lists : List (List Entry)
+  pub held : List (List Entry)
+  pub reply : StuckReply
+  pub count : length lists ≡ setup.shards
+  pub legal : (shard : ℕ) → shard < setup.shards
+      → IsLegalBatch (stuck_batch setup item) shard (cells_after shard now.sections) (get_or lists shard [])
+  pub memo : IsHeldMemo setup.design.circuit (site_of setup.design item) (stuck_verdict setup.design item) held
+  pub right : IsStuckReply setup.design.circuit (site_of setup.design item) (stuck_verdict setup.design item) (of_batch lists) (of_batch held) reply
+  pub leads : next ≡ with_sections (with_section now (Asks (stuck_batch setup item)) lists (stuck_lines item.stuck reply))
+      (held_sections setup (site_of setup.design item) (stuck_verdict setup.design item) held)
 
 -- A trim.
 
@@ -203,6 +243,7 @@ IsServed setup now units.Stats next = next ≡ with_reply now (counts_line setup
 IsServed setup now (units.First item) next = IsFirstServed setup now next item
 IsServed setup now (units.Why item) next = IsWhyServed setup now next item
 IsServed setup now (units.Vcd file) next = next ≡ with_vcd setup now file
+IsServed setup now (units.Stuck item) next = IsStuckServed setup now next item
 
 -- What a session comes to by these units, one after another.
 pub data Session (setup : Setup) : List ScriptUnit → Course → Type 0 where

@@ -1,10 +1,12 @@
 -- What becomes of an item of a batch: the query that its line asks, or why there is none.
-use Rattle.std.specs.Prelude.{ℕ, ◌+◌, nat_le, List, [], ◌∷◌, flat_map, Option, Some, None, if◌then◌else◌}
+use Rattle.std.specs.Prelude.{ℕ, ◌+◌, nat_le, List, [], ◌∷◌, flat_map, Option, Some, None, option_map, if◌then◌else◌}
 use Rattle.batch_meaning.specs.declared.Query.{Query}
+use Rattle.batch_meaning.specs.Batches.{Site}
 use Rattle.query_lines.specs.declared.line.What.{What}
 use Rattle.query_lines.specs.declared.line.What.TheVariants as whats
 use Rattle.query_lines.specs.declared.unit.FirstItem.{FirstItem}
 use Rattle.query_lines.specs.declared.unit.WhyItem.{WhyItem}
+use Rattle.query_lines.specs.declared.unit.StuckItem.{StuckItem}
 use Rattle.query_lines.specs.declared.unit.Item.{Item}
 use Rattle.design.specs.Joined.{Joined}
 use Rattle.design.specs.Join.{number}
@@ -36,12 +38,24 @@ first_verdict d item = window_verdict d.circuit.horizon item.line item.first.fro
 abbrev pub why_verdict : Joined → WhyItem → Verdict
 why_verdict d item = window_verdict d.circuit.horizon item.line item.why.time (item.why.time + 1) item.why.budget (number d.netlist item.why.name)
 
+-- of a question for a wave where a signal is stuck: which signal that is, if it is one, and what is asked of it
+abbrev pub site_of : Joined → StuckItem → Option Site
+site_of d item = option_map (λ signal. record { signal = signal; value = item.stuck.value }) (number d.netlist item.stuck.site)
+
+abbrev pub stuck_verdict : Joined → StuckItem → Verdict
+stuck_verdict d item = window_verdict d.circuit.horizon item.line item.stuck.from item.stuck.to item.stuck.budget (number d.netlist item.stuck.name)
+
 -- the query that is asked, if one is
 abbrev pub asked : Verdict → List Query
 asked (Ask query) = query ∷ []
 asked Unknown = []
 asked Past = []
 asked Bad = []
+
+-- the same, where a site has to be known
+abbrev pub asked_at : Option Site → Verdict → List Query
+asked_at None verdict = []
+asked_at (Some site) verdict = asked verdict
 
 -- the queries of a batch of these items
 abbrev pub queries_of : Joined → List Item → List Query

@@ -1,5 +1,5 @@
 -- Right replies to the queries are right at the places of the items.
-use Rattle.std.proofs.Common.{◌≡◌, Bool, List, [], ◌∷◌, ◌++◌, length, map, flat_map, Some, None, refl, sym, ap, subst, ◌∙◌, arith}
+use Rattle.std.proofs.Common.{◌≡◌, List, [], ◌∷◌, ◌++◌, length, map, flat_map, refl, sym, ap, subst, ◌∙◌, arith}
 use Rattle.std.specs.List.{AllZip}
 use Rattle.circuit_meaning.specs.Circuit.{Circuit}
 use Rattle.journal_meaning.specs.declared.Entry.{Entry}
@@ -18,18 +18,13 @@ use Rattle.session_meaning.specs.Verdicts.{verdict_of, asked, queries_of}
 use Rattle.session_meaning.specs.Replies.{IsReply}
 use Rattle.unit_answers.specs.inner.Placed.{placed}
 use Rattle.unit_answers.proofs.Suiting.{reply-suits}
+use Rattle.unit_answers.proofs.Zips.{zip-weaker}
 
 zip-map : {A B C : Type 0} (R : B → C → Type 0) (f : A → B) (xs : List A) (ys : List C) → AllZip R (map f xs) ys → AllZip (λ x y. R (f x) y) xs ys
 zip-map R f [] [] h = tt
 zip-map R f [] (y ∷ ys) h = absurd h
 zip-map R f (x ∷ xs) [] h = absurd h
 zip-map R f (x ∷ xs) (y ∷ ys) h = (h.0, zip-map R f xs ys h.1)
-
-zip-imply : {A B : Type 0} (R S : A → B → Type 0) → ((x : A) (y : B) → R x y → S x y) → (xs : List A) (ys : List B) → AllZip R xs ys → AllZip S xs ys
-zip-imply R S g [] [] h = tt
-zip-imply R S g [] (y ∷ ys) h = absurd h
-zip-imply R S g (x ∷ xs) [] h = absurd h
-zip-imply R S g (x ∷ xs) (y ∷ ys) h = (g x y h.0, zip-imply R S g xs ys h.1)
 
 -- the queries of items are those of their verdicts
 queries-are : (d : Joined) (items : List Item) → flat_map asked (map (verdict_of d) items) ≡ queries_of d items
@@ -88,4 +83,4 @@ module _ (c : Circuit) (es : List Entry) where
 
     -- which suits it
     pub items-suit : AllZip (λ item reply. Suits item.what reply) items (placed (map (verdict_of d) items) rs)
-    items-suit = zip-imply (λ item reply. IsReply c es (verdict_of d item) reply) (λ item reply. Suits item.what reply) (reply-suits c es d) items (placed (map (verdict_of d) items) rs) items-right
+    items-suit = zip-weaker (λ item reply. IsReply c es (verdict_of d item) reply) (λ item reply. Suits item.what reply) (reply-suits c es d) items (placed (map (verdict_of d) items) rs) items-right

@@ -1,5 +1,5 @@
 -- What a batch and a trim come to.
-use Rattle.std.proofs.Common.{◌≡◌, ℕ, ◌<◌, List, [], length, get_or, map, take, All, sym, ap, subst, ◌∙◌, arith}
+use Rattle.std.proofs.Common.{◌≡◌, ℕ, ◌<◌, List, [], length, get_or, map, All, None, sym, ap, subst, ◌∙◌, arith}
 use Rattle.std.specs.List.{AllZip}
 use Rattle.std.proofs.lemmas.List.{get_or-map, length-map}
 use Rattle.std.proofs.lemmas.List.Elements.{All-take}
@@ -41,12 +41,12 @@ module _ (setup : Setup) (items : List Item) (opening : List Contents) (rs : Lis
       let answers : AreAnswered c (of_batch lists) (queries_of setup.design items) (refused_of rs) =
       subst (λ (l : List (List Entry)). AreAnswered c (of_batch l) (queries_of setup.design items) (refused_of rs)) lists_are answered.answers in
       record {
-        count = lists-many setup queries opening run.shards lists left free run.lists_are run.stores_are;
-        legal = lists-legal setup queries opening run.shards lists left free run.lists_are run.stores_are;
+        count = lists-many setup None queries opening run.shards lists left free run.lists_are run.stores_are;
+        legal = lists-legal setup None queries opening run.shards lists left free run.lists_are run.stores_are;
         right = subst (AllZip (λ item reply. IsReply c (of_batch lists) (verdict_of setup.design item) reply) items) (sym at) (items-right c (of_batch lists) setup.design items rs run.replies_are answers);
         suits = subst (AllZip (λ (item : Item) reply. Suits item.what reply) items) (sym at) (items-suit c (of_batch lists) setup.design items rs run.replies_are answers);
-        stores = stores-left setup queries opening run.shards lists left free run.lists_are run.stores_are;
-        leaves = stores-leave setup queries opening run.shards lists left free run.lists_are run.stores_are;
+        stores = stores-left setup None queries opening run.shards lists left free run.lists_are run.stores_are;
+        leaves = stores-leave setup None queries opening run.shards lists left free run.lists_are run.stores_are;
       }
 
 module _ (setup : Setup) (most : ℕ) (opening : List Contents) (stores : AreStores setup opening) (lists : List (List Entry)) (left : List Contents) (lists_are : lists ≡ map (entries_at most) opening) (left_are : left ≡ map (trimmed most) opening) where

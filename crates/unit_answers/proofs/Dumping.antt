@@ -27,6 +27,7 @@ use Rattle.session_meaning.specs.Replies.{IsReply}
 use Rattle.session_meaning.specs.Session.{Setup}
 use Rattle.unit_answers.specs.Done.{IsBatchDone}
 use Rattle.unit_answers.specs.Dumps.{IsOwnWave, AreReplied}
+use Rattle.unit_answers.proofs.Zips.{zip-length, zip-get, zip-weaker}
 
 -- the wave of a window that is asked under this name
 pub record IsAskedWave (c : Circuit) (name : List ℕ) (start stop : ℕ) (v : Verdict) (runs : List Run) : Type 0 where
@@ -91,27 +92,6 @@ wires-few d (x ∷ items) (y ∷ replies) =
     let one = one-wire d.circuit (name_of x.what) (verdict_of d x) y in
     let rest = wires-few d items replies in
     omega (arith, length-append (wires-at d x y) (wires_of d items replies))
-
--- what holds of two lists place by place: they have one length
-pub zip-length : {A B : Type 0} (P : A → B → Type 0) (xs : List A) (ys : List B) → AllZip P xs ys → length xs ≡ length ys
-zip-length P [] [] h = refl
-zip-length P (x ∷ xs) [] h = absurd h
-zip-length P [] (y ∷ ys) h = absurd h
-zip-length P (x ∷ xs) (y ∷ ys) h = ap suc (zip-length P xs ys h.1)
-
--- and it holds of what stands at a place
-pub zip-get : {A B : Type 0} (P : A → B → Type 0) (xs : List A) (ys : List B) (i : ℕ) (a : A) (b : B) → AllZip P xs ys → i < length xs → P (get_or xs i a) (get_or ys i b)
-zip-get P [] [] i a b h l = absurd (omega (arith, l))
-zip-get P (x ∷ xs) [] i a b h l = absurd h
-zip-get P [] (y ∷ ys) i a b h l = absurd h
-zip-get P (x ∷ xs) (y ∷ ys) zero a b h l = h.0
-zip-get P (x ∷ xs) (y ∷ ys) (suc i) a b h l = zip-get P xs ys i a b h.1 (omega (arith, l))
-
-zip-weaker : {A B : Type 0} (P Q : A → B → Type 0) → ((a : A) (b : B) → P a b → Q a b) → (xs : List A) (ys : List B) → AllZip P xs ys → AllZip Q xs ys
-zip-weaker P Q f [] [] h = h
-zip-weaker P Q f (x ∷ xs) [] h = absurd h
-zip-weaker P Q f [] (y ∷ ys) h = absurd h
-zip-weaker P Q f (x ∷ xs) (y ∷ ys) h = (f x y h.0, zip-weaker P Q f xs ys h.1)
 
 -- a right reply that is a wave is that of what is asked
 own-wave : (c : Circuit) (es : List Entry) (v : Verdict) (reply : Reply) → IsReply c es v reply → IsOwnWave c v reply

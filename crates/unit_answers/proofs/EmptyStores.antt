@@ -1,7 +1,6 @@
 -- Two empty stores, of which a test makes a memo.
 use Rattle.std.proofs.Common.{◌≡◌, [], ◌∷◌, All, refl}
 use Rattle.std.proofs.lemmas.List.Elements.{All-nil, All-cons}
-use Rattle.valid_intervals.specs.declared.SignalCell.{SignalCell}
 use Rattle.cell_store.specs.Recency.{Contents, contents}
 use Rattle.journal_meaning.specs.Allowed.{IsRight}
 use Rattle.design.specs.Joined.{Joined}

@@ -1,10 +1,11 @@
 -- Shards without claims, once they are closed: their journals are legal, and their stores begin the next unit.
-use Rattle.std.proofs.Common.{◌≡◌, ℕ, ◌<◌, List, [], length, get_or, map, All, sym, ap, subst, ◌∙◌, arith}
+use Rattle.std.proofs.Common.{◌≡◌, ℕ, ◌<◌, List, [], length, get_or, map, All, Option, sym, ap, subst, ◌∙◌, arith}
 use Rattle.std.proofs.lemmas.List.{get_or-map, length-map}
 use Rattle.std.proofs.lemmas.List.Elements.{All-from_recursion}
 use Rattle.cell_store.specs.Recency.{Contents, contents}
 use Rattle.journal_meaning.specs.declared.Entry.{Entry}
 use Rattle.batch_meaning.specs.declared.Query.{Query}
+use Rattle.batch_meaning.specs.Batches.{Site}
 use Rattle.journal_meaning.specs.States.{State, fresh}
 use Rattle.journal_meaning.specs.Allowed.{IsRight}
 use Rattle.journal_meaning.specs.Replay.{replay, IsAtEnd, IsLegalBatch}
@@ -14,11 +15,11 @@ use Rattle.plan_machine.specs.Sound.{IsFresh}
 use Rattle.plan_machine.specs.Settle.{journals_of}
 use Rattle.session_meaning.specs.Session.{Setup}
 use Rattle.unit_answers.specs.Stores.{AreStores, cells_of}
-use Rattle.unit_answers.specs.inner.Runs.{asks, store_of}
+use Rattle.unit_answers.specs.inner.Runs.{asks_at, store_of}
 
-module _ (setup : Setup) (queries : List Query) (opening : List Contents) (shards : List Shard) (lists : List (List Entry)) (left : List Contents) (free : IsFresh (asks setup queries) (cells_of opening) shards)
+module _ (setup : Setup) (site : Option Site) (queries : List Query) (opening : List Contents) (shards : List Shard) (lists : List (List Entry)) (left : List Contents) (free : IsFresh (asks_at setup site queries) (cells_of opening) shards)
     (lists_are : lists ≡ journals_of shards) (stores_are : left ≡ map (store_of setup.capacity) shards) where
-  shard-is : (n : ℕ) → n < setup.shards → IsShard (asks setup queries) n (cells_of opening n) (get_or shards n no_shard)
+  shard-is : (n : ℕ) → n < setup.shards → IsShard (asks_at setup site queries) n (cells_of opening n) (get_or shards n no_shard)
   shard-is n low = free.right n low
 
   left-at : (n : ℕ) (d : Contents) → n < setup.shards → get_or left n d ≡ store_of setup.capacity (get_or shards n no_shard)
@@ -37,14 +38,14 @@ module _ (setup : Setup) (queries : List Query) (opening : List Contents) (shard
   pub lists-many : length lists ≡ setup.shards
   lists-many = ap length lists_are ∙ length-map shards (λ (h : Shard). h.journal) ∙ free.count
 
-  pub lists-legal : (n : ℕ) → n < setup.shards → IsLegalBatch (asks setup queries) n (cells_of opening n) (get_or lists n [])
+  pub lists-legal : (n : ℕ) → n < setup.shards → IsLegalBatch (asks_at setup site queries) n (cells_of opening n) (get_or lists n [])
   lists-legal n low =
       let is = shard-is n low in
-      let one : IsLegalBatch (asks setup queries) n (cells_of opening n) (get_or shards n no_shard).journal = record {
+      let one : IsLegalBatch (asks_at setup site queries) n (cells_of opening n) (get_or shards n no_shard).journal = record {
         legal = is.legal;
         ended = subst IsAtEnd is.state (record { claims = free.free n low; made = is.made });
       } in
-      subst (IsLegalBatch (asks setup queries) n (cells_of opening n)) (sym (list-at n low)) one
+      subst (IsLegalBatch (asks_at setup site queries) n (cells_of opening n)) (sym (list-at n low)) one
 
   pub stores-left : AreStores setup left
   stores-left = record {

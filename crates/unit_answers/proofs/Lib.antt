@@ -7,6 +7,8 @@ pub mod Done
 pub mod Questions
 pub mod Firsts
 pub mod Whys
+pub mod Stucks
+pub mod Zips
 pub mod EmptyStores
 pub mod Opening
 pub mod Running

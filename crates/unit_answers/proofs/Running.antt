@@ -1,6 +1,5 @@
 -- A batch over the stores: it is lawful, its strands are new, and what settlement leaves.
-use Rattle.std.proofs.Common.{◌≡◌, ◌≢◌, ℕ, zero, suc, ◌+◌, ◌*◌, ◌/◌, ◌%◌, ◌<◌, ◌≤◌, List, [], ◌∷◌, ◌++◌, length, get_or, slice_get, map, flat_map, All, AllPairs, Some, None, refl, sym, ap, subst, ◌∙◌, arith}
-use Rattle.std.specs.List.{AllByRecursion}
+use Rattle.std.proofs.Common.{◌≡◌, ◌≢◌, ℕ, zero, suc, ◌+◌, ◌/◌, ◌%◌, ◌<◌, List, [], ◌∷◌, length, get_or, slice_get, map, flat_map, All, AllPairs, Option, Some, refl, sym, ap, subst, ◌∙◌, arith}
 use Rattle.std.proofs.lemmas.List.{get_or-map, length-map}
 use Rattle.std.proofs.lemmas.List.Elements.{recursion_from_All}
 use Rattle.valid_intervals.specs.declared.SignalCell.{SignalCell}
@@ -9,7 +8,7 @@ use Rattle.cell_store.specs.Recency.{Contents, contents}
 use Rattle.circuit_meaning.specs.Circuit.{Circuit}
 use Rattle.journal_meaning.specs.declared.Entry.{Entry}
 use Rattle.batch_meaning.specs.declared.Query.{Query}
-use Rattle.batch_meaning.specs.Batches.{Batch}
+use Rattle.batch_meaning.specs.Batches.{Batch, Site}
 use Rattle.journal_meaning.specs.Allowed.{IsRight}
 use Rattle.journal_meaning.proofs.Lists.{Each, each-append}
 use Rattle.batch_meaning.specs.Lawful.{IsLawful}
@@ -18,7 +17,6 @@ use Rattle.batch_meaning.specs.Pieces.{Start, spans_of, starts_of, pieces}
 use Rattle.plan_machine.specs.Shards.{Shard}
 use Rattle.plan_machine.specs.Plans.{no_shard}
 use Rattle.plan_machine.specs.Sound.{IsFresh}
-use Rattle.plan_machine.specs.Settle.{journals_of}
 use Rattle.query_lines.specs.declared.unit.Item.{Item}
 use Rattle.reply_lines.specs.declared.reply.Reply.{Reply}
 use Rattle.design.specs.Joined.{IsDesign}
@@ -28,11 +26,10 @@ use Rattle.plan_core.specs.Parts.{shards_in, strands_in}
 use Rattle.asked_cells.specs.Shards.{AreNumbered}
 use Rattle.window_answers.specs.Strands.{IsInOrder}
 use Rattle.window_answers.specs.Settlement.{HasSettled}
-use Rattle.session_meaning.specs.Verdicts.{queries_of}
 use Rattle.session_meaning.specs.Session.{Setup, batch_of}
-use Rattle.batch_crew.specs.Crews.{AreInOrder, IsNew, AreNew}
+use Rattle.batch_crew.specs.Crews.{AreInOrder, AreNew}
 use Rattle.unit_answers.specs.Stores.{AreStores, cells_of}
-use Rattle.unit_answers.specs.inner.Runs.{asks, store_of, AreOpened, HasRun}
+use Rattle.unit_answers.specs.inner.Runs.{asks_at, store_of, AreOpened, HasRun}
 use Rattle.session_meaning.proofs.Asked.{queries-signals, queries-within, queries-apart}
 
 -- the batch of items is lawful
@@ -48,8 +45,8 @@ lawful-items setup items design some_shard some_cell lines = record {
 }
 
 -- it begins with the stores
-pub opened-by : (setup : Setup) (queries : List Query) (stores : List Contents) → AreStores setup stores → AreOpened (asks setup queries) (cells_of stores) stores
-opened-by setup queries stores h = record {
+pub opened-by : (setup : Setup) (site : Option Site) (queries : List Query) (stores : List Contents) → AreStores setup stores → AreOpened (asks_at setup site queries) (cells_of stores) stores
+opened-by setup site queries stores h = record {
   count = h.count;
   stored = λ n low.
       let count = h.count in

@@ -1,5 +1,5 @@
 -- A right reply suits the item.
-use Rattle.std.proofs.Common.{◌≡◌, ℕ, ◌+◌, Bool, true, false, cond, nat_le, List, length, Option, Some, None, refl, sym, ap, ◌∙◌, subst}
+use Rattle.std.proofs.Common.{◌≡◌, ℕ, ◌+◌, true, false, cond, nat_le, List, length, Option, Some, None, refl, sym, ap, ◌∙◌}
 use Rattle.circuit_meaning.specs.declared.Run.{Run}
 use Rattle.circuit_meaning.specs.Circuit.{Circuit}
 use Rattle.circuit_meaning.specs.Forward.{wave}
@@ -14,7 +14,6 @@ use Rattle.reply_lines.specs.declared.reply.Reply.TheVariants as replies
 use Rattle.reply_lines.specs.Replies.{Suits}
 use Rattle.design.specs.Joined.{Joined}
 use Rattle.design.specs.Join.{number}
-use Rattle.session_meaning.specs.declared.Verdict.{Verdict}
 use Rattle.session_meaning.specs.declared.Verdict.TheVariants.{Ask, Unknown, Past, Bad}
 use Rattle.session_meaning.specs.Verdicts.{window_verdict, what_verdict, verdict_of}
 use Rattle.session_meaning.specs.Replies.{IsReply}

@@ -1,5 +1,5 @@
 -- The batch of a question for an explanation, and what is replied to it.
-use Rattle.std.proofs.Common.{◌≡◌, ℕ, zero, suc, ◌+◌, ◌<◌, ◌≤◌, Bool, true, false, cond, nat_le, List, [], ◌∷◌, Some, Option, None, option_map, refl, sym, ap, subst, ◌∙◌, append-nil, arith}
+use Rattle.std.proofs.Common.{◌≡◌, ℕ, ◌+◌, ◌<◌, ◌≤◌, Bool, true, false, cond, nat_le, List, [], ◌∷◌, Some, Option, None, option_map, refl, sym, ap, subst, ◌∙◌, append-nil, arith}
 use Rattle.std.proofs.lemmas.Bool.{leb-true}
 use Rattle.valid_intervals.specs.declared.Cell.{Cell}
 use Rattle.why_proofs.specs.Justified.{answer}
@@ -19,7 +19,7 @@ use Rattle.session_meaning.specs.declared.Verdict.{Verdict}
 use Rattle.session_meaning.specs.declared.Verdict.TheVariants.{Ask, Past}
 use Rattle.session_meaning.specs.Explanations.{IsWhyAnswer, IsChecked, IsWhyReply}
 use Rattle.session_meaning.specs.Verdicts.{why_verdict, window_verdict, asked}
-use Rattle.session_meaning.specs.Session.{Setup, why_batch, batch_of}
+use Rattle.session_meaning.specs.Session.{Setup, why_batch}
 use Rattle.unit_answers.specs.inner.Runs.{asks}
 use Rattle.unit_answers.proofs.Running.{lawful-items}
 

@@ -10,15 +10,18 @@ use Rattle.batch_meaning.specs.Batches.{Batch}
 use Rattle.query_lines.specs.declared.unit.FirstItem.{FirstItem}
 use Rattle.query_lines.specs.declared.unit.Item.{Item}
 use Rattle.query_lines.specs.declared.unit.WhyItem.{WhyItem}
+use Rattle.query_lines.specs.declared.unit.StuckItem.{StuckItem}
 use Rattle.reply_lines.specs.declared.reply.FirstReply.{FirstReply}
 use Rattle.reply_lines.specs.declared.reply.Reply.{Reply}
 use Rattle.reply_lines.specs.declared.reply.WhyReply.{WhyReply}
+use Rattle.reply_lines.specs.declared.reply.StuckReply.{StuckReply}
 use Rattle.reply_lines.specs.Replies.{Suits}
 use Rattle.session_meaning.specs.FirstTimes.{IsFirstReply}
 use Rattle.session_meaning.specs.Explanations.{IsWhyReply}
-use Rattle.session_meaning.specs.Verdicts.{verdict_of, first_verdict, why_verdict}
+use Rattle.session_meaning.specs.StuckSignals.{IsStuckReply, IsHeldMemo}
+use Rattle.session_meaning.specs.Verdicts.{verdict_of, first_verdict, why_verdict, site_of, stuck_verdict}
 use Rattle.session_meaning.specs.Replies.{IsReply}
-use Rattle.session_meaning.specs.Session.{Setup, batch_of, first_batch, why_batch, trim_entries}
+use Rattle.session_meaning.specs.Session.{Setup, batch_of, first_batch, why_batch, stuck_batch, trim_entries}
 use Rattle.unit_answers.specs.Stores.{AreStores, cells_of}
 
 -- A batch: legal journals from the cells in the stores, a right reply to each item, and the stores as the journals leave them.
@@ -52,6 +55,12 @@ IsFirstDone setup item opening reply lists left =
 abbrev pub IsWhyDone : Setup → WhyItem → List Contents → WhyReply → List (List Entry) → List Contents → Type 0
 IsWhyDone setup item opening reply lists left =
     IsQuestionDone setup (why_batch setup item) (λ es. IsWhyReply setup.design es (why_verdict setup.design item) item.why reply) opening lists left
+
+-- a question for a wave where a signal is stuck, with a right reply, and the lists of the memo of its own
+pub record IsStuckDone (setup : Setup) (item : StuckItem) (opening : List Contents) (reply : StuckReply) (lists held : List (List Entry)) (left : List Contents) : Type 0 where
+  pub done : IsQuestionDone setup (stuck_batch setup item)
+      (λ es. IsStuckReply setup.design.circuit (site_of setup.design item) (stuck_verdict setup.design item) es (of_batch held) reply) opening lists left
+  pub memo : IsHeldMemo setup.design.circuit (site_of setup.design item) (stuck_verdict setup.design item) held
 
 -- A trim: in each shard the last cells are evicted until few enough are left, and the stores are as the lists leave them.
 pub record IsTrimDone (setup : Setup) (most : ℕ) (opening : List Contents) (lists : List (List Entry)) (left : List Contents) : Type 0 where

@@ -1,11 +1,12 @@
-//! What a unit of a script comes to over the memo: a batch is answered, a first time is found, a value is explained, or the stores are
-//! trimmed.
+//! What a unit of a script comes to over the memo: a batch is answered, a first time is found, a value is explained, a wave is told where
+//! a signal is stuck, or the stores are trimmed.
 //!
 //! Between two units the memo is one [`cell_store::CellStore`] for each shard. [`answer_batch`] opens the shards over them under the
 //! batch's name, has the strands run by a crew, settles, and closes the shards: it gives the replies, the journal of each shard, and
 //! the stores that are left. [`answer_first`] answers when a signal first has a value: it opens and closes the shards in the same way,
 //! and asks for one cell after another (`first_times`), with no crew; so does [`answer_why`], which answers why a signal has its value at a
-//! time by a proof (`explanations`). [`trim_stores`] evicts the least recent cells. `specs/Done` says
+//! time by a proof (`explanations`), and [`answer_stuck`], which answers the wave of a signal where another is stuck (`stuck_faults`): it
+//! asks the stores for what is free of that one, and has a memo of its own for all else. [`trim_stores`] evicts the least recent cells. `specs/Done` says
 //! what each comes to. [`dump_waves`] writes the waves that a batch was replied as a dump (`vcd_answers`), and asks nothing.
 //!
 //! A caller may rely on this, whoever the crew is: each journal is legal from the cells that its store held, each item and each question
@@ -31,6 +32,7 @@ mod first;
 mod replies;
 mod run;
 mod sizes;
+mod stuck;
 #[cfg(test)]
 mod tests;
 mod trim;
@@ -40,5 +42,6 @@ pub use batch::{BatchDone, answer_batch};
 pub use dump::{Dump, dump_waves};
 pub use first::{FirstDone, answer_first};
 pub use sizes::Sizes;
+pub use stuck::{StuckDone, answer_stuck};
 pub use trim::{TrimDone, trim_stores};
 pub use why::{WhyDone, answer_why};

@@ -1,4 +1,4 @@
-//! A batch, questions for a first time and for an explanation, and a trim over two shards.
+//! A batch, questions for a first time, for an explanation and for a wave where a signal is stuck, and a trim over two shards.
 
 ghost use Rattle.std.specs.Prelude.{◌≡◌, ◌≤◌, false, [], ◌∷◌, length, IfOk};
 ghost use Rattle.cell_store.specs.Recency.{contents};
@@ -13,8 +13,8 @@ use circuit_meaning::Run;
 use design::{Design, JoinFault};
 use gate_values::Value;
 use journal_text::{EntryList, entry_text};
-use query_lines::{First, FirstItem, Item, What, Why, WhyItem};
-use reply_lines::{FirstAnswer, FirstReply, Reply, why_text};
+use query_lines::{First, FirstItem, Item, Stuck, StuckItem, What, Why, WhyItem};
+use reply_lines::{FirstAnswer, FirstReply, Reply, stuck_text, why_text};
 use std::alloc::Global;
 use std::sync::Wait;
 use std::test::Fail;
@@ -296,6 +296,72 @@ fn values_are_explained(rt: HostRuntime) -> Result<(), Fail> {
         assert_eq!(rt; seen.text.as_slice(), want);
         assert_eq!(rt; seen.lists, 2);
         assert_eq!(rt; seen.entries, entries);
+    }
+    Ok(())
+}
+
+/// What came of a question for a wave where a signal is stuck: the reply's text, the journals, and those of the memo of its own.
+#[derive(Drop)]
+struct StuckSeen {
+    text: Vec<u8>,
+    journals: Vec<u8>,
+    held: Vec<u8>,
+}
+
+/// The wave of the signal of this name from time 0 on, where the signal `site` is stuck at 0, over empty stores.
+fn stuck_of(
+    alloc: Global,
+    design: &Design,
+    site: &[u8],
+    name: &[u8],
+    to: u32,
+) -> Result<StuckSeen, OutOfMemory> {
+    let item = StuckItem {
+        line: 1,
+        stuck: Stuck {
+            site: Text::from_bytes(alloc, site)?,
+            value: Value::Zero,
+            name: Text::from_bytes(alloc, name)?,
+            from: 0,
+            to,
+            budget: 3,
+        },
+    };
+    let stores = empty_stores(alloc)?;
+    let done = answer_stuck(alloc, design, &item, SIZES, stores)?;
+    Ok(StuckSeen {
+        text: stuck_text(alloc, &item.stuck, &done.reply)?,
+        journals: journals_text(alloc, &done.lists)?,
+        held: journals_text(alloc, &done.held)?,
+    })
+}
+
+fn stuck_seen(alloc: Global, site: &[u8], name: &[u8], to: u32) -> Result<StuckSeen, Fail> {
+    let design = joined(alloc)??;
+    Ok(stuck_of(alloc, &design, site, name, to)?)
+}
+
+#[test]
+fn a_stuck_signal_is_followed(rt: HostRuntime) -> Result<(), Fail> {
+    let entries: &[u8] = b"shard\nclaim 1 1 1\nfill 1 1 1 1 11 0\n";
+    let rows: [(&[u8], &[u8], u32, &[u8], &[u8]); 5] = [
+        (b"z", b"w", 11, b"unknown z\n", b""),
+        (b"a", b"w", 11, b"unknown w\n", b""),
+        (b"a", b"y", 12, b"past y 0 12\n", b""),
+        (
+            b"a",
+            b"y",
+            11,
+            b"stuck a 0 y 0 11\n0 x\n1 0\nend\n",
+            entries,
+        ),
+        (b"y", b"a", 11, b"stuck y 0 a 0 11\n0 1\nend\n", b"shard\n"),
+    ];
+    for (site, name, to, want, held) in rows {
+        let seen = stuck_seen(rt.alloc(), site, name, to)?;
+        assert_eq!(rt; seen.text.as_slice(), want);
+        assert_eq!(rt; seen.journals.as_slice(), b"shard\nshard\n".as_slice());
+        assert_eq!(rt; seen.held.as_slice(), held);
     }
     Ok(())
 }

@@ -1,7 +1,7 @@
 //! Answers to the queries of a batch.
 //!
 //! [`verdicts_of`] says what becomes of each item of a batch, [`first_verdict_of`] of a question for a first time, and
-//! [`why_verdict_of`] of one for an explanation. [`strands_of`]
+//! [`why_verdict_of`] of one for an explanation, [`stuck_site_of`] and [`stuck_verdict_of`] of one for a wave where a signal is stuck. [`strands_of`]
 //! makes the strands of a batch's queries, one for each piece of each window. A caller has these run over the shards (`plan_core`,
 //! `batch_crew`), as far as it likes. Then [`settle`] goes over the batch alone, and answers every query:
 //! - It frees the claims that are left.
@@ -43,4 +43,6 @@ mod visits;
 pub use session_meaning::Verdict;
 pub use settlement::{Settled, settle};
 pub use strands::strands_of;
-pub use verdicts::{first_verdict_of, verdicts_of, why_verdict_of};
+pub use verdicts::{
+    first_verdict_of, stuck_site_of, stuck_verdict_of, verdicts_of, why_verdict_of,
+};

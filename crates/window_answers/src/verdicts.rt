@@ -1,13 +1,13 @@
-//! What the items of a batch ask, and what questions for a first time and for an explanation do.
+//! What the items of a batch ask, and what the questions do that are batches of their own.
 
 ghost use Rattle.std.specs.Prelude.{◌≡◌, map, IfOk};
 ghost use Rattle.design.specs.Join.{number};
-ghost use Rattle.session_meaning.specs.Verdicts.{window_verdict, verdict_of, first_verdict, why_verdict};
+ghost use Rattle.session_meaning.specs.Verdicts.{window_verdict, verdict_of, first_verdict, why_verdict, stuck_verdict};
 
 use backsim_io::{OutOfMemory, Text};
 use batch_meaning::Query;
 use design::Design;
-use query_lines::{FirstItem, Item, What, WhyItem};
+use query_lines::{FirstItem, Item, StuckItem, What, WhyItem};
 use session_meaning::Verdict;
 use std::alloc::Global;
 
@@ -92,4 +92,26 @@ pub fn why_verdict_of(design: &Design, item: &WhyItem) -> Verdict
     let why = &item.why;
     let stop = why.time as u64 + 1;
     window_verdict(design, item.line, &why.name, why.time, stop, why.budget)
+}
+
+/// The number of the signal that a question takes to be stuck, if its name is one: one look-up by hashing.
+pub fn stuck_site_of(design: &Design, item: &StuckItem) -> Option<u32>
+    ensures { result ≡ number design.now.netlist item.now.stuck.site }
+{
+    design.netlist().id_of(item.stuck.site.bytes())
+}
+
+/// What a question for a wave where a signal is stuck asks, if its site is a signal: one look-up of its name by hashing.
+pub fn stuck_verdict_of(design: &Design, item: &StuckItem) -> Verdict
+    ensures { result ≡ stuck_verdict design.now item.now }
+{
+    let stuck = &item.stuck;
+    window_verdict(
+        design,
+        item.line,
+        &stuck.name,
+        stuck.from,
+        stuck.to as u64,
+        stuck.budget,
+    )
 }

@@ -1,5 +1,5 @@
 -- What a session keeps from one unit to the next.
-use Rattle.std.specs.Prelude.{◌≡◌, ⊤, ℕ, ◌+◌, ◌<◌, List, length, map, filter, sum_by, nat_le, ◌||◌, if◌then◌else◌, Option, Some, None}
+use Rattle.std.specs.Prelude.{◌≡◌, ⊤, ℕ, ◌+◌, ◌<◌, List, [], ◌∷◌, length, map, filter, sum_by, nat_le, ◌||◌, if◌then◌else◌, Option, Some, None}
 use Rattle.std.specs.List.{list_any}
 use Rattle.std.specs.Str.{bytes_eq}
 use Rattle.journal_meaning.specs.declared.Entry.{Entry}
@@ -36,12 +36,23 @@ batches_in Batch = 1
 batches_in Trim = 0
 batches_in Held = 0
 
+-- the lists of a section whose entries are counted: those of the session's own memo
+abbrev pub counted_lists : SectionKind → List (List Entry) → List (List Entry)
+counted_lists Batch lists = lists
+counted_lists Trim lists = lists
+counted_lists Held lists = []
+
 -- one section more was counted
 pub record IsCounted (old : Counts) (kind : SectionKind) (lists : List (List Entry)) (new : Counts) : Type 0 where
   pub sections : new.sections ≡ old.sections + 1
   pub batches : new.batches ≡ old.batches + batches_in kind
-  pub fills : new.fills ≡ old.fills + sum_by (count is_fill) lists
-  pub evictions : new.evictions ≡ old.evictions + sum_by (count is_eviction) lists
+  pub fills : new.fills ≡ old.fills + sum_by (count is_fill) (counted_lists kind lists)
+  pub evictions : new.evictions ≡ old.evictions + sum_by (count is_eviction) (counted_lists kind lists)
+
+-- the section of a memo of its own was counted, if a question had one
+abbrev pub IsHeldCounted : Counts → List (List Entry) → Counts → Type 0
+IsHeldCounted old [] new = new ≡ old
+IsHeldCounted old (es ∷ lists) new = IsCounted old Held (es ∷ lists) new
 
 -- these are the waves of the last batch, if there was one
 abbrev pub Shows : Joined → Option LastBatch → Option (List Wire) → Type 0

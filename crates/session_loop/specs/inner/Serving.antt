@@ -1,5 +1,5 @@
 -- What only the proofs and the private functions of this crate speak of, beside `Serving`.
-use Rattle.std.specs.Prelude.{◌≡◌, ℕ, ◌+◌, ◌<◌, ◌⊎◌, List, [], ◌++◌, length, get_or, Option}
+use Rattle.std.specs.Prelude.{◌≡◌, ℕ, ◌+◌, ◌<◌, ◌⊎◌, List, [], ◌∷◌, ◌++◌, length, get_or, Option}
 use Rattle.std.specs.Io.KnownBytes.{Consumes}
 use Rattle.backsim_io.specs.Held.{Made}
 use Rattle.cell_store.specs.Recency.{Contents}
@@ -7,11 +7,13 @@ use Rattle.batch_meaning.specs.Batches.{Batch}
 use Rattle.journal_meaning.specs.declared.Entry.{Entry}
 use Rattle.journal_meaning.specs.States.{fresh}
 use Rattle.journal_meaning.specs.Replay.{replay}
-use Rattle.journal_meaning.specs.Sections.{Asks}
+use Rattle.journal_meaning.specs.Sections.{Asks, Forces, SectionEntries}
+use Rattle.journal_text.specs.Spelling.{section_lines}
+use Rattle.journal_text.specs.declared.sections.SectionKind.TheVariants.{Held}
 use Rattle.query_lines.specs.declared.unit.Unit.{Unit as ScriptUnit}
 use Rattle.query_lines.specs.Reading.{script_units}
 use Rattle.query_lines.specs.Readers.{Reader, HasRead}
-use Rattle.session_meaning.specs.Session.{Setup, Course, IsServed, Session, opened, with_section}
+use Rattle.session_meaning.specs.Session.{Setup, Course, IsServed, Session, opened, with_section, with_sections}
 use Rattle.session_meaning.specs.Broken.{IsPrefix, journal_of, IsBroken, IsBrokenInDump}
 use Rattle.unit_answers.specs.Stores.{cells_of}
 use Rattle.session_loop.specs.declared.desk.Desk.{Desk}
@@ -59,10 +61,20 @@ abbrev pub Stops : Setup → Desk → List ScriptUnit → (List ℕ → Type 0) 
 Stops setup desk more out new_out made new_made files stop = (units : List ScriptUnit) (now : Course)
     → Session setup units now → Keeps setup desk now → StoppedIn setup (units ++ more) now out new_out made new_made files stop
 
--- A question with a batch of its own was answered by this text and these lists, whatever was served before, and the stores are as the
--- lists leave them.
-pub record IsAnswered (setup : Setup) (desk : Desk) (unit : ScriptUnit) (batch : Batch) (text : List ℕ) (lists : List (List Entry)) (left : List Contents) : Type 0 where
-  pub serves : (now : Course) → Keeps setup desk now → IsServed setup now unit (with_section now (Asks batch) lists text)
+-- the section of a memo of its own, if a question had one: that of this batch
+abbrev pub own_sections : Batch → List (List Entry) → List SectionEntries
+own_sections own [] = []
+own_sections own (es ∷ lists) = record { purpose = Forces own; lists = es ∷ lists } ∷ []
+
+-- its text, under this number
+abbrev pub held_text : ℕ → List (List Entry) → List ℕ
+held_text number [] = []
+held_text number (es ∷ lists) = section_lines (record { kind = Held; number = number; shards = es ∷ lists })
+
+-- A question with a batch of its own was answered by this text and these lists, whatever was served before, and by those of a memo of its
+-- own, if it had one. The stores are as the lists leave them.
+pub record IsAnswered (setup : Setup) (desk : Desk) (unit : ScriptUnit) (batch own : Batch) (text : List ℕ) (lists held : List (List Entry)) (left : List Contents) : Type 0 where
+  pub serves : (now : Course) → Keeps setup desk now → IsServed setup now unit (with_sections (with_section now (Asks batch) lists text) (own_sections own held))
   pub leaves : (shard : ℕ) → shard < setup.shards → cells_of left shard ≡ (replay (fresh (cells_of desk.stores.items shard)) (get_or lists shard [])).cells
 
 -- the reader has taken so many bytes of a script, for a simulation up to this horizon

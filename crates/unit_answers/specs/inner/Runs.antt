@@ -1,11 +1,11 @@
 -- The queries of a batch, run over the stores under the batch's name.
-use Rattle.std.specs.Prelude.{◌≡◌, ℕ, ◌<◌, List, [], length, get_or, map, All, None}
+use Rattle.std.specs.Prelude.{◌≡◌, ℕ, ◌<◌, List, [], length, get_or, map, All, Option, None}
 use Rattle.std.specs.List.{AllByRecursion}
 use Rattle.valid_intervals.specs.declared.SignalCell.{SignalCell}
 use Rattle.cell_store.specs.Recency.{Contents, contents}
 use Rattle.journal_meaning.specs.declared.Entry.{Entry}
 use Rattle.batch_meaning.specs.declared.Query.{Query}
-use Rattle.batch_meaning.specs.Batches.{Batch}
+use Rattle.batch_meaning.specs.Batches.{Batch, Site}
 use Rattle.journal_meaning.specs.Allowed.{IsRight}
 use Rattle.plan_machine.specs.Shards.{Shard}
 use Rattle.plan_machine.specs.Settle.{AreSettled, journals_of}
@@ -15,15 +15,19 @@ use Rattle.window_answers.specs.Phases.{AreReplies, refused_of}
 use Rattle.session_meaning.specs.Session.{Setup}
 use Rattle.batch_crew.specs.Crews.{AreInOrder}
 
--- the batch of these queries
-abbrev pub asks : Setup → List Query → Batch
-asks setup queries = record {
+-- the batch of these queries, of the circuit in which a signal is forced if there is a site
+abbrev pub asks_at : Setup → Option Site → List Query → Batch
+asks_at setup site queries = record {
   circuit = setup.design.circuit;
   shards = setup.shards;
   capacity = setup.capacity;
   queries = queries;
-  site = None;
+  site = site;
 }
+
+-- the same, with no site
+abbrev pub asks : Setup → List Query → Batch
+asks setup queries = asks_at setup None queries
 
 -- The batch begins with these stores: there is one for each shard, and it has the shard's room and the cells that the shard opens with.
 pub record AreOpened (b : Batch) (opening : ℕ → List SignalCell) (stores : List Contents) : Type 0 where

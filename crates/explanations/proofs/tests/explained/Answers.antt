@@ -7,7 +7,7 @@ use Rattle.cell_store.specs.Recency.{Contents, contents}
 use Rattle.memo_shards.specs.KeptShards.{KeptShard}
 use Rattle.asked_cells.specs.Shards.{AreNumbered}
 use Rattle.asked_cells.proofs.One.{one-numbered, one-unused}
-use Rattle.explanations.specs.Unused.{AreUnused}
+use Rattle.asked_cells.specs.Shards.{AreUnused}
 use Rattle.explanations.proofs.tests.explained.Goals as goal
 
 pub begin-shard-requires-clause-opening : goal.begin-shard-requires-clause-opening

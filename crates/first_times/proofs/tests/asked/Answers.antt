@@ -2,7 +2,7 @@ use Rattle.std.proofs.Common.{◌≡◌, ◌++◌, List, [], ◌∷◌, length, 
 use Rattle.memo_shards.specs.KeptShards.{KeptShard}
 use Rattle.asked_cells.specs.Shards.{AreNumbered}
 use Rattle.asked_cells.proofs.One.{one-numbered, one-unused}
-use Rattle.first_times.specs.Unused.{AreUnused}
+use Rattle.asked_cells.specs.Shards.{AreUnused}
 use Rattle.first_times.proofs.tests.asked.Goals as goal
 
 pub first_time-requires-clause-count : goal.first_time-requires-clause-count

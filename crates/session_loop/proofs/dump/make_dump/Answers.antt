@@ -7,7 +7,9 @@ use Rattle.vcd_answers.specs.Dumps.{vcd_of}
 use Rattle.session_meaning.specs.Dumps.{wires_of}
 use Rattle.session_loop.specs.Serving.{session_of}
 use Rattle.session_loop.specs.inner.Growing.{Adds, IsDumpPart}
-use Rattle.session_loop.proofs.Dumping.{names-are-text, reply-explains, reply-opens, unit-unbegun, dump-stopped, dump-served, reply-stopped}
+use Rattle.session_loop.specs.inner.Faults.{UnitExplains}
+use Rattle.session_loop.proofs.Units.{units-explain, leaves-open}
+use Rattle.session_loop.proofs.Dumping.{names-are-text, unit-unbegun, dump-stopped, dump-served, reply-stopped}
 use Rattle.session_loop.proofs.dump.make_dump.Goals as goal
 
 -- there is no memory, and nothing was written
@@ -77,15 +79,20 @@ returns-in_err-write_reply-clause-stopped g c names =
 pub returns-in_err-write_reply-clause-cause : goal.returns-in_err-write_reply-clause-cause
 returns-in_err-write_reply-clause-cause g c =
     let p = err_from_is_err_and c.from_residual-in_err-write_reply.result c.from_residual-in_err-write_reply.ensures.1 in
+    let faults = g.S.Sink.faults in
+    let writes = g.F.Files.write_faults in
+    let stop = c.in_err-write_reply.field-0.0 in
     rw (p.1, p.2)
-    (reply-explains (g.S.Sink.faults c.args.out.now) (g.S.Sink.faults c.write_reply.new.out) (g.F.Files.write_faults c.args.files.now) (g.F.Files.write_faults c.write_dump.new.files)
-    (g.F.Files.file_faults c.args.files.now) (g.F.Files.file_faults c.write_dump.new.files) c.in_err-write_reply.field-0.0 c.in_err-write_reply.ensures.cause)
+    (units-explain (faults c.args.out.now) (faults c.write_reply.new.out) (writes c.args.files.now) (writes c.write_dump.new.files)
+    (g.F.Files.file_faults c.args.files.now) (g.F.Files.file_faults c.write_dump.new.files) stop
+    (subst (λ n. UnitExplains (faults c.args.out.now) (faults c.write_reply.new.out) (writes c.args.files.now) n stop) (sym c.in_ok-write_dump.ensures.calm_writes)
+    (c.in_err-write_reply.ensures.cause (writes c.args.files.now))))
 
 pub returns-in_err-write_reply-clause-left : goal.returns-in_err-write_reply-clause-left
 returns-in_err-write_reply-clause-left g c =
     let p = err_from_is_err_and c.from_residual-in_err-write_reply.result c.from_residual-in_err-write_reply.ensures.1 in
     rw (p.1, p.2)
-    (reply-opens (g.S.Sink.faults c.args.out.now) (g.S.Sink.faults c.write_reply.new.out) 0 0 (g.F.Files.unfinished c.args.files.now) (g.F.Files.unfinished c.write_dump.new.files)
+    (leaves-open (g.S.Sink.faults c.args.out.now) (g.S.Sink.faults c.write_reply.new.out) 0 0 (g.F.Files.unfinished c.args.files.now) (g.F.Files.unfinished c.write_dump.new.files)
     c.in_err-write_reply.field-0.0 (c.in_err-write_reply.ensures.cause 0) c.in_ok-write_dump.ensures.unfinished)
 
 pub returns-clause-served : goal.returns-clause-served

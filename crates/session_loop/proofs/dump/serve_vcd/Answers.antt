@@ -1,7 +1,8 @@
 use Rattle.std.proofs.Common.{refl, sym}
 use Rattle.std.proofs.lemmas.Result.{err_from_is_err_and}
 use Rattle.session_loop.specs.Serving.{session_of}
-use Rattle.session_loop.proofs.Dumping.{reply-explains, reply-opens, refusal-served, refusal-stopped}
+use Rattle.session_loop.proofs.Units.{units-explain, leaves-open}
+use Rattle.session_loop.proofs.Dumping.{refusal-served, refusal-stopped}
 use Rattle.session_loop.proofs.dump.serve_vcd.Goals as goal
 
 -- a part of the reply was written
@@ -18,14 +19,14 @@ pub returns-in_err-refuse_dump-in-Some-clause-cause : goal.returns-in_err-refuse
 returns-in_err-refuse_dump-in-Some-clause-cause g c =
     let p = err_from_is_err_and c.from_residual.result c.from_residual.ensures.1 in
     rw (p.1, p.2)
-    (reply-explains (g.S.Sink.faults c.args.out.now) (g.S.Sink.faults c.refuse_dump.new.out) (g.F.Files.write_faults c.args.files.now) (g.F.Files.write_faults c.args.files.now)
-    (g.F.Files.file_faults c.args.files.now) (g.F.Files.file_faults c.args.files.now) c.in_err-refuse_dump-in-Some.field-0.0 c.in_err-refuse_dump-in-Some.ensures.cause)
+    (units-explain (g.S.Sink.faults c.args.out.now) (g.S.Sink.faults c.refuse_dump.new.out) (g.F.Files.write_faults c.args.files.now) (g.F.Files.write_faults c.args.files.now)
+    (g.F.Files.file_faults c.args.files.now) (g.F.Files.file_faults c.args.files.now) c.in_err-refuse_dump-in-Some.field-0.0 (c.in_err-refuse_dump-in-Some.ensures.cause (g.F.Files.write_faults c.args.files.now)))
 
 pub returns-in_err-refuse_dump-in-Some-clause-left : goal.returns-in_err-refuse_dump-in-Some-clause-left
 returns-in_err-refuse_dump-in-Some-clause-left g c =
     let p = err_from_is_err_and c.from_residual.result c.from_residual.ensures.1 in
     rw (p.1, p.2)
-    (reply-opens (g.S.Sink.faults c.args.out.now) (g.S.Sink.faults c.refuse_dump.new.out) 0 0 (g.F.Files.unfinished c.args.files.now) (g.F.Files.unfinished c.args.files.now)
+    (leaves-open (g.S.Sink.faults c.args.out.now) (g.S.Sink.faults c.refuse_dump.new.out) 0 0 (g.F.Files.unfinished c.args.files.now) (g.F.Files.unfinished c.args.files.now)
     c.in_err-refuse_dump-in-Some.field-0.0 (c.in_err-refuse_dump-in-Some.ensures.cause 0) refl)
 
 -- the reply says why no dump is made

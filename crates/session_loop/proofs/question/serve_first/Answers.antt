@@ -6,7 +6,8 @@ use Rattle.session_loop.specs.Serving.{session_of}
 use Rattle.session_loop.specs.inner.Serving.{IsAnswered}
 use Rattle.session_loop.proofs.Growing.{err-is}
 use Rattle.session_loop.proofs.Named.{question-named}
-use Rattle.session_loop.proofs.Served.{stops-none, first-answered}
+use Rattle.session_loop.proofs.Questions.{first-answered}
+use Rattle.session_loop.proofs.Served.{stops-none}
 use Rattle.session_loop.proofs.question.serve_first.Goals as goal
 
 -- there is a list for each shard
@@ -27,15 +28,17 @@ returns-clause-served g c names =
     let setup = session_of c.args.design.now c.args.sizes names in
     let item = c.args.item.now in
     let done = c.in_ok-done.done in
-    c.write_answered.ensures.served setup c.args.desk (First item) (first_batch setup item) refl refl
-    (subst (λ (text : List ℕ). IsAnswered setup c.args.desk (First item) (first_batch setup item) text done.lists.items done.stores.items) (sym c.in_ok-first_text.ensures)
-    (first-answered setup item c.args.desk done.reply done.lists.items done.stores.items (question-named (setup_of c.args.design.now c.args.sizes) names _ _ c.args.desk.stores.items done.lists.items done.stores.items c.in_ok-done.ensures)))
+    c.write_answered.ensures.served setup c.args.desk (First item) (first_batch setup item) (first_batch setup item) refl refl
+    (subst (λ (text : List ℕ). IsAnswered setup c.args.desk (First item) (first_batch setup item) (first_batch setup item) text done.lists.items c.new.result.items done.stores.items) (sym c.in_ok-first_text.ensures)
+    (first-answered setup item c.args.desk done.reply done.lists.items c.new.result.items done.stores.items c.new.ensures.items
+    (question-named (setup_of c.args.design.now c.args.sizes) names _ _ c.args.desk.stores.items done.lists.items done.stores.items c.in_ok-done.ensures)))
 
 pub returns-clause-stopped : goal.returns-clause-stopped
 returns-clause-stopped g c names =
     let setup = session_of c.args.design.now c.args.sizes names in
     let item = c.args.item.now in
     let done = c.in_ok-done.done in
-    c.write_answered.ensures.stopped setup c.args.desk (First item) (first_batch setup item) refl refl
-    (subst (λ (text : List ℕ). IsAnswered setup c.args.desk (First item) (first_batch setup item) text done.lists.items done.stores.items) (sym c.in_ok-first_text.ensures)
-    (first-answered setup item c.args.desk done.reply done.lists.items done.stores.items (question-named (setup_of c.args.design.now c.args.sizes) names _ _ c.args.desk.stores.items done.lists.items done.stores.items c.in_ok-done.ensures)))
+    c.write_answered.ensures.stopped setup c.args.desk (First item) (first_batch setup item) (first_batch setup item) refl refl
+    (subst (λ (text : List ℕ). IsAnswered setup c.args.desk (First item) (first_batch setup item) (first_batch setup item) text done.lists.items c.new.result.items done.stores.items) (sym c.in_ok-first_text.ensures)
+    (first-answered setup item c.args.desk done.reply done.lists.items c.new.result.items done.stores.items c.new.ensures.items
+    (question-named (setup_of c.args.design.now c.args.sizes) names _ _ c.args.desk.stores.items done.lists.items done.stores.items c.in_ok-done.ensures)))

@@ -7,7 +7,8 @@ use Rattle.session_meaning.specs.Replies.{replies_text}
 use Rattle.session_loop.specs.inner.Growing.{GrowsPart}
 use Rattle.session_loop.specs.inner.Faults.{UnitExplains}
 use Rattle.session_loop.proofs.Growing.{on-err, part-whole, part-longer}
-use Rattle.session_loop.proofs.Pieces.{zip-length, zip-get, replies-next, replies-part, replies-of-first}
+use Rattle.unit_answers.proofs.Zips.{zip-length, zip-get}
+use Rattle.session_loop.proofs.Pieces.{replies-next, replies-part, replies-of-first}
 use Rattle.session_loop.proofs.section.write_replies.Goals as goal
 
 pub bounds-replies-i : goal.bounds-replies-i

@@ -17,3 +17,6 @@ returns-in-Why-clause-served g c = rw c.in-Why.is c.serve_why.ensures.served
 
 pub returns-in-Vcd-clause-served : goal.returns-in-Vcd-clause-served
 returns-in-Vcd-clause-served g c = rw c.in-Vcd.is c.serve_vcd.ensures.served
+
+pub returns-in-Stuck-clause-served : goal.returns-in-Stuck-clause-served
+returns-in-Stuck-clause-served g c = rw c.in-Stuck.is c.serve_stuck.ensures.served

@@ -1,4 +1,4 @@
-use Rattle.std.proofs.Common.{◌≡◌, sym, ◌∙◌}
+use Rattle.std.proofs.Common.{sym, ◌∙◌}
 use Rattle.unit_answers.specs.Stores.{setup_of}
 use Rattle.unit_answers.proofs.Firsts.{first-batch-lawful}
 use Rattle.unit_answers.proofs.first.answer_first.Goals as goal

@@ -1,4 +1,4 @@
-use Rattle.std.proofs.Common.{◌≡◌, ◌<◌, length, ◌∙◌, sym, arith}
+use Rattle.std.proofs.Common.{◌≡◌, ◌<◌, length, ◌∙◌, arith}
 use Rattle.unit_answers.proofs.Opening.{opens-first, opens-within, opens-store, opens-more, opens-all}
 use Rattle.unit_answers.proofs.run.begin_all.Goals as goal
 

@@ -1,4 +1,4 @@
-use Rattle.std.proofs.Common.{◌∙◌, ap, sym}
+use Rattle.std.proofs.Common.{◌∙◌}
 use Rattle.unit_answers.proofs.Opening.{closes-first, closes-free, closes-more, closes-lists, closes-stores}
 use Rattle.unit_answers.proofs.run.end_all.Goals as goal
 

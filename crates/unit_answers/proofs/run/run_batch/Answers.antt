@@ -1,7 +1,6 @@
-use Rattle.std.proofs.Common.{◌≡◌, ◌≤◌, ◌<◌, ℕ, List, length, map, flat_map, sym, ap, subst, ◌∙◌, arith}
+use Rattle.std.proofs.Common.{ℕ, List, None, sym, subst}
 use Rattle.valid_intervals.specs.declared.SignalCell.{SignalCell}
 use Rattle.batch_meaning.specs.Batches.{Batch}
-use Rattle.batch_meaning.specs.Lawful.{IsLawful}
 use Rattle.unit_answers.specs.Stores.{setup_of, cells_of}
 use Rattle.unit_answers.specs.inner.Runs.{asks, AreOpened, HasRun}
 use Rattle.unit_answers.proofs.Running.{opened-by, strands-new, order-numbers, settled-free, has-run}
@@ -10,7 +9,7 @@ use Rattle.unit_answers.proofs.run.run_batch.Goals as goal
 pub begin_all-requires-clause-opened : goal.begin_all-requires-clause-opened
 begin_all-requires-clause-opened g c =
     let stores = c.args.stores.items in
-    let opened = opened-by (setup_of c.args.design.now c.args.sizes) c.args.queries.now stores c.requires.stores in
+    let opened = opened-by (setup_of c.args.design.now c.args.sizes) None c.args.queries.now stores c.requires.stores in
     subst (λ (b : Batch). AreOpened b g.B.BatchName.opening stores) (sym c.requires.batch)
     (subst (λ (o : ℕ → List SignalCell). AreOpened (asks (setup_of c.args.design.now c.args.sizes) c.args.queries.now) o stores) (sym c.requires.opening) opened)
 

@@ -1,5 +1,4 @@
-use Rattle.std.proofs.Common.{◌≡◌, ◌≤◌, List, length, map, refl, ap, sym, ◌∙◌, subst, rules, arith}
-use Rattle.cell_store.specs.Recency.{Contents}
+use Rattle.std.proofs.Common.{◌≡◌, ◌≤◌, length, map, refl, ap, ◌∙◌, arith}
 use Rattle.unit_answers.specs.Stores.{setup_of}
 use Rattle.unit_answers.specs.inner.Trims.{trimmed, entries_at}
 use Rattle.unit_answers.proofs.Trimming.{trims-more, trims-stores, trims-entries, written-back}

@@ -1,7 +1,5 @@
-use Rattle.std.proofs.Common.{◌≡◌, ℕ, List, [], ◌∷◌, length, map, sym, ap, subst, ◌∙◌}
+use Rattle.std.proofs.Common.{ℕ, List, None, sym, ap, subst, ◌∙◌}
 use Rattle.valid_intervals.specs.declared.SignalCell.{SignalCell}
-use Rattle.journal_meaning.specs.declared.Entry.{Entry}
-use Rattle.batch_meaning.specs.declared.Query.{Query}
 use Rattle.batch_meaning.specs.Batches.{Batch}
 use Rattle.plan_machine.specs.Settle.{entries_in}
 use Rattle.plan_core.specs.Parts.{shards_in}
@@ -9,7 +7,7 @@ use Rattle.session_meaning.specs.Explanations.{IsWhyReply}
 use Rattle.session_meaning.specs.Verdicts.{why_verdict}
 use Rattle.session_meaning.specs.Session.{why_batch}
 use Rattle.reply_lines.specs.declared.reply.WhyReply.TheVariants.{Answer}
-use Rattle.unit_answers.specs.Stores.{setup_of, cells_of}
+use Rattle.unit_answers.specs.Stores.{setup_of}
 use Rattle.unit_answers.specs.inner.Runs.{AreOpened}
 use Rattle.unit_answers.proofs.Whys.{why-queries, why-window, why-right}
 use Rattle.unit_answers.proofs.Questions.{question-done}
@@ -22,7 +20,7 @@ begin_all-requires-clause-opened g c =
     let b = why_batch setup c.args.item.now in
     let stores = c.args.stores.items in
     subst (λ (x : Batch). AreOpened x g.B.BatchName.opening stores) (sym c.requires.batch)
-    (subst (λ (o : ℕ → List SignalCell). AreOpened b o stores) (sym c.requires.opening) (opened-by setup b.queries stores c.requires.stores))
+    (subst (λ (o : ℕ → List SignalCell). AreOpened b o stores) (sym c.requires.opening) (opened-by setup None b.queries stores c.requires.stores))
 
 pub explain-requires-clause-queries : goal.explain-requires-clause-queries
 explain-requires-clause-queries g c =
@@ -49,7 +47,7 @@ returns g c =
     let item = c.args.item.now in
     let ms = c.in_ok-found.found.shards.items in
     let answer = c.in_ok-found.found.answer in
-    question-done setup (why_batch setup item).queries (λ es. IsWhyReply setup.design es (why_verdict setup.design item) item.why (Answer answer))
+    question-done setup None (why_batch setup item).queries (λ es. IsWhyReply setup.design es (why_verdict setup.design item) item.why (Answer answer))
     g.B.BatchName.batch g.B.BatchName.opening c.args.stores.items c.requires.batch c.requires.opening ms c.in_ok-lists.lists.items c.in_ok-lists.stores.items c.in_ok-found.ensures.fresh
     (why-right setup item c.args.query c.requires.asks g.B.BatchName.batch (entries_in (shards_in ms)) answer c.requires.batch c.in_ok-found.ensures.answer)
     c.in_ok-lists.ensures.lists c.in_ok-lists.ensures.stores

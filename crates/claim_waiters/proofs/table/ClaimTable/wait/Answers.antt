@@ -14,8 +14,8 @@ unreachable-requires g c =
 
 pub returns-clause-ok : goal.returns-clause-ok
 returns-clause-ok g c =
-    by_case_ok c.wait.result _ _ c.wait.ensures.ok (λ e. ap (claims_of g.W.Waiter.items) (c.get_mut.follows.holds (record { q = c.in-Some.claim.now.q; room = c.wait.new.room })).0 ∙ write-claims g.W.Waiter.items (is_at (point_cmp c.args.p)) c.self.inside.map.entries c.in-Some.claim.now (record { q = c.in-Some.claim.now.q; room = c.wait.new.room }) c.args.waiter (sym c.in-Some.ensures.value) (ap (λ (l : List g.row.W.Denot). record { q = c.in-Some.claim.now.q; waiters = l }) e) ∙ ap (λ (v : Claims g.row.W.Denot). with_waiter v c.args.p c.args.waiter) c.self.view_is)
+    by_case_ok c.wait_in.result _ _ c.wait_in.ensures.ok (λ e. ap (claims_of g.W.Waiter.items) (c.get_mut.follows.holds (record { q = c.in-Some.claim.now.q; room = c.wait_in.new.room })).0 ∙ write-claims g.W.Waiter.items (is_at (point_cmp c.args.p)) c.self.inside.map.entries c.in-Some.claim.now (record { q = c.in-Some.claim.now.q; room = c.wait_in.new.room }) c.args.waiter (sym c.in-Some.ensures.value) (ap (λ (l : List g.row.W.Denot). record { q = c.in-Some.claim.now.q; waiters = l }) e) ∙ ap (λ (v : Claims g.row.W.Denot). with_waiter v c.args.p c.args.waiter) c.self.view_is)
 
 pub returns-clause-err : goal.returns-clause-err
 returns-clause-err g c =
-    by_case_err c.wait.result _ _ c.wait.ensures.err (λ e. ap (claims_of g.W.Waiter.items) (c.get_mut.follows.holds (record { q = c.in-Some.claim.now.q; room = c.wait.new.room })).0 ∙ write-alike g.W.Waiter.items (is_at (point_cmp c.args.p)) c.self.inside.map.entries c.in-Some.claim.now (record { q = c.in-Some.claim.now.q; room = c.wait.new.room }) (sym c.in-Some.ensures.value) (ap (λ (l : List g.row.W.Denot). record { q = c.in-Some.claim.now.q; waiters = l }) e) ∙ c.self.view_is)
+    by_case_err c.wait_in.result _ _ c.wait_in.ensures.err (λ e. ap (claims_of g.W.Waiter.items) (c.get_mut.follows.holds (record { q = c.in-Some.claim.now.q; room = c.wait_in.new.room })).0 ∙ write-alike g.W.Waiter.items (is_at (point_cmp c.args.p)) c.self.inside.map.entries c.in-Some.claim.now (record { q = c.in-Some.claim.now.q; room = c.wait_in.new.room }) (sym c.in-Some.ensures.value) (ap (λ (l : List g.row.W.Denot). record { q = c.in-Some.claim.now.q; waiters = l }) e) ∙ c.self.view_is)

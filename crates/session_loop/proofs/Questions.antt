@@ -1,0 +1,196 @@
+-- A question with a batch of its own, and perhaps a memo of its own, is a unit of the session.
+use Rattle.std.proofs.Common.{◌≡◌, ℕ, ◌+◌, ◌<◌, ◌≤◌, List, [], ◌∷◌, ◌++◌, length, get_or, Option, Some, None, refl, sym, ap, subst, ◌∙◌, append_assoc, append-nil, length-append, arith}
+use Rattle.std.proofs.lemmas.List.Sums.{fold-append}
+use Rattle.cell_store.specs.Recency.{Contents}
+use Rattle.backsim_io.specs.Counts.{Grows}
+use Rattle.backsim_io.specs.Held.{Made, FileGrows}
+use Rattle.circuit_meaning.specs.Circuit.{Circuit}
+use Rattle.journal_meaning.specs.declared.Entry.{Entry}
+use Rattle.batch_meaning.specs.Batches.{Site, Batch as BatchRecord}
+use Rattle.journal_meaning.specs.Replay.{IsLegalBatch}
+use Rattle.journal_meaning.specs.Sections.{Asks, Forces, SectionEntries, cells_left, cells_after}
+use Rattle.journal_text.specs.Spelling.{section_lines}
+use Rattle.journal_text.specs.declared.sections.SectionKind.TheVariants.{Batch, Held}
+use Rattle.query_lines.specs.declared.unit.FirstItem.{FirstItem}
+use Rattle.query_lines.specs.declared.unit.WhyItem.{WhyItem}
+use Rattle.query_lines.specs.declared.unit.StuckItem.{StuckItem}
+use Rattle.query_lines.specs.declared.unit.Unit.{Unit as ScriptUnit}
+use Rattle.query_lines.specs.declared.unit.Unit.TheVariants as units
+use Rattle.reply_lines.specs.declared.reply.FirstReply.{FirstReply}
+use Rattle.reply_lines.specs.declared.reply.WhyReply.{WhyReply}
+use Rattle.reply_lines.specs.declared.reply.StuckReply.{StuckReply}
+use Rattle.reply_lines.specs.Replies.{first_line, why_lines, stuck_lines}
+use Rattle.session_meaning.specs.declared.Verdict.{Verdict}
+use Rattle.session_meaning.specs.declared.Verdict.TheVariants.{Ask, Unknown, Past, Bad}
+use Rattle.session_meaning.specs.Verdicts.{site_of, stuck_verdict}
+use Rattle.session_meaning.specs.Session.{Setup, Course, first_batch, why_batch, stuck_batch, held_sections, with_section, with_sections}
+use Rattle.session_meaning.specs.StuckSignals.{held_batch, IsHeldMemo}
+use Rattle.session_meaning.specs.Broken.{journal_of}
+use Rattle.session_meaning.proofs.Journals.{journal-more}
+use Rattle.session_loop.specs.declared.desk.Counts.{Counts}
+use Rattle.session_loop.specs.declared.desk.Desk.{Desk}
+use Rattle.session_loop.specs.declared.stop.Stop.{Stop}
+use Rattle.session_loop.specs.inner.Growing.{GrowsPart, FileGrowsPart}
+use Rattle.unit_answers.specs.Stores.{cells_of}
+use Rattle.unit_answers.specs.Done.{IsFirstDone, IsWhyDone, IsStuckDone}
+use Rattle.session_loop.specs.inner.Desks.{IsCount, IsCounted, IsHeldCounted, Keeps}
+use Rattle.session_loop.specs.inner.Serving.{Serves, Stops, IsAnswered, own_sections, held_text}
+use Rattle.session_loop.proofs.Growing.{file-none}
+use Rattle.session_loop.proofs.Served.{IsOfUnit, counts-more, cells-more, kept-dumps, sections-served, sections-stopped}
+
+-- The section of a memo of its own, if there is one.
+
+-- where there is none, nothing is added
+sections-none : (now : Course) → with_sections now [] ≡ now
+sections-none now = ap (λ l. record now { sections = l }) (append-nil now.sections)
+
+sections-unheld : (now : Course) (own : BatchRecord) (held : List (List Entry)) → held ≡ [] → with_sections now (own_sections own held) ≡ now
+sections-unheld now own held none = ap (λ l. with_sections now (own_sections own l)) none ∙ sections-none now
+
+-- and nothing is written
+pub held-unwritten : (made : List Made → Type 0) (number : ℕ) (held : List (List Entry)) → length held ≡ 0 → FileGrows made made 0 (held_text number held)
+held-unwritten made number [] none = file-none made 0
+held-unwritten made number (es ∷ lists) none = absurd (omega (arith, none))
+
+-- where there is one, it is written as any section
+pub held-text : (number : ℕ) (held : List (List Entry)) → 0 < length held → held_text number held ≡ section_lines (record { kind = Held; number = number; shards = held })
+held-text number [] some = absurd (omega (arith, some))
+held-text number (es ∷ lists) some = refl
+
+-- the cells of the session's memo stay
+held-cells : (shard : ℕ) (sections : List SectionEntries) (own : BatchRecord) (held : List (List Entry)) → cells_after shard (sections ++ own_sections own held) ≡ cells_after shard sections
+held-cells shard sections own [] = ap (cells_after shard) (append-nil sections)
+held-cells shard sections own (es ∷ lists) = fold-append (cells_left shard) [] sections (own_sections own (es ∷ lists))
+
+-- the counts are those of one section more
+held-counts : (counts later : Counts) (sections : List SectionEntries) (own : BatchRecord) (held : List (List Entry)) → IsCount counts sections → IsHeldCounted counts held later
+    → IsCount later (sections ++ own_sections own held)
+held-counts counts later sections own [] c same = subst (IsCount later) (sym (append-nil sections)) (subst (λ k. IsCount k sections) (sym same) c)
+held-counts counts later sections own (es ∷ lists) c more = counts-more counts later sections (record { purpose = Forces own; lists = es ∷ lists }) c more
+
+module _ (setup : Setup) where
+  -- the journal has its text more
+  held-journal : (now : Course) (own : BatchRecord) (held : List (List Entry)) (number : ℕ) → number ≡ length now.sections + 1
+      → journal_of setup (with_sections now (own_sections own held)) ≡ journal_of setup now ++ held_text number held
+  held-journal now own [] number is = ap (journal_of setup) (sections-none now) ∙ sym (append-nil (journal_of setup now))
+  held-journal now own (es ∷ lists) number is = journal-more setup now (Forces own) (es ∷ lists) [] number is
+
+  module _ (unit : ScriptUnit) (b own : BatchRecord) (desk : Desk) (text : List ℕ) (lists held : List (List Entry)) (left : List Contents) (done : IsAnswered setup desk unit b own text lists held left) (counts : Counts) (counted : IsCounted desk.counts Batch lists counts) (out new_out : List ℕ → Type 0) (made new_made : List Made → Type 0) where
+    abbrev section : SectionEntries
+    section = record { purpose = Asks b; lists = lists }
+
+    -- what the journal has more
+    abbrev pub question-text : List ℕ
+    question-text = section_lines (record { kind = Batch; number = counts.sections; shards = lists }) ++ held_text (counts.sections + 1) held
+
+    module _ (now : Course) (keeps : Keeps setup desk now) where
+      -- with the section of the batch
+      abbrev asks : Course
+      asks = with_section now (Asks b) lists text
+
+      numbers : counts.sections ≡ length now.sections + 1
+      numbers = counted.sections ∙ ap (λ n. n + 1) keeps.counts.sections_are
+
+      question-journal : journal_of setup (with_sections asks (own_sections own held)) ≡ journal_of setup now ++ question-text
+      question-journal =
+          held-journal asks own held (counts.sections + 1) (ap (λ n. n + 1) (numbers ∙ sym (length-append now.sections (section ∷ []))))
+          ∙ ap (λ l. l ++ held_text (counts.sections + 1) held) (journal-more setup now (Asks b) lists text counts.sections numbers)
+          ∙ append_assoc (journal_of setup now) (section_lines (record { kind = Batch; number = counts.sections; shards = lists })) (held_text (counts.sections + 1) held)
+
+      question-keeps : (later : Desk) → IsHeldCounted counts held later.counts → later.stores.items ≡ left → later.dumps ≡ desk.dumps → Keeps setup later (with_sections asks (own_sections own held))
+      question-keeps later same stores dumps = record {
+        cells = λ shard h.
+            cells-more shard (cells_of desk.stores.items shard) (cells_of later.stores.items shard) now.sections section (keeps.cells shard h) (ap (λ l. cells_of l shard) stores ∙ done.leaves shard h)
+            ∙ sym (held-cells shard asks.sections own held);
+        counts = held-counts counts later.counts asks.sections own held (counts-more desk.counts counts now.sections section keeps.counts counted) same;
+        dumps = kept-dumps setup desk.dumps later.dumps now (with_sections asks (own_sections own held)) dumps refl refl keeps.dumps;
+      }
+
+    -- all was written
+    pub question-served : (later : Desk) → IsHeldCounted counts held later.counts → later.stores.items ≡ left → later.dumps ≡ desk.dumps → Grows out new_out text
+        → FileGrows made new_made 0 question-text → Serves setup desk later (unit ∷ []) out new_out made new_made
+    question-served later same stores dumps replied recorded us now session keeps =
+        sections-served setup us unit now desk session keeps out new_out made new_made ((now.sections ++ section ∷ []) ++ own_sections own held) text now.waves question-text
+        (done.serves now keeps) (question-journal now keeps) later (question-keeps now keeps later same stores dumps) replied recorded
+
+    -- a part of the reply and a part of the sections
+    pub question-stopped : (files : ℕ) (stop : Stop) → files ≡ length desk.dumps.made.items + 1 → IsOfUnit stop
+        → GrowsPart out new_out text → FileGrowsPart made new_made 0 question-text → Stops setup desk (unit ∷ []) out new_out made new_made files stop
+    question-stopped files stop many cause replied recorded us now session keeps =
+        sections-stopped setup us unit now desk session keeps out new_out made new_made ((now.sections ++ section ∷ []) ++ own_sections own held) text now.waves question-text
+        (done.serves now keeps) (question-journal now keeps) files stop many cause replied recorded
+
+  -- A question for a first time.
+  pub first-answered : (item : FirstItem) (desk : Desk) (reply : FirstReply) (lists held : List (List Entry)) (left : List Contents) → held ≡ [] → IsFirstDone setup item desk.stores.items reply lists left
+      → IsAnswered setup desk (units.First item) (first_batch setup item) (first_batch setup item) (first_line item.first reply) lists held left
+  first-answered item desk reply lists held left none done = record {
+    serves = λ now keeps. record {
+      lists = lists;
+      reply = reply;
+      count = done.count;
+      legal = λ shard h. subst (λ cells. IsLegalBatch (first_batch setup item) shard cells (get_or lists shard [])) (keeps.cells shard h) (done.legal shard h);
+      right = done.right;
+      leads = sections-unheld (with_section now (Asks (first_batch setup item)) lists (first_line item.first reply)) (first_batch setup item) held none;
+    };
+    leaves = done.leaves;
+  }
+
+  -- A question for an explanation.
+  pub why-answered : (item : WhyItem) (desk : Desk) (reply : WhyReply) (lists held : List (List Entry)) (left : List Contents) → held ≡ [] → IsWhyDone setup item desk.stores.items reply lists left
+      → IsAnswered setup desk (units.Why item) (why_batch setup item) (why_batch setup item) (why_lines item.why reply) lists held left
+  why-answered item desk reply lists held left none done = record {
+    serves = λ now keeps. record {
+      lists = lists;
+      reply = reply;
+      count = done.count;
+      legal = λ shard h. subst (λ cells. IsLegalBatch (why_batch setup item) shard cells (get_or lists shard [])) (keeps.cells shard h) (done.legal shard h);
+      right = done.right;
+      leads = sections-unheld (with_section now (Asks (why_batch setup item)) lists (why_lines item.why reply)) (why_batch setup item) held none;
+    };
+    leaves = done.leaves;
+  }
+
+  -- A question for a wave where a signal is stuck.
+  module _ (item : StuckItem) where
+    -- the batch of the memo of its own, where a query is asked, and else any
+    abbrev asked-own : Option Site → Verdict → BatchRecord
+    asked-own (Some site) (Ask query) = held_batch setup.design.circuit site query
+    asked-own site verdict = stuck_batch setup item
+
+    abbrev pub own-batch : BatchRecord
+    own-batch = asked-own (site_of setup.design item) (stuck_verdict setup.design item)
+
+    own-section : (site : Option Site) (verdict : Verdict) (held : List (List Entry)) → IsHeldMemo setup.design.circuit site verdict held
+        → own_sections (asked-own site verdict) held ≡ held_sections setup site verdict held
+    own-section None verdict held memo = subst (λ l. own_sections (asked-own None verdict) l ≡ []) (sym memo) refl
+    own-section (Some site) (Ask query) held memo =
+        let own = held_batch setup.design.circuit site query in
+        subst (λ l. own_sections own l ≡ record { purpose = Forces own; lists = l } ∷ []) (sym memo.1) refl
+    own-section (Some site) Unknown held memo = subst (λ l. own_sections (stuck_batch setup item) l ≡ []) (sym memo) refl
+    own-section (Some site) Past held memo = subst (λ l. own_sections (stuck_batch setup item) l ≡ []) (sym memo) refl
+    own-section (Some site) Bad held memo = subst (λ l. own_sections (stuck_batch setup item) l ≡ []) (sym memo) refl
+
+    pub stuck-answered : (desk : Desk) (reply : StuckReply) (lists held : List (List Entry)) (left : List Contents) → IsStuckDone setup item desk.stores.items reply lists held left
+        → IsAnswered setup desk (units.Stuck item) (stuck_batch setup item) own-batch (stuck_lines item.stuck reply) lists held left
+    stuck-answered desk reply lists held left stuck = record {
+      serves = λ now keeps. record {
+        lists = lists;
+        held = held;
+        reply = reply;
+        count = stuck.done.count;
+        legal = λ shard h. subst (λ cells. IsLegalBatch (stuck_batch setup item) shard cells (get_or lists shard [])) (keeps.cells shard h) (stuck.done.legal shard h);
+        memo = stuck.memo;
+        right = stuck.done.right;
+        leads = ap (with_sections (with_section now (Asks (stuck_batch setup item)) lists (stuck_lines item.stuck reply)))
+            (own-section (site_of setup.design item) (stuck_verdict setup.design item) held stuck.memo);
+      };
+      leaves = stuck.done.leaves;
+    }
+
+-- a memo of its own has one shard at most
+pub held-few : (c : Circuit) (site : Option Site) (verdict : Verdict) (held : List (List Entry)) → IsHeldMemo c site verdict held → length held ≤ 1
+held-few c None verdict held memo = subst (λ l. length l ≤ 1) (sym memo) (omega arith)
+held-few c (Some site) (Ask query) held memo = subst (λ l. length l ≤ 1) (sym memo.1) (omega arith)
+held-few c (Some site) Unknown held memo = subst (λ l. length l ≤ 1) (sym memo) (omega arith)
+held-few c (Some site) Past held memo = subst (λ l. length l ≤ 1) (sym memo) (omega arith)
+held-few c (Some site) Bad held memo = subst (λ l. length l ≤ 1) (sym memo) (omega arith)

@@ -1,0 +1,53 @@
+use Rattle.std.proofs.Common.{refl, sym, subst, List, ℕ, arith}
+use Rattle.query_lines.specs.declared.unit.Unit.TheVariants.{Stuck}
+use Rattle.session_meaning.specs.Session.{stuck_batch}
+use Rattle.session_meaning.specs.Verdicts.{site_of, stuck_verdict}
+use Rattle.unit_answers.specs.Stores.{setup_of}
+use Rattle.session_loop.specs.Serving.{session_of}
+use Rattle.session_loop.specs.inner.Serving.{IsAnswered}
+use Rattle.session_loop.proofs.Growing.{err-is}
+use Rattle.session_loop.proofs.Named.{stuck-named}
+use Rattle.session_loop.proofs.Questions.{own-batch, held-few, stuck-answered}
+use Rattle.session_loop.proofs.Served.{stops-none}
+use Rattle.session_loop.proofs.question.serve_stuck.Goals as goal
+
+-- there is a list for each shard
+pub write_answered-requires-clause-few : goal.write_answered-requires-clause-few
+write_answered-requires-clause-few g c = let count = c.in_ok-done.ensures.done.count in let most = c.requires.shards.1 in omega (arith, count, most)
+
+-- and one of the memo of its own at most
+pub write_answered-requires-clause-few_held : goal.write_answered-requires-clause-few_held
+write_answered-requires-clause-few_held g c =
+    let design = c.args.design.now in
+    let item = c.args.item.now in
+    let few = held-few design.circuit (site_of design item) (stuck_verdict design item) c.in_ok-done.done.held.items c.in_ok-done.ensures.memo in
+    omega (arith, few)
+
+-- no journals were made
+pub returns-in_err-done-clause-stopped : goal.returns-in_err-done-clause-stopped
+returns-in_err-done-clause-stopped g c names =
+    err-is _ _ c.from_residual.result c.from_residual.ensures.1 (stops-none (session_of c.args.design.now c.args.sizes names) c.args.desk _ _ _ _ c.requires.files)
+
+pub returns-in_err-stuck_text-clause-stopped : goal.returns-in_err-stuck_text-clause-stopped
+returns-in_err-stuck_text-clause-stopped g c names =
+    err-is _ _ c.from_residual-in_err-stuck_text.result c.from_residual-in_err-stuck_text.ensures.1 (stops-none (session_of c.args.design.now c.args.sizes names) c.args.desk _ _ _ _ c.requires.files)
+
+pub returns-clause-served : goal.returns-clause-served
+returns-clause-served g c names =
+    let setup = session_of c.args.design.now c.args.sizes names in
+    let item = c.args.item.now in
+    let done = c.in_ok-done.done in
+    c.write_answered.ensures.served setup c.args.desk (Stuck item) (stuck_batch setup item) (own-batch setup item) refl refl
+    (subst (λ (text : List ℕ). IsAnswered setup c.args.desk (Stuck item) (stuck_batch setup item) (own-batch setup item) text done.lists.items done.held.items done.stores.items) (sym c.in_ok-stuck_text.ensures)
+    (stuck-answered setup item c.args.desk done.reply done.lists.items done.held.items done.stores.items
+    (stuck-named (setup_of c.args.design.now c.args.sizes) names item c.args.desk.stores.items done.reply done.lists.items done.held.items done.stores.items c.in_ok-done.ensures)))
+
+pub returns-clause-stopped : goal.returns-clause-stopped
+returns-clause-stopped g c names =
+    let setup = session_of c.args.design.now c.args.sizes names in
+    let item = c.args.item.now in
+    let done = c.in_ok-done.done in
+    c.write_answered.ensures.stopped setup c.args.desk (Stuck item) (stuck_batch setup item) (own-batch setup item) refl refl
+    (subst (λ (text : List ℕ). IsAnswered setup c.args.desk (Stuck item) (stuck_batch setup item) (own-batch setup item) text done.lists.items done.held.items done.stores.items) (sym c.in_ok-stuck_text.ensures)
+    (stuck-answered setup item c.args.desk done.reply done.lists.items done.held.items done.stores.items
+    (stuck-named (setup_of c.args.design.now c.args.sizes) names item c.args.desk.stores.items done.reply done.lists.items done.held.items done.stores.items c.in_ok-done.ensures)))

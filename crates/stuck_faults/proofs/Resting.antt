@@ -1,0 +1,273 @@
+-- What stands between two times of a question, and where it ends.
+use Rattle.std.proofs.Common.{◌≡◌, ◌≢◌, ℕ, Bool, ◌+◌, ◌-◌, ◌≤◌, nat_lt, true, false, List, [], ◌∷◌, ◌++◌, length, All, Contains, refl, sym, ap, subst, ◌∙◌, arith, inl, inr, Option, Some, None, true≢false, MatchOption}
+use Rattle.std.proofs.lemmas.Bool.{lt-ltb}
+use Rattle.std.proofs.lemmas.List.Elements.{All-weaker, All-contains_itself, recursion_from_All}
+use Rattle.valid_intervals.specs.declared.Cell.{Cell}
+use Rattle.valid_intervals.specs.declared.Point.{Point}
+use Rattle.valid_intervals.specs.declared.SignalCell.{SignalCell}
+use Rattle.circuit_meaning.specs.Circuit.{Circuit, IsCircuit, driver}
+use Rattle.circuit_meaning.specs.Need.{IsEvaluable, children}
+use Rattle.batch_meaning.specs.declared.Query.{Query}
+use Rattle.batch_meaning.specs.Batches.{Batch, Site}
+use Rattle.batch_meaning.specs.Pieces.{Start}
+use Rattle.journal_meaning.specs.declared.Entry.{Entry}
+use Rattle.journal_meaning.specs.declared.Entry.TheVariants.{Filled, Dropped, Spent}
+use Rattle.journal_meaning.specs.Answers.{IsCovered, IsSpent, filled, last_of}
+use Rattle.journal_meaning.specs.States.{Claim, without_point}
+use Rattle.journal_meaning.proofs.Grown.{grows-none}
+use Rattle.journal_meaning.proofs.Lists.{each-left, pairs_from, pairs_to}
+use Rattle.strand_meaning.specs.declared.Next.TheVariants.{Fill, Drop, Done}
+use Rattle.strand_meaning.specs.Strands.{Frame, Strand, next, next_in, ask_or, started, roots_from, is_evaluable, dropped, IsStrand, IsChain, rest}
+use Rattle.strand_meaning.proofs.Stacks.{drop-top}
+use Rattle.plan_machine.specs.Alone.{IsUnderWay, IsGivingUp, IsDue, points_on, drops, roots_of}
+use Rattle.plan_machine.specs.Shards.{Shard}
+use Rattle.plan_machine.specs.inner.Settle.{IsOpen}
+use Rattle.plan_machine.proofs.Ready.{has-ended}
+use Rattle.plan_machine.proofs.Settle.{begins-query}
+use Rattle.plan_machine.proofs.Underway.{contains-none, children-covered, roots-covered, evaluable-is}
+use Rattle.plan_machine.proofs.GivingUp.{goes-dropped, refused-last, gone-last, refused-filled, differ-left}
+use Rattle.plan_core.specs.Parts.{shards_in}
+use Rattle.demand_points.specs.Demands.{Demand, IsLastHeard, IsKnownStrand, roots_left}
+use Rattle.memo_shards.specs.KeptShards.{KeptShard}
+use Rattle.memo_shards.specs.Ends.{DropsIt}
+use Rattle.asked_cells.specs.Memos.{AreFreeShards, at_time, entries_of}
+use Rattle.session_meaning.specs.StuckSignals.{NoneIsFree, IsCoveredBy}
+use Rattle.stuck_faults.specs.declared.both.Question.{Question}
+use Rattle.stuck_faults.specs.inner.Both.{site_in, circuit_of, start_at, nothing, AreAllFed, Rests, IsRefused, Asks, GivesUp}
+use Rattle.stuck_faults.proofs.Holding.{Holds, holds-rest, holds-none}
+use Rattle.stuck_faults.proofs.Mirrors.{mirrors-covered, mirrors-all}
+use Rattle.stuck_faults.proofs.Asking.{reached-more, none-claimed}
+
+-- of a query that is open since nothing was recorded, the children of what it filled are covered
+open-covered : (c : Circuit) (q : Query) (es : List Entry) → IsOpen c q [] es → (p : Point) (x : Cell) → Contains es (Filled q.number p x) → All (IsCovered c es) (children c p.signal p.time)
+open-covered c q es o p x h = elim (o.grows.only (Filled q.number p x) h) [ inl l ↦ absurd (contains-none (Filled q.number p x) [] refl l) | inr r ↦ o.fed p x r ]
+
+-- an evaluable time is a root that is left
+some-root : (d : Circuit) (q : Query) (time : ℕ) → IsEvaluable d q.signal time → roots_left d (record { signal = q.signal; start = time; stop = time + 1 }) time ≡ [] → ⊥
+unfolding roots_from
+some-root d q time e is =
+    let one : time + 1 - time ≡ 1 = omega arith in
+    let low : nat_lt time (time + 1) ≡ true = lt-ltb time (time + 1) (omega arith) in
+    let ev : is_evaluable d (at_time q time) ≡ true = evaluable-is time (driver d q.signal) e in
+    let there : roots_left d (record { signal = q.signal; start = time; stop = time + 1 }) time ≡ at_time q time ∷ [] = rw (one, low, ev) refl in
+    cc (there, is)
+
+module _ (b : Batch) (opening : ℕ → List SignalCell) (question : Question) where
+  abbrev q : Query
+  q = question.query
+
+  abbrev c : Circuit
+  c = b.circuit
+
+  abbrev d : Circuit
+  d = circuit_of b question
+
+  abbrev site : Site
+  site = site_in question
+
+  -- what was evaluated so far has its children covered
+  pub rests-fed : (ms : List KeptShard) (m : KeptShard) (charge : ℕ) → Rests b opening question ms m charge → AreAllFed c site q (entries_of ms) m.shard.journal
+  rests-fed ms m charge r = record {
+    children = λ p x h. mirrors-all c site (entries_of ms) m.shard.journal r.mirror r.mirrors (children d p.signal p.time) (children-covered d r.mirror p (r.fed q.number p x (r.mirrors.has (Filled q.number p x) h)));
+    free = open-covered c q (entries_of ms) r.stands.state;
+  }
+
+  -- as the question begins
+  pub rests-begin : (ms : List KeptShard) (m : KeptShard) → AreFreeShards b opening ms → entries_of ms ≡ [] → m.number ≡ 0 → m.shard.journal ≡ [] → m.shard.state.claims ≡ [] → Rests b opening question ms m 0
+  rests-begin ms m kept none number empty idle = record {
+    first = shards_in ms;
+    stands = begins-query b opening q [] (shards_in ms) kept.fresh (subst (IsOpen c q []) (sym none) (record {
+      added = [];
+      grows = grows-none [];
+      fed = λ p x h. absurd (contains-none (Filled q.number p x) [] refl h);
+      refusals = refl;
+    }));
+    mirror = [];
+    mirrors = record {
+      fills = λ n. ap (λ l. filled l n) (sym empty);
+      has = λ e h. absurd (contains-none e m.shard.journal empty h);
+      only = λ e h. absurd (contains-none e [] refl h);
+    };
+    fed = λ n p x h. absurd (contains-none (Filled n p x) [] refl h);
+    own = tt;
+    going = tt;
+    number = number;
+    idle = idle;
+    charged = ap (λ l. filled l q.number) empty;
+    few = omega arith;
+    reached = λ n p h. absurd (contains-none _ m.shard.journal empty h);
+  }
+
+  module _ (time : ℕ) where
+    abbrev a : Start
+    a = start_at question time
+
+    -- a strand begins
+    pub asks-begin : (ms : List KeptShard) (m : KeptShard) (charge : ℕ) → Rests b opening question ms m charge → (s : Demand) → s.from ≡ time → s.to ≡ time + 1
+        → s.strand ≡ started d (record { query = q; start = time; stop = time + 1; budget = q.budget; charged = charge }) → Asks b opening question time ms m s
+    asks-begin ms m charge r s from to strand = record {
+      first = r.first;
+      stands = r.stands;
+      mirror = r.mirror;
+      mirrors = r.mirrors;
+      way = subst (IsUnderWay d a r.mirror) (sym strand) (record {
+        query = refl;
+        budget = refl;
+        unspent = refl;
+        charge = let k = r.charged in let l = r.mirrors.fills q.number in omega arith;
+        frames = tt;
+        roots = All-weaker (Contains (started d a).roots) (IsDue r.mirror (started d a).roots) (λ x h. inl h) (started d a).roots (All-contains_itself (started d a).roots);
+        fed = r.fed;
+        own = r.own;
+        going = r.going;
+      });
+      holds = record {
+        held = λ p h. absurd (subst (λ (z : Strand). Rattle.strand_meaning.specs.Strands.IsHeld z.stack p) strand h);
+        holder = λ p n h. absurd (none n (sym (ap (λ z. Rattle.journal_meaning.specs.States.holder z p) r.idle) ∙ h));
+      };
+      number = r.number;
+      reached = r.reached;
+      from = from;
+      to = to;
+    }
+      where
+        none : (n : ℕ) → None ≡ Some n → ⊥
+        none n e = cc
+
+    -- a time is one root
+    one-root : roots_of d a ≡ at_time q time ∷ []
+    unfolding roots_from
+    one-root =
+        let n : a.stop - a.start ≡ 1 = omega arith in
+        let low : nat_lt a.start a.stop ≡ true = lt-ltb a.start a.stop (omega arith) in
+        rw (n, low) refl
+
+    module _ (ms : List KeptShard) (m : KeptShard) (s : Demand) (asks : Asks b opening question time ms m s) (within : s.strand.charged ≤ s.strand.budget) where
+      holding : Holds q.number m.shard.state.claims s.strand.stack
+      holding = record { held = asks.holds.held; holder = asks.holds.holder }
+
+      -- it has heard its root: nothing is claimed, and the time is covered
+      module _ (done : next s.strand ≡ Done) where
+        pub ends-rest : Rests b opening question ms m s.strand.charged
+        ends-rest =
+            let ended = has-ended s.strand done in
+            let empty : length s.strand.stack ≡ 0 = ap length ended.empty in
+            record {
+              first = asks.first;
+              stands = asks.stands;
+              mirror = asks.mirror;
+              mirrors = asks.mirrors;
+              fed = asks.way.fed;
+              own = asks.way.own;
+              going = asks.way.going;
+              number = asks.number;
+              idle = holds-none q.number m.shard.state.claims s.strand.stack holding ended.empty;
+              charged = let k = asks.way.charge in let l = asks.mirrors.fills q.number in omega arith;
+              few = let k = asks.way.budget in omega arith;
+              reached = asks.reached;
+            }
+
+        no-roots : s.strand.roots ≡ []
+        no-roots = elim (has-ended s.strand done).cause [ inl spent ↦ absurd (true≢false (sym spent ∙ asks.way.unspent)) | inr none ↦ none ]
+
+        pub ends-covered : IsCoveredBy c site (entries_of ms) m.shard.journal (at_time q time)
+        ends-covered = mirrors-covered c site (entries_of ms) m.shard.journal asks.mirror asks.mirrors (at_time q time)
+            (recursion_from_All (IsCovered d asks.mirror) (at_time q time ∷ []) (subst (All (IsCovered d asks.mirror)) one-root (roots-covered d a asks.mirror s.strand asks.way no-roots))).0
+
+        -- and the cell that it heard last is that of the time
+        pub ends-heard : (e : IsEvaluable d q.signal time) → (h : Batch) → h.circuit ≡ d → IsKnownStrand h s → s.last ≡ None → ⊥
+        ends-heard e h same knows none = by s.last none knows.last
+          where
+            left : s.root ≡ s.from → ⊥
+            left start =
+                let roots : roots_left h.circuit (record { signal = s.strand.query.signal; start = s.from; stop = s.to }) s.root ≡ [] = sym knows.roots ∙ no-roots in
+                let at : roots_left d (record { signal = q.signal; start = time; stop = time + 1 }) time ≡ [] =
+                sym (here start) ∙ roots in
+                some-root d q time e at
+              where
+                here : s.root ≡ s.from → roots_left h.circuit (record { signal = s.strand.query.signal; start = s.from; stop = s.to }) s.root ≡ roots_left d (record { signal = q.signal; start = time; stop = time + 1 }) time
+                here start =
+                    ap (λ (z : Circuit). roots_left z (record { signal = s.strand.query.signal; start = s.from; stop = s.to }) s.root) same
+                    ∙ ap (λ (z : Query). roots_left d (record { signal = z.signal; start = s.from; stop = s.to }) s.root) asks.way.query
+                    ∙ ap (λ n. roots_left d (record { signal = q.signal; start = n; stop = s.to }) s.root) asks.from
+                    ∙ ap (λ n. roots_left d (record { signal = q.signal; start = time; stop = n }) s.root) asks.to
+                    ∙ ap (λ n. roots_left d (record { signal = q.signal; start = time; stop = time + 1 }) n) (start ∙ asks.from)
+
+            by : (o : Option Cell) → o ≡ None → MatchOption o (s.root ≡ s.from) (IsLastHeard h.circuit s.strand.query s.from s.to s.root) → ⊥
+            by None k m = left m
+            by (Some x) k m = absurd cc
+
+    -- a spent strand drops its top
+    module _ (ms : List KeptShard) (m : KeptShard) (s : Demand) (gives : GivesUp b question time ms m s) where
+      held : Holds q.number m.shard.state.claims s.strand.stack
+      held = record { held = gives.holds.held; holder = gives.holds.holder }
+
+      number : s.strand.query.number ≡ q.number
+      number = ap (λ (z : Query). z.number) gives.query
+
+      pub drops-on : IsCircuit d → IsChain d s.strand.roots s.strand.stack → (new : KeptShard) (t : Demand) (woken : List Demand) (p : Point) → next s.strand ≡ Drop p → DropsIt m new p s t woken → GivesUp b question time ms new t
+      drops-on ok chain new t woken p e f =
+          let entry = Dropped s.strand.query.number p in
+          let top = drop-top s.strand p e in
+          let journal : new.shard.journal ≡ m.shard.journal ++ entry ∷ [] = ap (λ (z : Shard). z.journal) f.shard in
+          let claims : new.shard.state.claims ≡ without_point m.shard.state.claims p = ap (λ (z : Shard). z.state.claims) f.shard in
+          let h : Holds q.number new.shard.state.claims t.strand.stack =
+          subst (λ (z : Strand). Holds q.number new.shard.state.claims z.stack) (sym f.strand.strand)
+          (subst (λ z. Holds q.number z (rest s.strand.stack)) (sym claims) (holds-rest q.number m.shard.state.claims s.strand.stack held d ok s.strand.roots p chain top)) in
+          record {
+            holds = record { held = h.held; holder = h.holder };
+            query = ap (λ (z : Strand). z.query) f.strand.strand ∙ gives.query;
+            number = f.number ∙ gives.number;
+            reached = subst (NoneIsFree c site) (sym journal) (reached-more c site m.shard.journal (entry ∷ []) gives.reached (none-claimed c site (entry ∷ []) (tt, tt)));
+            spent = ap (λ (z : Strand). z.spent) f.strand.strand ∙ gives.spent;
+            to = f.strand.to ∙ gives.to;
+            cause = elim gives.cause [
+              | inl k ↦ inl k
+              | inr g ↦ inr (
+                g.0,
+                subst (λ es. IsGivingUp nothing a g.0 es t.strand) (sym (journal ∙ ap (λ n. m.shard.journal ++ Dropped n p ∷ []) number))
+                    (subst (λ (z : Strand). IsGivingUp nothing a g.0 (m.shard.journal ++ Dropped q.number p ∷ []) z) (sym f.strand.strand) (goes-dropped nothing a g.0 m.shard.journal s.strand p top g.1)),
+              )
+            ];
+          }
+
+      -- until it holds nothing
+      pub drops-end : s.strand.stack ≡ [] → IsRefused b question ms m
+      drops-end empty = record {
+        number = gives.number;
+        idle = holds-none q.number m.shard.state.claims s.strand.stack held empty;
+        reached = gives.reached;
+        cause = elim gives.cause [ inl k ↦ inl k | inr g ↦ inr (spent g.0 g.1) ];
+      }
+        where
+          spent : (p : Point) → IsGivingUp nothing a p m.shard.journal s.strand → IsSpent m.shard.journal q
+          spent p g =
+              let n = q.number in
+              let stack : length s.strand.stack ≡ 0 = ap length empty in
+              let count : length g.gone + length s.strand.stack ≡ length g.gone = omega arith in
+              let same : m.shard.journal ≡ g.before ++ Spent n p (length g.gone) ∷ drops n g.gone = g.added_is ∙ ap (λ k. g.before ++ Spent n p k ∷ drops n g.gone) count in
+              let apart = pairs_from (p ∷ g.gone ++ points_on s.strand.stack) g.different in
+              record {
+                point = p;
+                held = length g.gone;
+                last = ap (λ l. last_of l n p) same ∙ refused-last n g.before p (length g.gone) g.gone (each-left (λ y. p ≢ y) g.gone (points_on s.strand.stack) apart.0);
+                given_up = g.gone;
+                different = pairs_to g.gone (differ-left g.gone (points_on s.strand.stack) apart.1);
+                dropped = All-weaker (Contains g.gone) (λ x. last_of m.shard.journal n x ≡ Some (Dropped n x))
+                    (λ x h. ap (λ l. last_of l n x) same ∙ gone-last n g.before p (length g.gone) g.gone x h) g.gone (All-contains_itself g.gone);
+                enough = omega arith;
+                budget =
+                    let k = g.account in
+                    let l = refused-filled n g.before p (length g.gone) g.gone in
+                    let e : filled m.shard.journal n ≡ filled (g.before ++ Spent n p (length g.gone) ∷ drops n g.gone) n = ap (λ z. filled z n) same in
+                    omega arith;
+              }
+
+-- a spent strand does not fill
+pub fills-unspent : (s : Strand) (p : Point) → next s ≡ Fill p → s.spent ≡ false
+fills-unspent s p h = by s.spent s.roots s.stack h
+  where
+    by : (spent : Bool) (roots : List Point) (st : List Frame) → next_in spent roots st ≡ Fill p → spent ≡ false
+    by true roots [] k = absurd cc
+    by true roots (f ∷ fs) k = absurd cc
+    by false roots st k = refl

@@ -1,0 +1,185 @@
+-- The steps of a strand over the batch that the memo of its own names.
+use Rattle.std.proofs.Common.{◌≡◌, ℕ, Bool, ◌+◌, ◌≤◌, true, false, List, [], ◌∷◌, ◌++◌, length, Contains, refl, sym, ap, subst, ◌∙◌, arith, inl, inr, Option, Some, None, IsSome, append_assoc, true≢false, Result, Ok, Err, OnOk}
+use Rattle.std.proofs.lemmas.List.Elements.{Contains-append_left}
+use Rattle.valid_intervals.specs.declared.Point.{Point}
+use Rattle.valid_intervals.specs.declared.SignalCell.{SignalCell}
+use Rattle.valid_intervals.specs.Cells.{cell_for}
+use Rattle.circuit_meaning.specs.Circuit.{Circuit}
+use Rattle.circuit_meaning.specs.Cells.{cell_at}
+use Rattle.circuit_meaning.specs.Forced.{IsFree}
+use Rattle.circuit_meaning.specs.Need.{IsEvaluable}
+use Rattle.batch_meaning.specs.declared.Query.{Query}
+use Rattle.batch_meaning.specs.Batches.{Batch, Site}
+use Rattle.batch_meaning.specs.Pieces.{IsStart}
+use Rattle.journal_meaning.specs.declared.Entry.{Entry}
+use Rattle.journal_meaning.specs.declared.Entry.TheVariants.{Filled, Spent}
+use Rattle.journal_meaning.specs.Answers.{IsCovered}
+use Rattle.journal_meaning.specs.Grown.{IsSaid}
+use Rattle.journal_meaning.specs.States.{holder}
+use Rattle.strand_meaning.specs.declared.Next.TheVariants.{Ask, Fill}
+use Rattle.strand_meaning.specs.Strands.{Strand, next, heard, given_up, IsHeld, IsStrand, IsChain}
+use Rattle.strand_meaning.proofs.Stacks.{asks-first, earlier}
+use Rattle.plan_machine.specs.Alone.{IsUnderWay, IsGivingUp}
+use Rattle.plan_machine.specs.Shards.{Shard, recorded}
+use Rattle.plan_machine.specs.Journals.{evictions_for}
+use Rattle.plan_machine.specs.Settle.{child_start, charge_of, sub_query}
+use Rattle.plan_machine.specs.inner.Settle.{IsStanding, IsAskedFor}
+use Rattle.plan_machine.proofs.Journals.{room-journal}
+use Rattle.plan_machine.proofs.Settle.{child-start, child-asked}
+use Rattle.plan_core.specs.Parts.{shards_in}
+use Rattle.demand_points.specs.Demands.{Demand, TakesStep, IsKnownStrand, itself}
+use Rattle.memo_shards.specs.KeptShards.{KeptShard}
+use Rattle.memo_shards.specs.Asks.{Tells, ClaimsIt, WaitsThere, Refuses}
+use Rattle.memo_shards.specs.Ends.{with_shard, FillsIt}
+use Rattle.asked_cells.specs.Asked.{HasAsked}
+use Rattle.asked_cells.specs.Memos.{entries_of, asked_at}
+use Rattle.asked_cells.specs.inner.Standings.{standing}
+use Rattle.asked_cells.proofs.Asked.{reaches, root-covered}
+use Rattle.session_meaning.specs.StuckSignals.{held_batch}
+use Rattle.stuck_faults.specs.declared.both.Question.{Question}
+use Rattle.stuck_faults.specs.inner.Both.{IsAsked, Asks, GivesUp, AreKept, site_in, circuit_of, start_at, nothing}
+use Rattle.stuck_faults.specs.inner.Turns.{AsksOn, IsNotFree}
+use Rattle.stuck_faults.proofs.Asking.{tells-on, claims-on, spends-on, fills-on, hears-on, refuses-on}
+use Rattle.stuck_faults.proofs.Lawful.{IsAskedOf, asked-of, free-cell, free-evaluable, free-needed}
+use Rattle.stuck_faults.proofs.Held.{asked-one, held-lawful}
+
+module _ (b h : Batch) (opening : ℕ → List SignalCell) (question : Question) (cd dd : Circuit) (flags : List Bool) (asked : IsAsked b h question cd dd flags)
+    (time : ℕ) (ms : List KeptShard) (m : KeptShard) (s : Demand) (asks : Asks b opening question time ms m s) (knows : IsKnownStrand h s) where
+  abbrev q : Query
+  q = question.query
+
+  abbrev site : Site
+  site = site_in question
+
+  abbrev own : Batch
+  own = held_batch b.circuit site q
+
+  is : IsStrand own s.strand
+  is = subst (λ z. IsStrand z s.strand) asked.own_is (knows.strand (let k = asks.to in omega arith))
+
+  -- the batch of the shard is that of its definition
+  over : (new_ms : List KeptShard) (new : KeptShard) (t : Demand) → AsksOn b opening own question time new_ms new s t → AsksOn b opening h question time new_ms new s t
+  over new_ms new t k = subst (λ z. AsksOn b opening z question time new_ms new s t) (sym asked.own_is) k
+
+  pub turn-told : (new : KeptShard) (t : Demand) (p : Point) → next s.strand ≡ Ask p → Tells m new p s t → AsksOn b opening h question time ms new s t
+  turn-told new t p e f = over ms new t (tells-on b opening question time asked.lawful asked.queries ms m s asks is new t p e f)
+
+  pub turn-claimed : (new : KeptShard) (t : Demand) (p : Point) → next s.strand ≡ Ask p → IsNotFree b question p → ClaimsIt h m new p s t → AsksOn b opening h question time ms new s t
+  turn-claimed new t p e away f = over ms new t (claims-on b opening question time asked.lawful asked.queries ms m s asks is new t p e away (subst (λ z. ClaimsIt z m new p s t) asked.own_is f))
+
+  -- what it asks for is not claimed, so it never waits
+  pub turn-never : (new : KeptShard) (p : Point) → next s.strand ≡ Ask p → WaitsThere m new p s → ⊥
+  turn-never new p e f = by (holder m.shard.state.claims p) refl f.claimed
+    where
+      by : (o : Option ℕ) → holder m.shard.state.claims p ≡ o → IsSome o → ⊥
+      by None k h = true≢false (sym h)
+      by (Some n) k h =
+          let d = (held-lawful b asked.lawful q asked.queries site).circuit in
+          let later = earlier (circuit_of b question) d s.strand.roots s.strand.stack p p is.chain (asks-first s.strand p e) (asks.holds.holder p n k) in
+          omega arith
+
+  pub turn-spent : (mid new : KeptShard) (t : Demand) (p : Point) → next s.strand ≡ Ask p → Refuses m mid p s t
+      → new ≡ with_shard mid (recorded (Spent t.strand.query.number p (length t.strand.stack)) mid.shard) → GivesUp b question time ms new t
+  turn-spent mid new t p e f shard =
+      spends-on b opening question time asked.lawful asked.queries ms m s asks is new t p e (subst (λ z. Refuses m z p s t) f.shard f)
+      (subst (λ z. new ≡ with_shard z (recorded (Spent t.strand.query.number p (length t.strand.stack)) z.shard)) f.shard shard)
+
+  pub turn-filled : (new : KeptShard) (t : Demand) (woken : List Demand) (p : Point) → next s.strand ≡ Fill p → FillsIt h m new p s t woken → AsksOn b opening h question time ms new s t
+  turn-filled new t woken p e f = over ms new t (fills-on b opening question time asked.lawful asked.queries ms m s asks is new t woken p e (subst (λ z. FillsIt z m new p s t woken) asked.own_is f))
+
+  -- what it asks for
+  pub turn-asks : (p : Point) → next s.strand ≡ Ask p → IsAskedOf b asked.lawful site q asked.queries p
+  turn-asks p e = asked-of b asked.lawful site q asked.queries s.strand p is e
+
+  -- a free point is asked of the session's memo
+  module _ (p : Point) (e : next s.strand ≡ Ask p) (free : IsFree b.circuit question.site p.signal) (charge : ℕ) (counts : charge ≡ charge_of (entries_of ms) q) where
+    pub turn-starts : charge ≤ q.budget → IsEvaluable b.circuit p.signal p.time → IsStart b (child_start q p charge)
+    turn-starts few evaluable =
+        child-start b asked.lawful q (asked-one b asked.lawful q asked.queries) p
+        (free-needed b asked.lawful site q asked.queries p free asked.site (turn-asks p e).needed) evaluable charge few
+
+    pub turn-cell : cell_at h.circuit p ≡ cell_at b.circuit p
+    turn-cell = ap (λ (z : Batch). cell_at z.circuit p) asked.own_is ∙ free-cell b asked.lawful site q asked.queries p free
+
+    for : IsAskedFor q (entries_of ms) p (child_start q p charge)
+    for = subst (λ n. IsAskedFor q (entries_of ms) p (child_start q p n)) (sym counts) (child-asked q (entries_of ms) p)
+
+    module _ (new : List KeptShard) (r : Bool) (has : HasAsked b opening (asked_at (sub_query q p) p.time charge) (shards_in ms) (shards_in new) r) where
+      after : IsStanding b opening q [] asks.first (standing new r)
+      after = (reaches b asked.lawful opening q [] asks.first ms new (sub_query q p) p.time charge r asks.stands for has).0.stands
+
+      pub turn-kept : AreKept (entries_of ms) (entries_of new)
+      turn-kept = has.journals.together.kept
+
+      pub turn-heard : r ≡ false → (t : Demand) → TakesStep heard s t → AsksOn b opening h question time new m s t
+      turn-heard lacks t f =
+          let whole = subst (HasAsked b opening (asked_at (sub_query q p) p.time charge) (shards_in ms) (shards_in new)) lacks has in
+          over new m t (hears-on b opening question time asked.lawful asked.queries ms m s asks is new asks.first (subst (λ z. IsStanding b opening q [] asks.first (standing new z)) lacks after) turn-kept t p e free
+          (said (root-covered b opening (sub_query q p) p.time charge (shards_in ms) (shards_in new) whole)) f)
+        where
+          said : IsCovered b.circuit (entries_of new) p → IsSaid (entries_of new) p
+          said (inl never) = absurd (never (free-evaluable b asked.lawful site q asked.queries p free (turn-asks p e).evaluable))
+          said (inr k) = k
+
+      pub turn-refused : r ≡ true → (t : Demand) → TakesStep given_up s t → GivesUp b question time new m t
+      turn-refused lacks t f =
+          refuses-on b opening question time asked.lawful asked.queries ms m s asks is new t
+          (subst (λ z. IsStanding b opening q [] asks.first (standing new z)) lacks after).state.0 f
+
+-- entries that come after others keep them
+pub kept-by : (old new more : List Entry) → new ≡ old ++ more → AreKept old new
+kept-by old new more is e h = subst (λ z. Contains z e) (sym is) (Contains-append_left old more e h)
+
+-- a fill keeps the entries before it
+pub fill-kept : (h : Batch) (m new : KeptShard) (s t : Demand) (woken : List Demand) (p : Point) → FillsIt h m new p s t woken → AreKept m.shard.journal new.shard.journal
+fill-kept h m new s t woken p f =
+    let x = cell_at h.circuit p in
+    let entry = Filled s.strand.query.number p x in
+    kept-by m.shard.journal new.shard.journal (evictions_for h.capacity (cell_for p x) m.shard ++ entry ∷ [])
+    (ap (λ (z : Shard). z.journal) f.shard ∙ ap (λ l. l ++ entry ∷ []) (room-journal h.capacity (cell_for p x) m.shard) ∙ append_assoc m.shard.journal (evictions_for h.capacity (cell_for p x) m.shard) (entry ∷ []))
+
+-- base answers that are heard change nothing that is seen
+pub asks-same : (b : Batch) (opening : ℕ → List SignalCell) (question : Question) (time : ℕ) (ms : List KeptShard) (m : KeptShard) (s t : Demand) → TakesStep itself s t → Asks b opening question time ms m s → Asks b opening question time ms m t
+asks-same b opening question time ms m s t f asks = record {
+  first = asks.first;
+  stands = asks.stands;
+  mirror = asks.mirror;
+  mirrors = asks.mirrors;
+  way = subst (IsUnderWay (circuit_of b question) (start_at question time) asks.mirror) (sym f.strand) asks.way;
+  holds = record {
+    held = λ p h. asks.holds.held p (subst (λ (z : Strand). IsHeld z.stack p) f.strand h);
+    holder = λ p n h. subst (λ (z : Strand). IsHeld z.stack p) (sym f.strand) (asks.holds.holder p n h);
+  };
+  number = asks.number;
+  reached = asks.reached;
+  from = f.from ∙ asks.from;
+  to = f.to ∙ asks.to;
+}
+
+pub ok-of : {A E : Type 0} (r : Result A E) (P : Type 0) → P → OnOk r P
+ok-of (Ok x) P p = p
+ok-of (Err e) P p = tt
+
+pub session-kept : (ms new : List KeptShard) → new ≡ ms → AreKept (entries_of ms) (entries_of new)
+session-kept ms new is e h = subst (λ z. Contains (entries_of z) e) (sym is) h
+
+pub gives-same : (b : Batch) (question : Question) (time : ℕ) (ms : List KeptShard) (m : KeptShard) (s t : Demand) → TakesStep itself s t → GivesUp b question time ms m s → GivesUp b question time ms m t
+gives-same b question time ms m s t f gives = record {
+  holds = record {
+    held = λ p h. gives.holds.held p (subst (λ (z : Strand). IsHeld z.stack p) f.strand h);
+    holder = λ p n h. subst (λ (z : Strand). IsHeld z.stack p) (sym f.strand) (gives.holds.holder p n h);
+  };
+  query = ap (λ (z : Strand). z.query) f.strand ∙ gives.query;
+  number = gives.number;
+  reached = gives.reached;
+  spent = ap (λ (z : Strand). z.spent) f.strand ∙ gives.spent;
+  to = f.to ∙ gives.to;
+  cause = elim gives.cause [ inl k ↦ inl k | inr g ↦ inr (g.0, subst (λ (z : Strand). IsGivingUp nothing (start_at question time) g.0 m.shard.journal z) (sym f.strand) g.1) ];
+}
+
+-- what is known of a strand, over the batch of its definition
+pub chain-of : (b h : Batch) (question : Question) (cd dd : Circuit) (flags : List Bool) → IsAsked b h question cd dd flags → (s t : Demand) (time : ℕ) → s.to ≡ time + 1 → IsKnownStrand h s → TakesStep itself s t
+    → IsChain (circuit_of b question) t.strand.roots t.strand.stack
+chain-of b h question cd dd flags asked s t time to knows f =
+    let is : IsStrand (held_batch b.circuit (site_in question) question.query) s.strand = subst (λ z. IsStrand z s.strand) asked.own_is (knows.strand (omega (arith, to))) in
+    subst (λ (z : Strand). IsChain (circuit_of b question) z.roots z.stack) (sym f.strand) is.chain

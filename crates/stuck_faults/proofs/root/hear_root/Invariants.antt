@@ -1,0 +1,15 @@
+use Rattle.plan_machine.specs.Bounds.{turns_left}
+use Rattle.asked_cells.specs.Memos.{IsChargedMemo, entries_of}
+use Rattle.stuck_faults.specs.inner.Both.{Asks, AreKept}
+use Rattle.stuck_faults.proofs.root.hear_root.Given as goal
+
+abbrev pub invariant-turns : goal.invariant-turns
+invariant-turns g l = record {
+  session : IsChargedMemo g.B.BatchName.batch g.B.BatchName.opening l.memos.session l.question.query l.memos.charge;
+  asks : Asks g.B.BatchName.batch g.B.BatchName.opening l.question l.time l.memos.session l.memos.own l.strand;
+  kept_session : AreKept (entries_of l.initial.memos.session) (entries_of l.memos.session);
+  kept_own : AreKept l.initial.memos.own.shard.journal l.memos.own.shard.journal;
+}
+
+abbrev pub decreases-turns : goal.decreases-turns
+decreases-turns g l = turns_left g.H.BatchName.batch 1 l.strand.strand

@@ -1,0 +1,44 @@
+use Rattle.std.proofs.Common.{false, sym, ◌∙◌, arith, true≢false}
+use Rattle.asked_cells.proofs.Lists.{or-at}
+use Rattle.stuck_faults.proofs.Turns.{turn-asks, asks-same, ok-of, session-kept}
+use Rattle.stuck_faults.proofs.turn.take_turn.Goals as goal
+
+pub fill-requires-clause-asks : goal.fill-requires-clause-asks
+fill-requires-clause-asks g c = asks-same g.B.BatchName.batch g.B.BatchName.opening c.args.question c.args.time c.args.memos.now.session c.args.memos.now.own c.args.strand c.next_step.new.self c.next_step.ensures.steps c.requires.asks
+
+pub get-requires : goal.get-requires
+get-requires g c =
+    let asks = asks-same g.B.BatchName.batch g.B.BatchName.opening c.args.question c.args.time c.args.memos.now.session c.args.memos.now.own c.args.strand c.next_step.new.self c.next_step.ensures.steps c.requires.asks in
+    let k = (turn-asks g.B.BatchName.batch g.H.BatchName.batch g.B.BatchName.opening c.args.question c.args.design.now.circuit c.args.held.now.design.circuit c.args.held.now.reached c.requires.asked
+    c.args.time c.args.memos.now.session c.args.memos.now.own c.next_step.new.self asks c.facts.ensures c.in-Ask.p (sym c.next_step.ensures.next ∙ c.in-Ask.is)).signal in
+    let l = c.requires.asked.flags in
+    omega arith
+
+pub ask_own-requires-clause-asks : goal.ask_own-requires-clause-asks
+ask_own-requires-clause-asks g c = asks-same g.B.BatchName.batch g.B.BatchName.opening c.args.question c.args.time c.args.memos.now.session c.args.memos.now.own c.args.strand c.next_step.new.self c.next_step.ensures.steps c.requires.asks
+
+pub ask_own-requires-clause-reached : goal.ask_own-requires-clause-reached
+ask_own-requires-clause-reached g c free =
+    let asks = asks-same g.B.BatchName.batch g.B.BatchName.opening c.args.question c.args.time c.args.memos.now.session c.args.memos.now.own c.args.strand c.next_step.new.self c.next_step.ensures.steps c.requires.asks in
+    let k = (turn-asks g.B.BatchName.batch g.H.BatchName.batch g.B.BatchName.opening c.args.question c.args.design.now.circuit c.args.held.now.design.circuit c.args.held.now.reached c.requires.asked
+    c.args.time c.args.memos.now.session c.args.memos.now.own c.next_step.new.self asks c.facts.ensures c.in-Ask.p (sym c.next_step.ensures.next ∙ c.in-Ask.is)).signal in
+    free ((c.requires.asked.reads c.in-Ask.p.signal k).0 (or-at c.args.held.now.reached c.in-Ask.p.signal c.get.result false c.get.ensures ∙ c.if-get.true))
+
+pub ask_session-requires-clause-asks : goal.ask_session-requires-clause-asks
+ask_session-requires-clause-asks g c = asks-same g.B.BatchName.batch g.B.BatchName.opening c.args.question c.args.time c.args.memos.now.session c.args.memos.now.own c.args.strand c.next_step.new.self c.next_step.ensures.steps c.requires.asks
+
+pub ask_session-requires-clause-free : goal.ask_session-requires-clause-free
+ask_session-requires-clause-free g c cone =
+    let asks = asks-same g.B.BatchName.batch g.B.BatchName.opening c.args.question c.args.time c.args.memos.now.session c.args.memos.now.own c.args.strand c.next_step.new.self c.next_step.ensures.steps c.requires.asks in
+    let k = (turn-asks g.B.BatchName.batch g.H.BatchName.batch g.B.BatchName.opening c.args.question c.args.design.now.circuit c.args.held.now.design.circuit c.args.held.now.reached c.requires.asked
+    c.args.time c.args.memos.now.session c.args.memos.now.own c.next_step.new.self asks c.facts.ensures c.in-Ask.p (sym c.next_step.ensures.next ∙ c.in-Ask.is)).signal in
+    true≢false (sym ((c.requires.asked.reads c.in-Ask.p.signal k).1 cone) ∙ or-at c.args.held.now.reached c.in-Ask.p.signal c.get.result false c.get.ensures ∙ c.if-get.false)
+
+pub returns-in-Done-clause-turn : goal.returns-in-Done-clause-turn
+returns-in-Done-clause-turn g c = record {
+  asks = asks-same g.B.BatchName.batch g.B.BatchName.opening c.args.question c.args.time c.args.memos.now.session c.args.memos.now.own c.args.strand c.next_step.new.self c.next_step.ensures.steps c.requires.asks;
+  done = sym c.next_step.ensures.next ∙ c.in-Done.is;
+}
+
+pub returns-then-get-clause-kept_session : goal.returns-then-get-clause-kept_session
+returns-then-get-clause-kept_session g c = ok-of c.ask_own.result _ (session-kept c.args.memos.now.session c.ask_own.new.memos.session c.ask_own.ensures.session)

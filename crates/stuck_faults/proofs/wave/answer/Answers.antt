@@ -1,0 +1,28 @@
+use Rattle.std.proofs.Common.{List, sym, ap, subst}
+use Rattle.journal_meaning.specs.declared.Entry.{Entry}
+use Rattle.batch_meaning.specs.Lawful.{IsLawful}
+use Rattle.session_meaning.specs.StuckSignals.{IsHeldJournal}
+use Rattle.stuck_faults.specs.inner.Both.{site_in}
+use Rattle.memo_shards.specs.KeptShards.{KeptShard}
+use Rattle.stuck_faults.proofs.Held.{held-lawful, ends-held}
+use Rattle.stuck_faults.proofs.Resting.{rests-begin}
+use Rattle.stuck_faults.proofs.wave.answer.Goals as goal
+
+pub begin-requires-clause-lawful : goal.begin-requires-clause-lawful
+begin-requires-clause-lawful g c =
+    let asked = c.requires.asked in
+    subst IsLawful (sym asked.own_is) (held-lawful g.B.BatchName.batch asked.lawful c.args.question.query asked.queries (site_in c.args.question))
+
+pub returns-clause-held : goal.returns-clause-held
+returns-clause-held g c =
+    let circuit = g.B.BatchName.batch.circuit in
+    let site = site_in c.args.question in
+    let q = c.args.question.query in
+    let left = c.in_ok-answer.ensures in
+    subst (λ (own : List Entry). IsHeldJournal circuit site q own) (sym c.end_batch-journal.ensures.journal)
+    (ends-held circuit site q g.H.BatchName.batch g.H.BatchName.opening c.walk.new.memos.own c.requires.asked.own_is c.requires.opening c.facts.ensures left.number left.idle left.reached)
+
+pub walk-requires-clause-rests : goal.walk-requires-clause-rests
+walk-requires-clause-rests g c =
+    rests-begin g.B.BatchName.batch g.B.BatchName.opening c.args.question c.args.session c.begin.result c.requires.session c.requires.unused
+    (ap (λ (m : KeptShard). m.number) c.begin.ensures) (ap (λ (m : KeptShard). m.shard.journal) c.begin.ensures) (ap (λ (m : KeptShard). m.shard.state.claims) c.begin.ensures)

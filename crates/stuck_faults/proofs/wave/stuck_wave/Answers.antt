@@ -1,0 +1,6 @@
+use Rattle.asked_cells.proofs.Unused.{unused-freed}
+use Rattle.stuck_faults.proofs.wave.stuck_wave.Goals as goal
+
+pub answer-requires-clause-unused : goal.answer-requires-clause-unused
+answer-requires-clause-unused g c =
+    unused-freed g.B.BatchName.batch g.B.BatchName.opening c.args.shards.items c.in_ok-session.session c.in_ok-session.ensures.shards c.in_ok-session.ensures.freed c.requires.unused

@@ -1,0 +1,15 @@
+use Rattle.std.proofs.Common.{◌-◌}
+use Rattle.asked_cells.specs.Memos.{IsChargedMemo, entries_of}
+use Rattle.stuck_faults.specs.inner.Both.{Rests}
+use Rattle.stuck_faults.proofs.Walks.{IsWalking}
+use Rattle.stuck_faults.proofs.wave.walk.Given as goal
+
+abbrev pub invariant-cells : goal.invariant-cells
+invariant-cells g l = record {
+  session : IsChargedMemo g.B.BatchName.batch g.B.BatchName.opening l.memos.session l.question.query l.memos.charge;
+  rests : Rests g.B.BatchName.batch g.B.BatchName.opening l.question l.memos.session l.memos.own l.memos.filled;
+  walking : IsWalking g.B.BatchName.batch.circuit l.question (entries_of l.memos.session) l.memos.own.shard.journal l.walk;
+}
+
+abbrev pub decreases-cells : goal.decreases-cells
+decreases-cells g l = l.question.query.to - l.walk.time

@@ -1,0 +1,126 @@
+-- A question asked of two memos: what is the same throughout it, and what stands between two of its times.
+use Rattle.std.specs.Prelude.{◌≡◌, ◌⊎◌, ◌↔◌, ℕ, ◌+◌, ◌≤◌, ◌<◌, Bool, true, false, IsTrue, List, [], ◌∷◌, length, All, Contains, Some}
+use Rattle.std.specs.List.{AllByRecursion, slice_index_or}
+use Rattle.valid_intervals.specs.declared.Cell.{Cell}
+use Rattle.valid_intervals.specs.declared.Point.{Point}
+use Rattle.valid_intervals.specs.declared.SignalCell.{SignalCell}
+use Rattle.circuit_meaning.specs.Circuit.{Circuit}
+use Rattle.circuit_meaning.specs.Forced.{IsFree}
+use Rattle.circuit_meaning.specs.Need.{children, IsInCone}
+use Rattle.batch_meaning.specs.declared.Query.{Query}
+use Rattle.batch_meaning.specs.Batches.{Batch, Site}
+use Rattle.batch_meaning.specs.Lawful.{IsLawful}
+use Rattle.batch_meaning.specs.Pieces.{Start}
+use Rattle.journal_meaning.specs.declared.Entry.{Entry}
+use Rattle.journal_meaning.specs.declared.Entry.TheVariants.{Told, Filled}
+use Rattle.journal_meaning.specs.Answers.{ChildrenCovered, IsSpent, filled}
+use Rattle.journal_meaning.specs.Grown.{IsSaid, IsFor}
+use Rattle.journal_meaning.specs.States.{holder}
+use Rattle.strand_meaning.specs.Strands.{IsHeld}
+use Rattle.plan_machine.specs.Shards.{Shard}
+use Rattle.plan_machine.specs.Alone.{AreFed, IsUnspent, IsUnderWay, IsGivingUp}
+use Rattle.plan_machine.specs.inner.Settle.{IsStanding}
+use Rattle.demand_points.specs.Demands.{Demand}
+use Rattle.memo_shards.specs.KeptShards.{KeptShard}
+use Rattle.session_meaning.specs.StuckSignals.{stuck_circuit, held_batch, IsCoveredBy, NoneIsFree}
+use Rattle.asked_cells.specs.Memos.{entries_of}
+use Rattle.asked_cells.specs.inner.Standings.{live}
+use Rattle.stuck_faults.specs.declared.both.Question.{Question}
+
+abbrev pub site_in : Question → Site
+site_in question = record { signal = question.site; value = question.value }
+
+-- the circuit in which the site of the question is stuck
+abbrev pub circuit_of : Batch → Question → Circuit
+circuit_of b question = stuck_circuit b.circuit (site_in question)
+
+-- The batch of the session's memo and that of the memo of its own, the circuit and the one in which the site is stuck, and the flags of
+-- the signals that are not free.
+pub record IsAsked (b own : Batch) (question : Question) (c d : Circuit) (reached : List Bool) : Type 0 where
+  pub lawful : IsLawful b
+  pub circuit : c ≡ b.circuit
+  pub stuck : d ≡ circuit_of b question
+  pub site : b.site ≡ Some (site_in question)
+  pub signal : question.site < length b.circuit.drivers
+  pub queries : b.queries ≡ question.query ∷ []
+  pub own_is : own ≡ held_batch b.circuit (site_in question) question.query
+  pub flags : length reached ≡ length b.circuit.drivers
+  pub reads : (x : ℕ) → x < length b.circuit.drivers → IsTrue (slice_index_or reached x false) ↔ IsInCone b.circuit x question.site
+
+-- an entry that stands for a cell heard from the session's memo, at this one time
+abbrev pub IsHeardThere : Circuit → Site → List Entry → Entry → Type 0
+IsHeardThere c site es (Told q p x) = IsFree c site.signal p.signal × IsSaid es p × (x.span.start ≡ p.time) × (x.span.stop ≡ p.time + 1)
+IsHeardThere c site es e = ⊥
+
+-- The entries of the memo of its own, and among them one for each cell that was heard from the session's memo.
+pub record Mirrors (c : Circuit) (site : Site) (es own mirror : List Entry) : Type 0 where
+  pub fills : (q : ℕ) → filled mirror q ≡ filled own q
+  pub has : (e : Entry) → Contains own e → Contains mirror e
+  pub only : (e : Entry) → Contains mirror e → Contains own e ⊎ IsHeardThere c site es e
+
+-- what was evaluated in either memo has its children covered
+pub record AreAllFed (c : Circuit) (site : Site) (q : Query) (es own : List Entry) : Type 0 where
+  pub children : (p : Point) (x : Cell) → Contains own (Filled q.number p x) → All (IsCoveredBy c site es own) (children (stuck_circuit c site) p.signal p.time)
+  pub free : ChildrenCovered c es q.number
+
+-- Between two times: nothing is claimed in the memo of its own, no budget was spent, and it has filled so many points.
+pub record Rests (b : Batch) (opening : ℕ → List SignalCell) (question : Question) (ms : List KeptShard) (m : KeptShard) (charge : ℕ) : Type 0 where
+  pub first : List Shard
+  pub stands : IsStanding b opening question.query [] first (live ms)
+  pub mirror : List Entry
+  pub mirrors : Mirrors b.circuit (site_in question) (entries_of ms) m.shard.journal mirror
+  pub fed : AreFed (circuit_of b question) mirror
+  pub own : AllByRecursion (IsFor question.query.number) mirror
+  pub going : AllByRecursion IsUnspent mirror
+  pub number : m.number ≡ 0
+  pub idle : m.shard.state.claims ≡ []
+  pub charged : filled m.shard.journal question.query.number ≡ charge
+  pub few : charge ≤ question.query.budget
+  pub reached : NoneIsFree b.circuit (site_in question) m.shard.journal
+
+-- it was refused: nothing is claimed any more, and one of the two memos holds the cause
+pub record IsRefused (b : Batch) (question : Question) (ms : List KeptShard) (m : KeptShard) : Type 0 where
+  pub number : m.number ≡ 0
+  pub idle : m.shard.state.claims ≡ []
+  pub reached : NoneIsFree b.circuit (site_in question) m.shard.journal
+  pub cause : IsSpent (entries_of ms) question.query ⊎ IsSpent m.shard.journal question.query
+
+-- what is claimed is what the strand holds
+pub record HoldsAll (question : Question) (m : KeptShard) (s : Demand) : Type 0 where
+  pub held : (p : Point) → IsHeld s.strand.stack p → holder m.shard.state.claims p ≡ Some question.query.number
+  pub holder : (p : Point) (q : ℕ) → holder m.shard.state.claims p ≡ Some q → IsHeld s.strand.stack p
+
+-- a strand of the question for this one time
+abbrev pub start_at : Question → ℕ → Start
+start_at question time = record { query = question.query; start = time; stop = time + 1; budget = question.query.budget; charged = 0 }
+
+-- While a strand asks for one time, the entries before it counted as its own.
+pub record Asks (b : Batch) (opening : ℕ → List SignalCell) (question : Question) (time : ℕ) (ms : List KeptShard) (m : KeptShard) (s : Demand) : Type 0 where
+  pub first : List Shard
+  pub stands : IsStanding b opening question.query [] first (live ms)
+  pub mirror : List Entry
+  pub mirrors : Mirrors b.circuit (site_in question) (entries_of ms) m.shard.journal mirror
+  pub way : IsUnderWay (circuit_of b question) (start_at question time) mirror s.strand
+  pub holds : HoldsAll question m s
+  pub number : m.number ≡ 0
+  pub reached : NoneIsFree b.circuit (site_in question) m.shard.journal
+  pub from : s.from ≡ time
+  pub to : s.to ≡ time + 1
+
+-- a circuit without signals, in which nothing comes from anything
+abbrev pub nothing : Circuit
+nothing = record { horizon = 0; drivers = [] }
+
+-- It was refused, and holds claims still.
+pub record GivesUp (b : Batch) (question : Question) (time : ℕ) (ms : List KeptShard) (m : KeptShard) (s : Demand) : Type 0 where
+  pub holds : HoldsAll question m s
+  pub query : s.strand.query ≡ question.query
+  pub number : m.number ≡ 0
+  pub reached : NoneIsFree b.circuit (site_in question) m.shard.journal
+  pub spent : s.strand.spent ≡ true
+  pub to : s.to ≡ time + 1
+  pub cause : IsSpent (entries_of ms) question.query ⊎ ((p : Point) × IsGivingUp nothing (start_at question time) p m.shard.journal s.strand)
+
+-- the entries are kept
+abbrev pub AreKept : List Entry → List Entry → Type 0
+AreKept old new = (e : Entry) → Contains old e → Contains new e

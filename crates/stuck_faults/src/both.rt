@@ -1,0 +1,34 @@
+//! What a question asks, and the two memos of which it asks it.
+
+use asked_cells::Memo;
+use batch_meaning::Query;
+use demand_points::BatchName;
+use design::{Design, FlagList};
+use gate_values::Value;
+use memo_shards::Shard;
+
+/// A query, where the signal `site` is stuck at a value.
+#[derive(Clone, Copy)]
+pub struct Question {
+    pub query: Query,
+    pub site: u32,
+    pub value: Value,
+}
+
+/// The design in which the site is stuck, and the flags of the signals that are not free of it.
+#[derive(Drop)]
+pub struct Held {
+    pub design: Design,
+    pub reached: FlagList,
+}
+
+/// The session's memo, and the memo of its own.
+#[derive(Drop)]
+pub struct Memos<B: BatchName, H: BatchName> {
+    pub session: Memo<B>,
+    /// What the query is charged in the session's memo.
+    pub charge: u32,
+    pub own: Shard<H>,
+    /// How many points it has filled in the memo of its own.
+    pub filled: u32,
+}

@@ -1,0 +1,20 @@
+//! The waveform of a signal where another is stuck at a value.
+//!
+//! [`stuck_wave`] answers one query of the circuit in which one signal, the site, has the same value at all times. Where a signal is free
+//! of the site, that is where the site is not in its cone, its values and its cells are those of the circuit itself: so what is free is
+//! asked of the session's own memo, in a batch that names the site, and what is stored there is told again. All else is asked of a memo
+//! of its own, which is one shard, begins with no cell, and ends with the answer. Its journal is handed out beside the shards.
+//!
+//! The budget holds for each of the two memos by itself. Where one of them would take more evaluations, the query is refused, and that
+//! memo's entries hold the cause.
+//!
+//! A question copies the design (`Design::hold`) and looks at each pin once (`Design::reached`). Each point that it evaluates costs what it
+//! costs elsewhere: O(log n) steps with n stored cells and entries.
+#![tactic(auto)]
+
+mod both;
+mod root;
+mod turn;
+mod wave;
+
+pub use wave::{StuckWave, stuck_wave};

@@ -1,0 +1,103 @@
+//! The cell at one time of a question, asked of both memos.
+
+ghost use Rattle.std.specs.Prelude.{◌≡◌, ◌<◌, true, IfOk, IfSome, IfNone, OnOk, OnSome};
+ghost use Rattle.circuit_meaning.specs.Cells.{cell_at};
+ghost use Rattle.circuit_meaning.specs.Need.{IsRoot};
+ghost use Rattle.batch_meaning.specs.Batches.{window_of};
+ghost use Rattle.session_meaning.specs.StuckSignals.{IsCoveredBy};
+ghost use Rattle.asked_cells.specs.Memos.{IsChargedMemo, at_time, entries_of};
+ghost use Rattle.stuck_faults.specs.inner.Both.{IsAsked, Rests, GivesUp, IsRefused, AreKept, circuit_of, site_in};
+
+use crate::both::{Held, Memos, Question};
+use crate::turn::{Turn, take_turn};
+use backsim_io::OutOfMemory;
+use demand_points::{BatchName, Strand};
+use design::Design;
+use std::alloc::Global;
+use strand_meaning::Next;
+use valid_intervals::Cell;
+
+/// Gives up what a refused strand holds.
+fn drop_all<B: BatchName, H: BatchName>(
+    memos: &mut Memos<B, H>,
+    strand: Strand<H>,
+    design: &Design,
+    held: &Held,
+    question: Question,
+    time: u32,
+)
+    requires asked { IsAsked B.batch H.batch question design.now.circuit held.now.design.circuit held.now.reached }
+    requires gives_up { GivesUp B.batch question time memos.old.session memos.old.own strand }
+    ensures refused { IsRefused B.batch question memos.new.session memos.new.own }
+    ensures kept { AreKept memos.old.own.shard.journal memos.new.own.shard.journal }
+    ensures session { memos.new.session ≡ memos.old.session }
+    ensures charge { memos.new.charge ≡ memos.old.charge }
+{
+    let mut strand = strand;
+    'claims: loop {
+        strand.facts();
+        match strand.next_step(&held.design) {
+            Next::Drop(p) => {
+                let (next, _) = memos.own.drop_top(strand, p);
+                strand = next;
+            }
+            Next::Done => return,
+            Next::Ask(_) => unreachable!(),
+            Next::Fill(_) => unreachable!(),
+        }
+    }
+}
+
+/// The cell at a time of the question's window that is a root of it; none where it is refused, and then nothing is claimed any more.
+pub fn hear_root<B: BatchName, H: BatchName>(
+    alloc: Global,
+    memos: &mut Memos<B, H>,
+    design: &Design,
+    held: &Held,
+    question: Question,
+    time: u32,
+) -> Result<Option<Cell>, OutOfMemory>
+    requires asked { IsAsked B.batch H.batch question design.now.circuit held.now.design.circuit held.now.reached }
+    requires session { IsChargedMemo B.batch B.opening memos.old.session question.query memos.old.charge }
+    requires rests { Rests B.batch B.opening question memos.old.session memos.old.own memos.old.filled }
+    requires root { IsRoot (circuit_of B.batch question) (window_of question.query) time }
+    requires within { time < question.query.to }
+    ensures session { OnOk result (IsChargedMemo B.batch B.opening memos.new.session question.query memos.new.charge) }
+    ensures kept_session { OnOk result (AreKept (entries_of memos.old.session) (entries_of memos.new.session)) }
+    ensures kept_own { OnOk result (AreKept memos.old.own.shard.journal memos.new.own.shard.journal) }
+    ensures cell { IfOk result (λ r. IfSome r (λ cell. cell ≡ cell_at (circuit_of B.batch question) (at_time question.query time))) }
+    ensures rests { IfOk result (λ r. OnSome r (Rests B.batch B.opening question memos.new.session memos.new.own memos.new.filled)) }
+    ensures covered { IfOk result (λ r. OnSome r (IsCoveredBy B.batch.circuit (site_in question) (entries_of memos.new.session) memos.new.own.shard.journal (at_time question.query time))) }
+    ensures refused { IfOk result (λ r. IfNone r (IsRefused B.batch question memos.new.session memos.new.own)) }
+{
+    let query = question.query;
+    if let Some(cell) = held.design.base(query.signal, time) {
+        return Ok(Some(cell));
+    }
+    let mut strand = Strand::<H>::start(
+        alloc,
+        0,
+        query,
+        time,
+        time + 1,
+        query.budget,
+        memos.filled,
+    );
+    'turns: loop {
+        match take_turn(memos, strand, design, held, question, time)? {
+            Turn::GoesOn(next) => strand = next,
+            Turn::Ended(ended) => {
+                ended.facts();
+                memos.filled = ended.charged();
+                let Some(cell) = ended.last() else {
+                    unreachable!()
+                };
+                return Ok(Some(cell));
+            }
+            Turn::Refused(refused) => {
+                drop_all(memos, refused, design, held, question, time);
+                return Ok(None);
+            }
+        }
+    }
+}

@@ -1,0 +1,164 @@
+//! One step of the strand that asks for a time.
+
+ghost use Rattle.std.specs.Prelude.{◌≡◌, ◌<◌, IfOk, OnOk};
+ghost use Rattle.strand_meaning.specs.Strands.{next as next_of};
+ghost use Rattle.strand_meaning.specs.declared.Next.TheVariants.{Ask as AskNext, Fill as FillNext};
+ghost use Rattle.asked_cells.specs.Memos.{IsChargedMemo, entries_of};
+ghost use Rattle.circuit_meaning.specs.Forced.{IsFree};
+ghost use Rattle.stuck_faults.specs.inner.Both.{IsAsked, Asks, AreKept};
+ghost use Rattle.stuck_faults.specs.inner.Turns.{OfTurn, IsNotFree};
+
+use crate::both::{Held, Memos, Question};
+use asked_cells::reach;
+use backsim_io::OutOfMemory;
+use batch_meaning::Query;
+use demand_points::{BatchName, Strand};
+use design::Design;
+use memo_shards::Asked;
+use strand_meaning::Next;
+use valid_intervals::Point;
+
+/// What came of a step.
+#[derive(Drop)]
+pub enum Turn<H: BatchName> {
+    /// The strand has another step.
+    GoesOn(Strand<H>),
+    /// It has heard its root.
+    Ended(Strand<H>),
+    /// It was refused a point, and holds its claims still.
+    Refused(Strand<H>),
+}
+
+/// Fills the claimed point on top of the strand's stack.
+fn fill<B: BatchName, H: BatchName>(
+    memos: &mut Memos<B, H>,
+    strand: Strand<H>,
+    design: &Design,
+    held: &Held,
+    question: Question,
+    time: u32,
+    p: Point,
+) -> Result<Turn<H>, OutOfMemory>
+    requires asked { IsAsked B.batch H.batch question design.now.circuit held.now.design.circuit held.now.reached }
+    requires asks { Asks B.batch B.opening question time memos.old.session memos.old.own strand }
+    requires fills { next_of strand.strand ≡ FillNext p }
+    ensures turn { IfOk result (OfTurn B.batch B.opening H.batch question time memos.new.session memos.new.own strand) }
+    ensures kept_own { OnOk result (AreKept memos.old.own.shard.journal memos.new.own.shard.journal) }
+    ensures session { memos.new.session ≡ memos.old.session }
+    ensures charge { memos.new.charge ≡ memos.old.charge }
+{
+    strand.facts();
+    memos.own.facts();
+    match memos.own.fill(strand, &held.design, p) {
+        Ok((strand, _)) => Ok(Turn::GoesOn(strand)),
+        Err((_, error)) => Err(error),
+    }
+}
+
+/// Asks the memo of its own for a point that is not free.
+fn ask_own<B: BatchName, H: BatchName>(
+    memos: &mut Memos<B, H>,
+    strand: Strand<H>,
+    design: &Design,
+    held: &Held,
+    question: Question,
+    time: u32,
+    p: Point,
+) -> Result<Turn<H>, OutOfMemory>
+    requires asked { IsAsked B.batch H.batch question design.now.circuit held.now.design.circuit held.now.reached }
+    requires asks { Asks B.batch B.opening question time memos.old.session memos.old.own strand }
+    requires next { next_of strand.strand ≡ AskNext p }
+    requires reached { IsNotFree B.batch question p }
+    ensures turn { IfOk result (OfTurn B.batch B.opening H.batch question time memos.new.session memos.new.own strand) }
+    ensures kept_own { OnOk result (AreKept memos.old.own.shard.journal memos.new.own.shard.journal) }
+    ensures session { memos.new.session ≡ memos.old.session }
+    ensures charge { memos.new.charge ≡ memos.old.charge }
+{
+    strand.facts();
+    memos.own.facts();
+    match memos.own.ask(strand, &held.design, p) {
+        Ok(Asked::Told(strand)) => Ok(Turn::GoesOn(strand)),
+        Ok(Asked::Claimed(strand)) => Ok(Turn::GoesOn(strand)),
+        Ok(Asked::Waits) => unreachable!(),
+        Ok(Asked::Spent(strand)) => {
+            memos.own.spend(&strand, p)?;
+            Ok(Turn::Refused(strand))
+        }
+        Err((_, error)) => Err(error),
+    }
+}
+
+/// Asks the session's memo for a point that is free of the site.
+fn ask_session<B: BatchName, H: BatchName>(
+    memos: &mut Memos<B, H>,
+    strand: Strand<H>,
+    design: &Design,
+    held: &Held,
+    question: Question,
+    time: u32,
+    p: Point,
+) -> Result<Turn<H>, OutOfMemory>
+    requires asked { IsAsked B.batch H.batch question design.now.circuit held.now.design.circuit held.now.reached }
+    requires session { IsChargedMemo B.batch B.opening memos.old.session question.query memos.old.charge }
+    requires asks { Asks B.batch B.opening question time memos.old.session memos.old.own strand }
+    requires next { next_of strand.strand ≡ AskNext p }
+    requires free { IsFree B.batch.circuit question.site p.signal }
+    ensures session { OnOk result (IsChargedMemo B.batch B.opening memos.new.session question.query memos.new.charge) }
+    ensures turn { IfOk result (OfTurn B.batch B.opening H.batch question time memos.new.session memos.new.own strand) }
+    ensures kept_session { OnOk result (AreKept (entries_of memos.old.session) (entries_of memos.new.session)) }
+    ensures own { memos.new.own ≡ memos.old.own }
+{
+    let mut strand = strand;
+    strand.facts();
+    let query = question.query;
+    let one = Query {
+        number: query.number,
+        signal: p.signal,
+        from: p.time,
+        to: p.time + 1,
+        budget: query.budget,
+    };
+    match reach(&mut memos.session, design, one, p.time, &mut memos.charge)? {
+        Some(cell) => {
+            strand.heard(&held.design, cell);
+            Ok(Turn::GoesOn(strand))
+        }
+        None => {
+            strand.give_up();
+            Ok(Turn::Refused(strand))
+        }
+    }
+}
+
+/// One step of the strand.
+pub fn take_turn<B: BatchName, H: BatchName>(
+    memos: &mut Memos<B, H>,
+    strand: Strand<H>,
+    design: &Design,
+    held: &Held,
+    question: Question,
+    time: u32,
+) -> Result<Turn<H>, OutOfMemory>
+    requires asked { IsAsked B.batch H.batch question design.now.circuit held.now.design.circuit held.now.reached }
+    requires session { IsChargedMemo B.batch B.opening memos.old.session question.query memos.old.charge }
+    requires asks { Asks B.batch B.opening question time memos.old.session memos.old.own strand }
+    ensures session { OnOk result (IsChargedMemo B.batch B.opening memos.new.session question.query memos.new.charge) }
+    ensures turn { IfOk result (OfTurn B.batch B.opening H.batch question time memos.new.session memos.new.own strand) }
+    ensures kept_session { OnOk result (AreKept (entries_of memos.old.session) (entries_of memos.new.session)) }
+    ensures kept_own { OnOk result (AreKept memos.old.own.shard.journal memos.new.own.shard.journal) }
+{
+    let mut strand = strand;
+    match strand.next_step(&held.design) {
+        Next::Done => Ok(Turn::Ended(strand)),
+        Next::Fill(p) => fill(memos, strand, design, held, question, time, p),
+        Next::Ask(p) => {
+            strand.facts();
+            if held.reached.get(p.signal) {
+                ask_own(memos, strand, design, held, question, time, p)
+            } else {
+                ask_session(memos, strand, design, held, question, time, p)
+            }
+        }
+        Next::Drop(_) => unreachable!(),
+    }
+}

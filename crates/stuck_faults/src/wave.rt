@@ -1,0 +1,135 @@
+//! The answer to a question for a wave where a signal is stuck.
+
+ghost use Rattle.std.specs.Prelude.{◌≡◌, ◌<◌, ◌∷◌, [], Some, length, IfOk, OnOk};
+ghost use Rattle.batch_meaning.specs.Lawful.{IsLawful};
+ghost use Rattle.session_meaning.specs.StuckSignals.{IsHeldJournal, IsStuckAnswer, NoneIsFree};
+ghost use Rattle.plan_machine.specs.Sound.{IsFresh};
+ghost use Rattle.plan_machine.specs.Settle.{entries_in};
+ghost use Rattle.plan_core.specs.Parts.{shards_in};
+ghost use Rattle.asked_cells.specs.Shards.{AreNumbered, AreUnused};
+ghost use Rattle.asked_cells.specs.Memos.{AreFreeShards, IsChargedMemo, entries_of};
+ghost use Rattle.stuck_faults.specs.inner.Both.{IsAsked, Rests, site_in};
+
+use crate::both::{Held, Memos, Question};
+use crate::root::hear_root;
+use asked_cells::{Memo, begin};
+use backsim_io::OutOfMemory;
+use batch_meaning::Query;
+use cell_store::CellStore;
+use demand_points::BatchName;
+use design::Design;
+use gate_values::Value;
+use journal_meaning::Entry;
+use memo_shards::Shard;
+use reply_lines::StuckAnswer;
+use std::alloc::Global;
+use std::marker::Brand;
+use window_walks::WindowWalk;
+
+/// How many cells the memo of its own has room for.
+const OWN_CELLS: u32 = 65_536;
+
+/// The answer, the session's shards, and the journal of the memo of its own.
+#[derive(Drop)]
+pub struct StuckWave<B: BatchName> {
+    pub answer: StuckAnswer,
+    pub shards: Vec<Shard<B>>,
+    pub held: Vec<Entry>,
+}
+
+/// Walks the window of the question from cell to cell. In the end nothing is claimed in the memo of its own.
+fn walk<B: BatchName, H: BatchName>(
+    alloc: Global,
+    memos: &mut Memos<B, H>,
+    design: &Design,
+    held: &Held,
+    question: Question,
+) -> Result<StuckAnswer, OutOfMemory>
+    requires asked { IsAsked B.batch H.batch question design.now.circuit held.now.design.circuit held.now.reached }
+    requires session { IsChargedMemo B.batch B.opening memos.old.session question.query memos.old.charge }
+    requires rests { Rests B.batch B.opening question memos.old.session memos.old.own memos.old.filled }
+    ensures session { OnOk result (AreFreeShards B.batch B.opening memos.new.session) }
+    ensures number { OnOk result (memos.new.own.number ≡ 0) }
+    ensures idle { OnOk result (memos.new.own.shard.state.claims ≡ []) }
+    ensures reached { OnOk result (NoneIsFree B.batch.circuit (site_in question) memos.new.own.shard.journal) }
+    ensures answer { IfOk result (IsStuckAnswer B.batch.circuit (site_in question) (entries_of memos.new.session) memos.new.own.shard.journal question.query) }
+{
+    let query = question.query;
+    let mut walk = WindowWalk::new(alloc, query.from, query.to);
+    'cells: while let Some(time) = walk.next() {
+        let Some(cell) = hear_root(alloc, memos, design, held, question, time)? else {
+            return Ok(StuckAnswer::Budget(query.budget));
+        };
+        // they say that the cells of its journal are right
+        memos.own.facts();
+        walk.push(cell)?;
+    }
+    Ok(StuckAnswer::Wave(walk.into_runs()))
+}
+
+/// Answers the question, with a memo of its own for the batch that H names.
+fn answer<B: BatchName, H: BatchName>(
+    alloc: Global,
+    design: &Design,
+    held: &Held,
+    question: Question,
+    session: Memo<B>,
+) -> Result<StuckWave<B>, OutOfMemory>
+    requires asked { IsAsked B.batch H.batch question design.now.circuit held.now.design.circuit held.now.reached }
+    requires opening { H.opening 0 ≡ [] }
+    requires session { AreFreeShards B.batch B.opening session }
+    requires unused { entries_of session ≡ [] }
+    ensures numbers { IfOk result (λ done. AreNumbered done.shards.items) }
+    ensures fresh { IfOk result (λ done. IsFresh B.batch B.opening (shards_in done.shards.items)) }
+    ensures held { IfOk result (λ done. IsHeldJournal B.batch.circuit (site_in question) question.query done.held.items) }
+    ensures answer { IfOk result (λ done. IsStuckAnswer B.batch.circuit (site_in question) (entries_in (shards_in done.shards.items)) done.held.items question.query done.answer) }
+{
+    let store = CellStore::new(alloc, OWN_CELLS)?;
+    let mut memos = Memos::<B, H> {
+        session,
+        charge: 0,
+        own: Shard::begin(alloc, 0, store),
+        filled: 0,
+    };
+    let answer = walk(alloc, &mut memos, design, held, question)?;
+    // they say that its journal is legal
+    memos.own.facts();
+    let (_, journal) = memos.own.end_batch();
+    Ok(StuckWave {
+        answer,
+        shards: memos.session.into_shards(),
+        held: journal,
+    })
+}
+
+/// The waveform of a query where the signal `site` is stuck at a value; or its budget, where it would take more evaluations. An `Err` gives
+/// up the shards.
+pub fn stuck_wave<B: BatchName>(
+    alloc: Global,
+    design: &Design,
+    shards: Vec<Shard<B>>,
+    query: Query,
+    site: u32,
+    value: Value,
+) -> Result<StuckWave<B>, OutOfMemory>
+    requires lawful { IsLawful B.batch }
+    requires design { design.now.circuit ≡ B.batch.circuit }
+    requires site { B.batch.site ≡ Some (record { signal = site; value = value }) }
+    requires signal { site < length B.batch.circuit.drivers }
+    requires queries { B.batch.queries ≡ query ∷ [] }
+    requires count { length shards.items ≡ B.batch.shards }
+    requires numbers { AreNumbered shards.items }
+    requires unused { AreUnused shards.items }
+    ensures numbers { IfOk result (λ done. AreNumbered done.shards.items) }
+    ensures fresh { IfOk result (λ done. IsFresh B.batch B.opening (shards_in done.shards.items)) }
+    ensures held { IfOk result (λ done. IsHeldJournal B.batch.circuit (record { signal = site; value = value }) query done.held.items) }
+    ensures answer { IfOk result (λ done. IsStuckAnswer B.batch.circuit (record { signal = site; value = value }) (entries_in (shards_in done.shards.items)) done.held.items query done.answer) }
+{
+    let held = Held {
+        design: design.hold(alloc, site, value)?,
+        reached: design.reached(alloc, site)?,
+    };
+    let question = Question { query, site, value };
+    let session = begin(alloc, shards)?;
+    answer::<B, Brand>(alloc, design, &held, question, session)
+}
