@@ -22,7 +22,7 @@ use Rattle.demand_points.specs.declared.parts.Parts.{Parts}
 use Rattle.demand_points.specs.inner.Stacks.{IsTop}
 use Rattle.demand_points.specs.Frames.{cell_there, left_after, looked_at, next_point, IsPoint, IsFrame, IsLooking, IsReady, LooksOn, Advances}
 use Rattle.demand_points.specs.inner.Frames.{shown}
-use Rattle.demand_points.specs.inner.Demands.{window_in, root_point, strand_of, IsReadyIn, IsReadyAt, WaitsFor, AreFrames, IsRunning, IsRootKnown, TakesStepTo}
+use Rattle.demand_points.specs.inner.Demands.{window_in, root_point, strand_of, IsReadyIn, IsReadyAt, IsRootReady, WaitsFor, AreFrames, IsRunning, IsRootKnown, TakesStepTo}
 use Rattle.demand_points.specs.Demands.{roots_left, IsAskedCell, itself}
 use Rattle.demand_points.proofs.FrameLemmas.{looking-below, next-among}
 use Rattle.demand_points.proofs.Lists.{left-done, left-all, left-ask, looked-left, no-roots, root-base, root-ask}
@@ -423,19 +423,24 @@ steps-on c f a b d h k = record {
 pub record SkipsRoots (c : Circuit) (old new : Parts) : Type 0 where
   pub steps : TakesStepTo c itself old new
   pub empty : new.stack ≡ []
+  pub again : IsRootReady c old → new ≡ old
 
 pub skips-none : (c : Circuit) (s : Parts) → IsRunning c s → s.stack ≡ [] → SkipsRoots c s s
-skips-none c s r e = record { steps = steps-none c s r; empty = e }
+skips-none c s r e = record { steps = steps-none c s r; empty = e; again = λ _. refl }
 
 module _ (c : Circuit) (ok : IsCircuit c) (a s : Parts) (h : SkipsRoots c a s) (cell : Cell) (k : IsRootKnown c s cell) (n : ℕ) (end : n ≡ cell.span.stop) where
-  at-end : ℕ → Parts
+  abbrev at-end : ℕ → Parts
   at-end t = record s { root = t; last = Some cell }
+
+  -- a root was skipped, so the first one had a base answer
+  not-ready : IsRootReady c a → at-end cell.span.stop ≡ a
+  not-ready ready = absurd (k.base (subst (λ x. IsRootReady c x) (sym (h.again ready)) ready k.live))
 
   pub skips-on : SkipsRoots c a (record s { root = n; last = Some cell })
   skips-on =
       let m = moves-root c ok s h.steps.running cell h.empty k.live k.base k.right in
       let t = steps-on c itself a s (record s { root = cell.span.stop; last = Some cell }) h.steps m in
-      subst (λ x. SkipsRoots c a (record s { root = x; last = Some cell })) (sym end) (record { steps = t; empty = h.empty })
+      subst (λ x. SkipsRoots c a (record s { root = x; last = Some cell })) (sym end) (record { steps = t; empty = h.empty; again = not-ready })
 
   pub roots-nearer : s.to - n < s.to - s.root
   roots-nearer =

@@ -4,7 +4,7 @@ use Rattle.valid_intervals.specs.declared.Cell.{Cell}
 use Rattle.valid_intervals.specs.declared.Point.{Point}
 use Rattle.circuit_meaning.specs.declared.Window.{Window}
 use Rattle.circuit_meaning.specs.Circuit.{Circuit}
-use Rattle.circuit_meaning.specs.Need.{IsRoot}
+use Rattle.circuit_meaning.specs.Need.{IsRoot, IsEvaluable}
 use Rattle.batch_meaning.specs.declared.Query.{Query}
 use Rattle.batch_meaning.specs.Batches.{Batch, window_of}
 use Rattle.circuit_meaning.specs.Cells.{cell_at}
@@ -59,6 +59,11 @@ pub record IsRootCell (c : Circuit) (s : Demand) (cell : Cell) : Type 0 where
 -- The next root is where the window begins while none was heard, and then the end of the cell that was heard last.
 abbrev pub IsHeardTo : Circuit → Demand → Type 0
 IsHeardTo c s = MatchOption s.last (s.root ≡ s.from) (IsLastHeard c s.strand.query s.from s.to s.root)
+
+-- Every base answer before its next step was heard: with no claimed point, its next root is one that has to be asked for, or its
+-- window is at its end.
+abbrev pub HasHeardBases : Circuit → Demand → Type 0
+HasHeardBases c s = s.strand.stack ≡ [] → s.root < s.to → IsEvaluable c s.strand.query.signal s.root
 
 -- what is known of every strand
 pub record IsKnownStrand (b : Batch) (s : Demand) : Type 0 where

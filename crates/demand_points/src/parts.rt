@@ -5,7 +5,7 @@ ghost use Rattle.circuit_meaning.specs.Cells.{cell_at};
 ghost use Rattle.strand_meaning.specs.Strands.{next, heard, claimed, finished};
 ghost use Rattle.strand_meaning.specs.declared.Next.TheVariants.{Ask, Fill};
 ghost use Rattle.valid_intervals.specs.declared.Point.{Point};
-ghost use Rattle.demand_points.specs.inner.Demands.{strand_of, IsRunning, IsReadyAt, IsRootReady, IsRootKnown, IsUndone, TakesStepTo};
+ghost use Rattle.demand_points.specs.inner.Demands.{strand_of, IsRunning, IsReadyAt, IsRootReady, IsRootKnown, IsUndone, StaysAtRoot, TakesStepTo};
 ghost use Rattle.demand_points.specs.Demands.{itself, IsAskedCell, IsFilling};
 
 use crate::frame::Frame;
@@ -61,6 +61,7 @@ impl Parts {
         ensures steps { TakesStepTo design.now.circuit itself self.old self.new }
         ensures empty { self.new.stack ≡ [] }
         ensures ready { IsRootReady design.now.circuit self.new }
+        ensures again { IsRootReady design.now.circuit self.old → self.new ≡ self.old }
     {
         'roots: loop {
             design.facts();
@@ -80,6 +81,7 @@ impl Parts {
         ensures steps { TakesStepTo design.now.circuit itself self.old self.new }
         ensures ready { IsReadyAt design.now.circuit self.new }
         ensures undone { IsUndone self.old self.new }
+        ensures again { StaysAtRoot design.now.circuit self.old self.new }
     {
         design.facts();
         match self.stack.top() {

@@ -8,7 +8,7 @@ ghost use Rattle.strand_meaning.specs.declared.Next.TheVariants.{Ask, Fill, Drop
 ghost use Rattle.batch_meaning.specs.Lawful.{IsLawful, IsQueryOf};
 ghost use Rattle.strand_meaning.specs.Strands as strands;
 ghost use Rattle.strand_meaning.specs.Strands.{next, started};
-ghost use Rattle.demand_points.specs.Demands.{IsAskedCell, IsAsking, IsFilling, IsKnownStrand, IsRootCell, TakesStep, itself};
+ghost use Rattle.demand_points.specs.Demands.{HasHeardBases, IsAskedCell, IsAsking, IsFilling, IsKnownStrand, IsRootCell, TakesStep, itself};
 ghost use Rattle.valid_intervals.specs.declared.Point.{Point};
 
 use crate::names::BatchName;
@@ -164,11 +164,13 @@ impl<B: BatchName> Strand<B> {
         self.parts.last
     }
 
-    /// Hears base answers until a step is needed, and answers that step.
+    /// Hears base answers until a step is needed, and answers that step. Called again, it changes nothing.
     pub fn next_step(&mut self, design: &Design) -> Next
         requires { design.now.circuit ≡ B.batch.circuit }
         ensures next { result ≡ next self.new.strand }
         ensures steps { TakesStep itself self.old self.new }
+        ensures heard { HasHeardBases B.batch.circuit self.new }
+        ensures again { HasHeardBases B.batch.circuit self.old → self.new ≡ self.old }
     {
         self.parts.settle(design);
         self.parts.next(design)

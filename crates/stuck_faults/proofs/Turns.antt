@@ -1,5 +1,5 @@
 -- The steps of a strand over the batch that the memo of its own names.
-use Rattle.std.proofs.Common.{◌≡◌, ℕ, Bool, ◌+◌, ◌≤◌, true, false, List, [], ◌∷◌, ◌++◌, length, Contains, refl, sym, ap, subst, ◌∙◌, arith, inl, inr, Option, Some, None, IsSome, append_assoc, true≢false, Result, Ok, Err, OnOk}
+use Rattle.std.proofs.Common.{◌≡◌, ℕ, Bool, ◌+◌, ◌≤◌, true, false, List, [], ◌∷◌, ◌++◌, length, Contains, refl, sym, ap, subst, ◌∙◌, arith, inl, inr, Option, Some, None, IsSome, append_assoc, true≢false, ◌<◌, Result, Ok, Err, OnOk, IfOk}
 use Rattle.std.proofs.lemmas.List.Elements.{Contains-append_left}
 use Rattle.valid_intervals.specs.declared.Point.{Point}
 use Rattle.valid_intervals.specs.declared.SignalCell.{SignalCell}
@@ -21,6 +21,7 @@ use Rattle.strand_meaning.specs.Strands.{Strand, next, heard, given_up, IsHeld, 
 use Rattle.strand_meaning.proofs.Stacks.{asks-first, earlier}
 use Rattle.plan_machine.specs.Alone.{IsUnderWay, IsGivingUp}
 use Rattle.plan_machine.specs.Shards.{Shard, recorded}
+use Rattle.plan_machine.specs.Bounds.{turns_left}
 use Rattle.plan_machine.specs.Journals.{evictions_for}
 use Rattle.plan_machine.specs.Settle.{child_start, charge_of, sub_query}
 use Rattle.plan_machine.specs.inner.Settle.{IsStanding, IsAskedFor}
@@ -38,7 +39,9 @@ use Rattle.asked_cells.proofs.Asked.{reaches, root-covered}
 use Rattle.session_meaning.specs.StuckSignals.{held_batch}
 use Rattle.stuck_faults.specs.declared.both.Question.{Question}
 use Rattle.stuck_faults.specs.inner.Both.{IsAsked, Asks, GivesUp, AreKept, site_in, circuit_of, start_at, nothing}
-use Rattle.stuck_faults.specs.inner.Turns.{AsksOn, IsNotFree}
+use Rattle.stuck_faults.specs.declared.turn.Turn.{Turn}
+use Rattle.stuck_faults.specs.declared.turn.Turn.TheVariants.{GoesOn, Ended, Refused}
+use Rattle.stuck_faults.specs.inner.Turns.{AsksOn, IsNotFree, OfTurn}
 use Rattle.stuck_faults.proofs.Asking.{tells-on, claims-on, spends-on, fills-on, hears-on, refuses-on}
 use Rattle.stuck_faults.proofs.Lawful.{IsAskedOf, asked-of, free-cell, free-evaluable, free-needed}
 use Rattle.stuck_faults.proofs.Held.{asked-one, held-lawful}
@@ -162,6 +165,17 @@ ok-of (Err e) P p = tt
 
 pub session-kept : (ms new : List KeptShard) → new ≡ ms → AreKept (entries_of ms) (entries_of new)
 session-kept ms new is e h = subst (λ z. Contains (entries_of z) e) (sym is) h
+
+pub own-kept : (m new : KeptShard) → new ≡ m → AreKept m.shard.journal new.shard.journal
+own-kept m new is e h = subst (λ z. Contains z.shard.journal e) (sym is) h
+
+-- a turn after base answers were heard is a turn of the strand before
+pub turn-same : {X E : Type 0} (b : Batch) (opening : ℕ → List SignalCell) (own : Batch) (question : Question) (time : ℕ) (ms : List KeptShard) (m : KeptShard) (s t : Demand) → TakesStep itself s t
+    → (r : Result (Turn X) E) → IfOk r (OfTurn b opening own question time ms m t) → IfOk r (OfTurn b opening own question time ms m s)
+turn-same b opening own question time ms m s t f (Ok (GoesOn u)) h = record { asks = h.asks; less = subst (λ (z : Strand). turns_left own 1 u.strand < turns_left own 1 z) f.strand h.less }
+turn-same b opening own question time ms m s t f (Ok (Ended u)) h = h
+turn-same b opening own question time ms m s t f (Ok (Refused u)) h = h
+turn-same b opening own question time ms m s t f (Err e) h = tt
 
 pub gives-same : (b : Batch) (question : Question) (time : ℕ) (ms : List KeptShard) (m : KeptShard) (s t : Demand) → TakesStep itself s t → GivesUp b question time ms m s → GivesUp b question time ms m t
 gives-same b question time ms m s t f gives = record {

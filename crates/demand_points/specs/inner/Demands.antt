@@ -70,6 +70,10 @@ IsReadyAt c s = IsReadyIn c s s.stack
 abbrev pub IsRootReady : Circuit → Parts → Type 0
 IsRootReady c s = s.root < s.to → IsEvaluable c s.query.signal s.root
 
+-- The next root and the cell that was heard last are those of before, where no base answer was left to be heard there.
+abbrev pub StaysAtRoot : Circuit → Parts → Parts → Type 0
+StaysAtRoot c old new = (old.stack ≡ [] → IsRootReady c old) → (new.root ≡ old.root) × (new.last ≡ old.last)
+
 -- it has this one
 pub record IsRootKnown (c : Circuit) (s : Parts) (cell : Cell) : Type 0 where
   pub live : s.root < s.to

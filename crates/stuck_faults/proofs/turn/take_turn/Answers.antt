@@ -1,6 +1,6 @@
 use Rattle.std.proofs.Common.{false, sym, ◌∙◌, arith, true≢false}
 use Rattle.asked_cells.proofs.Lists.{or-at}
-use Rattle.stuck_faults.proofs.Turns.{turn-asks, asks-same, ok-of, session-kept}
+use Rattle.stuck_faults.proofs.Turns.{turn-asks, turn-same, asks-same, ok-of, session-kept, own-kept}
 use Rattle.stuck_faults.proofs.turn.take_turn.Goals as goal
 
 pub fill-requires-clause-asks : goal.fill-requires-clause-asks
@@ -42,3 +42,18 @@ returns-in-Done-clause-turn g c = record {
 
 pub returns-then-get-clause-kept_session : goal.returns-then-get-clause-kept_session
 returns-then-get-clause-kept_session g c = ok-of c.ask_own.result _ (session-kept c.args.memos.now.session c.ask_own.new.memos.session c.ask_own.ensures.session)
+
+pub returns-in-Fill-clause-kept_session : goal.returns-in-Fill-clause-kept_session
+returns-in-Fill-clause-kept_session g c = ok-of c.fill.result _ (session-kept c.args.memos.now.session c.fill.new.memos.session c.fill.ensures.session)
+
+pub returns-in-Fill-clause-turn : goal.returns-in-Fill-clause-turn
+returns-in-Fill-clause-turn g c = turn-same g.B.BatchName.batch g.B.BatchName.opening g.H.BatchName.batch c.args.question c.args.time c.fill.new.memos.session c.fill.new.memos.own c.args.strand c.next_step.new.self c.next_step.ensures.steps c.fill.result c.fill.ensures.turn
+
+pub returns-then-get-clause-turn : goal.returns-then-get-clause-turn
+returns-then-get-clause-turn g c = turn-same g.B.BatchName.batch g.B.BatchName.opening g.H.BatchName.batch c.args.question c.args.time c.ask_own.new.memos.session c.ask_own.new.memos.own c.args.strand c.next_step.new.self c.next_step.ensures.steps c.ask_own.result c.ask_own.ensures.turn
+
+pub returns-else-get-clause-turn : goal.returns-else-get-clause-turn
+returns-else-get-clause-turn g c = turn-same g.B.BatchName.batch g.B.BatchName.opening g.H.BatchName.batch c.args.question c.args.time c.ask_session.new.memos.session c.ask_session.new.memos.own c.args.strand c.next_step.new.self c.next_step.ensures.steps c.ask_session.result c.ask_session.ensures.turn
+
+pub returns-else-get-clause-kept_own : goal.returns-else-get-clause-kept_own
+returns-else-get-clause-kept_own g c = ok-of c.ask_session.result _ (own-kept c.args.memos.now.own c.ask_session.new.memos.own c.ask_session.ensures.own)
