@@ -52,4 +52,4 @@ mod writing;
 pub use laws::{one_journal, one_section};
 pub use reading::read_section;
 pub use sections::{EntryList, EntryLists, Section, SectionKind};
-pub use writing::{entry_text, head_text, section_text};
+pub use writing::{entry_text, head_text, push_entry, section_text};

@@ -56,7 +56,7 @@ fn kind_text(kind: SectionKind) -> &'static [u8]
 }
 
 /// Writes the line of each shard and its entries at the end of the text.
-fn push_shards(text: &mut Vec<u8>, shards: &EntryLists) -> Result<(), AllocError>
+fn push_shards(text: &mut Vec<u8>, shards: &EntryLists) -> Result<(), OutOfMemory>
     requires { length shards.now ≤ 64 }
     ensures { OnOk result (text.new.items ≡ text.old.items ++ shard_lines 0 shards.now) }
 {
@@ -72,7 +72,7 @@ fn push_shards(text: &mut Vec<u8>, shards: &EntryLists) -> Result<(), AllocError
 }
 
 /// Writes the lines of entries at the end of the text.
-fn push_entries(text: &mut Vec<u8>, entries: &EntryList) -> Result<(), AllocError>
+fn push_entries(text: &mut Vec<u8>, entries: &EntryList) -> Result<(), OutOfMemory>
     ensures { OnOk result (text.new.items ≡ text.old.items ++ flat_map entry_line entries.now) }
 {
     for entry in entries.as_slice() {
@@ -82,7 +82,7 @@ fn push_entries(text: &mut Vec<u8>, entries: &EntryList) -> Result<(), AllocErro
 }
 
 /// Writes the line of an entry at the end of the text.
-fn push_entry(text: &mut Vec<u8>, entry: &Entry) -> Result<(), AllocError>
+pub fn push_entry(text: &mut Vec<u8>, entry: &Entry) -> Result<(), OutOfMemory>
     ensures { OnOk result (text.new.items ≡ text.old.items ++ entry_line entry.now) }
 {
     match entry {

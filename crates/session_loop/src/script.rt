@@ -19,6 +19,7 @@ use cell_store::CellStore;
 use design::Design;
 use query_lines::ScriptReader;
 use std::alloc::Global;
+use std::mem;
 use unit_answers::Sizes;
 
 /// The most bytes that a script has.
@@ -174,7 +175,9 @@ pub fn serve_script<C: Crew, F: Files, Q: Source, S: Sink>(
             return Err(Stop::ScriptUnread);
         };
         if n == 0 {
-            script.serve_end(crew, alloc, design, sizes, desk, files, out)?;
+            let last = script.serve_end(crew, alloc, design, sizes, desk, files, out)?;
+            // left to the end of the process: each cell has memory of its own
+            mem::forget(last);
             return Ok(());
         }
         desk = script.serve_bytes(

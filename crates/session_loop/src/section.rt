@@ -13,7 +13,7 @@ ghost use Rattle.session_loop.specs.inner.Faults.{UnitExplains};
 use crate::stop::Stop;
 use backsim_io::{Files, OutOfMemory, Sink, write_all, write_file};
 use journal_meaning::Entry;
-use journal_text::{EntryList, SectionKind, entry_text};
+use journal_text::{EntryList, SectionKind, push_entry};
 use query_lines::Item;
 use reply_lines::{Reply, reply_text};
 use std::alloc::Global;
@@ -79,8 +79,7 @@ fn entries_text(alloc: Global, entries: &[Entry]) -> Result<Vec<u8>, OutOfMemory
 {
     let mut text = Vec::new(alloc);
     for entry in entries {
-        let line = entry_text(alloc, entry)?;
-        text.extend_from_slice(&line)?;
+        push_entry(&mut text, entry)?;
     }
     Ok(text)
 }

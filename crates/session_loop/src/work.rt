@@ -18,6 +18,7 @@ use journal_text::SectionKind;
 use query_lines::Item;
 use reply_lines::Reply;
 use std::alloc::Global;
+use std::mem;
 use unit_answers::{Sizes, answer_batch};
 
 /// Creates the journal and writes its head, answers the items as one batch over empty stores, writes the section of the batch, and
@@ -52,5 +53,7 @@ pub fn serve_work<C: Crew, F: Files>(
     let done = answer_batch(crew, alloc, design, items, sizes, stores)?;
     write_section(alloc, SectionKind::Batch, 1, &done.lists, JOURNAL, files)?;
     finish_journal(files)?;
+    // left to the end of the process: each cell has memory of its own
+    mem::forget(done.stores);
     Ok(done.replies)
 }

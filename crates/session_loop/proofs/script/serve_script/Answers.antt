@@ -72,8 +72,8 @@ returns-in_default-clause-stopped g c script is =
     small = subst (λ h. h ≤ 1000000) c.horizon.ensures.horizon c.horizon.ensures.limit
 
 -- the script ended, and the session broke off in what was left of it
-pub returns-in_err-serve_end-clause-stopped : goal.returns-in_err-serve_end-clause-stopped
-returns-in_err-serve_end-clause-stopped g c script is =
+pub returns-in_err-last-clause-stopped : goal.returns-in_err-last-clause-stopped
+returns-in_err-last-clause-stopped g c script is =
     let setup = session_of c.args.design.now c.args.sizes c.args.names.items in
     let desk : Desk = record { stores = c.args.stores; counts = no_counts; dumps = record { last = None; own = c.args.names; made = c.new-2.result } } in
     let W = g.S.Sink.written in
@@ -82,9 +82,9 @@ returns-in_err-serve_end-clause-stopped g c script is =
     let p = err_from_is_err_and c.from_residual.result c.from_residual.ensures.1 in
     rw (p.1, p.2)
     (end-stopped setup desk (fresh-desk setup desk c.requires.empty refl refl refl c.new-2.ensures.items) script (g.Q.Source.left c.args.queries.now) is c.loop-n.script.taken (g.Q.Source.left c.loop-n.queries) (g.Q.Source.left c.read.new.self) (g.Q.Source.left c.read.new.self) c.in-Ok.n c.read.new.into c.loop-n.script.reader c.loop-n.desk
-    _ _ _ _ _ _ c.in_err-serve_end.field-0.0
+    _ _ _ _ _ _ c.in_err-last.field-0.0
     (W c.args.out.now) (W c.loop-n.out) (W c.serve_end.new.out) (M c.args.files.now) (M c.loop-n.files) (M c.serve_end.new.files) _
-    small c.loop-n.invariant.served read.bytes.0 c.if-n-eq0.true (read.bytes.1 c.if-n-eq0.true (omega (arith, c.min-room.ensures, c.loop-n.invariant.block, length-take {A = ℕ}))) c.in_err-serve_end.ensures.cause (c.in_err-serve_end.ensures.stopped c.args.names.items))
+    small c.loop-n.invariant.served read.bytes.0 c.if-n-eq0.true (read.bytes.1 c.if-n-eq0.true (omega (arith, c.min-room.ensures, c.loop-n.invariant.block, length-take {A = ℕ}))) c.in_err-last.ensures.cause (c.in_err-last.ensures.stopped c.args.names.items))
   where
     small : c.args.design.now.circuit.horizon ≤ 1000000
     small = subst (λ h. h ≤ 1000000) c.horizon.ensures.horizon c.horizon.ensures.limit
@@ -97,9 +97,9 @@ returns-then-n-eq0-clause-served g c script is =
     let W = g.S.Sink.written in
     let M = g.F.Files.made in
     let read = c.in-Ok.ensures in
-    all-served setup desk (fresh-desk setup desk c.requires.empty refl refl refl c.new-2.ensures.items) script (g.Q.Source.left c.args.queries.now) is c.loop-n.script.taken (g.Q.Source.left c.loop-n.queries) (g.Q.Source.left c.read.new.self) c.in-Ok.n c.read.new.into c.loop-n.script.reader c.loop-n.desk c.in_ok-serve_end.field-0
+    all-served setup desk (fresh-desk setup desk c.requires.empty refl refl refl c.new-2.ensures.items) script (g.Q.Source.left c.args.queries.now) is c.loop-n.script.taken (g.Q.Source.left c.loop-n.queries) (g.Q.Source.left c.read.new.self) c.in-Ok.n c.read.new.into c.loop-n.script.reader c.loop-n.desk c.in_ok-last.last
     (W c.args.out.now) (W c.loop-n.out) (W c.serve_end.new.out) (M c.args.files.now) (M c.loop-n.files) (M c.serve_end.new.files) _
-    c.loop-n.invariant.served read.bytes.0 c.if-n-eq0.true (read.bytes.1 c.if-n-eq0.true (omega (arith, c.min-room.ensures, c.loop-n.invariant.block, length-take {A = ℕ}))) c.in_ok-serve_end.ensures.count (c.in_ok-serve_end.ensures.served c.args.names.items)
+    c.loop-n.invariant.served read.bytes.0 c.if-n-eq0.true (read.bytes.1 c.if-n-eq0.true (omega (arith, c.min-room.ensures, c.loop-n.invariant.block, length-take {A = ℕ}))) c.in_ok-last.ensures.count (c.in_ok-last.ensures.served c.args.names.items)
 
 -- the session broke off in a block
 pub returns-in_err-desk-clause-stopped : goal.returns-in_err-desk-clause-stopped
@@ -153,10 +153,10 @@ returns-then-n-left-clause-at_most g c script is =
     (omega (arith, c.min-room.ensures, c.loop-n.invariant.block, c.loop-n.invariant.most, length-take {A = ℕ}, read.bound))
 
 -- the counts of faults
-pub returns-in_err-serve_end-clause-cause : goal.returns-in_err-serve_end-clause-cause
-returns-in_err-serve_end-clause-cause g c =
+pub returns-in_err-last-clause-cause : goal.returns-in_err-last-clause-cause
+returns-in_err-last-clause-cause g c =
     let held = c.loop-n.invariant in
-    err-is _ _ c.from_residual.result c.from_residual.ensures.1 (explains-after _ _ _ _ _ c.in_err-serve_end.field-0.0 held.calm_replies held.calm_writes held.calm_files c.in_err-serve_end.ensures.cause)
+    err-is _ _ c.from_residual.result c.from_residual.ensures.1 (explains-after _ _ _ _ _ c.in_err-last.field-0.0 held.calm_replies held.calm_writes held.calm_files c.in_err-last.ensures.cause)
 
 pub returns-in_err-desk-clause-cause : goal.returns-in_err-desk-clause-cause
 returns-in_err-desk-clause-cause g c =
@@ -164,10 +164,10 @@ returns-in_err-desk-clause-cause g c =
     err-is _ _ c.from_residual-in_err-desk.result c.from_residual-in_err-desk.ensures.1 (explains-after _ _ _ _ _ c.in_err-desk.field-0.0 held.calm_replies held.calm_writes held.calm_files c.in_err-desk.ensures.cause)
 
 -- which files are left unfinished
-pub returns-in_err-serve_end-clause-left : goal.returns-in_err-serve_end-clause-left
-returns-in_err-serve_end-clause-left g c =
+pub returns-in_err-last-clause-left : goal.returns-in_err-last-clause-left
+returns-in_err-last-clause-left g c =
     err-is _ _ c.from_residual.result c.from_residual.ensures.1
-    (subst (λ u. StopsOpen u (g.F.Files.unfinished c.serve_end.new.files) c.in_err-serve_end.field-0.0) c.loop-n.invariant.unfinished c.in_err-serve_end.ensures.left)
+    (subst (λ u. StopsOpen u (g.F.Files.unfinished c.serve_end.new.files) c.in_err-last.field-0.0) c.loop-n.invariant.unfinished c.in_err-last.ensures.left)
 
 pub returns-in_err-desk-clause-left : goal.returns-in_err-desk-clause-left
 returns-in_err-desk-clause-left g c =
