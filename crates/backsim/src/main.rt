@@ -35,16 +35,20 @@ mod usage;
 mod work;
 
 use crate::status::Status;
-use backsim_io::{OutOfMemory, RealFiles, RealSink, RealSource, given_words};
-use std::io;
+use backsim_io::{OutOfMemory, RealFiles, RealSink, RealSource, words_after_name};
 use std::process::ExitCode;
 use std::sync::Wait;
 use std::thread::Threads;
+use std::{env, io};
 use worker_gate::OpenGate;
 
 /// Serves the words of the process over the system's files and streams. The workers run on the threads of the handle.
 fn run<R: Threads + Wait + Sync>(rt: &HostRuntime, threads: &R) -> Result<Status, OutOfMemory> {
-    let given = given_words(rt)?;
+    let all = match env::args(rt) {
+        Ok(args) => Ok(args.collect(rt.alloc())?),
+        Err(error) => Err(error),
+    };
+    let given = words_after_name(rt.alloc(), all)?;
     let mut words = Vec::new(rt.alloc());
     for word in &given {
         words.push(word.as_str())?;

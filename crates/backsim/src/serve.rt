@@ -28,6 +28,7 @@ use command_words::{Words, read_words};
 use session_loop::serve_session;
 use session_meaning::{dumps_are_read_back, enough_budgets_are_served};
 use std::alloc::Global;
+use std::mem;
 use std::sync::Wait;
 use std::thread::Threads;
 use unit_answers::Sizes;
@@ -94,7 +95,11 @@ fn serve_files<F: Files, Q: Source, S: Sink, G: Gate, R: Threads + Wait + Sync>(
     match serve_session(
         &crew, alloc, &design, sizes, &inputs, journal, files, queries, out,
     ) {
-        Ok(()) => Status::Ended,
+        Ok(()) => {
+            // its memory goes with the process
+            mem::forget(design);
+            Status::Ended
+        }
         Err(halt) => end_stopped(alloc, Stop::from(halt), out),
     }
 }

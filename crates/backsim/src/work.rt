@@ -17,6 +17,7 @@ use query_lines::script_units_are_fit;
 use reply_lines::Reply;
 use session_loop::serve_work;
 use std::alloc::{AllocError, Global};
+use std::mem;
 use std::sync::Wait;
 use std::thread::Threads;
 use unit_answers::Sizes;
@@ -75,7 +76,11 @@ pub fn serve_workload<F: Files, S: Sink, G: Gate, R: Threads + Wait + Sync>(
         journal,
         files,
     ) {
-        Ok(replies) => tell(alloc, number, &replies, out),
+        Ok(replies) => {
+            // its memory goes with the process
+            mem::forget(work);
+            tell(alloc, number, &replies, out)
+        }
         Err(halt) => end_stopped(alloc, Stop::from(halt), out),
     }
 }

@@ -10,14 +10,18 @@
 //! ```
 #![tactic(auto)]
 
-use backsim_io::{OutOfMemory, RealFiles, RealSink, given_words};
+use backsim_io::{OutOfMemory, RealFiles, RealSink, words_after_name};
 use proof_check::{CheckStatus, check};
-use std::io;
 use std::process::ExitCode;
+use std::{env, io};
 
 /// Checks the proof that the words of the process name, over the system's files and standard output.
 fn run(rt: &HostRuntime) -> Result<CheckStatus, OutOfMemory> {
-    let given = given_words(rt)?;
+    let all = match env::args(rt) {
+        Ok(args) => Ok(args.collect(rt.alloc())?),
+        Err(error) => Err(error),
+    };
+    let given = words_after_name(rt.alloc(), all)?;
     let mut words = Vec::new(rt.alloc());
     for word in &given {
         words.push(word.as_str())?;

@@ -1,5 +1,5 @@
 -- Created files of which only the first bytes are kept.
-use Rattle.std.specs.Prelude.{ℕ, ◌≡◌, List, [], Option, Some, unwrap_or, Vec}
+use Rattle.std.specs.Prelude.{ℕ, List, [], Option, Some, unwrap_or, Vec}
 use Rattle.std.specs.Global.{Global}
 use Rattle.backsim_io.specs.Held.{bytes_under}
 

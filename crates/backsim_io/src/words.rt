@@ -1,20 +1,31 @@
-//! The words that the process was given.
+//! The words that a process was given.
+
+ghost use Rattle.std.specs.Prelude.{◌≡◌, [], drop, IfOk, IfErr, IsErr, IsOkAnd};
+ghost use Rattle.std.specs.IoError.{error_kind};
+ghost use Rattle.std.specs.declared.io.ErrorKind.TheVariants.{InvalidData};
 
 use crate::OutOfMemory;
-use std::{env, io};
+use std::alloc::Global;
+use std::io;
 
-/// The words after the program's name. Where one of them is no text there are none: no form of words that the programs know is
-/// empty, so that is told as a wrong form.
-pub fn given_words(rt: &HostRuntime) -> Result<Vec<String>, OutOfMemory> {
-    let mut words = Vec::new(rt.alloc());
-    match env::args(rt) {
-        Ok(args) => {
-            for word in args.skip(1) {
-                words.push(word)?;
+/// The words after the first, which is the program's name, of those that std gives. Where one of them is no text there are none: no
+/// form of words that the programs know is empty, so that is told as a wrong form.
+pub fn words_after_name(
+    alloc: Global,
+    given: io::Result<Vec<String>>,
+) -> Result<Vec<String>, OutOfMemory>
+    ensures words { IfOk given (λ all. IsOkAnd result (λ words. words.items ≡ drop 1 all.items)) }
+    ensures no_text { IfErr given (λ error. error_kind error ≡ InvalidData → IsOkAnd result (λ words. words.items ≡ [])) }
+    ensures fault { IfErr given (λ error. (error_kind error ≡ InvalidData → ⊥) → IsErr result) }
+{
+    match given {
+        Ok(mut words) => {
+            if !words.is_empty() {
+                let _name = words.remove(0);
             }
             Ok(words)
         }
-        Err(error) if error.kind() == io::ErrorKind::InvalidData => Ok(words),
+        Err(error) if error.kind() == io::ErrorKind::InvalidData => Ok(Vec::new(alloc)),
         Err(_) => Err(OutOfMemory),
     }
 }

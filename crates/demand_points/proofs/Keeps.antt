@@ -9,8 +9,8 @@ use Rattle.batch_meaning.specs.declared.Query.{Query}
 use Rattle.batch_meaning.specs.Batches.{Batch, window_of}
 use Rattle.strand_meaning.specs.declared.Next.TheVariants.{Ask, Fill}
 use Rattle.batch_meaning.specs.Lawful.{IsLawful, IsQueryOf}
-use Rattle.strand_meaning.specs.Strands.{Strand, IsStrand, next, heard, claimed}
-use Rattle.strand_meaning.proofs.Stacks.{heard-keeps, claimed-keeps, length-heard, length-rest, fill-top}
+use Rattle.strand_meaning.specs.Strands.{Strand, IsStrand, next, heard, claimed, finished, rest}
+use Rattle.strand_meaning.proofs.Stacks.{heard-keeps, claimed-keeps, finished-keeps, length-heard, length-rest, fill-top}
 use Rattle.strand_meaning.proofs.Started.{started-right, query-within}
 use Rattle.demand_points.specs.declared.frame.Frame.{Frame}
 use Rattle.demand_points.specs.declared.parts.Parts.{Parts}
@@ -64,6 +64,18 @@ claimed-demand b d e old new is p asks room h =
     demand-steps b old new (f b.circuit) is (subst (λ x. TakesStepTo x (f x) old new) e h)
     (λ s. claimed-keeps b (strand_of b.circuit old) s p asks room)
     (record { charge = omega arith; claims = omega arith })
+
+pub finished-demand : (b : Batch) (d : Circuit) → d ≡ b.circuit → (old new : Parts) → IsDemand b old → (p : Point) → next (strand_of b.circuit old) ≡ Fill p → TakesStepTo d finished old new → IsDemand b new
+finished-demand b d e old new is p h steps =
+    let s = strand_of b.circuit old in
+    let top = fill-top s p h in
+    let fits = fits-of b old is in
+    let claims = fits.claims in
+    let some = length-rest s.stack p top in
+    let same = length-heard (rest s.stack) in
+    demand-steps b old new finished is (subst (λ x. TakesStepTo x finished old new) e steps)
+    (λ k. finished-keeps b s k p top)
+    (record { charge = fits.charge; claims = omega arith })
 
 -- a fill is counted
 pub fill-room : (b : Batch) (s : Parts) → IsDemand b s → (p : Point) → next (strand_of b.circuit s) ≡ Fill p → s.budget < 2 ^ 32 → s.filled + 1 < 2 ^ 32

@@ -1,6 +1,6 @@
 //! What a strand is made of, apart from the batch that it belongs to.
 
-ghost use Rattle.std.specs.Prelude.{◌≡◌, ◌+◌, ◌<◌, ◌^◌, [], OnOk, OnErr, MatchOption};
+ghost use Rattle.std.specs.Prelude.{◌≡◌, ◌+◌, ◌<◌, ◌^◌, [], true, OnOk, OnErr, MatchOption};
 ghost use Rattle.circuit_meaning.specs.Cells.{cell_at};
 ghost use Rattle.strand_meaning.specs.Strands.{next, heard, claimed, finished};
 ghost use Rattle.strand_meaning.specs.declared.Next.TheVariants.{Ask, Fill};
@@ -90,6 +90,19 @@ impl Parts {
         }
     }
 
+    /// Hears base answers until a step is needed, unless none is left to be heard.
+    pub fn settle_unless(&mut self, settled: bool, design: &Design)
+        requires running { IsRunning design.now.circuit self.old }
+        requires settled { settled ≡ true → IsReadyAt design.now.circuit self.old }
+        ensures steps { TakesStepTo design.now.circuit itself self.old self.new }
+        ensures ready { IsReadyAt design.now.circuit self.new }
+        ensures again { StaysAtRoot design.now.circuit self.old self.new }
+    {
+        if !settled {
+            self.settle(design);
+        }
+    }
+
     /// The next step, once base answers are heard.
     pub fn next(&self, design: &Design) -> Next
         requires running { IsRunning design.now.circuit self.now }
@@ -154,8 +167,8 @@ impl Parts {
         Ok(())
     }
 
-    /// Claims the point that it asks for, or stays as it was.
-    pub fn claim(&mut self, design: &Design, p: Point) -> Result<(), AllocError>
+    /// Hears base answers and claims the point that it asks for, or stays as it was.
+    fn settle_and_push(&mut self, design: &Design, p: Point) -> Result<(), AllocError>
         requires running { IsRunning design.now.circuit self.old }
         requires asks { next (strand_of design.now.circuit self.old) ≡ Ask p }
         requires room { self.old.charged < self.old.budget }
@@ -179,6 +192,22 @@ impl Parts {
                     None => Err(error),
                 }
             }
+        }
+    }
+
+    /// Claims the point that it asks for, or stays as it was.
+    pub fn claim(&mut self, settled: bool, design: &Design, p: Point) -> Result<(), AllocError>
+        requires running { IsRunning design.now.circuit self.old }
+        requires settled { settled ≡ true → IsReadyAt design.now.circuit self.old }
+        requires asks { next (strand_of design.now.circuit self.old) ≡ Ask p }
+        requires room { self.old.charged < self.old.budget }
+        ensures ok { OnOk result (TakesStepTo design.now.circuit (λ s. claimed design.now.circuit s p) self.old self.new) }
+        ensures err { OnErr result (self.new ≡ self.old) }
+    {
+        if settled {
+            self.push(design, p)
+        } else {
+            self.settle_and_push(design, p)
         }
     }
 

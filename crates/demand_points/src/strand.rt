@@ -38,18 +38,20 @@ pub struct Task {
 #[derive(Drop)]
 pub struct Strand<B: BatchName> {
     parts: Parts,
+    /// True only where every base answer before its next step was heard.
+    settled: bool,
     of: PhantomData<B>,
 }
 
 impl<B: BatchName> Model for Strand<B> {
     ghost use Rattle.demand_points.specs.Demands.{Demand};
-    ghost use Rattle.demand_points.specs.inner.Demands.{demand_of, IsDemand};
+    ghost use Rattle.demand_points.specs.inner.Demands.{demand_of, IsKept};
 
     ghost Value = { Demand };
 
     ghost view = { λ s. demand_of B.batch.circuit s.parts };
 
-    ghost invariant = { λ s. IsDemand B.batch s.parts };
+    ghost invariant = { λ s. IsKept B.batch s.parts s.settled };
 }
 
 impl<B: BatchName> Strand<B> {
@@ -90,6 +92,7 @@ impl<B: BatchName> Strand<B> {
                 spent: false,
                 last: None,
             },
+            settled: false,
             of: PhantomData,
         }
     }
@@ -172,7 +175,8 @@ impl<B: BatchName> Strand<B> {
         ensures heard { HasHeardBases B.batch.circuit self.new }
         ensures again { HasHeardBases B.batch.circuit self.old → self.new ≡ self.old }
     {
-        self.parts.settle(design);
+        self.parts.settle_unless(self.settled, design);
+        self.settled = true;
         self.parts.next(design)
     }
 
@@ -182,7 +186,8 @@ impl<B: BatchName> Strand<B> {
         requires answer { IsAskedCell B.batch.circuit self.old.strand cell }
         ensures { TakesStep strands.heard self.old self.new }
     {
-        self.parts.settle(design);
+        self.parts.settle_unless(self.settled, design);
+        self.settled = false;
         self.parts.hear(design, &cell);
     }
 
@@ -194,7 +199,8 @@ impl<B: BatchName> Strand<B> {
         ensures ok { OnOk result (TakesStep (λ s. strands.claimed B.batch.circuit s p) self.old self.new) }
         ensures err { OnErr result (self.new ≡ self.old) }
     {
-        self.parts.claim(design, p)?;
+        self.parts.claim(self.settled, design, p)?;
+        self.settled = false;
         Ok(())
     }
 
@@ -203,6 +209,7 @@ impl<B: BatchName> Strand<B> {
         requires { IsAsking self.old.strand }
         ensures { TakesStep strands.given_up self.old self.new }
     {
+        self.settled = false;
         self.parts.spent = true;
     }
 
@@ -223,6 +230,7 @@ impl<B: BatchName> Strand<B> {
         ensures steps { TakesStep strands.finished self.old self.new }
     {
         let _budget = self.parts.budget;
+        self.settled = false;
         self.parts.finish(design)
     }
 
@@ -232,6 +240,7 @@ impl<B: BatchName> Strand<B> {
         ensures point { next self.old.strand ≡ Drop result }
         ensures steps { TakesStep strands.dropped self.old self.new }
     {
+        self.settled = false;
         match self.parts.stack.pop() {
             Some(frame) => frame.point,
             None => unreachable!(),
@@ -285,6 +294,7 @@ impl<B: BatchName> MadeWith<Global> for Strand<B> {
                 spent: false,
                 last: None,
             },
+            settled: false,
             of: PhantomData,
         }
     }

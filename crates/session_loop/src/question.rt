@@ -49,7 +49,6 @@ fn write_held<F: Files>(
     ensures counted { IfOk result (IsHeldCounted counts lists.now) }
     ensures written { OnOk result (FileGrows (F.made files.old) (F.made files.new) 0 (held_text (counts.sections + 1) lists.now)) }
     ensures begun { OnErr result (FileGrowsPart (F.made files.old) (F.made files.new) 0 (held_text (counts.sections + 1) lists.now)) }
-    ensures some { OnErr result (0 < length lists.now) }
     ensures cause { IfErr result (λ stop. (replies : ℕ) → UnitExplains replies replies (F.write_faults files.old) (F.write_faults files.new) stop) }
     ensures calm { OnOk result (F.write_faults files.new ≡ F.write_faults files.old) }
     ensures file_faults { F.file_faults files.new ≡ F.file_faults files.old }

@@ -7,6 +7,7 @@ ghost use Rattle.strand_meaning.specs.declared.Next.TheVariants.{Ask, Fill, Drop
 
 use crate::board::Board;
 use crate::gate::{Gate, Pass};
+use crate::locks::take_lock;
 use crate::slot::Slot;
 use backsim_io::OutOfMemory;
 use demand_points::{BatchName, Next, Point, Strand};
@@ -58,7 +59,7 @@ impl<B: BatchName> Shared<B> {
     // it made one strand ready; where it finds none to wake, all are awake or woken, and each takes from the queue before it sleeps.
     // So does who pushed the strand; where it leaves at the gate, the push has woken another.
     fn tell<R: Wait>(&self, rt: &R) {
-        let mut board = self.board.lock(rt);
+        let mut board = take_lock(rt, &self.board);
         board.moves = board.moves.wrapping_add(1);
         if board.sleeping > 0 {
             self.moved.notify_one();
@@ -67,14 +68,14 @@ impl<B: BatchName> Shared<B> {
 
     // Tells all of want of memory.
     fn give_up<R: Wait>(&self, rt: &R) {
-        let mut board = self.board.lock(rt);
+        let mut board = take_lock(rt, &self.board);
         board.no_memory = true;
         self.moved.notify_all();
     }
 
     // The number of moves so far, or none where memory ran out.
     fn look<R: Wait>(&self, rt: &R) -> Option<u64> {
-        let board = self.board.lock(rt);
+        let board = take_lock(rt, &self.board);
         if board.no_memory {
             None
         } else {
@@ -84,7 +85,7 @@ impl<B: BatchName> Shared<B> {
 
     // Sleeps until a strand was pushed since the look, each has ended, or memory ran out. True where there is nothing more to do.
     fn wait_past<R: Wait>(&self, rt: &R, seen: u64) -> bool {
-        let mut board = self.board.lock(rt);
+        let mut board = take_lock(rt, &self.board);
         board.sleeping = board.sleeping.wrapping_add(1);
         let mut board = self.moved.wait_while(rt, board, |b| {
             b.moves == seen && !b.no_memory && !b.is_full()
@@ -147,7 +148,7 @@ impl<B: BatchName> Shared<B> {
     {
         let mut strand = strand;
         for _ in rt.forever() {
-            let mut board = self.board.lock(rt);
+            let mut board = take_lock(rt, &self.board);
             match board.try_put(strand) {
                 Ok(()) => {
                     if board.is_full() {
@@ -179,7 +180,7 @@ impl<B: BatchName> Shared<B> {
             let Some(lock) = self.slots.get(number as usize) else {
                 continue;
             };
-            let mut slot = lock.lock(rt);
+            let mut slot = take_lock(rt, lock);
             let Some(held) = &mut slot.held else {
                 continue;
             };
@@ -211,7 +212,7 @@ impl<B: BatchName> Shared<B> {
             let Some(lock) = self.slots.get(number as usize) else {
                 continue;
             };
-            let mut slot = lock.lock(rt);
+            let mut slot = take_lock(rt, lock);
             let Some(held) = &mut slot.held else {
                 continue;
             };
@@ -244,7 +245,7 @@ impl<B: BatchName> Shared<B> {
             let Some(lock) = self.slots.get(number as usize) else {
                 continue;
             };
-            let mut slot = lock.lock(rt);
+            let mut slot = take_lock(rt, lock);
             let Some(held) = &mut slot.held else {
                 continue;
             };

@@ -1,5 +1,5 @@
 -- What only the proofs and the private functions of this crate speak of, beside `Held`.
-use Rattle.std.specs.Prelude.{ℕ, ◌<◌, ◌≤◌, ◌≡◌, List, Option, Some, None, [], ◌∷◌, ◌++◌, map, ◌==◌, slice_get, option_map, unwrap_or, Vec, ⊤}
+use Rattle.std.specs.Prelude.{ℕ, List, Option, Some, None, [], map, slice_get, option_map, unwrap_or, Vec}
 use Rattle.std.specs.Global.{Global}
 use Rattle.backsim_io.specs.Held.{Made}
 

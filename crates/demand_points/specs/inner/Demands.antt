@@ -1,5 +1,5 @@
 -- What only the proofs and the private functions of this crate speak of, beside `Demands`.
-use Rattle.std.specs.Prelude.{◌≡◌, ℕ, ◌+◌, ◌-◌, ◌≤◌, ◌<◌, false, List, [], ◌∷◌, length, map, Some, MatchOption}
+use Rattle.std.specs.Prelude.{◌≡◌, ℕ, ◌+◌, ◌-◌, ◌≤◌, ◌<◌, Bool, true, false, List, [], ◌∷◌, length, map, Some, MatchOption}
 use Rattle.valid_intervals.specs.declared.Cell.{Cell}
 use Rattle.valid_intervals.specs.declared.Point.{Point}
 use Rattle.circuit_meaning.specs.declared.Window.{Window}
@@ -100,3 +100,7 @@ pub record IsDemand (b : Batch) (s : Parts) : Type 0 where
   pub running : IsRunning b.circuit s
   pub charge : s.charged ≤ s.budget
   pub claims : length s.stack + s.filled ≤ s.charged
+
+-- It knows, where it is settled, that no base answer is left to be heard.
+abbrev pub IsKept : Batch → Parts → Bool → Type 0
+IsKept b s settled = IsDemand b s × (settled ≡ true → IsReadyAt b.circuit s)

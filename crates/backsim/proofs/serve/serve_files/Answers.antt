@@ -94,15 +94,15 @@ returns-in-Ok-serve_session-clause-unfinished g c =
     ∙ none-unfinished (g.F.Files.files c.read_design.new.files) (g.F.Files.unfinished c.read_design.new.files) (c.in-Ok.ensures.files ∙ c.requires.created) (g.met.F.Files.places c.read_design.new.files)
 
 -- it halted
-pub returns-clause-cause : goal.returns-clause-cause
-returns-clause-cause g c =
+pub returns-in-Err-serve_session-clause-cause : goal.returns-in-Err-serve_session-clause-cause
+returns-in-Err-serve_session-clause-cause g c =
     let halted = c.in-Err-serve_session.ensures in
     halt-ends _ _ _ _ c.in-Err-serve_session.halt c.from-in-Err-serve_session.result _
     (calm-files (g.Q.Source.faults c.args.queries.now) (g.S.Sink.faults c.args.out.now) _ _ (g.F.Files.files c.args.files.now) (g.F.Files.files c.read_design.new.files) _ _ c.in-Ok.ensures.cause c.in-Ok.ensures.write_faults)
     c.in-Ok.ensures.started halted.started halted.read_faults halted.cause c.from-in-Err-serve_session.ensures c.end_stopped-in-Err-serve_session.ensures.cause
 
-pub returns-clause-refused : goal.returns-clause-refused
-returns-clause-refused g c given are is =
+pub returns-in-Err-serve_session-clause-refused : goal.returns-in-Err-serve_session-clause-refused
+returns-in-Err-serve_session-clause-refused g c given are is =
     let W = g.S.Sink.written in
     let M = g.F.Files.made in
     let L = g.Q.Source.left in
@@ -115,8 +115,8 @@ returns-clause-refused g c given are is =
     are.script (c.in-Err-serve_session.ensures.halted given.script are.script))
     (of-halt halt c.from-in-Err-serve_session.result (W c.serve_session.new.out) (W c.end_stopped-in-Err-serve_session.new.out) c.end_stopped-in-Err-serve_session.result c.from-in-Err-serve_session.ensures c.end_stopped-in-Err-serve_session.ensures.told) is
 
-pub returns-clause-broken : goal.returns-clause-broken
-returns-clause-broken g c given are =
+pub returns-in-Err-serve_session-clause-broken : goal.returns-in-Err-serve_session-clause-broken
+returns-in-Err-serve_session-clause-broken g c given are =
     let W = g.S.Sink.written in
     let M = g.F.Files.made in
     let L = g.Q.Source.left in
@@ -132,8 +132,8 @@ returns-clause-broken g c given are =
     are.script (c.in-Err-serve_session.ensures.halted given.script are.script))
     (of-halt halt c.from-in-Err-serve_session.result (W c.serve_session.new.out) (W c.end_stopped-in-Err-serve_session.new.out) c.end_stopped-in-Err-serve_session.result c.from-in-Err-serve_session.ensures c.end_stopped-in-Err-serve_session.ensures.told)
 
-pub returns-clause-unfinished : goal.returns-clause-unfinished
-returns-clause-unfinished g c =
+pub returns-in-Err-serve_session-clause-unfinished : goal.returns-in-Err-serve_session-clause-unfinished
+returns-in-Err-serve_session-clause-unfinished g c =
     let W = g.S.Sink.written in
     let U = g.F.Files.unfinished in
     let halt = c.in-Err-serve_session.halt in

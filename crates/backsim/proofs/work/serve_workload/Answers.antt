@@ -36,8 +36,8 @@ returns-in-Ok-serve_work-clause-finished g c ended =
     ∙ none-unfinished (g.F.Files.files c.args.files.now) (g.F.Files.unfinished c.args.files.now) c.requires.created (g.met.F.Files.places c.args.files.now)
 
 -- it halted
-pub returns-clause-leaves : goal.returns-clause-leaves
-returns-clause-leaves g c =
+pub returns-in-Err-clause-leaves : goal.returns-in-Err-clause-leaves
+returns-in-Err-clause-leaves g c =
     let W = g.S.Sink.written in
     let M = g.F.Files.made in
     halt-leaves-work c.args.number c.in-Ok.work c.args.journal.now (W c.args.out.now) (W c.end_stopped.new.out) (M c.args.files.now) (M c.serve_work.new.files) _ _ _ _ c.in-Err.halt c.from.result c.end_stopped.result

@@ -1,4 +1,5 @@
 use Rattle.std.proofs.Common.{◌≡◌, ◌<◌, sym, subst}
+use Rattle.std.proofs.lemmas.Bool.{false≢true}
 use Rattle.strand_meaning.specs.declared.Next.TheVariants.{Ask}
 use Rattle.strand_meaning.specs.Strands.{next}
 use Rattle.demand_points.specs.Demands.{Demand}
@@ -12,4 +13,4 @@ invariant_of-self-2 g c =
     let s = c.self.inside.parts in
     let asks : next (strand_of b.circuit s) ≡ Ask c.args.p = subst (λ (v : Demand). next v.strand ≡ Ask c.args.p) (sym c.self.view_is) c.requires.asks in
     let room : s.charged < s.budget = subst (λ (v : Demand). v.strand.charged < v.strand.budget) (sym c.self.view_is) c.requires.room in
-    claimed-demand b c.args.design.now.circuit c.requires.design s c.claim.new.self c.self.invariant c.args.p asks room c.in_ok-claim.ensures.ok
+    (claimed-demand b c.args.design.now.circuit c.requires.design s c.claim.new.self c.self.invariant.0 c.args.p asks room c.in_ok-claim.ensures.ok, λ h. absurd (false≢true h))

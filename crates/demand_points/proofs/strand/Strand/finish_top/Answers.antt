@@ -1,9 +1,10 @@
 use Rattle.std.proofs.Common.{◌≡◌, sym, subst, rules}
+use Rattle.std.proofs.lemmas.Bool.{false≢true}
 use Rattle.strand_meaning.specs.declared.Next.TheVariants.{Fill}
 use Rattle.strand_meaning.specs.Strands.{next}
 use Rattle.demand_points.specs.Demands.{Demand}
 use Rattle.demand_points.specs.inner.Demands.{strand_of}
-use Rattle.demand_points.proofs.Keeps.{fill-room}
+use Rattle.demand_points.proofs.Keeps.{fill-room, finished-demand}
 use Rattle.demand_points.proofs.strand.Strand.finish_top.Goals as goal
 
 pub finish-requires-clause-room : goal.finish-requires-clause-room
@@ -12,4 +13,12 @@ finish-requires-clause-room g c =
     let s = c.self.inside.parts in
     let p = c.requires.fills.0 in
     let fills : next (strand_of b.circuit s) ≡ Fill p = subst (λ (v : Demand). next v.strand ≡ Fill p) (sym c.self.view_is) c.requires.fills.1 in
-    fill-room b s c.self.invariant p fills (search rules)
+    fill-room b s c.self.invariant.0 p fills (search rules)
+
+pub invariant_of-self : goal.invariant_of-self
+invariant_of-self g c =
+    let b = g.B.BatchName.batch in
+    let s = c.self.inside.parts in
+    let p = c.requires.fills.0 in
+    let fills : next (strand_of b.circuit s) ≡ Fill p = subst (λ (v : Demand). next v.strand ≡ Fill p) (sym c.self.view_is) c.requires.fills.1 in
+    (finished-demand b c.args.design.now.circuit c.requires.design s c.finish.new.self c.self.invariant.0 p fills c.finish.ensures.steps, λ h. absurd (false≢true h))
