@@ -33,7 +33,6 @@
 
 mod board;
 mod gate;
-mod locks;
 mod ran;
 mod run;
 mod slot;

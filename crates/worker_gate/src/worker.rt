@@ -7,7 +7,6 @@ ghost use Rattle.strand_meaning.specs.declared.Next.TheVariants.{Ask, Fill, Drop
 
 use crate::board::Board;
 use crate::gate::{Gate, Pass};
-use crate::locks::take_lock;
 use crate::slot::Slot;
 use backsim_io::OutOfMemory;
 use demand_points::{BatchName, Next, Point, Strand};
@@ -15,7 +14,14 @@ use design::Design;
 use memo_shards::Asked;
 use ready_queue::{QueuePass, ReadyQueue};
 use smallvec::SmallVec;
-use std::sync::{Condvar, Mutex, Wait};
+use std::hint::spin_loop;
+use std::sync::{Condvar, Mutex, MutexGuard, Wait};
+
+/// How often a lock is tried before the thread sleeps for it.
+const TRIES: u32 = 50;
+
+/// How long a thread pauses between two tries, in the processor's own pauses.
+const PAUSES: u32 = 4;
 
 /// What the workers share: each shard behind a lock of its own, the board, and the queue of strands that are ready.
 #[derive(Drop)]
@@ -38,6 +44,24 @@ pub enum Turn<B: BatchName> {
     Rests,
     /// Memory ran out.
     NoMemory,
+}
+
+fn pause() {
+    for _ in 0..PAUSES {
+        spin_loop();
+    }
+}
+
+// Takes the lock. Whoever has one of the workers' locks makes one step under it, in a microsecond or two, and to sleep and be
+// woken takes longer. So the lock is tried for as long before the thread sleeps.
+fn take_lock<'a, T, R: Wait>(rt: &R, lock: &'a Mutex<T>) -> MutexGuard<'a, T> {
+    for _ in 0..TRIES {
+        if let Some(guard) = lock.try_lock() {
+            return guard;
+        }
+        pause();
+    }
+    lock.lock(rt)
 }
 
 // What becomes of a strand that has asked.
