@@ -1,5 +1,5 @@
 -- One strand alone over the shards in hand.
-use Rattle.std.proofs.Common.{◌≡◌, ℕ, zero, suc, ◌+◌, ◌<◌, ◌≤◌, min, false, List, [], ◌∷◌, ◌++◌, length, get_or, slice_get, All, is_some, Option, Some, None, IfNone, IfSome, refl, sym, ap, subst, ◌∙◌, arith, inl, inr, length-append}
+use Rattle.std.proofs.Common.{◌≡◌, ℕ, zero, suc, ◌+◌, ◌<◌, ◌≤◌, min, false, List, [], ◌∷◌, ◌++◌, length, get_or, All, Bool, Option, Some, None, Result, Ok, Err, IfOk, IfNone, IfSome, refl, sym, ap, subst, ◌∙◌, arith, inl, inr, length-append}
 use Rattle.std.proofs.lemmas.List.Elements.{Contains-append_right, recursion_from_All}
 use Rattle.std.proofs.Math.ListN.{length-map}
 use Rattle.valid_intervals.specs.declared.Cell.{Cell}
@@ -67,6 +67,10 @@ new-strand b a start s number is zero r e =
       awake = ap (λ (t : Strand). t.waits) is;
     })
 new-strand b a start s number is (suc i) r e = absurd (cc e)
+
+-- each entry of shards without claims is right
+pub entries-right : (b : Batch) → IsLawful b → (opening : ℕ → List SignalCell) (ms : List KeptShard) → IsFresh b opening (shards_in ms) → Each (IsRightEntry b.circuit) (entries_of ms)
+entries-right b lawful opening ms fresh = each-from (IsRightEntry b.circuit) (entries_of ms) (right-of b lawful opening (shards_in ms) fresh)
 
 -- What stands after each journal once entries were added.
 module _ (b : Batch) (lawful : IsLawful b) (opening : ℕ → List SignalCell) (old new : List KeptShard) (added : List Entry) (j : AreAdded (journals_of (shards_in old)) added (journals_of (shards_in new))) where
@@ -137,9 +141,14 @@ found-covered b es x e (inl h) = absurd (h e)
 found-covered b es x e (inr h) = said-found x es h
 
 -- a look-up finds what is there
-pub not-missing : (o : Option Cell) (P : Type 0) → IfNone o (P → ⊥) → P → is_missing o ≡ false
+not-missing : (o : Option Cell) (P : Type 0) → IfNone o (P → ⊥) → P → is_missing o ≡ false
 not-missing None P h p = absurd (h p)
 not-missing (Some x) P h p = refl
+
+-- nor is it missing from what a look-up gives that may run out of memory
+pub missing-none : {E : Type 0} (r : Result (Option Cell) E) (F : Type 0) → IfOk r (λ o. IfNone o (F → ⊥)) → F → (P : Bool → Type 0) → P false → IfOk r (λ o. P (is_missing o))
+missing-none (Ok o) F h f P p = subst P (sym (not-missing o F h f)) p
+missing-none (Err e) F h f P p = tt
 
 -- what holds where nothing was found
 pub none-of : (o : Option Cell) (P : Type 0) → IfNone o P → o ≡ None → P

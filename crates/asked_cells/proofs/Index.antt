@@ -1,27 +1,17 @@
 -- An index of what entries say, as entries are read.
-use Rattle.std.proofs.Common.{◌≡◌, ℕ, zero, suc, ◌+◌, ◌<◌, ◌≤◌, Bool, List, [], ◌∷◌, ◌++◌, length, get_or, take, drop, map, All, Contains, Option, Some, None, Result, Ok, Err, OnOk, refl, sym, ap, subst, ◌∙◌, arith, inl, inr, append_assoc, append-nil}
-use Rattle.std.proofs.lemmas.List.Elements.{All-contains, All-weaker, All-contains_itself, Contains-append_left, Contains-append_right, Contains-append_cases, recursion_from_All}
-use Rattle.std.proofs.Math.Seq.{drop-append_seam}
+use Rattle.std.proofs.Common.{◌≡◌, ℕ, suc, ◌+◌, ◌<◌, ◌≤◌, Bool, List, [], ◌∷◌, ◌++◌, length, get_or, take, All, Contains, Option, Some, None, refl, sym, ap, subst, ◌∙◌, arith, inl, inr, append_assoc, append-nil}
+use Rattle.std.proofs.lemmas.List.Elements.{All-contains, All-weaker, All-contains_itself, Contains-append_left, Contains-append_right, Contains-append_cases}
 use Rattle.journal_meaning.specs.declared.Entry.TheVariants.{Told, Claimed, Filled, Evicted, Dropped, Spent}
 use Rattle.circuit_meaning.specs.Cells.{cell_at}
-use Rattle.journal_meaning.specs.Answers.{is_fill_of, filled}
 use Rattle.journal_meaning.specs.Counts.{count}
-use Rattle.journal_meaning.proofs.Grown.{count-append}
-use Rattle.plan_machine.specs.Shards.{Shard}
-use Rattle.plan_machine.specs.Settle.{journals_of}
 use Rattle.plan_machine.proofs.Underway.{contains-cases, contains-none}
-use Rattle.memo_shards.specs.KeptShards.{KeptShard}
-use Rattle.plan_core.specs.Parts.{shards_in}
-use Rattle.asked_cells.specs.Memos.{entries_of}
-use Rattle.asked_cells.specs.inner.Tails.{lengths_of, tails}
-use Rattle.std.proofs.lemmas.List.{take_more, map-append}
+use Rattle.std.proofs.lemmas.List.{take_more}
 use Rattle.circuit_meaning.specs.Circuit.{Circuit}
 use Rattle.valid_intervals.specs.declared.Cell.{Cell}
 use Rattle.valid_intervals.specs.declared.Point.{Point}
 use Rattle.journal_meaning.specs.declared.Entry.{Entry}
 use Rattle.journal_meaning.specs.inner.Index.{SaidCell, cells_said, cell_said, place_of, IsCellIndex}
 use Rattle.journal_meaning.proofs.Index.{said-append}
-use Rattle.journal_meaning.proofs.Lists.{Each, each-left, each-right}
 
 module _ (c : Circuit) (index : Point → Option Cell) where
   -- one entry more

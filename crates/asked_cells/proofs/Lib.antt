@@ -6,3 +6,4 @@ pub mod Asked
 pub mod Freeing
 pub mod Unused
 pub mod One
+pub mod Exact

@@ -10,8 +10,8 @@ ghost use Rattle.journal_meaning.specs.inner.Grown.{IsRightEntry};
 ghost use Rattle.journal_meaning.specs.inner.Index.{SaidCell, cells_said, IsFound, IsCellIndex};
 ghost use Rattle.valid_intervals.specs.Cells.{point_cmp};
 
-use backsim_io::OutOfMemory;
 use journal_meaning::Entry;
+use owned_text::OutOfMemory;
 use std::alloc::Global;
 use std::collections::BTreeMap;
 use valid_intervals::{Cell, Point};

@@ -1,4 +1,4 @@
-//! The cells of a batch, asked for one time at a time.
+//! The cells of a batch, asked of the memo one time at a time by a strand alone.
 //!
 //! A [`Memo`] is the shards of a batch as its owner goes on alone, once no worker runs: no point is claimed. [`begin`] makes it of
 //! shards that workers left, or of new ones. [`reach`] answers the cell of a query at one time: as a base answer, as what an entry of
@@ -10,12 +10,15 @@
 //! is the time that was asked for, or else the refusal has its cause. So whoever asks for all times of a window knows that the query is
 //! closed, and `window_answers` settles batches in this way.
 //!
-//! A memo has an index of the cells that the entries of the batch say, by signal and first time. By its type the index has these cells
-//! and no others. `begin` reads each entry once, and a call of `reach` those that it adds. With n entries in the end:
-//! - an entry takes O(log n) steps to be read, and a look-up takes as many;
+//! `begin` reads each entry once, and notes where the entry stands that was recorded for a point (`src/places.rt`). A strand that came
+//! to its end left an entry for each point that it heard, so whoever asks for the points that it asked for finds all of them there.
+//! Only when a point is asked for which no entry was recorded, a memo makes an index of the cells that the entries of the batch say, by
+//! signal and first time. By its type such an index has these cells and no others. With n entries in the end:
+//! - an entry takes a few steps to be read by `begin`, and a look-up of the point for which one was recorded takes as many, whatever n;
+//! - the first other point takes O(n log n) steps, once, and from then on each other look-up and each entry that is added O(log n);
 //! - a call that finds nothing starts a strand, and takes a step for each shard besides.
 //!
-//! A call that is refused memory gives up the shards: the memo is empty from then on.
+//! A call that is refused memory may give up the shards: the memo is empty from then on.
 //!
 //! ```
 //! let mut memo = begin(alloc, shards)?;
@@ -30,6 +33,7 @@
 
 mod cells;
 mod memo;
+mod places;
 mod reading;
 #[cfg(test)]
 mod tests;

@@ -23,25 +23,29 @@ ghost use Rattle.asked_cells.specs.Asked.{HasAsked};
 ghost use Rattle.asked_cells.specs.inner.Tails.{lengths_of, tails};
 
 use crate::cells::SaidCells;
-use crate::reading::{free_all, know_all, read_all};
-use backsim_io::OutOfMemory;
+use crate::places::Places;
+use crate::reading::{free_all, index_of, know_all, places_in, said_for};
 use batch_meaning::Query;
 use demand_points::{BatchName, Strand};
 use design::Design;
 use journal_meaning::Entry;
 use memo_shards::Shard;
+use owned_text::OutOfMemory;
 use plan_core::{Alone, Plan};
 use std::alloc::Global;
 use std::marker::Model;
 use std::mem;
 use valid_intervals::{Cell, Point};
 
-/// The shards of the batch that B names, and the cells that their entries say.
+/// The shards of the batch that B names, and what finds the cells that their entries say.
 #[derive(Drop)]
 pub struct Memo<B: BatchName> {
     alloc: Global,
     shards: Vec<Shard<B>>,
-    cells: SaidCells,
+    /// Where the entries stand that there were at the beginning.
+    places: Vec<Places>,
+    /// The index of all cells, once a point was asked for which no entry was recorded.
+    cells: Option<SaidCells>,
 }
 
 impl<B: BatchName> Model for Memo<B> {
@@ -50,6 +54,7 @@ impl<B: BatchName> Model for Memo<B> {
 
     ghost Value = { List KeptShard };
 
+    ghost use Rattle.std.specs.Prelude.{IfSome};
     ghost use Rattle.std.specs.BTreeMap.{get};
     ghost use Rattle.journal_meaning.specs.inner.Index.{cells_said, IsCellIndex};
     ghost use Rattle.valid_intervals.specs.Cells.{point_cmp};
@@ -57,7 +62,7 @@ impl<B: BatchName> Model for Memo<B> {
 
     ghost view = { λ m. m.shards.items };
 
-    ghost invariant = { λ m. IsCellIndex B.batch.circuit (cells_said (entries_of m.shards.items)) (get point_cmp m.cells.cells) };
+    ghost invariant = { λ m. IfSome m.cells (λ i. IsCellIndex B.batch.circuit (cells_said (entries_of m.shards.items)) (get point_cmp i.cells)) };
 }
 
 impl<B: BatchName> Memo<B> {
@@ -68,7 +73,8 @@ impl<B: BatchName> Memo<B> {
         Memo {
             alloc,
             shards: Vec::new(alloc),
-            cells: SaidCells::new(alloc),
+            places: Vec::new(alloc),
+            cells: None,
         }
     }
 
@@ -86,23 +92,32 @@ impl<B: BatchName> Memo<B> {
         let Memo {
             alloc: _,
             shards,
+            places: _,
             cells: _,
         } = self;
         shards
     }
 
     /// The cell that covers the point, where an entry says it.
-    fn find(&self, p: Point) -> Option<Cell>
+    fn find(&mut self, p: Point) -> Result<Option<Cell>, OutOfMemory>
         requires lawful { IsLawful B.batch }
-        ensures cell { IfSome result (λ cell. cell ≡ cell_at B.batch.circuit p) }
-        ensures some { OnSome result (IsFound (cells_said (entries_of self.now)) p) }
-        ensures none { IfNone result (IsFound (cells_said (entries_of self.now)) p → ⊥) }
+        requires fresh { IsFresh B.batch B.opening (shards_in self.old) }
+        ensures kept { self.new ≡ self.old }
+        ensures cell { IfOk result (λ r. IfSome r (λ cell. cell ≡ cell_at B.batch.circuit p)) }
+        ensures some { IfOk result (λ r. OnSome r (IsFound (cells_said (entries_of self.old)) p)) }
+        ensures none { IfOk result (λ r. IfNone r (IsFound (cells_said (entries_of self.old)) p → ⊥)) }
     {
-        self.cells.find(p)
+        if let Some(cell) = said_for(&self.shards, &self.places, p) {
+            return Ok(Some(cell));
+        }
+        let cells = index_of(self.alloc, self.cells.take(), &self.shards)?;
+        let found = cells.find(p);
+        self.cells = Some(cells);
+        Ok(found)
     }
 }
 
-/// Frees the claims that are left, and reads the entries.
+/// Frees the claims that are left, and notes where the entries stand.
 pub fn begin<B: BatchName>(alloc: Global, shards: Vec<Shard<B>>) -> Result<Memo<B>, OutOfMemory>
     requires lawful { IsLawful B.batch }
     requires count { length shards.items ≡ B.batch.shards }
@@ -114,11 +129,12 @@ pub fn begin<B: BatchName>(alloc: Global, shards: Vec<Shard<B>>) -> Result<Memo<
     know_all(&shards);
     let mut freed = shards;
     free_all(&mut freed);
-    let cells = read_all(alloc, &freed)?;
+    let places = places_in(alloc, &freed)?;
     Ok(Memo {
         alloc,
         shards: freed,
-        cells,
+        places,
+        cells: None,
     })
 }
 
@@ -262,15 +278,18 @@ fn ask<B: BatchName>(
     let Memo {
         alloc: _,
         shards,
-        mut cells,
+        places,
+        cells,
     } = mem::replace(memo, Memo::empty(alloc));
+    let mut index = index_of(alloc, cells, &shards)?;
     let read = lengths(alloc, &shards)?;
     let (shards, refused) = run_one(alloc, design, shards, query, time, *charge)?;
-    read_new(&mut cells, &shards, &read, query, charge)?;
+    read_new(&mut index, &shards, &read, query, charge)?;
     *memo = Memo {
         alloc,
         shards,
-        cells,
+        places,
+        cells: Some(index),
     };
     Ok(refused)
 }
@@ -300,11 +319,11 @@ pub fn reach<B: BatchName>(
         signal: query.signal,
         time,
     };
-    if let Some(cell) = memo.find(p) {
+    if let Some(cell) = memo.find(p)? {
         return Ok(Some(cell));
     }
     if ask(memo, design, query, time, charge)? {
         return Ok(None);
     }
-    Ok(memo.find(p))
+    memo.find(p)
 }

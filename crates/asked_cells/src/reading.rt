@@ -1,6 +1,6 @@
 //! The shards as asking begins: their claims are freed, and their entries are read.
 
-ghost use Rattle.std.specs.Prelude.{◌≡◌, ◌<◌, ℕ, All, length, get_or, IfOk};
+ghost use Rattle.std.specs.Prelude.{◌≡◌, ◌<◌, ℕ, All, length, get_or, IfOk, IfSome};
 ghost use Rattle.std.specs.BTreeMap.{get};
 ghost use Rattle.std.specs.List.{AllByRecursion};
 ghost use Rattle.circuit_meaning.specs.Circuit.{Circuit, IsCircuit};
@@ -10,12 +10,15 @@ ghost use Rattle.valid_intervals.specs.Cells.{point_cmp};
 ghost use Rattle.memo_shards.specs.KeptShards.{KeptShard, IsKnownShard};
 ghost use Rattle.memo_shards.specs.Ends.{FreesAll};
 ghost use Rattle.asked_cells.specs.Memos.{entries_of};
+ghost use Rattle.asked_cells.specs.inner.Exact.{IsSaidFor};
 
 use crate::cells::SaidCells;
-use backsim_io::OutOfMemory;
+use crate::places::Places;
 use demand_points::BatchName;
 use memo_shards::Shard;
+use owned_text::OutOfMemory;
 use std::alloc::Global;
+use valid_intervals::{Cell, Point};
 
 /// What is known of each shard.
 pub fn know_all<B: BatchName>(shards: &[Shard<B>])
@@ -46,4 +49,49 @@ pub fn read_all<B: BatchName>(alloc: Global, shards: &[Shard<B>]) -> Result<Said
         cells.note_all(shard.journal())?;
     }
     Ok(cells)
+}
+
+/// The index of what the entries of shards say, which is made where there is none.
+pub fn index_of<B: BatchName>(
+    alloc: Global,
+    index: Option<SaidCells>,
+    shards: &[Shard<B>],
+) -> Result<SaidCells, OutOfMemory>
+    ensures { (c : Circuit) → IsCircuit c → AllByRecursion (IsRightEntry c) (entries_of shards.now)
+        → IfSome index (λ cells. IsCellIndex c (cells_said (entries_of shards.now)) (get point_cmp cells.cells))
+        → IfOk result (λ cells. IsCellIndex c (cells_said (entries_of shards.now)) (get point_cmp cells.cells)) }
+{
+    match index {
+        Some(cells) => Ok(cells),
+        None => read_all(alloc, shards),
+    }
+}
+
+/// Where the entries stand in each journal that were recorded for points.
+pub fn places_in<B: BatchName>(
+    alloc: Global,
+    shards: &[Shard<B>],
+) -> Result<Vec<Places>, OutOfMemory> {
+    let mut places = Vec::new(alloc);
+    for shard in shards {
+        places.push(Places::read(alloc, shard.journal())?)?;
+    }
+    Ok(places)
+}
+
+/// What an entry says that was recorded for this very point.
+pub fn said_for<B: BatchName>(shards: &[Shard<B>], places: &[Places], p: Point) -> Option<Cell>
+    ensures { IfSome result (IsSaidFor (entries_of shards.now) p) }
+{
+    if shards.is_empty() {
+        return None;
+    }
+    let home = p.signal as usize % shards.len();
+    if home >= places.len() {
+        return None;
+    }
+    if home >= shards.len() {
+        return None;
+    }
+    places[home].seek(shards[home].journal(), p)
 }

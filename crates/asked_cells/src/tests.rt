@@ -1,21 +1,25 @@
-//! One time of a query, asked over one empty shard: the last of three buffers, with a delay of 1 each.
+//! One time of a query, asked over one empty shard: the last of three buffers, with a delay of 1 each. And where entries stand.
+
 ghost use Rattle.std.specs.Prelude.{◌≡◌, ◌≤◌, ◌+◌, ◌∷◌, [], None, length, IfOk};
 ghost use Rattle.batch_meaning.specs.Lawful.{IsLawful};
 
 use super::*;
-use backsim_io::OutOfMemory;
+use crate::places::Places;
 use batch_meaning::Query;
 use bench_reader::read_bench;
 use cell_store::CellStore;
 use demand_points::BatchName;
 use design::{Design, JoinFault};
 use gate_values::Value;
+use journal_meaning::Entry;
 use memo_shards::Shard;
+use owned_text::OutOfMemory;
 use std::alloc::Global;
 use std::marker::Brand;
 use std::test::Fail;
 use stimulus_file::read_stimulus;
 use timing_file::read_timing;
+use valid_intervals::{Cell, Point, Span};
 
 /// The text, where it is short.
 fn short(text: &str) -> &[u8]
@@ -136,5 +140,74 @@ fn one_time_of_a_chain(rt: HostRuntime) -> Result<(), Fail> {
         );
         assert_eq!(rt; found, want);
     }
+    Ok(())
+}
+
+/// A cell of this one time.
+fn instant(time: u32) -> Option<Cell> {
+    let span = Span::new(time, time.saturating_add(1))?;
+    Some(Cell {
+        span,
+        value: Value::One,
+    })
+}
+
+/// A claim of the point.
+fn claim_of(p: Point) -> Entry {
+    Entry::Claimed { q: 1, p }
+}
+
+/// Its fill.
+fn fill_of(p: Point, cell: &Cell) -> Entry {
+    Entry::Filled {
+        q: 1,
+        p,
+        cell: *cell,
+    }
+}
+
+/// An entry that tells its cell.
+fn tell_of(p: Point, cell: &Cell) -> Entry {
+    Entry::Told {
+        q: 2,
+        p,
+        cell: *cell,
+    }
+}
+
+/// Adds a claim of the point, its fill, and an entry that tells it again.
+fn record(journal: &mut Vec<Entry>, p: Point) -> Result<(), OutOfMemory> {
+    let Some(cell) = instant(p.time) else {
+        return Ok(());
+    };
+    journal.push(claim_of(p))?;
+    journal.push(fill_of(p, &cell))?;
+    journal.push(tell_of(p, &cell))?;
+    Ok(())
+}
+
+/// How many points of 20 signals and 20 times are found in a journal of the points of 10 signals and 20 times.
+fn count_found(alloc: Global) -> Result<u32, OutOfMemory> {
+    let mut journal = Vec::new(alloc);
+    for signal in 0..10 {
+        for time in 0..20 {
+            record(&mut journal, Point { signal, time })?;
+        }
+    }
+    let places = Places::read(alloc, &journal)?;
+    let mut found = 0u32;
+    for signal in 0..20 {
+        for time in 0..20 {
+            if places.seek(&journal, Point { signal, time }).is_some() {
+                found = found.saturating_add(1);
+            }
+        }
+    }
+    Ok(found)
+}
+
+#[test]
+fn each_recorded_point_is_found(rt: HostRuntime) -> Result<(), Fail> {
+    assert_eq!(rt; count_found(rt.alloc())?, 200);
     Ok(())
 }

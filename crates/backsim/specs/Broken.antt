@@ -1,17 +1,18 @@
 -- What stands where a fault or a lack of memory ends a session.
-use Rattle.std.specs.Prelude.{◌≡◌, ◌<◌, ◌⊎◌, ⊤, ℕ, List, [], All, Contains, Option, Some}
+use Rattle.std.specs.Prelude.{◌≡◌, ◌<◌, ◌+◌, ◌⊎◌, ⊤, ℕ, List, [], ◌∷◌, All, Option, Some}
+use Rattle.owned_text.specs.Made.{Made}
 use Rattle.backsim_io.specs.Counts.{GrowsByPrefix}
-use Rattle.backsim_io.specs.Held.{Made}
+use Rattle.backsim_io.specs.State.{FilesState}
 use Rattle.session_meaning.specs.Session.{Setup}
 use Rattle.session_meaning.specs.Broken.{IsPrefix, IsHeadBegun, IsBrokenIn, IsDumpBroken}
 use Rattle.session_loop.specs.Serving.{IsServedUntil}
-use Rattle.session_loop.specs.Halting.{WroteFiles, IsUntouched}
 use Rattle.backsim.specs.declared.status.Place.TheVariants.{Journal, Script, Replies, Vcd}
 use Rattle.backsim.specs.declared.status.Status.{Status}
 use Rattle.backsim.specs.declared.status.Status.TheVariants.{Ended, Words, Refused, ReadFault, WriteFault, FileFault, OutOfMemory}
 use Rattle.backsim.specs.Commands.{Command}
+use Rattle.backsim.specs.Seen.{Seen, left_in, IsUntouched}
 use Rattle.backsim.specs.Places.{OnFile}
-use Rattle.backsim.specs.Session.{Given, OfDesign, ServedAll}
+use Rattle.backsim.specs.Session.{Given, Wrote, ServedAll, IsServed}
 use Rattle.backsim.specs.Refused.{AreRefused, IsScriptRefused}
 use Rattle.backsim.specs.Texts.{too_long}
 
@@ -21,60 +22,70 @@ IsBroken setup script left replies journal dumps =
     ((left ≡ Some script) × IsHeadBegun setup replies journal dumps) ⊎ IsBrokenIn setup script replies journal dumps
 
 -- the session broke off
-abbrev pub BrokeOff : Command → Given → Option (List ℕ) → (List ℕ → Type 0) → (List ℕ → Type 0) → (List Made → Type 0) → (List Made → Type 0) → ℕ → Type 0
-BrokeOff command given left out new_out made new_made files =
-    OfDesign command given (λ setup. WroteFiles (IsBroken setup given.script left) command.journal out new_out made new_made files)
+abbrev pub BrokeOff : Command → Given → Seen → Seen → Type 0
+BrokeOff command given before after = Wrote command given before after (λ setup. IsBroken setup given.script (left_in after))
 
 -- it broke off in a unit
-abbrev pub BrokeOffIn : Command → Given → (List ℕ → Type 0) → (List ℕ → Type 0) → (List Made → Type 0) → (List Made → Type 0) → ℕ → Type 0
-BrokeOffIn command given out new_out made new_made files =
-    OfDesign command given (λ setup. WroteFiles (IsBrokenIn setup given.script) command.journal out new_out made new_made files)
+abbrev pub BrokeOffIn : Command → Given → Seen → Seen → Type 0
+BrokeOffIn command given before after = Wrote command given before after (λ setup. IsBrokenIn setup given.script)
 
 -- it broke off in a dump, of which no reply was written
-abbrev pub BrokeOffInDump : Command → Given → (List ℕ → Type 0) → (List ℕ → Type 0) → (List Made → Type 0) → (List Made → Type 0) → ℕ → Type 0
-BrokeOffInDump command given out new_out made new_made files =
-    OfDesign command given (λ setup. WroteFiles (IsDumpBroken setup given.script) command.journal out new_out made new_made files)
+abbrev pub BrokeOffInDump : Command → Given → Seen → Seen → Type 0
+BrokeOffInDump command given before after = Wrote command given before after (λ setup. IsDumpBroken setup given.script)
 
 -- a refusal was told in part: of the files, or of the script
-abbrev pub ToldInPart : Command → Given → Option (List ℕ) → (List ℕ → Type 0) → (List ℕ → Type 0) → (List Made → Type 0) → (List Made → Type 0) → ℕ → Type 0
-ToldInPart command given left out new_out made new_made files =
-    AreRefused given GrowsByPrefix left out new_out made new_made ⊎ IsScriptRefused command given (λ rest. IsPrefix rest too_long) out new_out made new_made files
+abbrev pub ToldInPart : Command → Given → Seen → Seen → Type 0
+ToldInPart command given before after =
+    AreRefused given GrowsByPrefix before after ⊎ IsScriptRefused command given (λ rest. IsPrefix rest too_long) before after
 
 -- every unit completed by the bytes read was served
-abbrev pub ServedUntil : Command → Given → Option (List ℕ) → (List ℕ → Type 0) → (List ℕ → Type 0) → (List Made → Type 0) → (List Made → Type 0) → ℕ → Type 0
-ServedUntil command given left out new_out made new_made files =
-    OfDesign command given (λ setup. WroteFiles (IsServedUntil setup given.script left) command.journal out new_out made new_made files)
+abbrev pub ServedUntil : Command → Given → Seen → Seen → Type 0
+ServedUntil command given before after = Wrote command given before after (λ setup. IsServedUntil setup given.script (left_in after))
 
--- What a fault or a lack of memory leaves. A session that ended or refused something has clauses of its own.
-abbrev pub Leaves : Command → Given → Option (List ℕ) → (List ℕ → Type 0) → (List ℕ → Type 0) → (List Made → Type 0) → (List Made → Type 0) → ℕ → ℕ → Status → Type 0
-Leaves command given left out new_out made new_made files new_files Ended = ⊤
-Leaves command given left out new_out made new_made files new_files Words = ⊤
-Leaves command given left out new_out made new_made files new_files Refused = ⊤
-Leaves command given left out new_out made new_made files new_files (ReadFault Script) = ServedUntil command given left out new_out made new_made new_files
-Leaves command given left out new_out made new_made files new_files (ReadFault place) = IsUntouched (Some given.script) left out new_out made new_made files new_files
-Leaves command given left out new_out made new_made files new_files (WriteFault Replies) =
-    BrokeOffIn command given out new_out made new_made new_files ⊎ ToldInPart command given left out new_out made new_made new_files
-Leaves command given left out new_out made new_made files new_files (WriteFault Vcd) = BrokeOffInDump command given out new_out made new_made new_files
-Leaves command given left out new_out made new_made files new_files (WriteFault place) = BrokeOff command given left out new_out made new_made new_files
-Leaves command given left out new_out made new_made files new_files (FileFault Journal) =
-    IsUntouched (Some given.script) left out new_out made new_made files new_files ⊎ ServedAll command given out new_out made new_made new_files
-Leaves command given left out new_out made new_made files new_files (FileFault Vcd) = BrokeOffInDump command given out new_out made new_made new_files
-Leaves command given left out new_out made new_made files new_files (FileFault place) = IsUntouched (Some given.script) left out new_out made new_made files new_files
-Leaves command given left out new_out made new_made files new_files OutOfMemory =
-    IsUntouched (Some given.script) left out new_out made new_made files new_files
-    ⊎ (BrokeOff command given left out new_out made new_made new_files ⊎ ToldInPart command given left out new_out made new_made new_files)
+-- What a fault or a lack of memory leaves. A session that ended or refused something is told of elsewhere.
+abbrev pub Leaves : Command → Given → Seen → Seen → Status → Type 0
+Leaves command given before after Ended = ⊤
+Leaves command given before after Words = ⊤
+Leaves command given before after Refused = ⊤
+Leaves command given before after (ReadFault Script) = ServedUntil command given before after
+Leaves command given before after (ReadFault place) = IsUntouched before after
+Leaves command given before after (WriteFault Replies) = BrokeOffIn command given before after ⊎ ToldInPart command given before after
+Leaves command given before after (WriteFault Vcd) = BrokeOffInDump command given before after
+Leaves command given before after (WriteFault place) = BrokeOff command given before after
+Leaves command given before after (FileFault Journal) = IsUntouched before after ⊎ IsServed command given before after
+Leaves command given before after (FileFault Vcd) = BrokeOffInDump command given before after
+Leaves command given before after (FileFault place) = IsUntouched before after
+Leaves command given before after OutOfMemory =
+    IsUntouched before after ⊎ (BrokeOff command given before after ⊎ ToldInPart command given before after)
 
--- Which created files are not finished at a session's end: none where it ended; a dump only where its own writing or end failed.
-abbrev pub LeavesOpen : List ℕ → Status → Type 0
-LeavesOpen unfinished Ended = unfinished ≡ []
-LeavesOpen unfinished Words = unfinished ≡ []
-LeavesOpen unfinished Refused = All (λ place. place ≡ 0) unfinished
-LeavesOpen unfinished (ReadFault place) = All (λ place. place ≡ 0) unfinished
-LeavesOpen unfinished (WriteFault Vcd) = (place : ℕ) × (0 < place) × Contains unfinished place
-LeavesOpen unfinished (WriteFault place) = All (λ place. place ≡ 0) unfinished
-LeavesOpen unfinished (FileFault Vcd) = ⊤
-LeavesOpen unfinished (FileFault place) = All (λ place. place ≡ 0) unfinished
-LeavesOpen unfinished OutOfMemory = All (λ place. place ≡ 0) unfinished
+-- Which created files are not finished at a session's end.
+
+-- the journal at most
+abbrev pub JournalAtMost : FilesState → Type 0
+JournalAtMost files = All (λ place. place ≡ 0) files.unfinished
+
+-- the journal alone
+abbrev pub JournalAlone : FilesState → Type 0
+JournalAlone files = files.unfinished ≡ 0 ∷ []
+
+-- the journal and the dump that was created last
+pub record JournalAndDump (files : FilesState) : Type 0 where
+  pub place : ℕ
+  pub behind : 0 < place
+  pub last : files.created ≡ place + 1
+  pub unfinished : files.unfinished ≡ 0 ∷ place ∷ []
+
+-- none where it ended; a dump only where its own writing or end failed
+abbrev pub LeavesOpen : FilesState → Status → Type 0
+LeavesOpen files Ended = files.unfinished ≡ []
+LeavesOpen files Words = files.unfinished ≡ []
+LeavesOpen files Refused = JournalAtMost files
+LeavesOpen files (ReadFault place) = JournalAtMost files
+LeavesOpen files (WriteFault Vcd) = JournalAndDump files
+LeavesOpen files (WriteFault place) = JournalAtMost files
+LeavesOpen files (FileFault Vcd) = JournalAlone files ⊎ JournalAndDump files
+LeavesOpen files (FileFault place) = JournalAtMost files
+LeavesOpen files OutOfMemory = JournalAtMost files
 
 -- what is known where one of the three files could not be opened or read
 abbrev pub OnFileFault : Type 0 → Status → Type 0

@@ -1,3 +1,4 @@
+pub mod Seen
 pub mod Cause
 pub mod Places
 pub mod Commands
@@ -6,4 +7,5 @@ pub mod Session
 pub mod Refused
 pub mod Broken
 pub mod Work
+pub mod Serves
 pub mod inner

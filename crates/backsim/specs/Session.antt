@@ -1,13 +1,13 @@
 -- What a session is given, and what it serves.
-use Rattle.std.specs.Prelude.{◌≡◌, ◌≤◌, ℕ, List, [], ◌∷◌, length, All, Option, Some, Ok}
-use Rattle.backsim_io.specs.Held.{Made}
+use Rattle.std.specs.Prelude.{◌≡◌, ◌≤◌, ℕ, List, [], ◌∷◌, length, Some, Ok}
+use Rattle.owned_text.specs.Made.{Made}
 use Rattle.circuit_files.specs.Files.{design_of_files}
 use Rattle.design.specs.Joined.{Joined}
 use Rattle.session_meaning.specs.Session.{Setup}
-use Rattle.session_meaning.specs.Ample.{IsAmpleSession}
-use Rattle.session_meaning.specs.Laws.{HoldsWires}
+use Rattle.session_meaning.specs.Whole.{IsWhole}
 use Rattle.session_loop.specs.Halting.{WroteFiles}
 use Rattle.backsim.specs.Commands.{Command}
+use Rattle.backsim.specs.Seen.{Seen, held_in, left_in, created_in}
 
 -- the bytes of the three files and of the script
 pub record Given : Type 0 where
@@ -17,11 +17,11 @@ pub record Given : Type 0 where
   pub script : List ℕ
 
 -- these are held under the three names, and left in the script
-pub record AreGiven (held : List ℕ → Option (List ℕ)) (left : Option (List ℕ)) (command : Command) (given : Given) : Type 0 where
-  pub netlist : held command.netlist ≡ Some given.netlist
-  pub timing : held command.timing ≡ Some given.timing
-  pub stimulus : held command.stimulus ≡ Some given.stimulus
-  pub script : left ≡ Some given.script
+pub record AreGiven (before : Seen) (command : Command) (given : Given) : Type 0 where
+  pub netlist : held_in before command.netlist ≡ Some given.netlist
+  pub timing : held_in before command.timing ≡ Some given.timing
+  pub stimulus : held_in before command.stimulus ≡ Some given.stimulus
+  pub script : left_in before ≡ Some given.script
 
 abbrev pub setup_of : Command → Joined → Setup
 setup_of command design = record {
@@ -37,18 +37,17 @@ pub record OfDesign (command : Command) (given : Given) (says : Setup → Type 0
   pub accepted : design_of_files given.netlist given.timing given.stimulus ≡ Ok design
   pub holds : says (setup_of command design)
 
--- a whole session of the script, with the wave of every query whose budget is ample, and with dumps that their reader reads back
-pub record IsWhole (setup : Setup) (script out journal : List ℕ) (dumps : List Made) : Type 0 where
-  pub ample : IsAmpleSession setup script out journal dumps
-  pub readable : All HoldsWires dumps
+-- Of the design these replies were written, and the files that were created are this journal, under the
+-- journal's name, and after it these dumps.
+abbrev pub Wrote : Command → Given → Seen → Seen → (Setup → List ℕ → List ℕ → List Made → Type 0) → Type 0
+Wrote command given before after such =
+    OfDesign command given (λ setup. WroteFiles (such setup) command.journal before.written after.written before.made after.made (created_in after))
 
--- The session of the script over the design stands whole: its replies were written, and the files that were created are its journal,
--- under the journal's name, and after it its dumps.
-abbrev pub ServedAll : Command → Given → (List ℕ → Type 0) → (List ℕ → Type 0) → (List Made → Type 0) → (List Made → Type 0) → ℕ → Type 0
-ServedAll command given out new_out made new_made files =
-    OfDesign command given (λ setup. WroteFiles (IsWhole setup given.script) command.journal out new_out made new_made files)
+-- the session of the script stands whole
+abbrev pub ServedAll : Command → Given → Seen → Seen → Type 0
+ServedAll command given before after = Wrote command given before after (λ setup. IsWhole setup given.script)
 
 -- the script has at most 16,777,216 bytes, and its session stands whole
-pub record IsServed (command : Command) (given : Given) (out new_out : List ℕ → Type 0) (made new_made : List Made → Type 0) (files : ℕ) : Type 0 where
+pub record IsServed (command : Command) (given : Given) (before after : Seen) : Type 0 where
   pub short : length given.script ≤ 16777216
-  pub session : ServedAll command given out new_out made new_made files
+  pub session : ServedAll command given before after

@@ -2,7 +2,7 @@
 use Rattle.std.specs.Prelude.{◌≡◌, ◌⊎◌, ⊤, ℕ, Bool, List, [], ◌∷◌, length, filter, sum_by, codes}
 use Rattle.std.specs.Fmt.{decimal}
 use Rattle.backsim_io.specs.Counts.{Grows, GrowsByPrefix, Stays}
-use Rattle.backsim_io.specs.Held.{Made, SameMade}
+use Rattle.backsim_io.specs.Held.{SameMade}
 use Rattle.gate_values.specs.Gates.{same_value}
 use Rattle.gate_values.specs.declared.Value.TheVariants.{One}
 use Rattle.circuit_meaning.specs.declared.Run.{Run}
@@ -15,6 +15,7 @@ use Rattle.session_loop.specs.Halting as session
 use Rattle.session_loop.specs.Halting.{WroteJournal, IsWorkDone, IsWorkBegun}
 use Rattle.workload.specs.declared.Work.{Work}
 use Rattle.workload.specs.Workload.{IsWork}
+use Rattle.backsim.specs.Seen.{Seen}
 use Rattle.backsim.specs.declared.status.Place.TheVariants.{Journal, Replies}
 use Rattle.backsim.specs.declared.status.Status.{Status}
 use Rattle.backsim.specs.declared.status.Status.TheVariants.{Ended, Words, Refused, ReadFault, WriteFault, FileFault, OutOfMemory}
@@ -63,43 +64,43 @@ pub record OfWork (number : ℕ) (says : Work → Type 0) : Type 0 where
 
 -- The batch of these items was answered: its journal is the one file that was created, and of the line that counts
 -- its replies `told` says what was written.
-pub record Answered (told : (List ℕ → Type 0) → (List ℕ → Type 0) → List ℕ → Type 0) (number : ℕ) (journal : Text) (out new_out : List ℕ → Type 0) (made new_made : List Made → Type 0) (work : Work) : Type 0 where
+pub record Answered (told : (List ℕ → Type 0) → (List ℕ → Type 0) → List ℕ → Type 0) (number : ℕ) (journal : Text) (before after : Seen) (work : Work) : Type 0 where
   pub replies : List Reply
-  pub recorded : WroteJournal (session.IsWork (setup_of_work work) work.items replies) journal made new_made
-  pub line : told out new_out (work_line number replies)
+  pub recorded : WroteJournal (session.IsWork (setup_of_work work) work.items replies) journal before.made after.made
+  pub line : told before.written after.written (work_line number replies)
 
 -- The session of the batch stands whole, and the line.
-abbrev pub IsWorkServed : ℕ → Text → (List ℕ → Type 0) → (List ℕ → Type 0) → (List Made → Type 0) → (List Made → Type 0) → Type 0
-IsWorkServed number journal out new_out made new_made = OfWork number (Answered Grows number journal out new_out made new_made)
+abbrev pub IsWorkServed : ℕ → Text → Seen → Seen → Type 0
+IsWorkServed number journal before after = OfWork number (Answered Grows number journal before after)
 
 -- Nothing of the line was written, and this stands of the journal.
-abbrev pub LeftJournal : (Work → List ℕ → Type 0) → ℕ → Text → (List ℕ → Type 0) → (List ℕ → Type 0) → (List Made → Type 0) → (List Made → Type 0) → Type 0
-LeftJournal such number journal out new_out made new_made =
-    Stays out new_out × OfWork number (λ work. WroteJournal (such work) journal made new_made)
+pub record LeftJournal (such : Work → List ℕ → Type 0) (number : ℕ) (journal : Text) (before after : Seen) : Type 0 where
+  pub unreplied : Stays before.written after.written
+  pub recorded : OfWork number (λ work. WroteJournal (such work) journal before.made after.made)
 
 -- a part of the head at most, or a part of the batch's section after it
-abbrev pub BrokeOffWork : ℕ → Text → (List ℕ → Type 0) → (List ℕ → Type 0) → (List Made → Type 0) → (List Made → Type 0) → Type 0
+abbrev pub BrokeOffWork : ℕ → Text → Seen → Seen → Type 0
 BrokeOffWork = LeftJournal (λ work. IsWorkBegun (setup_of_work work) work.items)
 
 -- all of it
-abbrev pub DidWork : ℕ → Text → (List ℕ → Type 0) → (List ℕ → Type 0) → (List Made → Type 0) → (List Made → Type 0) → Type 0
+abbrev pub DidWork : ℕ → Text → Seen → Seen → Type 0
 DidWork = LeftJournal (λ work. IsWorkDone (setup_of_work work) work.items)
 
 -- nothing was written, and no file was created
-abbrev pub NoWork : (List ℕ → Type 0) → (List ℕ → Type 0) → (List Made → Type 0) → (List Made → Type 0) → Type 0
-NoWork out new_out made new_made = Stays out new_out × SameMade made new_made
+pub record NoWork (before after : Seen) : Type 0 where
+  pub unreplied : Stays before.written after.written
+  pub same_files : SameMade before.made after.made
 
 -- What a fault or a lack of memory leaves. The other statuses are not those of a workload.
-abbrev pub LeavesWork : ℕ → Text → (List ℕ → Type 0) → (List ℕ → Type 0) → (List Made → Type 0) → (List Made → Type 0) → Status → Type 0
-LeavesWork number journal out new_out made new_made Ended = ⊤
-LeavesWork number journal out new_out made new_made Words = ⊥
-LeavesWork number journal out new_out made new_made Refused = ⊥
-LeavesWork number journal out new_out made new_made (ReadFault place) = ⊥
-LeavesWork number journal out new_out made new_made (WriteFault Replies) = OfWork number (Answered GrowsByPrefix number journal out new_out made new_made)
-LeavesWork number journal out new_out made new_made (WriteFault Journal) = BrokeOffWork number journal out new_out made new_made
-LeavesWork number journal out new_out made new_made (WriteFault place) = ⊥
-LeavesWork number journal out new_out made new_made (FileFault Journal) =
-    NoWork out new_out made new_made ⊎ DidWork number journal out new_out made new_made
-LeavesWork number journal out new_out made new_made (FileFault place) = ⊥
-LeavesWork number journal out new_out made new_made OutOfMemory =
-    NoWork out new_out made new_made ⊎ (BrokeOffWork number journal out new_out made new_made ⊎ DidWork number journal out new_out made new_made)
+abbrev pub LeavesWork : ℕ → Text → Seen → Seen → Status → Type 0
+LeavesWork number journal before after Ended = ⊤
+LeavesWork number journal before after Words = ⊥
+LeavesWork number journal before after Refused = ⊥
+LeavesWork number journal before after (ReadFault place) = ⊥
+LeavesWork number journal before after (WriteFault Replies) = OfWork number (Answered GrowsByPrefix number journal before after)
+LeavesWork number journal before after (WriteFault Journal) = BrokeOffWork number journal before after
+LeavesWork number journal before after (WriteFault place) = ⊥
+LeavesWork number journal before after (FileFault Journal) = NoWork before after ⊎ DidWork number journal before after
+LeavesWork number journal before after (FileFault place) = ⊥
+LeavesWork number journal before after OutOfMemory =
+    NoWork before after ⊎ (BrokeOffWork number journal before after ⊎ DidWork number journal before after)

@@ -35,7 +35,8 @@ mod usage;
 mod work;
 
 use crate::status::Status;
-use backsim_io::{OutOfMemory, RealFiles, RealSink, RealSource, words_after_name};
+use backsim_io::{RealFiles, RealSink, RealSource, words_after_name};
+use owned_text::OutOfMemory;
 use std::process::ExitCode;
 use std::sync::Wait;
 use std::thread::Threads;

@@ -1,21 +1,11 @@
 //! One session, from the words to the status.
 
-ghost use Rattle.std.specs.Prelude.{◌≡◌, ◌<◌, ◌≤◌, ◌⊎◌, ℕ, List, [], Some, None, Ok, Err, map, length};
-ghost use Rattle.backsim_io.specs.Counts.{Grows, GrowsByPrefix};
+ghost use Rattle.std.specs.Prelude.{◌≡◌, ◌<◌, ◌≤◌, ℕ, List, Some, None, map};
 ghost use Rattle.backsim_io.specs.Held.{ConsumesUpTo};
-ghost use Rattle.circuit_files.specs.Files.{netlist_of, first_two, design_of_files};
-ghost use Rattle.circuit_files.specs.declared.refusal.FileRefusal.{FileRefusal};
 ghost use Rattle.command_words.specs.Words.{words_of};
-ghost use Rattle.design.specs.Joined.{Joined};
-ghost use Rattle.session_loop.specs.Halting.{IsUntouched};
-ghost use Rattle.backsim.specs.Broken.{Leaves, LeavesOpen, OnFileFault};
-ghost use Rattle.backsim.specs.Cause.{counts_of, NoneRose, Explains};
-ghost use Rattle.backsim.specs.Commands.{Command, command_of, OnSession, OnWorkload, files_read};
-ghost use Rattle.backsim.specs.Refused.{IsRefused, RefusesFiles, EndsEarly};
-ghost use Rattle.backsim.specs.Session.{Given, AreGiven, IsServed};
+ghost use Rattle.backsim.specs.Commands.{command_of, OnNoSession};
+ghost use Rattle.backsim.specs.Serves.{Serves, ServesSession};
 ghost use Rattle.backsim.specs.inner.Stops.{EndsWith, EndExplains};
-ghost use Rattle.backsim.specs.Texts.{usage};
-ghost use Rattle.backsim.specs.Work.{IsWorkServed, LeavesWork};
 
 use crate::refusal::Stop;
 use crate::status::{Place, Status};
@@ -26,7 +16,7 @@ use batch_crew::Workers;
 use circuit_files::read_design;
 use command_words::{Words, read_words};
 use session_loop::serve_session;
-use session_meaning::{dumps_are_read_back, enough_budgets_are_served};
+use session_meaning::sessions_are_whole;
 use std::alloc::Global;
 use std::mem;
 use std::sync::Wait;
@@ -49,47 +39,40 @@ fn serve_files<F: Files, Q: Source, S: Sink, G: Gate, R: Threads + Wait + Sync>(
     out: &mut S,
     gate: &G,
 ) -> Status
-    requires started { F.started files.old ≡ 0 }
-    requires created { F.files files.old ≡ 0 }
+    requires started { (F.state files.old).started ≡ 0 }
+    requires created { (F.state files.old).created ≡ 0 }
     requires workers { (0 < workers) × (workers ≤ 64) }
     requires shards { (0 < sizes.shards) × (sizes.shards ≤ 64) }
     requires cells { (0 < sizes.cells) × (sizes.cells ≤ 65536) }
-    ensures cause { Explains 3
-        (counts_of (Q.faults queries.old) (S.faults out.old) (F.file_faults files.old) (F.read_faults files.old) (F.write_faults files.old) (F.started files.old) (F.files files.old))
-        (counts_of (Q.faults queries.new) (S.faults out.new) (F.file_faults files.new) (F.read_faults files.new) (F.write_faults files.new) (F.started files.new) (F.files files.new))
+    ensures serves { ServesSession
+        (command_of netlist.now timing.now stimulus.now journal.now
+        workers sizes.shards sizes.cells)
+        (record {
+          outside = record {
+            outputs = record { files = F.state files.old; replies = S.faults out.old };
+            script = Q.state queries.old;
+          };
+          written = S.written out.old;
+          made = F.made files.old;
+        })
+        (record {
+          outside = record {
+            outputs = record { files = F.state files.new; replies = S.faults out.new };
+            script = Q.state queries.new;
+          };
+          written = S.written out.new;
+          made = F.made files.new;
+        })
         result }
-    ensures no_usage { ¬ (result ≡ Status.Words) }
-    ensures session { let command = command_of netlist.now timing.now stimulus.now journal.now workers sizes.shards sizes.cells in (given : Given)
-        → AreGiven (F.held files.old) (Q.left queries.old) command given → result ≡ Status.Ended
-        → IsServed command given (S.written out.old) (S.written out.new) (F.made files.old) (F.made files.new) (F.files files.new) }
-    ensures refused { let command = command_of netlist.now timing.now stimulus.now journal.now workers sizes.shards sizes.cells in (given : Given)
-        → AreGiven (F.held files.old) (Q.left queries.old) command given → result ≡ Status.Refused
-        → IsRefused command given (Q.left queries.new) (S.written out.old) (S.written out.new) (F.made files.old) (F.made files.new) (F.files files.new) }
-    ensures broken { let command = command_of netlist.now timing.now stimulus.now journal.now workers sizes.shards sizes.cells in (given : Given)
-        → AreGiven (F.held files.old) (Q.left queries.old) command given
-        → Leaves command given (Q.left queries.new) (S.written out.old) (S.written out.new) (F.made files.old) (F.made files.new) (F.files files.old) (F.files files.new) result }
-    ensures netlist_refused { (refusal : FileRefusal) (first : List ℕ)
-        → F.held files.old netlist.now ≡ Some first → netlist_of first ≡ Err refusal
-        → RefusesFiles refusal (Q.left queries.old) (Q.left queries.new) (S.written out.old) (S.written out.new) (F.made files.old) (F.made files.new) (F.files files.old) (F.files files.new) result }
-    ensures timing_refused { (refusal : FileRefusal) (first second : List ℕ)
-        → F.held files.old netlist.now ≡ Some first → F.held files.old timing.now ≡ Some second → first_two first second ≡ Err refusal
-        → RefusesFiles refusal (Q.left queries.old) (Q.left queries.new) (S.written out.old) (S.written out.new) (F.made files.old) (F.made files.new) (F.files files.old) (F.files files.new) result }
-    ensures files_refused { (refusal : FileRefusal) (first second third : List ℕ)
-        → F.held files.old netlist.now ≡ Some first → F.held files.old timing.now ≡ Some second → F.held files.old stimulus.now ≡ Some third
-        → design_of_files first second third ≡ Err refusal
-        → RefusesFiles refusal (Q.left queries.old) (Q.left queries.new) (S.written out.old) (S.written out.new) (F.made files.old) (F.made files.new) (F.files files.old) (F.files files.new) result }
-    ensures untouched { OnFileFault
-        (IsUntouched (Q.left queries.old) (Q.left queries.new) (S.written out.old) (S.written out.new) (F.made files.old) (F.made files.new) (F.files files.old) (F.files files.new)) result }
-    ensures at_most { (script : List ℕ) → Q.left queries.old ≡ Some script → ConsumesUpTo (Some script) (Q.left queries.new) 16777217 }
-    ensures unfinished { LeavesOpen (F.unfinished files.new) result }
+    ensures at_most { (script : List ℕ) → (Q.state queries.old).left ≡ Some script
+        → ConsumesUpTo (Some script) (Q.state queries.new).left 16777217 }
 {
     let design = match read_design(alloc, netlist, timing, stimulus, files) {
         Ok(design) => design,
         Err(stop) => return end_stopped(alloc, Stop::from(stop), out),
     };
     design.facts();
-    enough_budgets_are_served();
-    dumps_are_read_back();
+    sessions_are_whole();
     let crew = Workers::new(rt, gate, workers);
     let inputs = [netlist, timing, stimulus];
     match serve_session(
@@ -125,7 +108,8 @@ pub fn end_stopped<S: Sink>(alloc: Global, stop: Stop, out: &mut S) -> Status
     }
 }
 
-/// Serves what the words ask for.
+/// Serves what the words ask for. What it promises is told by what they ask for (`specs/Serves`); no clause names the number of
+/// workers but as a part of the words, so it is promised for every number and under every order of their steps.
 pub fn serve<F: Files, Q: Source, S: Sink, G: Gate, R: Threads + Wait + Sync>(
     rt: &R,
     alloc: Global,
@@ -135,67 +119,32 @@ pub fn serve<F: Files, Q: Source, S: Sink, G: Gate, R: Threads + Wait + Sync>(
     out: &mut S,
     gate: &G,
 ) -> Status
-    requires started { F.started files.old ≡ 0 }
-    requires created { F.files files.old ≡ 0 }
-    ensures cause { Explains (files_read (words_of (map (λ word. word.now) words.now)))
-        (counts_of (Q.faults queries.old) (S.faults out.old) (F.file_faults files.old) (F.read_faults files.old) (F.write_faults files.old) (F.started files.old) (F.files files.old))
-        (counts_of (Q.faults queries.new) (S.faults out.new) (F.file_faults files.new) (F.read_faults files.new) (F.write_faults files.new) (F.started files.new) (F.files files.new))
+    requires started { (F.state files.old).started ≡ 0 }
+    requires created { (F.state files.old).created ≡ 0 }
+    ensures serves { Serves (words_of (map (λ word. word.now) words.now))
+        (record {
+          outside = record {
+            outputs = record { files = F.state files.old; replies = S.faults out.old };
+            script = Q.state queries.old;
+          };
+          written = S.written out.old;
+          made = F.made files.old;
+        })
+        (record {
+          outside = record {
+            outputs = record { files = F.state files.new; replies = S.faults out.new };
+            script = Q.state queries.new;
+          };
+          written = S.written out.new;
+          made = F.made files.new;
+        })
         result }
-    ensures words { result ≡ Status.Words → (words_of (map (λ word. word.now) words.now) ≡ None) × Grows (S.written out.old) (S.written out.new) usage }
-    ensures other_words { words_of (map (λ word. word.now) words.now) ≡ None
-        → (result ≡ Status.Words) ⊎ ((result ≡ Status.WriteFault Place.Replies) ⊎ (result ≡ Status.OutOfMemory)) }
-    ensures usage_prefix { words_of (map (λ word. word.now) words.now) ≡ None → GrowsByPrefix (S.written out.old) (S.written out.new) usage }
-    ensures no_files { words_of (map (λ word. word.now) words.now) ≡ None → files.new ≡ files.old }
-    ensures no_queries { words_of (map (λ word. word.now) words.now) ≡ None → queries.new ≡ queries.old }
-    ensures session { OnSession (λ command. (given : Given)
-        → AreGiven (F.held files.old) (Q.left queries.old) command given → result ≡ Status.Ended
-        → IsServed command given (S.written out.old) (S.written out.new) (F.made files.old) (F.made files.new) (F.files files.new))
+    ensures at_most { (script : List ℕ) → (Q.state queries.old).left ≡ Some script
+        → ConsumesUpTo (Some script) (Q.state queries.new).left 16777217 }
+    ensures no_script { OnNoSession (queries.new ≡ queries.old)
         (words_of (map (λ word. word.now) words.now)) }
-    ensures unfinished { OnSession (λ command. LeavesOpen (F.unfinished files.new) result) (words_of (map (λ word. word.now) words.now)) }
-    ensures refused { OnSession (λ command. (given : Given)
-        → AreGiven (F.held files.old) (Q.left queries.old) command given → result ≡ Status.Refused
-        → IsRefused command given (Q.left queries.new) (S.written out.old) (S.written out.new) (F.made files.old) (F.made files.new) (F.files files.new))
-        (words_of (map (λ word. word.now) words.now)) }
-    ensures netlist_refused { OnSession (λ command. (refusal : FileRefusal) (first : List ℕ)
-        → F.held files.old command.netlist ≡ Some first → netlist_of first ≡ Err refusal
-        → RefusesFiles refusal (Q.left queries.old) (Q.left queries.new) (S.written out.old) (S.written out.new) (F.made files.old) (F.made files.new) (F.files files.old) (F.files files.new) result)
-        (words_of (map (λ word. word.now) words.now)) }
-    ensures timing_refused { OnSession (λ command. (refusal : FileRefusal) (first second : List ℕ)
-        → F.held files.old command.netlist ≡ Some first → F.held files.old command.timing ≡ Some second → first_two first second ≡ Err refusal
-        → RefusesFiles refusal (Q.left queries.old) (Q.left queries.new) (S.written out.old) (S.written out.new) (F.made files.old) (F.made files.new) (F.files files.old) (F.files files.new) result)
-        (words_of (map (λ word. word.now) words.now)) }
-    ensures files_refused { OnSession (λ command. (refusal : FileRefusal) (first second third : List ℕ)
-        → F.held files.old command.netlist ≡ Some first → F.held files.old command.timing ≡ Some second → F.held files.old command.stimulus ≡ Some third
-        → design_of_files first second third ≡ Err refusal
-        → RefusesFiles refusal (Q.left queries.old) (Q.left queries.new) (S.written out.old) (S.written out.new) (F.made files.old) (F.made files.new) (F.files files.old) (F.files files.new) result)
-        (words_of (map (λ word. word.now) words.now)) }
-    ensures script_refused { OnSession (λ command. (given : Given)
-        → AreGiven (F.held files.old) (Q.left queries.old) command given → 16777216 < length given.script → EndsEarly result)
-        (words_of (map (λ word. word.now) words.now)) }
-    ensures complete { OnSession (λ command. (given : Given) (design : Joined)
-        → AreGiven (F.held files.old) (Q.left queries.old) command given
-        → design_of_files given.netlist given.timing given.stimulus ≡ Ok design → length given.script ≤ 16777216
-        → NoneRose
-        (counts_of (Q.faults queries.old) (S.faults out.old) (F.file_faults files.old) (F.read_faults files.old) (F.write_faults files.old) (F.started files.old) (F.files files.old))
-        (counts_of (Q.faults queries.new) (S.faults out.new) (F.file_faults files.new) (F.read_faults files.new) (F.write_faults files.new) (F.started files.new) (F.files files.new))
-        → (result ≡ Status.Ended) ⊎ (result ≡ Status.OutOfMemory))
-        (words_of (map (λ word. word.now) words.now)) }
-    ensures broken { OnSession (λ command. (given : Given)
-        → AreGiven (F.held files.old) (Q.left queries.old) command given
-        → Leaves command given (Q.left queries.new) (S.written out.old) (S.written out.new) (F.made files.old) (F.made files.new) (F.files files.old) (F.files files.new) result)
-        (words_of (map (λ word. word.now) words.now)) }
-    ensures untouched { OnFileFault
-        (IsUntouched (Q.left queries.old) (Q.left queries.new) (S.written out.old) (S.written out.new) (F.made files.old) (F.made files.new) (F.files files.old) (F.files files.new)) result }
-    ensures at_most { (script : List ℕ) → Q.left queries.old ≡ Some script → ConsumesUpTo (Some script) (Q.left queries.new) 16777217 }
-    ensures workload { OnWorkload (λ number journal. queries.new ≡ queries.old) (words_of (map (λ word. word.now) words.now)) }
-    ensures work_served { OnWorkload (λ number journal. result ≡ Status.Ended
-        → IsWorkServed number journal (S.written out.old) (S.written out.new) (F.made files.old) (F.made files.new))
-        (words_of (map (λ word. word.now) words.now)) }
-    ensures work_leaves { OnWorkload (λ number journal.
-        LeavesWork number journal (S.written out.old) (S.written out.new) (F.made files.old) (F.made files.new) result)
-        (words_of (map (λ word. word.now) words.now)) }
-    ensures work_one { OnWorkload (λ number journal. result ≡ Status.Ended → F.files files.new ≡ 1) (words_of (map (λ word. word.now) words.now)) }
-    ensures work_finished { OnWorkload (λ number journal. result ≡ Status.Ended → F.unfinished files.new ≡ []) (words_of (map (λ word. word.now) words.now)) }
+    ensures no_files { words_of (map (λ word. word.now) words.now) ≡ None
+        → files.new ≡ files.old }
 {
     match read_words(alloc, words) {
         Err(_) => Status::OutOfMemory,

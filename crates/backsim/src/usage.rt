@@ -1,7 +1,8 @@
 //! What is written where the words are none of the forms.
 
 ghost use Rattle.std.specs.Prelude.{◌≡◌, ◌⊎◌};
-ghost use Rattle.backsim_io.specs.Counts.{Grows, GrowsByPrefix, Rose};
+ghost use Rattle.backsim_io.specs.Counts.{Grows, GrowsByPrefix};
+ghost use Rattle.backsim_io.specs.State.{Rises};
 ghost use Rattle.backsim.specs.Texts.{usage};
 
 use crate::status::{Place, Status};
@@ -13,10 +14,12 @@ pub const USAGE: &[u8] =
 /// Writes the usage text.
 pub fn write_usage<S: Sink>(out: &mut S) -> Status
     ensures status { (result ≡ Status.Words) ⊎ (result ≡ Status.WriteFault Place.Replies) }
-    ensures whole { result ≡ Status.Words → Grows (S.written out.old) (S.written out.new) usage }
-    ensures prefix { GrowsByPrefix (S.written out.old) (S.written out.new) usage }
+    ensures whole { result ≡ Status.Words
+        → Grows (S.written out.old) (S.written out.new) usage }
+    ensures part { GrowsByPrefix (S.written out.old) (S.written out.new) usage }
     ensures calm { result ≡ Status.Words → S.faults out.new ≡ S.faults out.old }
-    ensures failed { result ≡ Status.WriteFault Place.Replies → Rose (S.faults out.old) (S.faults out.new) }
+    ensures failed { result ≡ Status.WriteFault Place.Replies
+        → Rises (S.faults out.old) (S.faults out.new) }
 {
     match write_all(out, USAGE) {
         Ok(()) => Status::Words,

@@ -1,10 +1,10 @@
 //! A run of the workload, from its number to the status.
 
-ghost use Rattle.std.specs.Prelude.{◌≡◌, ◌<◌, ◌≤◌, ℕ, [], IfOk, IfSome, filter, length, string_bytes};
-ghost use Rattle.backsim.specs.Broken.{OnFileFault};
-ghost use Rattle.backsim.specs.Cause.{counts_of, Explains};
+ghost use Rattle.std.specs.Prelude.{◌≡◌, ◌<◌, ◌≤◌, IfOk, IfSome, filter, length, string_bytes};
+ghost use Rattle.backsim_io.specs.State.{SourceState};
+ghost use Rattle.backsim.specs.Serves.{ServesWorkload};
 ghost use Rattle.backsim.specs.Work as work;
-ghost use Rattle.backsim.specs.Work.{counts_line, run_count, one_count, work_line, runs_in, IsWorkServed, LeavesWork};
+ghost use Rattle.backsim.specs.Work.{counts_line, run_count, one_count, work_line, runs_in};
 ghost use Rattle.backsim.specs.inner.Work.{IsLineTold, LineExplains};
 
 use crate::refusal::Stop;
@@ -40,20 +40,28 @@ pub fn serve_workload<F: Files, S: Sink, G: Gate, R: Threads + Wait + Sync>(
     gate: &G,
 ) -> Status
     requires number { number ≤ 2147483647 }
-    requires started { F.started files.old ≡ 0 }
-    requires created { F.files files.old ≡ 0 }
+    requires started { (F.state files.old).started ≡ 0 }
+    requires created { (F.state files.old).created ≡ 0 }
     requires workers { (0 < workers) × (workers ≤ 64) }
-    ensures cause { (queries : ℕ) → Explains 0
-        (counts_of queries (S.faults out.old) (F.file_faults files.old) (F.read_faults files.old) (F.write_faults files.old) (F.started files.old) (F.files files.old))
-        (counts_of queries (S.faults out.new) (F.file_faults files.new) (F.read_faults files.new) (F.write_faults files.new) (F.started files.new) (F.files files.new))
-        result }
     ensures no_usage { ¬ (result ≡ Status.Words) }
-    ensures no_file_read { OnFileFault ⊥ result }
-    ensures served { result ≡ Status.Ended
-        → IsWorkServed number journal.now (S.written out.old) (S.written out.new) (F.made files.old) (F.made files.new) }
-    ensures leaves { LeavesWork number journal.now (S.written out.old) (S.written out.new) (F.made files.old) (F.made files.new) result }
-    ensures one { result ≡ Status.Ended → F.files files.new ≡ 1 }
-    ensures finished { result ≡ Status.Ended → F.unfinished files.new ≡ [] }
+    ensures serves { (script : SourceState) → ServesWorkload number journal.now
+        (record {
+          outside = record {
+            outputs = record { files = F.state files.old; replies = S.faults out.old };
+            script = script;
+          };
+          written = S.written out.old;
+          made = F.made files.old;
+        })
+        (record {
+          outside = record {
+            outputs = record { files = F.state files.new; replies = S.faults out.new };
+            script = script;
+          };
+          written = S.written out.new;
+          made = F.made files.new;
+        })
+        result }
 {
     let Ok(work) = workload(alloc, number) else {
         return Status::OutOfMemory;

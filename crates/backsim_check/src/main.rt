@@ -10,7 +10,8 @@
 //! ```
 #![tactic(auto)]
 
-use backsim_io::{OutOfMemory, RealFiles, RealSink, words_after_name};
+use backsim_io::{RealFiles, RealSink, words_after_name};
+use owned_text::OutOfMemory;
 use proof_check::{CheckStatus, check};
 use std::process::ExitCode;
 use std::{env, io};

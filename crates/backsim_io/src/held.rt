@@ -2,8 +2,8 @@ ghost use Rattle.std.specs.Prelude.{◌≡◌, [], ◌++◌, length, take, drop,
 ghost use Rattle.backsim_io.specs.Held.{bytes_under};
 ghost use Rattle.backsim_io.specs.inner.Held.{bytes_at};
 
-use crate::Text;
 use crate::copies::copy_next;
+use owned_text::Text;
 
 /// Files in memory, by name, one of which is being read.
 #[derive(Drop)]

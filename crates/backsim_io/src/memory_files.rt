@@ -1,15 +1,21 @@
 //! Files in memory, some of whose calls fail.
-ghost use Rattle.std.specs.Prelude.{◌≡◌, List, [], ◌∷◌, ◌++◌, Some, drop, length, option_map, slice_get, IsNone, ◌↔◌, ◌+◌, ◌<◌, ◌≤◌, true};
+ghost use Rattle.std.specs.Prelude.{◌≡◌, List, [], ◌∷◌, ◌++◌, Some, length, take, option_map, slice_get, IsNone, IsErr, IsTrue, OnOk, OnErr, IfOk, Contains, ◌↔◌, ◌⊎◌, ◌+◌, ◌<◌, ◌≤◌, true};
+ghost use Rattle.std.specs.Io.{ReadsAtMost, WritesAtMost};
+ghost use Rattle.std.specs.Io.KnownBytes.{IsAtEnd};
 ghost use Rattle.std.specs.Option.{option_copied};
 ghost use Rattle.std.specs.Bool.{OnTrue, OnFalse};
-ghost use Rattle.backsim_io.specs.Held.{Made, Places, bytes_under, grown};
-ghost use Rattle.backsim_io.specs.inner.Held.{bytes_at, files_of};
+ghost use Rattle.owned_text.specs.Made.{Made};
+ghost use Rattle.backsim_io.specs.Calls.{is_listed, after_call};
+ghost use Rattle.backsim_io.specs.Held.{Places, FileWrites, SameMade, CreatesIn, bytes_under, grown, without};
+ghost use Rattle.backsim_io.specs.State.{fresh_files, FileFault, ReadFault, WriteFault, Reads};
+ghost use Rattle.backsim_io.specs.inner.Held.{files_of, HasRoomAt};
 
 use crate::calls::Calls;
 use crate::faults::raised;
 use crate::held::HeldFiles;
 use crate::slots::Slots;
-use crate::{Failed, Files, Text};
+use crate::{Failed, Files};
+use owned_text::Text;
 use std::alloc::Global;
 
 /// Files in memory, some of whose calls fail. The calls of all five kinds are counted together.
@@ -29,19 +35,15 @@ pub struct MemFiles {
 }
 
 impl MemFiles {
+    ghost use Rattle.backsim_io.specs.InMemory.{files_calls};
+
     /// Files that hold these bytes under these names; of two equal names the first counts. A call
     /// fails where `failing` lists its number, the first call being number 0. So does `start_read` for
     /// a name that isn't held, and a `create` or a `write` for which there is no memory.
     pub fn new(alloc: Global, held: Vec<(Text, Vec<u8>)>, failing: Vec<u64>) -> MemFiles
-        ensures held { ⟦<MemFiles as Files>⟧.held result ≡ bytes_under held.items }
-        ensures left { ⟦<MemFiles as Files>⟧.left result ≡ Some [] }
+        ensures state { ⟦<MemFiles as Files>⟧.state result ≡ fresh_files (bytes_under held.items) (Some []) }
         ensures made { ⟦<MemFiles as Files>⟧.made result [] }
-        ensures started { ⟦<MemFiles as Files>⟧.started result ≡ 0 }
-        ensures files { ⟦<MemFiles as Files>⟧.files result ≡ 0 }
-        ensures unfinished { ⟦<MemFiles as Files>⟧.unfinished result ≡ [] }
-        ensures file_faults { ⟦<MemFiles as Files>⟧.file_faults result ≡ 0 }
-        ensures read_faults { ⟦<MemFiles as Files>⟧.read_faults result ≡ 0 }
-        ensures write_faults { ⟦<MemFiles as Files>⟧.write_faults result ≡ 0 }
+        ensures calls { files_calls result ≡ record { failing = failing.items; next = 0 } }
     {
         MemFiles {
             alloc,
@@ -58,7 +60,7 @@ impl MemFiles {
     /// The bytes of the created file at this place.
     pub fn made(&self, slot: u32) -> Option<&[u8]>
         ensures bytes { (files : List Made) → ⟦<MemFiles as Files>⟧.made self.now files → option_copied result ≡ option_map (λ file. file.bytes) (slice_get files slot) }
-        ensures none { IsNone result ↔ (⟦<MemFiles as Files>⟧.files self.now ≤ slot) }
+        ensures none { IsNone result ↔ ((⟦<MemFiles as Files>⟧.state self.now).created ≤ slot) }
     {
         match self.created.get(slot as usize) {
             Some((_, bytes)) => Some(bytes),
@@ -85,34 +87,33 @@ fn write_more(created: &mut Vec<(Text, Vec<u8>)>, place: usize, piece: &[u8]) ->
     ensures grown { OnTrue result (files_of created.new.items ≡ grown (files_of created.old.items) place piece.now) }
     ensures none { OnFalse result (files_of created.new.items ≡ files_of created.old.items) }
     ensures count { length created.new.items ≡ length created.old.items }
+    ensures room { HasRoomAt created.old.items place (length piece.now) → IsTrue result }
 {
     created[place].1.extend_from_slice(piece).is_ok()
 }
 
 impl Files for MemFiles {
-    ghost held = { λ s. bytes_under s.held.files.items };
+    ghost use Rattle.backsim_io.specs.InMemory.{files_state, files_made, files_calls, FileHasRoom};
+
+    ghost state = { files_state };
 
     ghost tells_names = { true };
 
-    ghost left = { λ s. Some (drop s.held.at (bytes_at s.held.files.items s.held.reading)) };
-
-    ghost made = { λ s files. files ≡ files_of s.created.items };
-
-    ghost file_faults = { λ s. s.file_faults };
-
-    ghost read_faults = { λ s. s.read_faults };
-
-    ghost write_faults = { λ s. s.write_faults };
-
-    ghost started = { λ s. s.held.started };
-
-    ghost files = { λ s. s.slots.files };
-
-    ghost unfinished = { λ s. s.slots.unfinished };
+    ghost made = { files_made };
 
     ghost places = { λ s. s.fit };
 
-    fn start_read(&mut self, name: &str) -> Result<(), Failed> {
+    /// It fails exactly where its number is listed or the name isn't held.
+    fn start_read(&mut self, name: &str) -> Result<(), Failed>
+        requires { (files_state self.old).started < 4 }
+        ensures opens { OnOk result (files_state self.new ≡ record (files_state self.old) { started = (files_state self.old).started + 1; left = (files_state self.old).held name.now }) }
+        ensures failed { OnErr result (FileFault (files_state self.old) (files_state self.new)) }
+        ensures missing { IsNone ((files_state self.old).held name.now) → IsErr result }
+        ensures listed { IsTrue (is_listed (files_calls self.old)) → IsErr result }
+        ensures others { IsErr result → IsTrue (is_listed (files_calls self.old)) ⊎ IsNone ((files_state self.old).held name.now) }
+        ensures calls { files_calls self.new ≡ after_call (files_calls self.old) }
+        ensures made { SameMade (files_made self.old) (files_made self.new) }
+    {
         let place = self.held.place_of(name);
         if self.calls.fails() || place.is_none() {
             self.file_faults = raised(self.file_faults);
@@ -122,7 +123,16 @@ impl Files for MemFiles {
         Ok(())
     }
 
-    fn read(&mut self, into: &mut [u8]) -> Result<usize, Failed> {
+    /// It fails exactly where its number is listed.
+    fn read(&mut self, into: &mut [u8]) -> Result<usize, Failed>
+        ensures bound { ReadsAtMost result into.new }
+        ensures bytes { IfOk result (λ n. Reads (files_state self.old) (files_state self.new) (take n into.new)) }
+        ensures end { IfOk result (λ n. n ≡ 0 → 0 < length into.new → IsAtEnd (files_state self.new).left) }
+        ensures failed { OnErr result (ReadFault (files_state self.old) (files_state self.new)) }
+        ensures listed { IsErr result ↔ IsTrue (is_listed (files_calls self.old)) }
+        ensures calls { files_calls self.new ≡ after_call (files_calls self.old) }
+        ensures made { SameMade (files_made self.old) (files_made self.new) }
+    {
         if self.calls.fails() {
             self.read_faults = raised(self.read_faults);
             return Err(Failed);
@@ -130,7 +140,17 @@ impl Files for MemFiles {
         Ok(self.held.next(into))
     }
 
-    fn create(&mut self, name: &str) -> Result<u32, Failed> {
+    /// It fails where its number is listed, and else only where there is no memory.
+    fn create(&mut self, name: &str) -> Result<u32, Failed>
+        requires { (files_state self.old).created < 4 }
+        ensures place { IfOk result (λ place. place ≡ (files_state self.old).created) }
+        ensures creates { OnOk result (files_state self.new ≡ record (files_state self.old) { created = (files_state self.old).created + 1; unfinished = (files_state self.old).unfinished ++ (files_state self.old).created ∷ [] }) }
+        ensures failed { OnErr result (FileFault (files_state self.old) (files_state self.new)) }
+        ensures listed { IsTrue (is_listed (files_calls self.old)) → IsErr result }
+        ensures calls { files_calls self.new ≡ after_call (files_calls self.old) }
+        ensures made { OnOk result (CreatesIn (files_made self.old) (files_made self.new) name.now) }
+        ensures none_made { OnErr result (SameMade (files_made self.old) (files_made self.new)) }
+    {
         let place = self.slots.files();
         if self.calls.fails() || !create_empty(self.alloc, &mut self.created, name) {
             self.file_faults = raised(self.file_faults);
@@ -140,7 +160,18 @@ impl Files for MemFiles {
         Ok(place)
     }
 
-    fn write(&mut self, slot: u32, piece: &[u8]) -> Result<usize, Failed> {
+    /// It fails where its number is listed, and else only where it asks for memory. It takes all.
+    fn write(&mut self, slot: u32, piece: &[u8]) -> Result<usize, Failed>
+        requires { Contains (files_state self.old).unfinished slot }
+        ensures bound { WritesAtMost result piece.now }
+        ensures some { IfOk result (λ n. 0 < length piece.now → 0 < n) }
+        ensures takes { OnOk result (files_state self.new ≡ files_state self.old) }
+        ensures failed { OnErr result (WriteFault (files_state self.old) (files_state self.new)) }
+        ensures listed { IsTrue (is_listed (files_calls self.old)) → IsErr result }
+        ensures others { IsErr result → FileHasRoom self.old slot (length piece.now) → IsTrue (is_listed (files_calls self.old)) }
+        ensures calls { files_calls self.new ≡ after_call (files_calls self.old) }
+        ensures made { FileWrites (files_made self.old) (files_made self.new) slot result piece.now }
+    {
         let place = slot as usize;
         if self.calls.fails() || !write_more(&mut self.created, place, piece) {
             self.write_faults = raised(self.write_faults);
@@ -149,7 +180,15 @@ impl Files for MemFiles {
         Ok(piece.len())
     }
 
-    fn finish(&mut self, slot: u32) -> Result<(), Failed> {
+    /// It fails exactly where its number is listed.
+    fn finish(&mut self, slot: u32) -> Result<(), Failed>
+        requires { Contains (files_state self.old).unfinished slot }
+        ensures finishes { OnOk result (files_state self.new ≡ record (files_state self.old) { unfinished = without (files_state self.old).unfinished slot }) }
+        ensures failed { OnErr result (FileFault (files_state self.old) (files_state self.new)) }
+        ensures listed { IsErr result ↔ IsTrue (is_listed (files_calls self.old)) }
+        ensures calls { files_calls self.new ≡ after_call (files_calls self.old) }
+        ensures made { SameMade (files_made self.old) (files_made self.new) }
+    {
         if self.calls.fails() {
             self.file_faults = raised(self.file_faults);
             return Err(Failed);

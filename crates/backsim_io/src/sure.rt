@@ -3,7 +3,8 @@ ghost use Rattle.std.specs.Prelude.{◌≡◌, ℕ, [], Some, length, take, drop
 ghost use Rattle.backsim_io.specs.KeptBytes.{Kept, kept_more};
 
 use crate::copies::copy_next;
-use crate::{Failed, OutOfMemory, Sink, Source};
+use crate::{Failed, Sink, Source};
+use owned_text::OutOfMemory;
 use std::alloc::Global;
 use std::marker::Model;
 
@@ -18,16 +19,14 @@ pub struct SureSource {
 impl SureSource {
     /// A source of these bytes.
     pub fn new(bytes: Vec<u8>) -> SureSource
-        ensures left { ⟦<SureSource as Source>⟧.left result ≡ Some bytes.items }
+        ensures { ⟦<SureSource as Source>⟧.state result ≡ record { left = Some bytes.items; faults = 0 } }
     {
         SureSource { bytes, at: 0 }
     }
 }
 
 impl Source for SureSource {
-    ghost left = { λ s. Some (drop s.at s.bytes.items) };
-
-    ghost faults = { λ _. 0 };
+    ghost state = { λ s. record { left = Some (drop s.at s.bytes.items); faults = 0 } };
 
     fn read(&mut self, into: &mut [u8]) -> Result<usize, Failed> {
         let n = copy_next(&self.bytes, self.at, into, usize::MAX);

@@ -1,15 +1,18 @@
 //! Files in memory that never fail and take no memory after they are made.
 ghost use Rattle.std.specs.Prelude.{◌≡◌, List, [], Some, map, take, drop, length, All, option_map, slice_get, vec_len, vec_capacity, IsNone, IfOk, ◌↔◌, ◌+◌, ◌<◌, ◌≤◌, true};
 ghost use Rattle.std.specs.Option.{option_copied};
-ghost use Rattle.backsim_io.specs.Held.{Made, Places};
+ghost use Rattle.owned_text.specs.Made.{Made};
+ghost use Rattle.backsim_io.specs.Held.{Places};
 ghost use Rattle.backsim_io.specs.inner.Held.{bytes_at};
 ghost use Rattle.backsim_io.specs.KeptBytes.{kept_more};
 ghost use Rattle.backsim_io.specs.inner.SureFiles.{KeptFile, IsBlank, kept_file, cut};
+ghost use Rattle.backsim_io.specs.State.{fresh_files};
 ghost use Rattle.backsim_io.specs.SureFiles.{held_or_empty};
 
 use crate::held::HeldFiles;
 use crate::slots::Slots;
-use crate::{Failed, Files, OutOfMemory, SureSink, Text};
+use crate::{Failed, Files, SureSink};
+use owned_text::{OutOfMemory, Text};
 use std::alloc::Global;
 use std::marker::Model;
 
@@ -108,12 +111,8 @@ impl SureFiles {
         room: usize,
     ) -> Result<SureFiles, OutOfMemory>
         ensures room { IfOk result (λ s. room_of s ≡ room) }
-        ensures held { IfOk result (λ s. ⟦<SureFiles as Files>⟧.held s ≡ held_or_empty held.items) }
-        ensures left { IfOk result (λ s. ⟦<SureFiles as Files>⟧.left s ≡ Some []) }
+        ensures state { IfOk result (λ s. ⟦<SureFiles as Files>⟧.state s ≡ fresh_files (held_or_empty held.items) (Some [])) }
         ensures made { IfOk result (λ s. ⟦<SureFiles as Files>⟧.made s []) }
-        ensures started { IfOk result (λ s. ⟦<SureFiles as Files>⟧.started s ≡ 0) }
-        ensures files { IfOk result (λ s. ⟦<SureFiles as Files>⟧.files s ≡ 0) }
-        ensures unfinished { IfOk result (λ s. ⟦<SureFiles as Files>⟧.unfinished s ≡ []) }
     {
         let created = Vec::with_capacity(alloc, FILES)?;
         let spare = blank_files(alloc, room)?;
@@ -129,7 +128,7 @@ impl SureFiles {
     /// The bytes that were kept of the created file at this place.
     pub fn made(&self, slot: u32) -> Option<&[u8]>
         ensures bytes { (files : List Made) → ⟦<SureFiles as Files>⟧.made self.now files → option_copied result ≡ option_map (λ file. take (room_of self.now) file.bytes) (slice_get files slot) }
-        ensures none { IsNone result ↔ (⟦<SureFiles as Files>⟧.files self.now ≤ slot) }
+        ensures none { IsNone result ↔ ((⟦<SureFiles as Files>⟧.state self.now).created ≤ slot) }
     {
         match self.created.get(slot as usize) {
             Some(file) => Some(file.bytes()),
@@ -139,25 +138,20 @@ impl SureFiles {
 }
 
 impl Files for SureFiles {
-    ghost held = { λ s. held_or_empty s.held.files.items };
+    ghost state = { λ s. record {
+      held = held_or_empty s.held.files.items;
+      left = Some (drop s.held.at (bytes_at s.held.files.items s.held.reading));
+      started = s.held.started;
+      created = s.slots.files;
+      unfinished = s.slots.unfinished;
+      file_faults = 0;
+      read_faults = 0;
+      write_faults = 0;
+    } };
 
     ghost tells_names = { true };
 
-    ghost left = { λ s. Some (drop s.held.at (bytes_at s.held.files.items s.held.reading)) };
-
     ghost made = { λ s files. map (cut s.room) files ≡ map kept_file s.created.items };
-
-    ghost file_faults = { λ _. 0 };
-
-    ghost read_faults = { λ _. 0 };
-
-    ghost write_faults = { λ _. 0 };
-
-    ghost started = { λ s. s.held.started };
-
-    ghost files = { λ s. s.slots.files };
-
-    ghost unfinished = { λ s. s.slots.unfinished };
 
     ghost places = { λ s. s.fit };
 

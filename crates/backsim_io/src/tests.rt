@@ -1,7 +1,8 @@
 use crate::{
     Failed, Files, MemFiles, MemSink, MemSource, ReadFile, Sink, Source, SureFiles, SureSink,
-    SureSource, Text, read_file, write_all, write_file,
+    SureSource, read_file, write_all, write_file,
 };
+use owned_text::Text;
 use std::alloc::Global;
 use std::test::Fail;
 
@@ -16,15 +17,6 @@ fn is_text(read: Result<Vec<u8>, ReadFile>, bytes: &[u8]) -> bool {
         Ok(read) => read.as_slice() == bytes,
         Err(_) => false,
     }
-}
-
-#[test]
-fn texts_compare_by_their_bytes(rt: HostRuntime) -> Result<(), Fail> {
-    let short = Text::from_bytes(rt.alloc(), b"n1")?;
-    let long = Text::from_bytes(rt.alloc(), b"n10")?;
-    assert_eq!(rt; long.bytes(), b"n10".as_slice());
-    assert!(rt; short < long && short != long);
-    Ok(())
 }
 
 #[test]

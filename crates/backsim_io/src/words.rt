@@ -4,7 +4,7 @@ ghost use Rattle.std.specs.Prelude.{◌≡◌, [], drop, IfOk, IfErr, IsErr, IsO
 ghost use Rattle.std.specs.IoError.{error_kind};
 ghost use Rattle.std.specs.declared.io.ErrorKind.TheVariants.{InvalidData};
 
-use crate::OutOfMemory;
+use owned_text::OutOfMemory;
 use std::alloc::Global;
 use std::io;
 

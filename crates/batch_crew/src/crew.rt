@@ -3,10 +3,10 @@
 ghost use Rattle.std.specs.Prelude.{◌≡◌, ◌<◌, ◌≤◌, [], All, IfOk, vec_len};
 ghost use Rattle.batch_crew.specs.Crews.{AreInOrder, AreNew};
 
-use backsim_io::OutOfMemory;
 use demand_points::{BatchName, Strand};
 use design::Design;
 use memo_shards::Shard;
+use owned_text::OutOfMemory;
 use std::alloc::Global;
 use std::sync::Wait;
 use std::thread::Threads;

@@ -10,8 +10,8 @@ ghost use Rattle.cell_store.specs.inner.Index.{key_cmp, key_eq, IsStoreIndex};
 ghost use Rattle.lru.specs.LruCache.{lru_cache, promoted};
 
 use crate::{Key, Put};
-use backsim_io::OutOfMemory;
 use lru::LruCache;
+use owned_text::OutOfMemory;
 use std::alloc::Global;
 use std::collections::BTreeMap;
 use std::marker::Model;

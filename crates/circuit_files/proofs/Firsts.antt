@@ -1,5 +1,5 @@
 -- What the first files refuse comes before all that is behind.
-use Rattle.std.proofs.Common.{◌≡◌, ◌<◌, ℕ, List, Result, Ok, Err, refl, sym, subst}
+use Rattle.std.proofs.Common.{◌≡◌, ◌<◌, ◌≤◌, ◌+◌, ℕ, arith, List, Result, Ok, Err, refl, sym, subst}
 use Rattle.design.specs.Joined.{Joined}
 use Rattle.bench_reader.specs.Netlists as netlists
 use Rattle.timing_file.specs.Timing as timings
@@ -12,28 +12,28 @@ use Rattle.circuit_files.specs.Stops.{before, IsAnswerOf, AnswersFirst, IsQuiet}
 use Rattle.circuit_files.specs.inner.Reading.{IsAt}
 
 -- what is not refused asks nothing
-pub passes : {B : Type 0} (n : ℕ) (result : Result Joined FilesStop) (said : Result B FileRefusal) (b : B) → said ≡ Ok b → AnswersFirst n result said
-passes n result said b is = subst (AnswersFirst n result) (sym is) tt
+pub passes : {B : Type 0} (n started : ℕ) (result : Result Joined FilesStop) (said : Result B FileRefusal) (b : B) → said ≡ Ok b → AnswersFirst n started result said
+passes n started result said b is = subst (AnswersFirst n started result) (sym is) tt
 
 -- a stop at a file, or one that no fault made, that answers it
-pub stops_first : {B : Type 0} (n : ℕ) (file : CircuitFile) (stop : FilesStop) (said : Result B FileRefusal) → before file < n → IsAt file stop
-    → IsAnswerOf {A = B} (Err stop) said → AnswersFirst {A = Joined} n (Err stop) said
-stops_first n file (Refused refusal) (Ok b) early at is = tt
-stops_first n file (Refused refusal) (Err given) early at is = let same : given ≡ refusal = cc in sym same
-stops_first n file (NotOpened met) (Ok b) early at is = tt
-stops_first n file (NotOpened met) (Err given) early at is = subst (λ (f : CircuitFile). before f < n) (sym at) early
-stops_first n file (Unread met) (Ok b) early at is = tt
-stops_first n file (Unread met) (Err given) early at is = subst (λ (f : CircuitFile). before f < n) (sym at) early
-stops_first n file OutOfMemory (Ok b) early at is = tt
-stops_first n file OutOfMemory (Err given) early at is = tt
+pub stops_first : {B : Type 0} (n started : ℕ) (file : CircuitFile) (stop : FilesStop) (said : Result B FileRefusal) → before file < n → started ≤ before file + 1 → IsAt file stop
+    → IsAnswerOf {A = B} (Err stop) said → AnswersFirst {A = Joined} n started (Err stop) said
+stops_first n started file (Refused refusal) (Ok b) early opened at is = tt
+stops_first n started file (Refused refusal) (Err given) early opened at is = (let same : given ≡ refusal = cc in sym same, omega (arith, early, opened))
+stops_first n started file (NotOpened met) (Ok b) early opened at is = tt
+stops_first n started file (NotOpened met) (Err given) early opened at is = subst (λ (f : CircuitFile). before f < n) (sym at) early
+stops_first n started file (Unread met) (Ok b) early opened at is = tt
+stops_first n started file (Unread met) (Err given) early opened at is = subst (λ (f : CircuitFile). before f < n) (sym at) early
+stops_first n started file OutOfMemory (Ok b) early opened at is = tt
+stops_first n started file OutOfMemory (Err given) early opened at is = omega (arith, early, opened)
 
-pub quiet_first : {B : Type 0} (n : ℕ) (stop : FilesStop) (said : Result B FileRefusal) → IsQuiet stop → IsAnswerOf {A = B} (Err stop) said → AnswersFirst {A = Joined} n (Err stop) said
-quiet_first n (Refused refusal) (Ok b) quiet is = tt
-quiet_first n (Refused refusal) (Err given) quiet is = let same : given ≡ refusal = cc in sym same
-quiet_first n (NotOpened met) said quiet is = absurd quiet
-quiet_first n (Unread met) said quiet is = absurd quiet
-quiet_first n OutOfMemory (Ok b) quiet is = tt
-quiet_first n OutOfMemory (Err given) quiet is = tt
+pub quiet_first : {B : Type 0} (n started : ℕ) (stop : FilesStop) (said : Result B FileRefusal) → started ≤ n → IsQuiet stop → IsAnswerOf {A = B} (Err stop) said → AnswersFirst {A = Joined} n started (Err stop) said
+quiet_first n started (Refused refusal) (Ok b) few quiet is = tt
+quiet_first n started (Refused refusal) (Err given) few quiet is = (let same : given ≡ refusal = cc in sym same, few)
+quiet_first n started (NotOpened met) said few quiet is = absurd quiet
+quiet_first n started (Unread met) said few quiet is = absurd quiet
+quiet_first n started OutOfMemory (Ok b) few quiet is = tt
+quiet_first n started OutOfMemory (Err given) few quiet is = few
 
 -- both files
 pub two_stop : (a b : List ℕ) (stop : FilesStop) → IsAnswerOf {A = netlists.Content} (Err stop) (netlist_of a) → IsAnswerOf {A = timings.Content} (Err stop) (first_two a b)

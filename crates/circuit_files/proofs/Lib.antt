@@ -1,3 +1,3 @@
-pub mod Explained
+pub mod Changed
 pub mod Designed
 pub mod Firsts

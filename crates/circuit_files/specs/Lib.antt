@@ -1,5 +1,5 @@
 pub mod Files
 pub mod Texts
 pub mod Stops
-pub mod Causes
+pub mod Changes
 pub mod inner

@@ -1,5 +1,5 @@
 -- What is known where the three files make no design.
-use Rattle.std.specs.Prelude.{◌≡◌, ◌<◌, ⊤, ℕ, Result, Ok, Err}
+use Rattle.std.specs.Prelude.{◌≡◌, ◌<◌, ◌≤◌, ⊤, ℕ, Result, Ok, Err}
 use Rattle.circuit_files.specs.declared.refusal.CircuitFile.{CircuitFile}
 use Rattle.circuit_files.specs.declared.refusal.CircuitFile.TheVariants.{Netlist, Timing, Stimulus}
 use Rattle.circuit_files.specs.declared.refusal.FileRefusal.{FileRefusal}
@@ -19,14 +19,14 @@ IsAnswerOf (Err (Refused refusal)) said = said ≡ Err refusal
 IsAnswerOf (Err stop) said = ⊤
 
 -- Where this is refused of the first n files, the answer is its refusal, unless a fault at one of them, or a lack of memory, came before.
--- Nothing is said of what comes behind.
-abbrev pub AnswersFirst : {A B : Type 0} → ℕ → Result A FilesStop → Result B FileRefusal → Type 0
-AnswersFirst n result (Ok b) = ⊤
-AnswersFirst n (Ok a) (Err refusal) = ⊥
-AnswersFirst n (Err (Refused given)) (Err refusal) = given ≡ refusal
-AnswersFirst n (Err (NotOpened file)) (Err refusal) = before file < n
-AnswersFirst n (Err (Unread file)) (Err refusal) = before file < n
-AnswersFirst n (Err OutOfMemory) (Err refusal) = ⊤
+-- Nothing is said of what comes behind, and no file behind was opened.
+abbrev pub AnswersFirst : {A B : Type 0} → ℕ → (started : ℕ) → Result A FilesStop → Result B FileRefusal → Type 0
+AnswersFirst n started result (Ok b) = ⊤
+AnswersFirst n started (Ok a) (Err refusal) = ⊥
+AnswersFirst n started (Err (Refused given)) (Err refusal) = (given ≡ refusal) × (started ≤ n)
+AnswersFirst n started (Err (NotOpened file)) (Err refusal) = before file < n
+AnswersFirst n started (Err (Unread file)) (Err refusal) = before file < n
+AnswersFirst n started (Err OutOfMemory) (Err refusal) = started ≤ n
 
 -- a stop that no fault made
 abbrev pub IsQuiet : FilesStop → Type 0

@@ -9,9 +9,9 @@
 //!   (`specs/Files`, `design_of_files`).
 //! - What is refused is the first refusal in this order: the netlist's length, then its first fault; the same of the timing file,
 //!   and of the stimulus; then the first row that does not join. Whatever the files behind a refused one hold, or that one of them
-//!   is missing, does not hide its refusal (`specs/Stops`).
-//! - A fault comes only where its count rose, or stands at its last value, and how many files were opened tells which file it is of
-//!   (`specs/Causes`). No file is created.
+//!   is missing, does not hide its refusal: no file behind a refused one is opened (`specs/Stops`).
+//! - A fault comes only where its count rose, or stands at its last value, and how many files were opened tells which file it is of.
+//!   Nothing else of the files changes (`specs/Changes`).
 //! - [`FileRefusal::text`] is the line that tells of a refusal (`specs/Texts`).
 //!
 //! It holds one file's text at a time beside what was made of the files before, and takes the time of the readers and of the join.

@@ -1,11 +1,11 @@
 //! Reading the three files.
 
-ghost use Rattle.std.specs.Prelude.{◌≡◌, ◌≤◌, ◌+◌, ℕ, List, Some, IfErr, IfOk, OnOk, vec_len};
+ghost use Rattle.std.specs.Prelude.{◌≡◌, ◌≤◌, ◌+◌, List, ℕ, Some, IfErr, IfOk, vec_len};
 ghost use Rattle.backsim_io.specs.Held.{SameMade};
-ghost use Rattle.circuit_files.specs.Causes.{counts_of, Explains};
+ghost use Rattle.circuit_files.specs.Changes.{DesignChanges};
 ghost use Rattle.circuit_files.specs.Files.{netlist_of, first_two, design_of_files, limited};
 ghost use Rattle.circuit_files.specs.Stops.{before, IsAnswerOf, AnswersFirst};
-ghost use Rattle.circuit_files.specs.inner.Reading.{AnswersText, IsAt};
+ghost use Rattle.circuit_files.specs.inner.Reading.{AnswersText, IsAt, TextChanges};
 
 use crate::refusal::{CircuitFile, FileRefusal};
 use crate::stop::FilesStop;
@@ -26,26 +26,20 @@ pub fn read_design<F: Files>(
     stimulus: &str,
     files: &mut F,
 ) -> Result<Design, FilesStop>
-    requires { F.started files.old ≡ 0 }
+    requires { (F.state files.old).started ≡ 0 }
     // Of all three files: the design that they make, or the refusal. Of the first or the first two: their refusal, whatever comes behind.
     ensures design { (first second third : List ℕ)
-        → F.held files.old netlist.now ≡ Some first
-        → F.held files.old timing.now ≡ Some second
-        → F.held files.old stimulus.now ≡ Some third
+        → (F.state files.old).held netlist.now ≡ Some first
+        → (F.state files.old).held timing.now ≡ Some second
+        → (F.state files.old).held stimulus.now ≡ Some third
         → IsAnswerOf result (design_of_files first second third) }
-    ensures first { (first : List ℕ) → F.held files.old netlist.now ≡ Some first → AnswersFirst 1 result (netlist_of first) }
+    ensures first { (first : List ℕ) → (F.state files.old).held netlist.now ≡ Some first
+        → AnswersFirst 1 (F.state files.new).started result (netlist_of first) }
     ensures second { (first second : List ℕ)
-        → F.held files.old netlist.now ≡ Some first
-        → F.held files.old timing.now ≡ Some second
-        → AnswersFirst 2 result (first_two first second) }
-    ensures cause { Explains
-        (counts_of (F.file_faults files.old) (F.read_faults files.old) (F.started files.old))
-        (counts_of (F.file_faults files.new) (F.read_faults files.new) (F.started files.new))
-        result }
-    ensures started { OnOk result (F.started files.new ≡ 3) }
-    ensures held { F.held files.new ≡ F.held files.old }
-    ensures write_faults { F.write_faults files.new ≡ F.write_faults files.old }
-    ensures files { F.files files.new ≡ F.files files.old }
+        → (F.state files.old).held netlist.now ≡ Some first
+        → (F.state files.old).held timing.now ≡ Some second
+        → AnswersFirst 2 (F.state files.new).started result (first_two first second) }
+    ensures state { DesignChanges (F.state files.old) (F.state files.new) result }
     ensures made { SameMade (F.made files.old) (F.made files.new) }
 {
     let netlist = read_bench(
@@ -70,18 +64,12 @@ fn read_text<F: Files>(
     name: &str,
     file: CircuitFile,
 ) -> Result<Vec<u8>, FilesStop>
-    requires { F.started files.old ≡ before file }
-    ensures text { (bytes : List ℕ) → F.held files.old name.now ≡ Some bytes → AnswersText (λ text. text.items) result (limited file bytes) }
+    requires { (F.state files.old).started ≡ before file }
+    ensures text { (bytes : List ℕ) → (F.state files.old).held name.now ≡ Some bytes → AnswersText (λ text. text.items) result (limited file bytes) }
     ensures within { IfOk result (λ text. vec_len text ≤ 67108864) }
     ensures place { IfErr result (IsAt file) }
-    ensures cause { Explains
-        (counts_of (F.file_faults files.old) (F.read_faults files.old) (F.started files.old))
-        (counts_of (F.file_faults files.new) (F.read_faults files.new) (F.started files.new))
-        result }
-    ensures started { OnOk result (F.started files.new ≡ F.started files.old + 1) }
-    ensures held { F.held files.new ≡ F.held files.old }
-    ensures write_faults { F.write_faults files.new ≡ F.write_faults files.old }
-    ensures files { F.files files.new ≡ F.files files.old }
+    ensures started { (F.state files.new).started ≤ before file + 1 }
+    ensures state { TextChanges file (F.state files.old) (F.state files.new) result }
     ensures made { SameMade (F.made files.old) (F.made files.new) }
 {
     match read_file(alloc, files, name, FILE_LIMIT) {

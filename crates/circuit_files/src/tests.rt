@@ -1,7 +1,8 @@
 ghost use Rattle.std.specs.Prelude.{◌≡◌, IfOk};
 
 use crate::{CircuitFile, FileRefusal, FilesStop, read_design};
-use backsim_io::{Files, MemFiles, Text};
+use backsim_io::{Files, MemFiles};
+use owned_text::Text;
 use std::alloc::Global;
 use std::test::Fail;
 
@@ -20,7 +21,7 @@ const INVERTER: Held = Held {
 };
 
 fn mem_files(alloc: Global, given: &Held, failing: &[u64]) -> Result<MemFiles, Fail>
-    ensures { IfOk result (λ files. ⟦<MemFiles as Files>⟧.started files ≡ 0) }
+    ensures { IfOk result (λ files. (⟦<MemFiles as Files>⟧.state files).started ≡ 0) }
 {
     let mut held = Vec::new(alloc);
     for (name, bytes) in [

@@ -3,7 +3,7 @@ ghost use Rattle.claim_waiters.specs.Claims.{claim_at, first_of, holder_in, wait
 ghost use Rattle.claim_waiters.specs.inner.View.{those_in};
 
 use crate::waiter::Waiter;
-use backsim_io::OutOfMemory;
+use owned_text::OutOfMemory;
 use std::alloc::Global;
 use std::collections::BTreeMap;
 use std::marker::Model;

@@ -2,7 +2,7 @@
 ghost use Rattle.std.specs.Prelude.{◌≡◌};
 
 use crate::{ClaimTable, Waiter};
-use backsim_io::OutOfMemory;
+use owned_text::OutOfMemory;
 use std::alloc::Global;
 use std::test::Fail;
 use valid_intervals::Point;

@@ -10,9 +10,9 @@ ghost use Rattle.command_words.specs.Answer.{form_in};
 
 use crate::Words;
 use crate::command::find_words;
-use backsim_io::OutOfMemory;
 use clap::ArgMatches;
 use clap::error::ErrorKind;
+use owned_text::OutOfMemory;
 use std::alloc::Global;
 use text_rules::{Amount, read_amount};
 

@@ -7,7 +7,7 @@ ghost use Rattle.design.specs.inner.Walk.{Marks, AddsReader, AreReaders};
 use crate::design::Design;
 use crate::flags::FlagList;
 use crate::lists::empty_lists;
-use backsim_io::OutOfMemory;
+use owned_text::OutOfMemory;
 use std::alloc::{AllocError, Global};
 
 /// A walk: for each signal whether it is marked, and the marked signals that are still to be visited.

@@ -3,7 +3,7 @@
 ghost use Rattle.std.specs.Prelude.{◌≡◌};
 ghost use Rattle.design.specs.Causes.{number_of, out_of_memory};
 
-use backsim_io::OutOfMemory;
+use owned_text::OutOfMemory;
 use std::alloc::{AllocError, AllocFailed};
 
 /// What is wrong with a row of one of the files.

@@ -16,10 +16,10 @@ ghost use Rattle.explanations.specs.inner.Gathered.{Looks};
 
 use crate::waiting::{Asked, Waiting};
 use asked_cells::{Memo, reach};
-use backsim_io::OutOfMemory;
 use batch_meaning::Query;
 use demand_points::{BatchName, Frame};
 use design::Design;
+use owned_text::OutOfMemory;
 use valid_intervals::{Cell, Point};
 
 /// The cell of a point: its base answer, or what is asked for, and then it waits. None where the query is refused.

@@ -1,4 +1,4 @@
-//! Why a signal has the value that it has at a time.
+//! The answer to a question why a signal has its value at a time, asked of the memo.
 //!
 //! [`explain`] asks for the one time of a query, over shards in which nothing is recorded yet, and answers a proof: lines, each a cell
 //! of a signal, from which the value follows line by line (`IsWhyAnswer` of `session_meaning`). The lines stand in the order of their

@@ -13,10 +13,10 @@ ghost use Rattle.explanations.specs.inner.Gathered.{AreGathered, AreExplained};
 use crate::children::ask_children;
 use crate::waiting::Waiting;
 use asked_cells::Memo;
-use backsim_io::OutOfMemory;
 use batch_meaning::Query;
 use demand_points::BatchName;
 use design::Design;
+use owned_text::OutOfMemory;
 use std::alloc::Global;
 use valid_intervals::SignalCell;
 

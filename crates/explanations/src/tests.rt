@@ -5,7 +5,6 @@ ghost use Rattle.journal_meaning.specs.Allowed.{IsRight};
 ghost use Rattle.batch_meaning.specs.Lawful.{IsLawful};
 
 use super::*;
-use backsim_io::OutOfMemory;
 use batch_meaning::Query;
 use bench_reader::read_bench;
 use cell_store::CellStore;
@@ -13,6 +12,7 @@ use demand_points::BatchName;
 use design::{Design, JoinFault};
 use journal_text::entry_text;
 use memo_shards::Shard;
+use owned_text::OutOfMemory;
 use std::alloc::Global;
 use std::marker::Brand;
 use std::test::Fail;

@@ -5,7 +5,7 @@ ghost use Rattle.std.specs.BTreeMap.{get};
 ghost use Rattle.explanations.specs.declared.waiting.Place.{Place as PlaceRecord};
 ghost use Rattle.explanations.specs.inner.Waiting.{place_cmp, line_of, point_of, place_of, Adds, TakesLast};
 
-use backsim_io::OutOfMemory;
+use owned_text::OutOfMemory;
 use std::alloc::Global;
 use std::collections::BTreeMap;
 use valid_intervals::{Cell, Point, SignalCell};

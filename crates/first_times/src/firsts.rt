@@ -13,12 +13,12 @@ ghost use Rattle.asked_cells.specs.Shards.{AreNumbered, AreUnused};
 ghost use Rattle.asked_cells.specs.Memos.{AreFreeShards, entries_of};
 
 use asked_cells::{Memo, begin, reach};
-use backsim_io::OutOfMemory;
 use batch_meaning::Query;
 use demand_points::BatchName;
 use design::Design;
 use gate_values::Value;
 use memo_shards::Shard;
+use owned_text::OutOfMemory;
 use reply_lines::FirstAnswer;
 use std::alloc::Global;
 

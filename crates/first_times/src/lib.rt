@@ -1,4 +1,4 @@
-//! When a signal first has a value.
+//! The answer to a question when a signal first has a value, asked of the memo.
 //!
 //! [`first_time`] answers at which time of a query's window its signal first has a given value, over shards in which nothing is recorded
 //! yet. It asks for one cell after another, each by its first time, from where the window begins (`reach` of `asked_cells`). It stops

@@ -4,7 +4,6 @@ ghost use Rattle.batch_meaning.specs.Lawful.{IsLawful};
 ghost use Rattle.session_meaning.specs.FirstTimes.{up_to_first};
 
 use super::*;
-use backsim_io::OutOfMemory;
 use batch_meaning::Query;
 use bench_reader::read_bench;
 use cell_store::CellStore;
@@ -13,6 +12,7 @@ use design::{Design, JoinFault};
 use gate_values::Value;
 use journal_text::entry_text;
 use memo_shards::Shard;
+use owned_text::OutOfMemory;
 use std::alloc::Global;
 use std::marker::Brand;
 use std::test::Fail;

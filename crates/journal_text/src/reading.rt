@@ -6,9 +6,9 @@ ghost use Rattle.journal_text.specs.Written.{IsSection, most_shards};
 ghost use Rattle.journal_text.specs.inner.Reading.{behind_is, read_is, after_word, digit_at, digits_at, number_at, field_at, point_at, value_at, cell_at, told_at, claimed_at, filled_at, evicted_at, dropped_at, spent_at, entry_at, entries_at, shard_at, shards_at, kind_at, section_at};
 
 use crate::{EntryList, EntryLists, Section, SectionKind};
-use backsim_io::OutOfMemory;
 use gate_values::Value;
 use journal_meaning::Entry;
+use owned_text::OutOfMemory;
 use std::alloc::Global;
 use valid_intervals::{Cell, Point, Span};
 

@@ -4,9 +4,9 @@ ghost use Rattle.journal_text.specs.Spelling.{field, point, cell, entry_line, sh
 ghost use Rattle.journal_text.specs.Written.{IsNumbered};
 
 use crate::{EntryList, EntryLists, Section, SectionKind};
-use backsim_io::OutOfMemory;
 use itoa::Buffer;
 use journal_meaning::Entry;
+use owned_text::OutOfMemory;
 use std::alloc::{AllocError, Global};
 use valid_intervals::{Cell, Point};
 

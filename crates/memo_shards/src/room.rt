@@ -6,9 +6,9 @@ ghost use Rattle.valid_intervals.specs.Cells.{cell_for};
 ghost use Rattle.cell_store.specs.Recency.{FitsStore, after_put, pushes_out, last_key};
 ghost use Rattle.memo_shards.specs.inner.Ends.{after_eviction};
 
-use backsim_io::OutOfMemory;
 use cell_store::{CellStore, Key};
 use journal_meaning::Entry;
+use owned_text::OutOfMemory;
 use valid_intervals::{Cell, Point};
 
 /// Takes room for this many entries, beside the two that the end of each claim may need.

@@ -5,13 +5,13 @@ ghost use Rattle.batch_meaning.specs.Lawful.{IsLawful, IsQueryOf};
 mod journals;
 
 use super::*;
-use backsim_io::OutOfMemory;
 use batch_meaning::Query;
 use bench_reader::read_bench;
 use cell_store::CellStore;
 use demand_points::{BatchName, Strand};
 use design::{Design, JoinFault};
 use journal_meaning::Entry;
+use owned_text::OutOfMemory;
 use std::alloc::{AllocError, Global};
 use std::marker::Brand;
 use std::test::Fail;

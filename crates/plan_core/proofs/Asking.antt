@@ -1,7 +1,7 @@
 -- The turn of a strand that asks.
 use Rattle.std.proofs.Common.{◌≡◌, ℕ, ◌≤◌, ◌%◌, ◌++◌, false, List, [], ◌∷◌, length, get_or, slice_get, slice_set, refl, ap, sym, ◌∙◌, subst, arith, Option, Some, None, IsSome, Result, Ok, Err}
 use Rattle.std.proofs.lemmas.List.{map-set}
-use Rattle.backsim_io.specs.declared.OutOfMemory.{OutOfMemory}
+use Rattle.owned_text.specs.declared.OutOfMemory.{OutOfMemory}
 use Rattle.valid_intervals.specs.declared.Point.{Point}
 use Rattle.valid_intervals.specs.declared.SignalCell.{SignalCell}
 use Rattle.journal_meaning.specs.declared.Entry.TheVariants as entry

@@ -1,6 +1,14 @@
 -- A strand that runs alone.
-use Rattle.std.specs.Prelude.{◌≡◌, ℕ, Option, Some, None}
+use Rattle.std.specs.Prelude.{◌≡◌, ◌⊎◌, ℕ, List, Option, Some, None}
 use Rattle.valid_intervals.specs.declared.Point.{Point}
+use Rattle.valid_intervals.specs.declared.SignalCell.{SignalCell}
+use Rattle.batch_meaning.specs.Batches.{Batch}
+use Rattle.batch_meaning.specs.Pieces.{Start}
+use Rattle.plan_machine.specs.declared.Turned.TheVariants as comes
+use Rattle.plan_machine.specs.Plans.{Plan}
+use Rattle.plan_machine.specs.Steps.{turned}
+use Rattle.plan_machine.specs.Turns.{turn}
+use Rattle.plan_machine.specs.Alone.{RunsAlone}
 use Rattle.plan_core.specs.declared.alone.Alone.{Alone}
 use Rattle.plan_core.specs.declared.alone.Alone.TheVariants.{Ended, Spent}
 
@@ -8,3 +16,11 @@ use Rattle.plan_core.specs.declared.alone.Alone.TheVariants.{Ended, Spent}
 abbrev pub point_of : Alone → Option Point
 point_of Ended = None
 point_of (Spent p) = Some p
+
+-- Where memory ran out: turns of strand n alone, which was started as a, led from the old plan to the new one; or to the one before the
+-- last turn, in which the strand was spent, and whose refusal is not recorded.
+pub record StopsAlone (b : Batch) (opening : ℕ → List SignalCell) (n : ℕ) (a : Start) (old new : Plan) : Type 0 where
+  pub before : Plan
+  pub refused_at : Option Point
+  pub runs : RunsAlone b opening n a old before refused_at
+  pub last : (new ≡ before) ⊎ ((turned before n ≡ comes.Spent) × (new ≡ turn b before n))

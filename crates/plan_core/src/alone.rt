@@ -17,9 +17,9 @@ ghost use Rattle.valid_intervals.specs.declared.Point.{Point as PointRecord};
 
 use crate::paused::Paused;
 use crate::places::{next_at, strand_at};
-use backsim_io::OutOfMemory;
 use demand_points::{BatchName, Strand};
 use memo_shards::Shard;
+use owned_text::OutOfMemory;
 use strand_meaning::Next;
 use valid_intervals::Point;
 

@@ -11,10 +11,10 @@ ghost use Rattle.plan_core.specs.inner.Turns.{OfAskTurn, OfTurn};
 
 use crate::paused::Paused;
 use crate::places::{put_at, take_at};
-use backsim_io::OutOfMemory;
 use demand_points::BatchName;
 use design::Design;
 use memo_shards::{Asked, Shard};
+use owned_text::OutOfMemory;
 use plan_machine::Turned;
 use valid_intervals::Point;
 

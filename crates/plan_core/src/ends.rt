@@ -12,10 +12,10 @@ ghost use Rattle.plan_core.specs.inner.Turns.{OfTurn};
 
 use crate::paused::Paused;
 use crate::places::{put_at, put_back, take_at};
-use backsim_io::OutOfMemory;
 use demand_points::{BatchName, Strand};
 use design::Design;
 use memo_shards::Shard;
+use owned_text::OutOfMemory;
 use plan_machine::Turned;
 use smallvec::SmallVec;
 use valid_intervals::Point;

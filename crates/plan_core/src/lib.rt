@@ -1,4 +1,4 @@
-//! The plan of a batch: its strands, and the shards that they ask.
+//! The plan of a batch in code: its strands and the shards that they ask, by turns on one thread.
 //!
 //! A [`Plan`] runs the strands of one batch in turns, on one thread, by the calls of a shard (`memo_shards`) that a worker makes too.
 //! A turn ([`Plan::turn`]) makes one step of one strand: it asks for a point, fills one or drops one. Which strand has the next turn
@@ -14,7 +14,8 @@
 //! and it goes to its place again. `specs/inner/Parts.antt` says how the machine's plan is read from places and shards. Each strand in a
 //! place has heard all base answers, and its next step is kept beside it (`paused.rt`).
 //!
-//! A call that is refused memory leaves the plan as it was; `run` and `run_alone` leave the turns before it.
+//! A call that is refused memory leaves the plan as it was; `run` leaves the turns before it, and `run_alone` turns of its strand
+//! alone (`StopsAlone`): as far as they were recorded, or one more, in which the strand was refused and which no entry says.
 //! A turn costs what its shard's call costs, and one step more for each strand that comes out; no list is shifted or copied.
 //!
 //! ```

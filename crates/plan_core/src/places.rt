@@ -8,9 +8,9 @@ ghost use Rattle.memo_shards.specs.inner.Seen.{numbered_strand};
 ghost use Rattle.plan_core.specs.inner.Places.{seats, tags, tag_of, ready_one, ready_of, AreNumbered, HaveNumbers, IsNextAt};
 
 use crate::paused::Paused;
-use backsim_io::OutOfMemory;
 use demand_points::{BatchName, Strand};
 use design::Design;
+use owned_text::OutOfMemory;
 use smallvec::SmallVec;
 use std::alloc::Global;
 use strand_meaning::Next;

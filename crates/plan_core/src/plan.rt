@@ -10,7 +10,7 @@ ghost use Rattle.plan_machine.specs.Plans.{Plan as PlanRecord, new_plan, ready};
 ghost use Rattle.plan_machine.specs.Laws.{BeginsAlone};
 ghost use Rattle.plan_machine.specs.Alone.{refused, RunsAlone, RanAlone};
 ghost use Rattle.plan_core.specs.inner.Refusals.{IsRefusedAt, AsksFor};
-ghost use Rattle.plan_core.specs.Refusals.{point_of};
+ghost use Rattle.plan_core.specs.Refusals.{point_of, StopsAlone};
 ghost use Rattle.strand_meaning.specs.declared.Next.TheVariants.{Ask};
 ghost use Rattle.valid_intervals.specs.declared.Point.{Point as PointRecord};
 ghost use Rattle.plan_machine.specs.Steps.{turned, is_turn};
@@ -25,10 +25,10 @@ use crate::asks::know_all;
 use crate::paused::Paused;
 use crate::places::{pause_all, ready_in, strand_at};
 use crate::turns;
-use backsim_io::OutOfMemory;
 use demand_points::{BatchName, Strand};
 use design::Design;
 use memo_shards::Shard;
+use owned_text::OutOfMemory;
 use plan_machine::Turned;
 use std::alloc::Global;
 use std::marker::Model;
@@ -146,6 +146,8 @@ impl<B: BatchName> Plan<B> {
             → OnOk result (RunsAlone B.batch B.opening number a old self.new (point_of alone.new)) }
         ensures ended { (a : Start) (old : PlanRecord) → RunsAlone B.batch B.opening number a old self.old (point_of alone.old)
             → IfOk result (λ more. more ≡ false → RanAlone B.batch B.opening number a old self.new (point_of alone.new)) }
+        ensures stops { (a : Start) (old : PlanRecord) → RunsAlone B.batch B.opening number a old self.old (point_of alone.old)
+            → OnErr result (StopsAlone B.batch B.opening number a old self.new) }
     {
         let asked = self.asked(number);
         match self.turn(design, number)? {
@@ -161,12 +163,14 @@ impl<B: BatchName> Plan<B> {
     }
 
     /// Turns of one strand alone until it has ended. A refusal for its budget is recorded before it drops what it holds. Where memory
-    /// runs out, the turns before it stand.
+    /// runs out, the turns before it stand, and all are this strand's.
     pub fn run_alone(&mut self, design: &Design, number: u32) -> Result<Alone, OutOfMemory>
         requires design { design.now.circuit ≡ B.batch.circuit }
         requires number { number < length self.old.strands }
-        ensures { (a : Start) → BeginsAlone B.batch B.opening number a self.old
+        ensures ran { (a : Start) → BeginsAlone B.batch B.opening number a self.old
             → IfOk result (λ alone. RanAlone B.batch B.opening number a self.old self.new (point_of alone)) }
+        ensures stops { (a : Start) → BeginsAlone B.batch B.opening number a self.old
+            → OnErr result (StopsAlone B.batch B.opening number a self.old self.new) }
     {
         self.facts();
         let mut alone = Alone::Ended;

@@ -8,10 +8,10 @@ use crate::asks::ask_turn;
 use crate::ends::{drop_turn, fill_turn};
 use crate::paused::Paused;
 use crate::places::next_at;
-use backsim_io::OutOfMemory;
 use demand_points::BatchName;
 use design::Design;
 use memo_shards::Shard;
+use owned_text::OutOfMemory;
 use plan_machine::Turned;
 use strand_meaning::Next;
 

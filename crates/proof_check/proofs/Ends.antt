@@ -1,5 +1,5 @@
 -- How a call ends that was stopped.
-use Rattle.std.proofs.Common.{◌≡◌, ◌⊎◌, inl, inr, ℕ, List, length, refl, sym, subst, ◌∙◌, append-nil}
+use Rattle.std.proofs.Common.{◌≡◌, ◌≤◌, ◌⊎◌, inl, inr, ℕ, List, length, refl, sym, subst, ◌∙◌, append-nil}
 use Rattle.std.proofs.Math.Seq.{take-length}
 use Rattle.backsim_io.specs.Counts.{Grows, GrowsByPrefix, Stays}
 use Rattle.proof_check.specs.Given.{Given}
@@ -20,12 +20,12 @@ grows-nothing : (w w' : List ℕ → Type 0) (text : List ℕ) → Stays w w' �
 grows-nothing w w' text stays = (0, λ before h. subst w' (sym (append-nil before)) (stays before h))
 
 -- the first n files are refused
-told-refuses : (n : ℕ) (line : List ℕ) (started : ℕ) (w w' : List ℕ → Type 0) (status : CheckStatus) → IsTold line w w' status → Refuses n line started w w' status
-told-refuses n line started w w' statuses.Refused told = record { ends = tt; whole = λ is. told; part = grows-whole w w' line told }
-told-refuses n line started w w' statuses.WriteFault told = record { ends = tt; whole = λ is. absurd (let e : statuses.WriteFault ≡ statuses.Refused = is in cc); part = told }
-told-refuses n line started w w' statuses.OutOfMemory told =
-    record { ends = tt; whole = λ is. absurd (let e : statuses.OutOfMemory ≡ statuses.Refused = is in cc); part = grows-nothing w w' line told }
-told-refuses n line started w w' _ told = absurd told
+told-refuses : (n : ℕ) (line : List ℕ) (started : ℕ) (w w' : List ℕ → Type 0) (status : CheckStatus) → started ≤ n → IsTold line w w' status → Refuses n line started w w' status
+told-refuses n line started w w' statuses.Refused few told = record { ends = few; whole = λ is. told; part = grows-whole w w' line told }
+told-refuses n line started w w' statuses.WriteFault few told = record { ends = few; whole = λ is. absurd (let e : statuses.WriteFault ≡ statuses.Refused = is in cc); part = told }
+told-refuses n line started w w' statuses.OutOfMemory few told =
+    record { ends = few; whole = λ is. absurd (let e : statuses.OutOfMemory ≡ statuses.Refused = is in cc); part = grows-nothing w w' line told }
+told-refuses n line started w w' _ few told = absurd told
 
 -- nothing was written
 still-refuses : (n : ℕ) (line : List ℕ) (started : ℕ) (w w' : List ℕ → Type 0) (met status : CheckStatus) → (met ≡ statuses.Refused → ⊥) → EndsRefused n started met → (status ≡ met) × Stays w w'
@@ -37,10 +37,10 @@ still-refuses n line started w w' met status other ends told = record {
 }
 
 pub stop-refuses : (n : ℕ) (line : List ℕ) (started : ℕ) (w w' : List ℕ → Type 0) (stop : Stop) (status : CheckStatus) → StopsFirst n line started stop → EndsWith stop w w' status → Refuses n line started w w' status
-stop-refuses n line started w w' (Refused refusal) status first told = told-refuses n line started w w' status (subst (λ (l : List ℕ). IsTold l w w' status) first told)
+stop-refuses n line started w w' (Refused refusal) status first told = told-refuses n line started w w' status first.1 (subst (λ (l : List ℕ). IsTold l w w' status) first.0 told)
 stop-refuses n line started w w' NotOpened status first told = still-refuses n line started w w' statuses.FileFault status (λ is. let e : statuses.FileFault ≡ statuses.Refused = is in cc) first told
 stop-refuses n line started w w' Unread status first told = still-refuses n line started w w' statuses.ReadFault status (λ is. let e : statuses.ReadFault ≡ statuses.Refused = is in cc) first told
-stop-refuses n line started w w' OutOfMemory status first told = still-refuses n line started w w' statuses.OutOfMemory status (λ is. let e : statuses.OutOfMemory ≡ statuses.Refused = is in cc) tt told
+stop-refuses n line started w w' OutOfMemory status first told = still-refuses n line started w w' statuses.OutOfMemory status (λ is. let e : statuses.OutOfMemory ≡ statuses.Refused = is in cc) first told
 
 -- status 2: a refusal was told
 told-wrote : (such : List ℕ → Type 0) (line : List ℕ) (w w' : List ℕ → Type 0) (status : CheckStatus) → such line → IsTold line w w' status → status ≡ statuses.Refused → Wrote such w w'

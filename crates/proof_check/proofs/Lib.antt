@@ -1,3 +1,4 @@
+pub mod Changed
 pub mod Firsts
 pub mod Clashes
 pub mod Ends

@@ -2,6 +2,6 @@ pub mod Given
 pub mod Texts
 pub mod Answers
 pub mod Refused
-pub mod Cause
+pub mod Changes
 pub mod Statuses
 pub mod inner

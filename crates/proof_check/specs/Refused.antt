@@ -29,13 +29,14 @@ IsRefused given proof line = AreRefused given line ⊎ IsTooLong given proof lin
 abbrev pub IsAnswer : Given → (proof line : List ℕ) → Type 0
 IsAnswer given proof line = IsProved given proof line ⊎ (IsUnproved given proof line ⊎ IsRefused given proof line)
 
--- Where the first n files are refused, the status is 2, or that of a fault at one of them or at the line, or of a lack of memory.
+-- Where the first n files are refused, the status is 2, or that of a fault at one of them or at the line, or of a lack of memory, and no file
+-- behind them was opened.
 abbrev pub EndsRefused : ℕ → (started : ℕ) → CheckStatus → Type 0
-EndsRefused n started Refused = ⊤
+EndsRefused n started Refused = started ≤ n
 EndsRefused n started ReadFault = started ≤ n
 EndsRefused n started FileFault = started < n
-EndsRefused n started WriteFault = ⊤
-EndsRefused n started OutOfMemory = ⊤
+EndsRefused n started WriteFault = started ≤ n
+EndsRefused n started OutOfMemory = started ≤ n
 EndsRefused n started Yes = ⊥
 EndsRefused n started Words = ⊥
 EndsRefused n started No = ⊥

@@ -8,8 +8,9 @@ ghost use Rattle.proof_check.specs.inner.Stops.{OutExplains, EndsWith};
 use crate::lines::{bad_line, no_line, yes_line};
 use crate::reading::Stop;
 use crate::status::CheckStatus;
-use backsim_io::{OutOfMemory, Sink, write_all};
+use backsim_io::{Sink, write_all};
 use design::Design;
+use owned_text::OutOfMemory;
 use std::alloc::Global;
 use why_proofs::{Checked, check_proof};
 

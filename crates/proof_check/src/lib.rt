@@ -22,13 +22,14 @@
 //! A fault, or a lack of memory, may end the call before: `ReadFault`, `WriteFault` and `FileFault` only where the count of their kind
 //! rose, or stands at its last value.
 //!
-//! What callers may rely on, beside the table (`specs/Answers`, `specs/Refused`, `specs/Cause`):
+//! What callers may rely on, beside the table (`specs/Answers`, `specs/Refused`, `specs/Changes`):
 //!
 //! - **`yes NAME T V` is true**: in forward simulation of the circuit of the three files the signal NAME has the value V at the time T,
 //!   whoever wrote the proof, and also where only the three files are told and of the proof nothing is known.
-//! - What a file is refused for is told whatever stands behind it, also where that is missing or cannot be read. The proof stands last.
-//! - Where the line could not be written, a part of it was; under the other faults and for want of memory nothing is written. No file is
-//!   created.
+//! - What a file is refused for is told whatever stands behind it, also where that is missing or cannot be read, and no
+//!   file behind is opened. The proof stands last.
+//! - Where the line could not be written, a part of it was; under the other faults and for want of memory nothing is written. Nothing of
+//!   the files changes but how many were opened, what was read of them, and the count that rose.
 //!
 //! It takes the time of the readers and of the join, and O(n log n) for a proof of n bytes.
 #![tactic(auto)]

@@ -3,9 +3,9 @@
 ghost use Rattle.std.specs.Prelude.{◌≡◌, ◌++◌, IfOk, codes, decimal};
 ghost use Rattle.proof_check.specs.Texts as texts;
 
-use backsim_io::OutOfMemory;
 use gate_values::Value;
 use itoa::Buffer;
+use owned_text::OutOfMemory;
 use std::alloc::Global;
 
 pub const USAGE: &[u8] = b"usage: backsim_check NETLIST TIMING STIMULUS PROOF\n";

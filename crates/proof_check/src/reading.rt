@@ -2,19 +2,19 @@
 
 ghost use Rattle.std.specs.Prelude.{◌≡◌, ◌≤◌, ◌<◌, ℕ, List, Some, Ok, Err, IfErr, IfOk, length};
 ghost use Rattle.backsim_io.specs.Held.{SameMade};
-ghost use Rattle.circuit_files.specs.Causes.{counts_of};
 ghost use Rattle.circuit_files.specs.Files.{netlist_of, first_two, design_of_files};
 ghost use Rattle.circuit_files.specs.Texts.{refusal_text};
 ghost use Rattle.circuit_files.specs.declared.refusal.FileRefusal.{FileRefusal};
 ghost use Rattle.design.specs.Joined.{Joined};
 ghost use Rattle.proof_check.specs.Given.{Given, AreGiven, names_of};
 ghost use Rattle.proof_check.specs.Texts.{too_long};
-ghost use Rattle.proof_check.specs.inner.Stops.{stop_of, line_of, Explains, RefusesRight, RefusedFirst};
+ghost use Rattle.proof_check.specs.inner.Stops.{stop_of, line_of, ReadChanges, ProofChanges, RefusesRight, RefusedFirst};
 
 use crate::lines::TOO_LONG;
-use backsim_io::{Files, OutOfMemory, ReadFile, read_file};
+use backsim_io::{Files, ReadFile, read_file};
 use circuit_files::{FileRefusal, FilesStop, read_design};
 use design::Design;
+use owned_text::OutOfMemory;
 use std::alloc::Global;
 
 const PROOF_LIMIT: u32 = 268_435_456;
@@ -69,28 +69,23 @@ pub fn read_all<F: Files>(
     proof: &str,
     files: &mut F,
 ) -> Result<(Design, Vec<u8>), Stop>
-    requires { F.started files.old ≡ 0 }
-    ensures design { (given : Given) → AreGiven (F.held files.old) (names_of netlist.now timing.now stimulus.now proof.now) given
+    requires { (F.state files.old).started ≡ 0 }
+    ensures design { (given : Given) → AreGiven (F.state files.old).held (names_of netlist.now timing.now stimulus.now proof.now) given
         → IfOk result (λ read. design_of_files given.netlist given.timing given.stimulus ≡ Ok read.0) }
-    ensures text { (bytes : List ℕ) → F.held files.old proof.now ≡ Some bytes → IfOk result (λ read. read.1.items ≡ bytes) }
+    ensures text { (bytes : List ℕ) → (F.state files.old).held proof.now ≡ Some bytes → IfOk result (λ read. read.1.items ≡ bytes) }
     ensures short { IfOk result (λ read. length read.1.items ≤ 268435456) }
-    ensures refused { (given : Given) (bytes : List ℕ) → AreGiven (F.held files.old) (names_of netlist.now timing.now stimulus.now proof.now) given
-        → F.held files.old proof.now ≡ Some bytes → IfErr result (RefusesRight given bytes) }
-    ensures first { (first : List ℕ) (refusal : FileRefusal) → F.held files.old netlist.now ≡ Some first → netlist_of first ≡ Err refusal
-        → RefusedFirst 1 (refusal_text refusal) (F.started files.new) result }
-    ensures second { (first second : List ℕ) (refusal : FileRefusal) → F.held files.old netlist.now ≡ Some first → F.held files.old timing.now ≡ Some second
-        → first_two first second ≡ Err refusal → RefusedFirst 2 (refusal_text refusal) (F.started files.new) result }
-    ensures third { (given : Given) (refusal : FileRefusal) → AreGiven (F.held files.old) (names_of netlist.now timing.now stimulus.now proof.now) given
-        → design_of_files given.netlist given.timing given.stimulus ≡ Err refusal → RefusedFirst 3 (refusal_text refusal) (F.started files.new) result }
-    ensures fourth { (given : Given) (bytes : List ℕ) (design : Joined) → AreGiven (F.held files.old) (names_of netlist.now timing.now stimulus.now proof.now) given
-        → F.held files.old proof.now ≡ Some bytes → design_of_files given.netlist given.timing given.stimulus ≡ Ok design → 268435456 < length bytes
-        → RefusedFirst 4 too_long (F.started files.new) result }
-    ensures cause { Explains
-        (counts_of (F.file_faults files.old) (F.read_faults files.old) (F.started files.old))
-        (counts_of (F.file_faults files.new) (F.read_faults files.new) (F.started files.new))
-        result }
-    ensures write_faults { F.write_faults files.new ≡ F.write_faults files.old }
-    ensures files { F.files files.new ≡ F.files files.old }
+    ensures refused { (given : Given) (bytes : List ℕ) → AreGiven (F.state files.old).held (names_of netlist.now timing.now stimulus.now proof.now) given
+        → (F.state files.old).held proof.now ≡ Some bytes → IfErr result (RefusesRight given bytes) }
+    ensures first { (first : List ℕ) (refusal : FileRefusal) → (F.state files.old).held netlist.now ≡ Some first → netlist_of first ≡ Err refusal
+        → RefusedFirst 1 (refusal_text refusal) (F.state files.new).started result }
+    ensures second { (first second : List ℕ) (refusal : FileRefusal) → (F.state files.old).held netlist.now ≡ Some first → (F.state files.old).held timing.now ≡ Some second
+        → first_two first second ≡ Err refusal → RefusedFirst 2 (refusal_text refusal) (F.state files.new).started result }
+    ensures third { (given : Given) (refusal : FileRefusal) → AreGiven (F.state files.old).held (names_of netlist.now timing.now stimulus.now proof.now) given
+        → design_of_files given.netlist given.timing given.stimulus ≡ Err refusal → RefusedFirst 3 (refusal_text refusal) (F.state files.new).started result }
+    ensures fourth { (given : Given) (bytes : List ℕ) (design : Joined) → AreGiven (F.state files.old).held (names_of netlist.now timing.now stimulus.now proof.now) given
+        → (F.state files.old).held proof.now ≡ Some bytes → design_of_files given.netlist given.timing given.stimulus ≡ Ok design → 268435456 < length bytes
+        → RefusedFirst 4 too_long (F.state files.new).started result }
+    ensures state { ReadChanges (F.state files.old) (F.state files.new) result }
     ensures made { SameMade (F.made files.old) (F.made files.new) }
 {
     let design = read_design(alloc, netlist, timing, stimulus, files)?;
@@ -100,18 +95,13 @@ pub fn read_all<F: Files>(
 
 /// The bytes of the proof, which is read behind the three files.
 fn read_proof<F: Files>(alloc: Global, proof: &str, files: &mut F) -> Result<Vec<u8>, Stop>
-    requires { F.started files.old ≡ 3 }
-    ensures text { (bytes : List ℕ) → F.held files.old proof.now ≡ Some bytes → IfOk result (λ text. text.items ≡ bytes) }
+    requires { (F.state files.old).started ≡ 3 }
+    ensures text { (bytes : List ℕ) → (F.state files.old).held proof.now ≡ Some bytes → IfOk result (λ text. text.items ≡ bytes) }
     ensures short { IfOk result (λ text. length text.items ≤ 268435456) }
-    ensures refused { (given : Given) (bytes : List ℕ) (design : Joined) → F.held files.old proof.now ≡ Some bytes
+    ensures refused { (given : Given) (bytes : List ℕ) (design : Joined) → (F.state files.old).held proof.now ≡ Some bytes
         → design_of_files given.netlist given.timing given.stimulus ≡ Ok design → IfErr result (RefusesRight given bytes) }
-    ensures long { (bytes : List ℕ) → F.held files.old proof.now ≡ Some bytes → 268435456 < length bytes → RefusedFirst 4 too_long (F.started files.new) result }
-    ensures cause { Explains
-        (counts_of (F.file_faults files.old) (F.read_faults files.old) (F.started files.old))
-        (counts_of (F.file_faults files.new) (F.read_faults files.new) (F.started files.new))
-        result }
-    ensures write_faults { F.write_faults files.new ≡ F.write_faults files.old }
-    ensures files { F.files files.new ≡ F.files files.old }
+    ensures long { (bytes : List ℕ) → (F.state files.old).held proof.now ≡ Some bytes → 268435456 < length bytes → RefusedFirst 4 too_long (F.state files.new).started result }
+    ensures state { ProofChanges (F.state files.old) (F.state files.new) result }
     ensures made { SameMade (F.made files.old) (F.made files.new) }
 {
     match read_file(alloc, files, proof, PROOF_LIMIT) {

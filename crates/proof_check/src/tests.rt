@@ -1,7 +1,8 @@
 ghost use Rattle.std.specs.Prelude.{◌≡◌, IfOk};
 
 use crate::{CheckStatus, check};
-use backsim_io::{Files, MemFiles, MemSink, Text};
+use backsim_io::{Files, MemFiles, MemSink};
+use owned_text::Text;
 use std::alloc::Global;
 use std::test::Fail;
 
@@ -25,7 +26,7 @@ const CHAIN: Held = Held {
 const WORDS: &[&str] = &["n", "t", "s", "p"];
 
 fn mem_files(alloc: Global, given: &Held, failing: &[u64]) -> Result<MemFiles, Fail>
-    ensures { IfOk result (λ files. ⟦<MemFiles as Files>⟧.started files ≡ 0) }
+    ensures { IfOk result (λ files. (⟦<MemFiles as Files>⟧.state files).started ≡ 0) }
 {
     let mut held = Vec::new(alloc);
     for (name, bytes) in [

@@ -6,7 +6,7 @@ ghost use Rattle.query_lines.specs.Units.{closed, given_by, left_by, with_item};
 
 use crate::line::{Line, What};
 use crate::unit::{FirstItem, Item, ItemList, StuckItem, Unit, UnitList, WhyItem};
-use backsim_io::OutOfMemory;
+use owned_text::OutOfMemory;
 use std::alloc::Global;
 use std::marker::Model;
 use std::mem;

@@ -5,8 +5,8 @@ ghost use Rattle.text_rules.specs.Text.{words};
 ghost use Rattle.query_lines.specs.Lines as lines;
 ghost use Rattle.query_lines.specs.Lines.{line_of};
 
-use backsim_io::{OutOfMemory, Text};
 use gate_values::Value;
+use owned_text::{OutOfMemory, Text};
 use std::alloc::Global;
 use text_rules::{Amount, content, is_name, next_word, read_amount};
 

@@ -14,7 +14,7 @@ use crate::batcher::Batcher;
 use crate::cutter::LineCutter;
 use crate::line::{Line, read_line};
 use crate::unit::UnitList;
-use backsim_io::OutOfMemory;
+use owned_text::OutOfMemory;
 use std::alloc::Global;
 use std::marker::Model;
 

@@ -1,6 +1,6 @@
 use super::*;
-use backsim_io::Text;
 use gate_values::Value;
+use owned_text::Text;
 use std::test::Fail;
 
 #[derive(Clone, Copy, Debug, PartialEq, Eq)]

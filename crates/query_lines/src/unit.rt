@@ -3,7 +3,7 @@
 ghost use Rattle.std.specs.Prelude.{◌≡◌};
 
 use crate::line::{First, Stuck, What, Why};
-use backsim_io::Text;
+use owned_text::Text;
 use std::marker::Model;
 
 /// An item of a batch: the number of its line, counted from 1, and what the

@@ -6,14 +6,13 @@
 //!
 //! What a caller may rely on, under every schedule of the threads, is the queue's rule: at every moment the
 //! items in the queue, together with those popped through all its passes, are up to order those pushed
-//! through all its passes. So nothing is lost, made up or handed out twice. A push is refused only where
-//! the queue was full at a moment of the call, and then hands the item back; a pop answers `None` only where
-//! it was empty at a moment of the call. The thread that holds the queue's only pass knows more: what it is
-//! refused at is settled by what it pushed and popped itself.
+//! through all its passes. So nothing is lost, made up or handed out twice. A push that is refused hands the
+//! item back. The thread that holds the queue's only pass knows when that is, and when a pop answers `None`:
+//! it is settled by what it pushed and popped itself. Of several passes no clause says it.
 //!
 //! The rule does not say in which order items of different threads come out, which thread gets an item, or
-//! that a push or a pop that finds another thread in the middle of its step returns: `docs/READY_QUEUE.md`
-//! says this at more length.
+//! that a push or a pop that finds another thread in the middle of its step returns: the page
+//! `docs/maintain/READY_QUEUE.md` says this at more length.
 //!
 //! A push and a pop take no memory, and cost a few atomic steps each, however much the queue holds; while
 //! threads meet at one slot they try again. `new` takes memory for `capacity` items.
@@ -23,9 +22,9 @@ ghost use Rattle.std.specs.Prelude.{◌≡◌, ◌<◌, [], ◌∷◌, ◌++◌,
 ghost use Rattle.ready_queue.specs.History.{history, IsKept, IsKeptBeside};
 ghost use Rattle.ready_queue.specs.Queue.{pushed_by, popped_by, history_of, capacity_of, IsOnly, IsPassOf, IsFreshPassOf, HeldBeside, Lacks};
 
-use backsim_io::OutOfMemory;
 use crossbeam_queue::protocol::{Lesson, Outcome, Protocol, Split};
 use crossbeam_queue::{Pass, RuledArrayQueue};
+use owned_text::OutOfMemory;
 use std::alloc::Global;
 use std::collections::LinkedList;
 use std::sync::Wait;

@@ -1,8 +1,8 @@
 //! The texts of replies.
 
 use super::*;
-use backsim_io::Text;
 use gate_values::Value;
+use owned_text::Text;
 use query_lines::{First, Item, Stuck, What, Why};
 use std::test::Fail;
 use why_proofs::CellList;

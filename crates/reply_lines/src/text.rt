@@ -9,10 +9,10 @@ ghost use Rattle.reply_lines.specs.Replies.{Suits, text_of, text_line, run_line,
 use crate::reply::{
     FirstAnswer, FirstReply, Reply, StuckAnswer, StuckReply, VcdReply, WhyAnswer, WhyReply,
 };
-use backsim_io::{OutOfMemory, Text};
 use circuit_meaning::Run;
 use gate_values::Value;
 use itoa::Buffer;
+use owned_text::{OutOfMemory, Text};
 use query_lines::{First, Item, Stuck, What, Why};
 use std::alloc::Global;
 use why_proofs::proof_text;

@@ -10,7 +10,9 @@ use Rattle.std.proofs.lemmas.List.Elements.{Contains-append_right, All-head, All
 use Rattle.std.proofs.lemmas.List.Folds.{list_any-append}
 use Rattle.std.proofs.lemmas.Str.{IsUtf8-from_ascii}
 use Rattle.backsim_io.specs.Counts.{Grows}
-use Rattle.backsim_io.specs.Held.{Made, grown, CreatesIn, FileGrows, SameMade, Places, without}
+use Rattle.owned_text.specs.Made.{Made}
+use Rattle.backsim_io.specs.Held.{grown, CreatesIn, FileGrows, SameMade, Places, without}
+use Rattle.backsim_io.specs.State.{FilesState}
 use Rattle.text_rules.specs.Text.{is_mark, is_hash, is_name, is_name_byte}
 use Rattle.query_lines.specs.declared.unit.Unit.{Unit as ScriptUnit}
 use Rattle.query_lines.specs.declared.unit.Unit.TheVariants.{Vcd}
@@ -31,8 +33,9 @@ use Rattle.session_loop.specs.declared.stop.Stop.{Stop}
 use Rattle.session_loop.specs.declared.stop.Stop.TheVariants.{ScriptUnread, ScriptTooLong, RepliesUnwritten, JournalUnwritten, DumpUnmade, DumpUnwritten, DumpUnfinished, OutOfMemory}
 use Rattle.unit_answers.specs.Stores.{cells_of}
 use Rattle.session_loop.specs.Halting.{session_files}
+use Rattle.session_loop.specs.Outside.{with_file}
 use Rattle.session_loop.specs.inner.Desks.{IsCount, Keeps, KeepsDumps, Shows, refused, refused_last}
-use Rattle.session_loop.specs.inner.Faults.{IsOfDump, UnitExplains}
+use Rattle.session_loop.specs.inner.Outside.{RepliesStops, DumpStops}
 use Rattle.session_loop.specs.inner.Growing.{Adds, GrowsPart, IsDumpPart}
 use Rattle.session_loop.specs.inner.Serving.{BreaksAt, Serves, Stops}
 use Rattle.session_loop.proofs.Growing.{goes-none}
@@ -87,12 +90,20 @@ last-goes : (slot : ℕ) → without (slot ∷ []) slot ≡ []
 last-goes slot = let same : (slot == slot) ≡ true = eq-eqb slot slot refl in rw same refl
 
 -- once the file that was created last is finished, those are left that were before
-pub others-left : (places mid after : List ℕ) (count slot : ℕ) → Places count places → slot ≡ count → mid ≡ places ++ count ∷ [] → after ≡ without mid slot → after ≡ places
-others-left places mid after count slot are same is finished =
-    finished ∙ ap (without mid) same ∙ ap (λ l. without l count) is
-    ∙ filter-append (λ k. not (k == count)) places (count ∷ [])
+others-left : (places : List ℕ) (count : ℕ) → Places count places → without (places ++ count ∷ []) count ≡ places
+others-left places count are =
+    filter-append (λ k. not (k == count)) places (count ∷ [])
     ∙ ap₂ (λ (a b : List ℕ). a ++ b) (others-stay places count are.0) (last-goes count)
     ∙ append-nil places
+
+-- a file that was created, written and finished leaves nothing unfinished
+pub dump-done : (old created written new : FilesState) (slot : ℕ) → Places old.created old.unfinished → slot ≡ old.created → created ≡ with_file old → written ≡ created
+    → new ≡ record written { unfinished = without written.unfinished slot } → new ≡ record old { created = old.created + 1 }
+dump-done old created written new slot places is creates same ends =
+    ends
+    ∙ ap (λ (f : FilesState). record f { unfinished = without f.unfinished slot }) (same ∙ creates)
+    ∙ ap (λ (k : ℕ). record old { created = old.created + 1; unfinished = without (old.unfinished ++ old.created ∷ []) k }) is
+    ∙ ap (λ (l : List ℕ). record old { created = old.created + 1; unfinished = l }) (others-left old.unfinished old.created places)
 
 -- ---- names
 
@@ -116,28 +127,28 @@ names-are-text word is = IsUtf8-from_ascii word (names-are-ascii word (and_parts
 
 module _ (setup : Setup) where
   -- a stop that is none of a dump breaks off in any unit
-  breaks-in-reply : (units : List ScriptUnit) (out journal : List ℕ) (dumps : List Made) (a a' b b' : ℕ) (stop : Stop) → UnitExplains a a' b b' stop
+  breaks-in-reply : (units : List ScriptUnit) (out journal : List ℕ) (dumps : List Made) (a a' : ℕ) (stop : Stop) → RepliesStops a a' stop
       → IsBroken setup units out journal dumps → BreaksAt setup units out journal dumps stop
-  breaks-in-reply units out journal dumps a a' b b' ScriptUnread cause broken = broken
-  breaks-in-reply units out journal dumps a a' b b' ScriptTooLong cause broken = broken
-  breaks-in-reply units out journal dumps a a' b b' RepliesUnwritten cause broken = broken
-  breaks-in-reply units out journal dumps a a' b b' JournalUnwritten cause broken = broken
-  breaks-in-reply units out journal dumps a a' b b' DumpUnmade cause broken = absurd cause
-  breaks-in-reply units out journal dumps a a' b b' DumpUnwritten cause broken = absurd cause
-  breaks-in-reply units out journal dumps a a' b b' DumpUnfinished cause broken = absurd cause
-  breaks-in-reply units out journal dumps a a' b b' OutOfMemory cause broken = broken
+  breaks-in-reply units out journal dumps a a' ScriptUnread cause broken = broken
+  breaks-in-reply units out journal dumps a a' ScriptTooLong cause broken = broken
+  breaks-in-reply units out journal dumps a a' RepliesUnwritten cause broken = broken
+  breaks-in-reply units out journal dumps a a' JournalUnwritten cause broken = broken
+  breaks-in-reply units out journal dumps a a' DumpUnmade cause broken = absurd cause
+  breaks-in-reply units out journal dumps a a' DumpUnwritten cause broken = absurd cause
+  breaks-in-reply units out journal dumps a a' DumpUnfinished cause broken = absurd cause
+  breaks-in-reply units out journal dumps a a' OutOfMemory cause broken = broken
 
   -- a stop of a dump breaks off before its reply
-  breaks-in-dump : (units : List ScriptUnit) (out journal : List ℕ) (dumps : List Made) (stop : Stop) → IsOfDump stop → IsBrokenInDump setup units out journal dumps
+  breaks-in-dump : (units : List ScriptUnit) (out journal : List ℕ) (dumps : List Made) (old new : FilesState) (stop : Stop) → DumpStops old new stop → IsBrokenInDump setup units out journal dumps
       → BreaksAt setup units out journal dumps stop
-  breaks-in-dump units out journal dumps ScriptUnread kind broken = absurd kind
-  breaks-in-dump units out journal dumps ScriptTooLong kind broken = absurd kind
-  breaks-in-dump units out journal dumps RepliesUnwritten kind broken = absurd kind
-  breaks-in-dump units out journal dumps JournalUnwritten kind broken = absurd kind
-  breaks-in-dump units out journal dumps DumpUnmade kind broken = broken
-  breaks-in-dump units out journal dumps DumpUnwritten kind broken = broken
-  breaks-in-dump units out journal dumps DumpUnfinished kind broken = broken
-  breaks-in-dump units out journal dumps OutOfMemory kind broken = absurd kind
+  breaks-in-dump units out journal dumps old new ScriptUnread kind broken = absurd kind
+  breaks-in-dump units out journal dumps old new ScriptTooLong kind broken = absurd kind
+  breaks-in-dump units out journal dumps old new RepliesUnwritten kind broken = absurd kind
+  breaks-in-dump units out journal dumps old new JournalUnwritten kind broken = absurd kind
+  breaks-in-dump units out journal dumps old new DumpUnmade kind broken = broken
+  breaks-in-dump units out journal dumps old new DumpUnwritten kind broken = broken
+  breaks-in-dump units out journal dumps old new DumpUnfinished kind broken = broken
+  breaks-in-dump units out journal dumps old new OutOfMemory kind broken = absurd kind
 
   -- ---- what the line leads to
 
@@ -243,19 +254,19 @@ module _ (setup : Setup) where
         }
 
         -- a part of its reply was written
-        pub refusal-stopped : (files a a' b b' : ℕ) (stop : Stop) → files ≡ length desk.dumps.made.items + 1 → UnitExplains a a' b b' stop → GrowsPart out new_out (vcd_line file reply)
+        pub refusal-stopped : (files a a' : ℕ) (stop : Stop) → files ≡ length desk.dumps.made.items + 1 → RepliesStops a a' stop → GrowsPart out new_out (vcd_line file reply)
             → Stops setup desk (Vcd file ∷ []) out new_out made made files stop
-        refusal-stopped files a a' b b' stop many cause replied units now session keeps =
+        refusal-stopped files a a' stop many cause replied units now session keeps =
             let next : Course = with_reply now (vcd_line file reply) in
             let journal : List ℕ = journal_of setup now in
             record {
               replies = now.out ++ replied.0;
               journal = journal;
               dumps = now.dumps;
-              broken = breaks-in-reply (units ++ Vcd file ∷ []) (now.out ++ replied.0) journal now.dumps a a' b b' stop cause
+              broken = breaks-in-reply (units ++ Vcd file ∷ []) (now.out ++ replied.0) journal now.dumps a a' stop cause
                   (broken-at setup units (Vcd file) now next (now.out ++ replied.0) journal now.dumps session (sym (line-refused now file desk.dumps keeps.dumps reply is))
                   (prefix-more now.out replied.0) (prefix-same journal) (prefix-behind now.out replied.0 (vcd_line file reply) replied.1) (prefix-same journal)
-                  ([], sym (append-nil now.dumps)) (begun-same now.dumps) (λ o j. refl));
+                  ([], sym (append-nil now.dumps)) (begun-same now.dumps) (inr refl) (inr refl) (λ o j. refl));
               replied = (replied.0, refl, replied.2);
               recorded = λ name was. was;
               count = count-is now files keeps many;
@@ -284,13 +295,13 @@ module _ (setup : Setup) where
             adds (session_files name journal now.dumps) (omega (arith, stand)) was
 
         -- the file couldn't be created, written or finished
-        pub dump-stopped : (files : ℕ) (more : List Made) (stop : Stop) → IsOfDump stop → IsDumpPart file text more → Adds made new_made count more → files ≡ count + length more
+        pub dump-stopped : (files : ℕ) (more : List Made) (old new : FilesState) (stop : Stop) → DumpStops old new stop → IsDumpPart file text more → Adds made new_made count more → files ≡ count + length more
             → Stops setup desk (Vcd file ∷ []) out out made new_made files stop
-        dump-stopped files more stop kind part adds created units now session keeps = record {
+        dump-stopped files more old new stop kind part adds created units now session keeps = record {
           replies = now.out;
           journal = journal_of setup now;
           dumps = now.dumps ++ more;
-          broken = breaks-in-dump (units ++ Vcd file ∷ []) now.out (journal_of setup now) (now.dumps ++ more) stop kind
+          broken = breaks-in-dump (units ++ Vcd file ∷ []) now.out (journal_of setup now) (now.dumps ++ more) old new stop kind
               (dump-broken-at setup units file now (now.dumps ++ more) session (more, refl) (subst (λ (c : Course). AreBegun (now.dumps ++ more) c.dumps) (leads now keeps) begun));
           replied = goes-none out now.out;
           recorded = λ name. go-on now more keeps adds name (journal_of setup now);
@@ -328,9 +339,9 @@ module _ (setup : Setup) where
           }
 
           -- or a part of it
-          pub reply-stopped : (files a a' b b' : ℕ) (stop : Stop) → files ≡ count + 1 → UnitExplains a a' b b' stop → GrowsPart out new_out line
+          pub reply-stopped : (files a a' : ℕ) (stop : Stop) → files ≡ count + 1 → RepliesStops a a' stop → GrowsPart out new_out line
               → Stops setup desk (Vcd file ∷ []) out new_out made new_made files stop
-          reply-stopped files a a' b b' stop created cause replied units now session keeps =
+          reply-stopped files a a' stop created cause replied units now session keeps =
               let next : Course = with_dump now file wires in
               let journal : List ℕ = journal_of setup now in
               let all : List Made = now.dumps ++ dump ∷ [] in
@@ -339,11 +350,11 @@ module _ (setup : Setup) where
                 replies = now.out ++ replied.0;
                 journal = journal;
                 dumps = all;
-                broken = breaks-in-reply (units ++ Vcd file ∷ []) (now.out ++ replied.0) journal all a a' b b' stop cause
+                broken = breaks-in-reply (units ++ Vcd file ∷ []) (now.out ++ replied.0) journal all a a' stop cause
                     (broken-at setup units (Vcd file) now next (now.out ++ replied.0) journal all session (leads now keeps)
                     (prefix-more now.out replied.0) (prefix-same journal)
                     (prefix-behind now.out replied.0 (vcd_line file (replies.Made (length wires))) (subst (IsPrefix replied.0) line-is replied.1)) (prefix-same journal)
-                    (dump ∷ [], refl) (subst (AreBegun all) (one-more now) (begun-same all)) (λ o j. one-more now));
+                    (dump ∷ [], refl) (subst (AreBegun all) (one-more now) (begun-same all)) (inr refl) (inr (one-more now)) (λ o j. one-more now));
                 replied = (replied.0, refl, replied.2);
                 recorded = λ name. go-on now (dump ∷ []) keeps adds name journal;
                 count = omega (arith, stand, created, length-append now.dumps (dump ∷ []));

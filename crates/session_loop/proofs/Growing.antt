@@ -3,7 +3,8 @@ use Rattle.std.proofs.Common.{◌≡◌, ℕ, zero, suc, List, [], ◌∷◌, �
 use Rattle.std.specs.Prelude.{OnErr, IfErr, IsErrAnd}
 use Rattle.std.proofs.lemmas.List.{take-append-drop}
 use Rattle.backsim_io.specs.Counts.{Grows, GrowsByPrefix}
-use Rattle.backsim_io.specs.Held.{Made, grown, FileGrows, FileGrowsByPrefix}
+use Rattle.owned_text.specs.Made.{Made}
+use Rattle.backsim_io.specs.Held.{grown, FileGrows, FileGrowsByPrefix}
 use Rattle.session_meaning.specs.Broken.{IsPrefix}
 use Rattle.session_meaning.proofs.Journals.{prefix-same, prefix-again}
 use Rattle.session_loop.specs.Halting.{session_files}

@@ -1,4 +1,5 @@
 pub mod Growing
+pub mod Changes
 pub mod Named
 pub mod Served
 pub mod Questions

@@ -6,7 +6,8 @@ use Rattle.std.proofs.lemmas.List.{take_more, take-append-drop}
 use Rattle.std.proofs.lemmas.List.Concat.{flat_map-append}
 use Rattle.std.proofs.Math.Seq.{take-add}
 use Rattle.backsim_io.specs.Counts.{Grows}
-use Rattle.backsim_io.specs.Held.{Made, FileGrows}
+use Rattle.owned_text.specs.Made.{Made}
+use Rattle.backsim_io.specs.Held.{FileGrows}
 use Rattle.journal_meaning.specs.declared.Entry.{Entry}
 use Rattle.journal_text.specs.Spelling.{field, line_feed, entry_line, shard_lines, kind_word, section_lines}
 use Rattle.query_lines.specs.declared.unit.Item.{Item}

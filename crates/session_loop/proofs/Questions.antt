@@ -3,7 +3,8 @@ use Rattle.std.proofs.Common.{◌≡◌, ℕ, ◌+◌, ◌<◌, ◌≤◌, List,
 use Rattle.std.proofs.lemmas.List.Sums.{fold-append}
 use Rattle.cell_store.specs.Recency.{Contents}
 use Rattle.backsim_io.specs.Counts.{Grows}
-use Rattle.backsim_io.specs.Held.{Made, FileGrows}
+use Rattle.owned_text.specs.Made.{Made}
+use Rattle.backsim_io.specs.Held.{FileGrows}
 use Rattle.circuit_meaning.specs.Circuit.{Circuit}
 use Rattle.journal_meaning.specs.declared.Entry.{Entry}
 use Rattle.batch_meaning.specs.Batches.{Site, Batch as BatchRecord}
@@ -30,13 +31,12 @@ use Rattle.session_meaning.proofs.Journals.{journal-more}
 use Rattle.session_loop.specs.declared.desk.Counts.{Counts}
 use Rattle.session_loop.specs.declared.desk.Desk.{Desk}
 use Rattle.session_loop.specs.declared.stop.Stop.{Stop}
-use Rattle.session_loop.specs.inner.Growing.{GrowsPart, FileGrowsPart}
 use Rattle.unit_answers.specs.Stores.{cells_of}
 use Rattle.unit_answers.specs.Done.{IsFirstDone, IsWhyDone, IsStuckDone}
 use Rattle.session_loop.specs.inner.Desks.{IsCount, IsCounted, IsHeldCounted, Keeps}
 use Rattle.session_loop.specs.inner.Serving.{Serves, Stops, IsAnswered, own_sections, held_text}
 use Rattle.session_loop.proofs.Growing.{file-none}
-use Rattle.session_loop.proofs.Served.{IsOfUnit, counts-more, cells-more, kept-dumps, sections-served, sections-stopped}
+use Rattle.session_loop.proofs.Served.{IsOfUnit, WritesPart, counts-more, cells-more, kept-dumps, sections-served, sections-stopped}
 
 -- The section of a memo of its own, if there is one.
 
@@ -115,10 +115,10 @@ module _ (setup : Setup) where
 
     -- a part of the reply and a part of the sections
     pub question-stopped : (files : ℕ) (stop : Stop) → files ≡ length desk.dumps.made.items + 1 → IsOfUnit stop
-        → GrowsPart out new_out text → FileGrowsPart made new_made 0 question-text → Stops setup desk (unit ∷ []) out new_out made new_made files stop
-    question-stopped files stop many cause replied recorded us now session keeps =
+        → WritesPart out new_out made new_made text question-text → Stops setup desk (unit ∷ []) out new_out made new_made files stop
+    question-stopped files stop many cause wrote us now session keeps =
         sections-stopped setup us unit now desk session keeps out new_out made new_made ((now.sections ++ section ∷ []) ++ own_sections own held) text now.waves question-text
-        (done.serves now keeps) (question-journal now keeps) files stop many cause replied recorded
+        (done.serves now keeps) (question-journal now keeps) files stop many cause wrote
 
   -- A question for a first time.
   pub first-answered : (item : FirstItem) (desk : Desk) (reply : FirstReply) (lists held : List (List Entry)) (left : List Contents) → held ≡ [] → IsFirstDone setup item desk.stores.items reply lists left

@@ -1,9 +1,10 @@
 -- A script that was served, or in which the session stopped.
 use Rattle.std.proofs.Common.{◌≡◌, ℕ, ◌+◌, ◌<◌, ◌≤◌, List, [], ◌++◌, length, take, drop, Option, Some, None, refl, sym, ap, subst, ◌∙◌, append_assoc, append-nil, length-append, length-take, arith, inl, inr}
 use Rattle.std.proofs.lemmas.List.{take-append-drop, take-append-le, take-take, take_all}
-use Rattle.std.specs.Io.KnownBytes.{Consumes, IsAtEnd, Keeps}
+use Rattle.std.specs.Io.KnownBytes.{Consumes, IsAtEnd}
 use Rattle.std.proofs.KnownBytes.{Consumes-trans}
-use Rattle.backsim_io.specs.Held.{Made, ConsumesUpTo}
+use Rattle.owned_text.specs.Made.{Made}
+use Rattle.backsim_io.specs.Held.{ConsumesUpTo}
 use Rattle.query_lines.specs.declared.unit.Unit.{Unit as ScriptUnit}
 use Rattle.query_lines.specs.Reading.{script_units, completed_units}
 use Rattle.query_lines.specs.Readers.{Reader, HasRead}
@@ -16,12 +17,10 @@ use Rattle.session_loop.specs.declared.stop.Stop.{Stop}
 use Rattle.session_loop.specs.declared.stop.Stop.TheVariants.{ScriptUnread, ScriptTooLong, RepliesUnwritten, JournalUnwritten, DumpUnmade, DumpUnwritten, DumpUnfinished, OutOfMemory}
 use Rattle.unit_answers.specs.Stores.{cells_of}
 use Rattle.session_loop.specs.inner.Desks.{Shows, Keeps as KeepsDesk, no_counts}
-use Rattle.session_loop.specs.Faults.{Faults, Explains}
-use Rattle.session_loop.specs.inner.Faults.{UnitsExplain}
+use Rattle.session_loop.specs.Outside.{Outputs, UnitsStop}
 use Rattle.session_loop.specs.inner.Serving.{BreaksAt, Serves, Stops, TakesServed, TakesStopped, EndsServed, EndsStopped, HasServed, Wrote}
 use Rattle.session_loop.specs.Serving.{IsServedUntil, IsStopped}
 use Rattle.session_loop.proofs.Served.{count-of, serves-none, serves-more, stops-more}
-use Rattle.session_loop.proofs.Units.{explains-from}
 
 -- all of a script was taken
 all-taken : (script : List ℕ) (first left next : Option (List ℕ)) (bytes into : List ℕ) (n : ℕ) → first ≡ Some script → Consumes first left bytes → Consumes left next (take n into) → n ≡ 0 → IsAtEnd next → script ≡ bytes
@@ -47,40 +46,17 @@ block-front : (n m : ℕ) (into rest : List ℕ) → m ≤ n → n ≤ length in
 block-front n m into rest small within =
     sym (take-append-drop m (take n into)) ∙ ap (λ (l : List ℕ). l ++ drop m (take n into)) (take-take m n into small ∙ sym (take-append-le m into rest (omega (arith, small, within))))
 
--- a read that failed took nothing
-kept : (first left next : Option (List ℕ)) (bytes : List ℕ) → Consumes first left bytes → Keeps left next → Consumes first next bytes
-kept None left next bytes took same = tt
-kept (Some xs) None next bytes took same = absurd took
-kept (Some xs) (Some ys) None bytes took same = absurd same
-kept (Some xs) (Some ys) (Some zs) bytes took same = took ∙ ap (λ l. bytes ++ l) (sym same)
-
--- what a stop of a unit tells, it tells of a session
-pub explains-of : (old new : Faults) (stop : Stop) → UnitsExplain old.replies new.replies old.writes new.writes old.files new.files stop → Explains old new stop
-explains-of old new ScriptUnread h = absurd h
-explains-of old new ScriptTooLong h = absurd h
-explains-of old new RepliesUnwritten h = h
-explains-of old new JournalUnwritten h = h
-explains-of old new DumpUnmade h = h
-explains-of old new DumpUnwritten h = h
-explains-of old new DumpUnfinished h = h
-explains-of old new OutOfMemory h = h
-
-pub explains-after : (old new : Faults) (mid_replies mid_writes mid_files : ℕ) (stop : Stop) → mid_replies ≡ old.replies → mid_writes ≡ old.writes → mid_files ≡ old.files
-    → UnitsExplain mid_replies new.replies mid_writes new.writes mid_files new.files stop → Explains old new stop
-explains-after old new mid_replies mid_writes mid_files stop same_replies same_writes same_files h =
-    explains-of old new stop (explains-from old.replies mid_replies new.replies old.writes mid_writes new.writes old.files mid_files new.files stop same_replies same_writes same_files h)
-
 -- where a stop of a unit breaks off, the session of the script stopped
-stopped-is : (setup : Setup) (script : List ℕ) (left : Option (List ℕ)) (r r' w w' f f' : ℕ) (stop : Stop) (replies journal : List ℕ) (dumps : List Made) → UnitsExplain r r' w w' f f' stop
+stopped-is : (setup : Setup) (script : List ℕ) (left : Option (List ℕ)) (old new : Outputs) (stop : Stop) (replies journal : List ℕ) (dumps : List Made) → UnitsStop old new stop
     → BreaksIn setup script (λ units. BreaksAt setup units replies journal dumps stop) → IsStopped setup script left stop replies journal dumps
-stopped-is setup script left r r' w w' f f' ScriptUnread replies journal dumps h b = absurd h
-stopped-is setup script left r r' w w' f f' ScriptTooLong replies journal dumps h b = absurd h
-stopped-is setup script left r r' w w' f f' RepliesUnwritten replies journal dumps h b = b
-stopped-is setup script left r r' w w' f f' JournalUnwritten replies journal dumps h b = b
-stopped-is setup script left r r' w w' f f' DumpUnmade replies journal dumps h b = b
-stopped-is setup script left r r' w w' f f' DumpUnwritten replies journal dumps h b = b
-stopped-is setup script left r r' w w' f f' DumpUnfinished replies journal dumps h b = b
-stopped-is setup script left r r' w w' f f' OutOfMemory replies journal dumps h b = b
+stopped-is setup script left old new ScriptUnread replies journal dumps h b = absurd h.stops
+stopped-is setup script left old new ScriptTooLong replies journal dumps h b = absurd h.stops
+stopped-is setup script left old new RepliesUnwritten replies journal dumps h b = b
+stopped-is setup script left old new JournalUnwritten replies journal dumps h b = b
+stopped-is setup script left old new DumpUnmade replies journal dumps h b = b
+stopped-is setup script left old new DumpUnwritten replies journal dumps h b = b
+stopped-is setup script left old new DumpUnfinished replies journal dumps h b = b
+stopped-is setup script left old new OutOfMemory replies journal dumps h b = b
 
 module _ (setup : Setup) (desk : Desk) (fresh : KeepsDesk setup desk opened) where
   -- nothing was read
@@ -157,14 +133,14 @@ module _ (setup : Setup) (desk : Desk) (fresh : KeepsDesk setup desk opened) whe
         omega (arith, ap length (all-taken script first left next so_far.bytes into n is so_far.took took none end), so_far.long, most)
 
     -- the script ended, and the session broke off in what was left of it
-    pub end-stopped : (taken : ℕ) (left next after : Option (List ℕ)) (n : ℕ) (into : List ℕ) (reader : Reader) (x : Desk) (r r' w w' f f' : ℕ) (stop : Stop) (out mid new_out : List ℕ → Type 0) (made mid_made new_made : List Made → Type 0) (files : ℕ)
-        → setup.design.circuit.horizon ≤ 1000000 → HasServed setup taken first left reader desk x out mid made mid_made → Consumes left next (take n into) → n ≡ 0 → IsAtEnd next → UnitsExplain r r' w w' f f' stop
+    pub end-stopped : (taken : ℕ) (left next after : Option (List ℕ)) (n : ℕ) (into : List ℕ) (reader : Reader) (x : Desk) (old new : Outputs) (stop : Stop) (out mid new_out : List ℕ → Type 0) (made mid_made new_made : List Made → Type 0) (files : ℕ)
+        → setup.design.circuit.horizon ≤ 1000000 → HasServed setup taken first left reader desk x out mid made mid_made → Consumes left next (take n into) → n ≡ 0 → IsAtEnd next → UnitsStop old new stop
         → EndsStopped setup reader x mid new_out mid_made new_made files stop → Wrote setup (IsStopped setup script after stop) out new_out made new_made files
-    end-stopped taken left next after n into reader x r r' w w' f f' stop out mid new_out made mid_made new_made files bound so_far took none end cause ends =
+    end-stopped taken left next after n into reader x old new stop out mid new_out made mid_made new_made files bound so_far took none end cause ends =
         let all = all-taken script first left next so_far.bytes into n is so_far.took took none end in
         let horizon = setup.design.circuit.horizon in
         wrote-map (λ replies journal dumps. BreaksAt setup (so_far.units ++ ends.units) replies journal dumps stop) (IsStopped setup script after stop) out new_out made new_made files
-        (λ replies journal dumps broken. stopped-is setup script after r r' w w' f f' stop replies journal dumps cause (record {
+        (λ replies journal dumps broken. stopped-is setup script after old new stop replies journal dumps cause (record {
           taken = so_far.bytes;
           taken_are = ([], all ∙ sym (append-nil so_far.bytes));
           units = so_far.units ++ ends.units;
@@ -177,10 +153,10 @@ module _ (setup : Setup) (desk : Desk) (fresh : KeepsDesk setup desk opened) whe
         (wrote-broken (so_far.units ++ ends.units) out new_out made new_made files stop (stops-more setup desk x so_far.units ends.units out mid new_out made mid_made new_made files stop so_far.served ends.stopped))
 
     -- the session broke off in a block
-    pub block-stopped : (taken : ℕ) (left next after : Option (List ℕ)) (reader : Reader) (x : Desk) (n m : ℕ) (into rest : List ℕ) (r r' w w' f f' : ℕ) (stop : Stop) (out mid new_out : List ℕ → Type 0) (made mid_made new_made : List Made → Type 0) (files : ℕ)
-        → setup.design.circuit.horizon ≤ 1000000 → HasServed setup taken first left reader desk x out mid made mid_made → Consumes left next (take n into) → m ≤ n → n ≤ length into → UnitsExplain r r' w w' f f' stop
+    pub block-stopped : (taken : ℕ) (left next after : Option (List ℕ)) (reader : Reader) (x : Desk) (n m : ℕ) (into rest : List ℕ) (old new : Outputs) (stop : Stop) (out mid new_out : List ℕ → Type 0) (made mid_made new_made : List Made → Type 0) (files : ℕ)
+        → setup.design.circuit.horizon ≤ 1000000 → HasServed setup taken first left reader desk x out mid made mid_made → Consumes left next (take n into) → m ≤ n → n ≤ length into → UnitsStop old new stop
         → TakesStopped setup reader (take m (into ++ rest)) x mid new_out mid_made new_made files stop → Wrote setup (IsStopped setup script after stop) out new_out made new_made files
-    block-stopped taken left next after reader x n m into rest r r' w w' f f' stop out mid new_out made mid_made new_made files bound so_far took small within cause stops =
+    block-stopped taken left next after reader x n m into rest old new stop out mid new_out made mid_made new_made files bound so_far took small within cause stops =
         let split = split-script script first left next so_far.bytes (take n into) is so_far.took took in
         let tail = stops.front_is.0 ++ (drop m (take n into) ++ split.0) in
         let horizon = setup.design.circuit.horizon in
@@ -189,7 +165,7 @@ module _ (setup : Setup) (desk : Desk) (fresh : KeepsDesk setup desk opened) whe
         ∙ ap (λ (l : List ℕ). (so_far.bytes ++ l) ++ split.0) (block-front n m into rest small within ∙ ap (λ (l : List ℕ). l ++ drop m (take n into)) stops.front_is.1)
         ∙ regroup so_far.bytes stops.front stops.front_is.0 (drop m (take n into)) split.0 in
         wrote-map (λ replies journal dumps. BreaksAt setup (so_far.units ++ stops.units) replies journal dumps stop) (IsStopped setup script after stop) out new_out made new_made files
-        (λ replies journal dumps broken. stopped-is setup script after r r' w w' f f' stop replies journal dumps cause (record {
+        (λ replies journal dumps broken. stopped-is setup script after old new stop replies journal dumps cause (record {
           taken = so_far.bytes ++ stops.front;
           taken_are = (tail, script-is);
           units = so_far.units ++ stops.units;
@@ -203,13 +179,13 @@ module _ (setup : Setup) (desk : Desk) (fresh : KeepsDesk setup desk opened) whe
 
     -- the next block was not read
     pub unread : (taken : ℕ) (left next : Option (List ℕ)) (reader : Reader) (x : Desk) (out mid : List ℕ → Type 0) (made mid_made : List Made → Type 0) (files : ℕ)
-        → setup.design.circuit.horizon ≤ 1000000 → HasServed setup taken first left reader desk x out mid made mid_made → files ≡ length x.dumps.made.items + 1 → Keeps left next
+        → setup.design.circuit.horizon ≤ 1000000 → HasServed setup taken first left reader desk x out mid made mid_made → files ≡ length x.dumps.made.items + 1 → next ≡ left
         → Wrote setup (IsServedUntil setup script next) out mid made mid_made files
     unread taken left next reader x out mid made mid_made files bound so_far many same =
         wrote-map (IsSession setup so_far.units) (IsServedUntil setup script next) out mid made mid_made files
         (λ replies journal dumps session. record {
           taken = so_far.bytes;
-          took = kept (Some script) left next so_far.bytes (subst (λ f. Consumes f left so_far.bytes) is so_far.took) same;
+          took = subst (λ o. Consumes (Some script) o so_far.bytes) (sym same) (subst (λ f. Consumes f left so_far.bytes) is so_far.took);
           served = subst (λ us. IsSession setup us replies journal dumps) (given-completed setup.design.circuit.horizon so_far.bytes so_far.units reader so_far.read bound) session;
         })
         (wrote-session so_far.units x out mid made mid_made files many so_far.served)
@@ -255,9 +231,9 @@ module _ (setup : Setup) (desk : Desk) (fresh : KeepsDesk setup desk opened) whe
         (so_far.bytes ++ more, Consumes-trans (Some script) left next so_far.bytes more (subst (λ f. Consumes f left so_far.bytes) is so_far.took) took, omega (arith, length-append so_far.bytes more, so_far.long, small))
 
     pub read-none : (taken most : ℕ) (left next : Option (List ℕ)) (reader : Reader) (x : Desk) (out mid : List ℕ → Type 0) (made mid_made : List Made → Type 0)
-        → HasServed setup taken first left reader desk x out mid made mid_made → Keeps left next → taken ≤ most → ConsumesUpTo (Some script) next most
+        → HasServed setup taken first left reader desk x out mid made mid_made → next ≡ left → taken ≤ most → ConsumesUpTo (Some script) next most
     read-none taken most left next reader x out mid made mid_made so_far same small =
-        (so_far.bytes, kept (Some script) left next so_far.bytes (subst (λ f. Consumes f left so_far.bytes) is so_far.took) same, omega (arith, so_far.long, small))
+        (so_far.bytes, subst (λ o. Consumes (Some script) o so_far.bytes) (sym same) (subst (λ f. Consumes f left so_far.bytes) is so_far.took), omega (arith, so_far.long, small))
 
 -- a session begins
 pub fresh-desk : (setup : Setup) (desk : Desk) → ((shard : ℕ) → shard < setup.shards → cells_of desk.stores.items shard ≡ []) → desk.counts ≡ no_counts

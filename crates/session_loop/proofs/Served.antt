@@ -1,5 +1,5 @@
 -- A unit that its parts served is a unit of the session; where a part failed, the session breaks off in it.
-use Rattle.std.proofs.Common.{◌≡◌, ℕ, Bool, suc, ◌+◌, ◌<◌, List, [], ◌∷◌, ◌++◌, length, get_or, map, filter, sum_by, Option, Some, refl, sym, ap, subst, ◌∙◌, append_assoc, append-nil, length-append, arith}
+use Rattle.std.proofs.Common.{◌≡◌, ℕ, Bool, suc, ◌+◌, ◌<◌, List, [], ◌∷◌, ◌++◌, length, get_or, map, filter, sum_by, Option, Some, refl, sym, ap, subst, ◌∙◌, append_assoc, append-nil, length-append, arith, ◌⊎◌, inl, inr}
 use Rattle.std.specs.Prelude.{⊤}
 use Rattle.std.proofs.Math.ListN.{length-map}
 use Rattle.std.proofs.lemmas.List.Sums.{fold-append, sum_by-append, sum_by-cons}
@@ -8,7 +8,9 @@ use Rattle.std.proofs.lemmas.List.Elements.{filter-append}
 use Rattle.valid_intervals.specs.declared.SignalCell.{SignalCell}
 use Rattle.cell_store.specs.Recency.{Contents}
 use Rattle.backsim_io.specs.Counts.{Grows}
-use Rattle.backsim_io.specs.Held.{Made, FileGrows}
+use Rattle.owned_text.specs.Made.{Made}
+use Rattle.backsim_io.specs.Held.{FileGrows}
+use Rattle.backsim_io.specs.State.{FilesState}
 use Rattle.journal_meaning.specs.declared.Entry.{Entry}
 use Rattle.journal_meaning.specs.States.{fresh}
 use Rattle.journal_meaning.specs.Replay.{IsLegalBatch, IsLegalTrim}
@@ -35,13 +37,14 @@ use Rattle.session_loop.specs.declared.desk.Dumps.{Dumps}
 use Rattle.session_loop.specs.declared.desk.LastBatch.{LastBatch}
 use Rattle.session_loop.specs.declared.stop.Stop.{Stop}
 use Rattle.session_loop.specs.declared.stop.Stop.TheVariants.{ScriptUnread, ScriptTooLong, RepliesUnwritten, JournalUnwritten, DumpUnmade, DumpUnwritten, DumpUnfinished, OutOfMemory}
-use Rattle.session_loop.specs.inner.Faults.{UnitExplains}
+use Rattle.session_loop.specs.Outside.{JournalStops}
+use Rattle.session_loop.specs.inner.Outside.{RepliesStops}
 use Rattle.session_loop.specs.inner.Growing.{FilesGoOn, GrowsPart, FileGrowsPart}
 use Rattle.unit_answers.specs.Stores.{AreStores, cells_of}
 use Rattle.unit_answers.specs.Done.{IsBatchDone, IsTrimDone}
 use Rattle.session_loop.specs.inner.Desks.{IsCount, IsCounted, batches_in, counted_lists, Shows, KeepsDumps, Keeps}
 use Rattle.session_loop.specs.inner.Serving.{ServedTo, BreaksAt, StoppedIn, Serves, Stops}
-use Rattle.session_loop.proofs.Growing.{goes-none, goes-more, files-none, files-more, journal-grows}
+use Rattle.session_loop.proofs.Growing.{goes-none, goes-more, file-none, files-none, files-more, journal-grows}
 
 -- no entry of a memo of its own is counted
 none-counted : (lists : List (List Entry)) → sum_by (λ (entries : List Entry). 0) lists ≡ 0
@@ -96,16 +99,41 @@ IsOfUnit DumpUnwritten = ⊥
 IsOfUnit DumpUnfinished = ⊥
 IsOfUnit OutOfMemory = ⊤
 
--- the counts of faults tell so
-pub of-unit : (replies new_replies writes new_writes : ℕ) (stop : Stop) → UnitExplains replies new_replies writes new_writes stop → IsOfUnit stop
-of-unit replies new_replies writes new_writes ScriptUnread cause = cause
-of-unit replies new_replies writes new_writes ScriptTooLong cause = cause
-of-unit replies new_replies writes new_writes RepliesUnwritten cause = tt
-of-unit replies new_replies writes new_writes JournalUnwritten cause = tt
-of-unit replies new_replies writes new_writes DumpUnmade cause = cause
-of-unit replies new_replies writes new_writes DumpUnwritten cause = cause
-of-unit replies new_replies writes new_writes DumpUnfinished cause = cause
-of-unit replies new_replies writes new_writes OutOfMemory cause = tt
+-- what it changes of the outside tells so
+pub replies-of-unit : (old new : ℕ) (stop : Stop) → RepliesStops old new stop → IsOfUnit stop
+replies-of-unit old new ScriptUnread h = h
+replies-of-unit old new ScriptTooLong h = h
+replies-of-unit old new RepliesUnwritten h = tt
+replies-of-unit old new JournalUnwritten h = tt
+replies-of-unit old new DumpUnmade h = h
+replies-of-unit old new DumpUnwritten h = h
+replies-of-unit old new DumpUnfinished h = h
+replies-of-unit old new OutOfMemory h = tt
+
+pub journal-of-unit : (old new : FilesState) (stop : Stop) → JournalStops old new stop → IsOfUnit stop
+journal-of-unit old new ScriptUnread h = h
+journal-of-unit old new ScriptTooLong h = h
+journal-of-unit old new RepliesUnwritten h = tt
+journal-of-unit old new JournalUnwritten h = tt
+journal-of-unit old new DumpUnmade h = h
+journal-of-unit old new DumpUnwritten h = h
+journal-of-unit old new DumpUnfinished h = h
+journal-of-unit old new OutOfMemory h = tt
+
+-- A part of a text was written, and a part of the lines after it: of the lines only once all of the text was.
+pub record WritesPart (out new_out : List ℕ → Type 0) (made new_made : List Made → Type 0) (text lines : List ℕ) : Type 0 where
+  pub replied : GrowsPart out new_out text
+  pub recorded : FileGrowsPart made new_made 0 lines
+  pub first : (replied.0 ≡ text) ⊎ (recorded.0 ≡ [])
+
+-- the text was begun
+pub text-begun : (out new_out : List ℕ → Type 0) (made : List Made → Type 0) (text lines : List ℕ) → GrowsPart out new_out text → WritesPart out new_out made made text lines
+text-begun out new_out made text lines replied = record { replied = replied; recorded = ([], (lines, refl), file-none made 0); first = inr refl }
+
+-- the lines were begun
+pub lines-begun : (out new_out : List ℕ → Type 0) (made new_made : List Made → Type 0) (text lines : List ℕ) → Grows out new_out text → FileGrowsPart made new_made 0 lines
+    → WritesPart out new_out made new_made text lines
+lines-begun out new_out made new_made text lines replied recorded = record { replied = (text, prefix-same text, replied); recorded = recorded; first = inl refl }
 
 module _ (setup : Setup) where
   -- what is kept for dumps, where no dump is made
@@ -154,8 +182,8 @@ module _ (setup : Setup) where
 
         -- a part of the text and a part of the lines
         pub sections-stopped : (files : ℕ) (stop : Stop) → files ≡ length desk.dumps.made.items + 1 → IsOfUnit stop
-            → GrowsPart out new_out text → FileGrowsPart made new_made 0 lines → StoppedIn setup (units ++ unit ∷ []) now out new_out made new_made files stop
-        sections-stopped files stop many cause replied recorded = record {
+            → WritesPart out new_out made new_made text lines → StoppedIn setup (units ++ unit ∷ []) now out new_out made new_made files stop
+        sections-stopped files stop many cause wrote = let replied = wrote.replied in let recorded = wrote.recorded in record {
           replies = now.out ++ replied.0;
           journal = journal_of setup now ++ recorded.0;
           dumps = now.dumps;
@@ -163,11 +191,15 @@ module _ (setup : Setup) where
               (broken-at setup units unit now leads-to (now.out ++ replied.0) (journal_of setup now ++ recorded.0) now.dumps session served
               (prefix-more now.out replied.0) (prefix-more (journal_of setup now) recorded.0) (prefix-behind now.out replied.0 text replied.1)
               (subst (λ j. IsPrefix (journal_of setup now ++ recorded.0) j) (sym journal-is) (prefix-behind (journal_of setup now) recorded.0 lines recorded.1))
-              ([], sym (append-nil now.dumps)) (begun-same now.dumps) (λ _ _. refl));
+              ([], sym (append-nil now.dumps)) (begun-same now.dumps) (replies-first wrote.first) (inr refl) (λ _ _. refl));
           replied = (replied.0, refl, replied.2);
           recorded = journal-grows made new_made (journal_of setup now) recorded.0 now.dumps recorded.2;
           count = count-of desk now files keeps many;
         }
+          where
+            replies-first : (wrote.replied.0 ≡ text) ⊎ (wrote.recorded.0 ≡ []) → (now.out ++ wrote.replied.0 ≡ now.out ++ text) ⊎ (journal_of setup now ++ wrote.recorded.0 ≡ journal_of setup now)
+            replies-first (inl whole) = inl (ap (λ l. now.out ++ l) whole)
+            replies-first (inr none) = inr (ap (λ l. journal_of setup now ++ l) none ∙ append-nil (journal_of setup now))
 
     module _ (purpose : Purpose) (lists : List (List Entry)) (text : List ℕ) (waves : Option (List Wire)) where
       abbrev section : SectionEntries
@@ -198,7 +230,7 @@ module _ (setup : Setup) where
 
         -- a part of its replies and a part of its section
         pub section-stopped : (files : ℕ) (stop : Stop) → files ≡ length desk.dumps.made.items + 1 → IsOfUnit stop
-            → GrowsPart out new_out text → FileGrowsPart made new_made 0 section-text → StoppedIn setup (units ++ unit ∷ []) now out new_out made new_made files stop
+            → WritesPart out new_out made new_made text section-text → StoppedIn setup (units ++ unit ∷ []) now out new_out made new_made files stop
         section-stopped = sections-stopped (now.sections ++ section ∷ []) text waves section-text served journal-is
 
     -- a reply alone
@@ -220,7 +252,7 @@ module _ (setup : Setup) where
       broken = breaks-in (units ++ unit ∷ []) (now.out ++ replied.0) (journal_of setup now) now.dumps stop cause
           (broken-at setup units unit now (with_reply now text) (now.out ++ replied.0) (journal_of setup now) now.dumps session served
           (prefix-more now.out replied.0) (prefix-same (journal_of setup now)) (prefix-behind now.out replied.0 text replied.1) (prefix-same (journal_of setup now))
-          ([], sym (append-nil now.dumps)) (begun-same now.dumps) (λ _ _. refl));
+          ([], sym (append-nil now.dumps)) (begun-same now.dumps) (inr refl) (inr refl) (λ _ _. refl));
       replied = (replied.0, refl, replied.2);
       recorded = files-none made (journal_of setup now) now.dumps;
       count = count-of desk now files keeps many;
@@ -268,11 +300,11 @@ module _ (setup : Setup) where
         replied recorded
 
     pub batch-stopped : (files : ℕ) (stop : Stop) → files ≡ length desk.dumps.made.items + 1 → IsOfUnit stop
-        → GrowsPart out new_out (replies_text items replies) → FileGrowsPart made new_made 0 (section_lines (record { kind = Batch; number = counts.sections; shards = lists }))
+        → WritesPart out new_out made new_made (replies_text items replies) (section_lines (record { kind = Batch; number = counts.sections; shards = lists }))
         → Stops setup desk (units.Batch items ∷ []) out new_out made new_made files stop
-    batch-stopped files stop many cause replied recorded us now session keeps =
+    batch-stopped files stop many cause wrote us now session keeps =
         section-stopped us (units.Batch items) now desk session keeps out new_out made new_made (Asks (batch_of setup items)) lists (replies_text items replies) shown (is-served now keeps) counts.sections counted.sections
-        files stop many cause replied recorded
+        files stop many cause wrote
 
   -- A trim.
   module _ (most : ℕ) (desk : Desk) (lists : List (List Entry)) (left : List Contents) (done : IsTrimDone setup most desk.stores.items lists left) (counts : Counts) (counted : IsCounted desk.counts Trim lists counts) (out new_out : List ℕ → Type 0) (made new_made : List Made → Type 0) where
@@ -294,11 +326,11 @@ module _ (setup : Setup) where
         (kept-dumps desk.dumps later.dumps now (with_section now Trims lists text) dumps refl refl keeps.dumps) replied recorded
 
     pub trim-stopped : (files : ℕ) (stop : Stop) → files ≡ length desk.dumps.made.items + 1 → IsOfUnit stop
-        → GrowsPart out new_out (trimmed_line (sum_by length lists)) → FileGrowsPart made new_made 0 (section_lines (record { kind = Trim; number = counts.sections; shards = lists }))
+        → WritesPart out new_out made new_made (trimmed_line (sum_by length lists)) (section_lines (record { kind = Trim; number = counts.sections; shards = lists }))
         → Stops setup desk (units.Trim most ∷ []) out new_out made new_made files stop
-    trim-stopped files stop many cause replied recorded us now session keeps =
+    trim-stopped files stop many cause wrote us now session keeps =
         section-stopped us (units.Trim most) now desk session keeps out new_out made new_made Trims lists (trimmed_line (sum_by length lists)) now.waves (is-trimmed now keeps) counts.sections counted.sections
-        files stop many cause replied recorded
+        files stop many cause wrote
 
   -- The counts.
   stored-from : (stores : List Contents) (first : ℕ) (cells : ℕ → List SignalCell) → ((i : ℕ) → i < length stores → cells_of stores i ≡ cells (first + i))

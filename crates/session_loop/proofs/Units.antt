@@ -2,15 +2,13 @@
 use Rattle.std.proofs.Common.{◌≡◌, ℕ, ◌+◌, List, [], ◌∷◌, ◌++◌, length, refl, sym, ap, subst, ◌∙◌, append_assoc, append-nil, arith}
 use Rattle.std.specs.Prelude.{All}
 use Rattle.std.proofs.lemmas.List.Elements.{All-head, All-tail, All-same}
-use Rattle.backsim_io.specs.Held.{Made}
+use Rattle.owned_text.specs.Made.{Made}
 use Rattle.design.specs.Joined.{Joined}
 use Rattle.query_lines.specs.declared.unit.Unit.{Unit as ScriptUnit}
 use Rattle.unit_answers.specs.declared.sizes.Sizes.{Sizes}
 use Rattle.session_loop.specs.declared.desk.Desk.{Desk}
 use Rattle.session_loop.specs.declared.stop.Stop.{Stop}
-use Rattle.session_loop.specs.declared.stop.Stop.TheVariants.{ScriptUnread, ScriptTooLong, RepliesUnwritten, JournalUnwritten, DumpUnmade, DumpUnwritten, DumpUnfinished, OutOfMemory}
-use Rattle.session_loop.specs.Serving.{session_of, StopsOpen}
-use Rattle.session_loop.specs.inner.Faults.{UnitExplains, UnitsExplain}
+use Rattle.session_loop.specs.Serving.{session_of}
 use Rattle.session_loop.specs.inner.Serving.{Serves, Stops}
 use Rattle.session_loop.proofs.Served.{serves-none, serves-more, stops-more, stops-longer}
 
@@ -68,31 +66,3 @@ module _ (design : Joined) (sizes : Sizes) (all left : List ScriptUnit) (many : 
       empty : (us : List ScriptUnit) → length us ≡ 0 → us ≡ []
       empty [] e = refl
       empty (u ∷ us) e = absurd (omega (arith, e))
-
--- what a stop of a unit that makes no dump tells, it tells of any unit
-pub units-explain : (replies new_replies writes new_writes files new_files : ℕ) (stop : Stop) → UnitExplains replies new_replies writes new_writes stop → UnitsExplain replies new_replies writes new_writes files new_files stop
-units-explain r r' w w' f f' ScriptUnread cause = cause
-units-explain r r' w w' f f' ScriptTooLong cause = cause
-units-explain r r' w w' f f' RepliesUnwritten cause = cause
-units-explain r r' w w' f f' JournalUnwritten cause = cause
-units-explain r r' w w' f f' DumpUnmade cause = absurd cause
-units-explain r r' w w' f f' DumpUnwritten cause = absurd cause
-units-explain r r' w w' f f' DumpUnfinished cause = absurd cause
-units-explain r r' w w' f f' OutOfMemory cause = cause
-
--- and it leaves no further file unfinished
-pub leaves-open : (replies new_replies writes new_writes : ℕ) (old new : List ℕ) (stop : Stop) → UnitExplains replies new_replies writes new_writes stop → new ≡ old → StopsOpen old new stop
-leaves-open r r' w w' old new ScriptUnread cause same = same
-leaves-open r r' w w' old new ScriptTooLong cause same = same
-leaves-open r r' w w' old new RepliesUnwritten cause same = same
-leaves-open r r' w w' old new JournalUnwritten cause same = same
-leaves-open r r' w w' old new DumpUnmade cause same = same
-leaves-open r r' w w' old new DumpUnwritten cause same = absurd cause
-leaves-open r r' w w' old new DumpUnfinished cause same = absurd cause
-leaves-open r r' w w' old new OutOfMemory cause same = same
-
--- the counts of faults before it are those at the start
-pub explains-from : (replies mid_replies new_replies writes mid_writes new_writes files mid_files new_files : ℕ) (stop : Stop) → mid_replies ≡ replies → mid_writes ≡ writes → mid_files ≡ files
-    → UnitsExplain mid_replies new_replies mid_writes new_writes mid_files new_files stop → UnitsExplain replies new_replies writes new_writes files new_files stop
-explains-from r m r' w v w' f n f' stop replies writes files cause =
-    subst (λ k. UnitsExplain k r' w w' f f' stop) replies (subst (λ k. UnitsExplain m r' k w' f f' stop) writes (subst (λ k. UnitsExplain m r' v w' k f' stop) files cause))

@@ -1,7 +1,9 @@
 -- The journal of a session of one batch.
-use Rattle.std.proofs.Common.{◌≡◌, ℕ, ◌<◌, List, [], ◌++◌, get_or, refl, sym, ap, subst, ◌∙◌, append-nil, inl, inr}
+use Rattle.std.proofs.Common.{◌≡◌, ℕ, ◌<◌, List, [], ◌++◌, get_or, refl, sym, ap, subst, ◌∙◌, append-nil, Err, inl, inr}
 use Rattle.cell_store.specs.Recency.{Contents}
-use Rattle.backsim_io.specs.Held.{Made, FileGrows, SameMade}
+use Rattle.owned_text.specs.Made.{Made}
+use Rattle.backsim_io.specs.Held.{FileGrows, SameMade}
+use Rattle.backsim_io.specs.State.{FilesState}
 use Rattle.journal_meaning.specs.declared.Entry.{Entry}
 use Rattle.journal_meaning.specs.Replay.{IsLegalBatch}
 use Rattle.journal_meaning.specs.Sections.{Asks}
@@ -22,6 +24,7 @@ use Rattle.session_loop.specs.declared.halt.Halt.TheVariants.{JournalUnmade, Sto
 use Rattle.session_loop.specs.inner.Growing.{FileGrowsPart}
 use Rattle.session_loop.specs.Halting.{Stands, WroteJournal, IsWork, IsWorkDone, IsWorkBegun, IsWorkHalted}
 use Rattle.session_loop.specs.inner.Halting.{IsHeadHalted}
+use Rattle.session_loop.specs.inner.Outside.{FinishChanges}
 use Rattle.session_loop.proofs.Files.{stands-same, stands-more}
 
 module _ (setup : Setup) (items : List Item) (name : List ℕ) where
@@ -75,10 +78,13 @@ module _ (setup : Setup) (items : List Item) (name : List ℕ) where
         let head = head_line setup.shards setup.capacity in
         record {
           journal = head ++ part.0;
-          are = inr (broken-at setup [] (units.Batch items) opened next [] (head ++ part.0) [] Opened served (prefix-same [])
-              (part.0, ap (λ l. l ++ part.0) (sym (append-nil head))) (replies_text items replies, refl)
-              (subst (IsPrefix (head ++ part.0)) (sym whole) (prefix-behind head part.0 work_text part.1))
-              ([], refl) tt (λ _ _. refl));
+          are = inr (
+            replies,
+            broken-at setup [] (units.Batch items) opened next (replies_text items replies) (head ++ part.0) [] Opened served (replies_text items replies, refl)
+                (part.0, ap (λ l. l ++ part.0) (sym (append-nil head))) (prefix-same (replies_text items replies))
+                (subst (IsPrefix (head ++ part.0)) (sym whole) (prefix-behind head part.0 work_text part.1))
+                ([], refl) tt (inl refl) (inr refl) (λ _ _. refl),
+          );
           created = stands-more name head part.0 m0 m1 m2 stands part.2;
         }
 
@@ -89,5 +95,7 @@ module _ (setup : Setup) (items : List Item) (name : List ℕ) where
   pub work-done : (replies : List Reply) (m0 m1 : List Made → Type 0) → WroteJournal (IsWork setup items replies) name m0 m1 → WroteJournal (IsWorkDone setup items) name m0 m1
   work-done replies m0 m1 wrote = record { journal = wrote.journal; are = (replies, wrote.are); created = wrote.created }
 
-  pub work-halted : (m0 m1 : List Made → Type 0) (halt : Halt) → WroteJournal (IsWorkDone setup items) name m0 m1 → halt ≡ JournalUnfinished → IsWorkHalted setup items name m0 m1 halt
-  work-halted m0 m1 halt wrote is = subst (IsWorkHalted setup items name m0 m1) (sym is) wrote
+  pub work-halted : (m0 m1 : List Made → Type 0) (mid new : FilesState) (halt : Halt) → WroteJournal (IsWorkDone setup items) name m0 m1 → FinishChanges {A = ℕ} mid new (Err halt) → IsWorkHalted setup items name m0 m1 halt
+  work-halted m0 m1 mid new JournalUnmade wrote h = absurd h
+  work-halted m0 m1 mid new (Stopped stop) wrote h = absurd h
+  work-halted m0 m1 mid new JournalUnfinished wrote fault = wrote

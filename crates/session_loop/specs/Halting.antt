@@ -1,18 +1,20 @@
 -- A session with its journal, from the creation of the file to its end.
-use Rattle.std.specs.Prelude.{◌≡◌, ⊤, ℕ, ◌+◌, ◌⊎◌, List, [], ◌∷◌, ◌++◌, length, Option}
+use Rattle.std.specs.Prelude.{◌≡◌, ⊤, ℕ, ◌+◌, ◌≤◌, ◌⊎◌, List, [], ◌∷◌, length, Option}
 use Rattle.backsim_io.specs.Counts.{Grows, Stays}
-use Rattle.backsim_io.specs.Held.{Made, SameMade}
+use Rattle.owned_text.specs.Made.{Made}
+use Rattle.backsim_io.specs.Held.{SameMade}
 use Rattle.journal_text.specs.Spelling.{head_line}
 use Rattle.query_lines.specs.declared.unit.Item.{Item}
 use Rattle.query_lines.specs.declared.unit.Unit.TheVariants.{Batch}
 use Rattle.reply_lines.specs.declared.reply.Reply.{Reply}
+use Rattle.session_meaning.specs.Replies.{replies_text}
 use Rattle.session_meaning.specs.Session.{Setup, Course, opened, IsBatchServed, IsSessionOf}
 use Rattle.session_meaning.specs.Broken.{IsPrefix, journal_of, IsHeadBegun, IsBroken}
 use Rattle.session_loop.specs.declared.stop.Stop.{Stop}
 use Rattle.session_loop.specs.declared.stop.Stop.TheVariants.{ScriptUnread, ScriptTooLong, RepliesUnwritten, JournalUnwritten, DumpUnmade, DumpUnwritten, DumpUnfinished, OutOfMemory}
 use Rattle.session_loop.specs.declared.halt.Halt.{Halt}
 use Rattle.session_loop.specs.declared.halt.Halt.TheVariants.{JournalUnmade, Stopped, JournalUnfinished}
-use Rattle.session_loop.specs.Serving.{IsStopped, StopsOpen}
+use Rattle.session_loop.specs.Serving.{IsStopped}
 
 -- The one file that was created has this name and these bytes, where none had been created before.
 abbrev pub Stands : List ℕ → List ℕ → (List Made → Type 0) → (List Made → Type 0) → Type 0
@@ -55,13 +57,8 @@ abbrev pub IsHalted : Setup → List ℕ → List ℕ → Option (List ℕ) → 
 IsHalted setup name script old_left left out new_out made new_made files JournalUnmade = Stays out new_out × SameMade made new_made × (left ≡ old_left)
 IsHalted setup name script old_left left out new_out made new_made files (Stopped stop) =
     WroteFiles (IsUnbegun setup old_left left stop) name out new_out made new_made files ⊎ WroteFiles (IsStopped setup script left stop) name out new_out made new_made files
-IsHalted setup name script old_left left out new_out made new_made files JournalUnfinished = WroteFiles (IsSessionOf setup script) name out new_out made new_made files
-
--- Which files a halt leaves unfinished, beside those that were before: the journal, once it was created, and what a stop leaves.
-abbrev pub HaltsOpen : List ℕ → List ℕ → Halt → Type 0
-HaltsOpen old new JournalUnmade = new ≡ old
-HaltsOpen old new (Stopped stop) = StopsOpen (old ++ 0 ∷ []) new stop
-HaltsOpen old new JournalUnfinished = new ≡ old ++ 0 ∷ []
+IsHalted setup name script old_left left out new_out made new_made files JournalUnfinished =
+    (length script ≤ 16777216) × WroteFiles (IsSessionOf setup script) name out new_out made new_made files
 
 -- Where the journal was not created, nothing was replied, and the script and the created files are as they were.
 pub record IsUntouched (old_left left : Option (List ℕ)) (out new_out : List ℕ → Type 0) (made new_made : List Made → Type 0) (files new_files : ℕ) : Type 0 where
@@ -89,9 +86,11 @@ pub record IsWork (setup : Setup) (items : List Item) (replies : List Reply) (jo
 abbrev pub IsWorkDone : Setup → List Item → List ℕ → Type 0
 IsWorkDone setup items journal = (replies : List Reply) × IsWork setup items replies journal
 
--- a part of the head at most was written, or a part of the batch's section after it
+-- a part of the head at most was written, or, its replies being known, a part of the batch's section
+-- after it
 abbrev pub IsWorkBegun : Setup → List Item → List ℕ → Type 0
-IsWorkBegun setup items journal = IsPrefix journal (head_line setup.shards setup.capacity) ⊎ IsBroken setup (Batch items ∷ []) [] journal []
+IsWorkBegun setup items journal = IsPrefix journal (head_line setup.shards setup.capacity)
+    ⊎ ((replies : List Reply) × IsBroken setup (Batch items ∷ []) (replies_text items replies) journal [])
 
 -- what stands where a session of one batch halts
 abbrev pub IsWorkHalted : Setup → List Item → List ℕ → (List Made → Type 0) → (List Made → Type 0) → Halt → Type 0

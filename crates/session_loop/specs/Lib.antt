@@ -1,4 +1,4 @@
-pub mod Faults
+pub mod Outside
 pub mod Serving
 pub mod Halting
 pub mod inner

@@ -1,7 +1,7 @@
 -- How far a session was served, and where it stopped.
-use Rattle.std.specs.Prelude.{◌≡◌, ℕ, ◌<◌, List, ◌∷◌, [], ◌++◌, Option, Some}
+use Rattle.std.specs.Prelude.{ℕ, List, Option, Some}
 use Rattle.std.specs.Io.KnownBytes.{Consumes}
-use Rattle.backsim_io.specs.Held.{Made}
+use Rattle.owned_text.specs.Made.{Made}
 use Rattle.session_meaning.specs.Session.{Setup}
 use Rattle.session_meaning.specs.Broken.{IsBrokenIn, IsDumpBroken, IsServedUpTo, IsCutOff}
 use Rattle.design.specs.Joined.{Joined}
@@ -32,14 +32,3 @@ IsStopped setup script left DumpUnmade replies journal dumps = IsDumpBroken setu
 IsStopped setup script left DumpUnwritten replies journal dumps = IsDumpBroken setup script replies journal dumps
 IsStopped setup script left DumpUnfinished replies journal dumps = IsDumpBroken setup script replies journal dumps
 IsStopped setup script left OutOfMemory replies journal dumps = IsBrokenIn setup script replies journal dumps
-
--- Which files a stop leaves unfinished: those that were, and the dump that could not be written or finished.
-abbrev pub StopsOpen : List ℕ → List ℕ → Stop → Type 0
-StopsOpen old new ScriptUnread = new ≡ old
-StopsOpen old new ScriptTooLong = new ≡ old
-StopsOpen old new RepliesUnwritten = new ≡ old
-StopsOpen old new JournalUnwritten = new ≡ old
-StopsOpen old new DumpUnmade = new ≡ old
-StopsOpen old new DumpUnwritten = (place : ℕ) × (0 < place) × (new ≡ old ++ place ∷ [])
-StopsOpen old new DumpUnfinished = (place : ℕ) × (0 < place) × (new ≡ old ++ place ∷ [])
-StopsOpen old new OutOfMemory = new ≡ old

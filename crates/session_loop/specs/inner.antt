@@ -1,5 +1,5 @@
 pub mod Desks
-pub mod Faults
 pub mod Growing
 pub mod Halting
+pub mod Outside
 pub mod Serving

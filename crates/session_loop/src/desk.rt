@@ -1,7 +1,7 @@
 //! What a session keeps from one unit to the next.
 
-use backsim_io::Text;
 use cell_store::CellStore;
+use owned_text::Text;
 use query_lines::ItemList;
 use reply_lines::Reply;
 

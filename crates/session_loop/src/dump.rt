@@ -4,22 +4,23 @@ ghost use Rattle.std.specs.Prelude.{◌≡◌, ◌+◌, ◌++◌, ◌<◌, ◌�
 ghost use Rattle.std.specs.List.{list_any};
 ghost use Rattle.std.specs.Str.{bytes_eq};
 ghost use Rattle.backsim_io.specs.Counts.{Grows};
-ghost use Rattle.backsim_io.specs.Held.{Made};
+ghost use Rattle.owned_text.specs.Made.{Made};
 ghost use Rattle.text_rules.specs.Text as texts;
 ghost use Rattle.query_lines.specs.declared.unit.Unit.TheVariants as kinds;
 ghost use Rattle.reply_lines.specs.Replies.{vcd_line};
 ghost use Rattle.unit_answers.specs.Stores.{setup_of};
-ghost use Rattle.session_loop.specs.Serving.{session_of, StopsOpen};
+ghost use Rattle.session_loop.specs.Serving.{session_of};
 ghost use Rattle.session_loop.specs.inner.Desks.{IsDesk, refused};
-ghost use Rattle.session_loop.specs.inner.Faults.{IsOfDump, UnitExplains, UnitsExplain};
 ghost use Rattle.session_loop.specs.inner.Growing.{Adds, GrowsPart, IsDumpPart};
 ghost use Rattle.session_loop.specs.inner.Serving.{Serves, Stops};
+ghost use Rattle.session_loop.specs.inner.Outside.{RepliesChanges, DumpChanges, UnitsChanges};
 
 use crate::desk::{Desk, Dumps};
 use crate::section::write_reply;
 use crate::stop::Stop;
-use backsim_io::{Files, OutOfMemory, Sink, Text, write_file};
+use backsim_io::{Files, Sink, write_file};
 use design::Design;
+use owned_text::{OutOfMemory, Text};
 use reply_lines::{VcdReply, dump_text};
 use std::alloc::Global;
 use unit_answers::{Sizes, dump_waves};
@@ -51,20 +52,14 @@ fn refusal_of(dumps: &Dumps, file: &Text) -> Option<VcdReply>
 
 /// Creates the file of a dump, writes its text, and finishes it.
 fn write_dump<F: Files>(name: &str, text: &[u8], files: &mut F) -> Result<(), Stop>
-    requires room { F.files files.old < 4 }
-    requires journal { 0 < F.files files.old }
-    ensures written { OnOk result (Adds (F.made files.old) (F.made files.new) (F.files files.old) (record { name = name.now; bytes = text.now } ∷ [])) }
-    ensures count { OnOk result (F.files files.new ≡ F.files files.old + 1) }
+    requires room { (F.state files.old).created < 4 }
+    requires journal { 0 < (F.state files.old).created }
+    ensures written { OnOk result (Adds (F.made files.old) (F.made files.new)
+        (F.state files.old).created (record { name = name.now; bytes = text.now } ∷ [])) }
     ensures begun { IfErr result (λ stop. (more : List Made) × IsDumpPart name.now text.now more
-        × Adds (F.made files.old) (F.made files.new) (F.files files.old) more × (F.files files.new ≡ F.files files.old + length more)) }
-    ensures cause { IfErr result (λ stop. (replies : ℕ) → UnitsExplain replies replies (F.write_faults files.old) (F.write_faults files.new) (F.file_faults files.old) (F.file_faults files.new) stop) }
-    ensures own { IfErr result IsOfDump }
-    ensures calm_writes { OnOk result (F.write_faults files.new ≡ F.write_faults files.old) }
-    ensures calm_files { OnOk result (F.file_faults files.new ≡ F.file_faults files.old) }
-    ensures read_faults { F.read_faults files.new ≡ F.read_faults files.old }
-    ensures started { F.started files.new ≡ F.started files.old }
-    ensures unfinished { OnOk result (F.unfinished files.new ≡ F.unfinished files.old) }
-    ensures left { IfErr result (StopsOpen (F.unfinished files.old) (F.unfinished files.new)) }
+        × Adds (F.made files.old) (F.made files.new) (F.state files.old).created more
+        × ((F.state files.new).created ≡ (F.state files.old).created + length more)) }
+    ensures state { DumpChanges (F.state files.old) (F.state files.new) result }
 {
     let Ok(slot) = files.create(name) else {
         return Err(Stop::DumpUnmade);
@@ -85,10 +80,11 @@ fn refuse_dump<S: Sink>(
     reply: VcdReply,
     out: &mut S,
 ) -> Result<(), Stop>
-    ensures written { OnOk result (Grows (S.written out.old) (S.written out.new) (vcd_line file.now reply)) }
-    ensures begun { OnErr result (GrowsPart (S.written out.old) (S.written out.new) (vcd_line file.now reply)) }
-    ensures cause { IfErr result (λ stop. (writes : ℕ) → UnitExplains (S.faults out.old) (S.faults out.new) writes writes stop) }
-    ensures calm { OnOk result (S.faults out.new ≡ S.faults out.old) }
+    ensures written { let line = vcd_line file.now reply in
+        OnOk result (Grows (S.written out.old) (S.written out.new) line) }
+    ensures begun { let line = vcd_line file.now reply in
+        OnErr result (GrowsPart (S.written out.old) (S.written out.new) line) }
+    ensures state { RepliesChanges (S.faults out.old) (S.faults out.new) result }
 {
     let text = dump_text(alloc, file, reply)?;
     write_reply(&text, out)
@@ -115,19 +111,22 @@ fn make_dump<F: Files, S: Sink>(
     requires named { IsTrue (texts.is_name file) }
     requires free { refused desk.dumps file ≡ None }
     requires desk { IsDesk (setup_of design.now sizes) desk }
-    requires files { F.files files.old ≡ length desk.dumps.made.items + 1 }
+    requires files { (F.state files.old).created ≡ length desk.dumps.made.items + 1 }
     ensures desk { IfOk result (λ later. IsDesk (setup_of design.now sizes) later) }
-    ensures count { IfOk result (λ later. F.files files.new ≡ length later.dumps.made.items + 1) }
-    ensures served { (names : List (List ℕ)) → IfOk result (λ later. Serves (session_of design.now sizes names) desk later (kinds.Vcd file ∷ []) (S.written out.old) (S.written out.new) (F.made files.old) (F.made files.new)) }
-    ensures stopped { (names : List (List ℕ)) → IfErr result (Stops (session_of design.now sizes names) desk (kinds.Vcd file ∷ []) (S.written out.old) (S.written out.new) (F.made files.old) (F.made files.new) (F.files files.new)) }
-    ensures cause { IfErr result (UnitsExplain (S.faults out.old) (S.faults out.new) (F.write_faults files.old) (F.write_faults files.new) (F.file_faults files.old) (F.file_faults files.new)) }
-    ensures calm_replies { OnOk result (S.faults out.new ≡ S.faults out.old) }
-    ensures calm_writes { OnOk result (F.write_faults files.new ≡ F.write_faults files.old) }
-    ensures calm_files { OnOk result (F.file_faults files.new ≡ F.file_faults files.old) }
-    ensures read_faults { F.read_faults files.new ≡ F.read_faults files.old }
-    ensures started { F.started files.new ≡ F.started files.old }
-    ensures unfinished { OnOk result (F.unfinished files.new ≡ F.unfinished files.old) }
-    ensures left { IfErr result (StopsOpen (F.unfinished files.old) (F.unfinished files.new)) }
+    ensures count { IfOk result (λ later.
+        (F.state files.new).created ≡ length later.dumps.made.items + 1) }
+    ensures served { (names : List (List ℕ)) → let setup = session_of design.now sizes names in
+        IfOk result (λ later. Serves setup desk later (kinds.Vcd file ∷ [])
+        (S.written out.old) (S.written out.new)
+        (F.made files.old) (F.made files.new)) }
+    ensures stopped { (names : List (List ℕ)) → let setup = session_of design.now sizes names in
+        IfErr result (Stops setup desk (kinds.Vcd file ∷ [])
+        (S.written out.old) (S.written out.new)
+        (F.made files.old) (F.made files.new) (F.state files.new).created) }
+    ensures state { UnitsChanges
+        (record { files = F.state files.old; replies = S.faults out.old })
+        (record { files = F.state files.new; replies = S.faults out.new })
+        result }
 {
     let mut desk = desk;
     let Some(last) = &desk.dumps.last else {
@@ -157,19 +156,22 @@ pub fn serve_vcd<F: Files, S: Sink>(
 ) -> Result<Desk, Stop>
     requires named { IsTrue (texts.is_name file) }
     requires desk { IsDesk (setup_of design.now sizes) desk }
-    requires files { F.files files.old ≡ length desk.dumps.made.items + 1 }
+    requires files { (F.state files.old).created ≡ length desk.dumps.made.items + 1 }
     ensures desk { IfOk result (λ later. IsDesk (setup_of design.now sizes) later) }
-    ensures count { IfOk result (λ later. F.files files.new ≡ length later.dumps.made.items + 1) }
-    ensures served { (names : List (List ℕ)) → IfOk result (λ later. Serves (session_of design.now sizes names) desk later (kinds.Vcd file ∷ []) (S.written out.old) (S.written out.new) (F.made files.old) (F.made files.new)) }
-    ensures stopped { (names : List (List ℕ)) → IfErr result (Stops (session_of design.now sizes names) desk (kinds.Vcd file ∷ []) (S.written out.old) (S.written out.new) (F.made files.old) (F.made files.new) (F.files files.new)) }
-    ensures cause { IfErr result (UnitsExplain (S.faults out.old) (S.faults out.new) (F.write_faults files.old) (F.write_faults files.new) (F.file_faults files.old) (F.file_faults files.new)) }
-    ensures calm_replies { OnOk result (S.faults out.new ≡ S.faults out.old) }
-    ensures calm_writes { OnOk result (F.write_faults files.new ≡ F.write_faults files.old) }
-    ensures calm_files { OnOk result (F.file_faults files.new ≡ F.file_faults files.old) }
-    ensures read_faults { F.read_faults files.new ≡ F.read_faults files.old }
-    ensures started { F.started files.new ≡ F.started files.old }
-    ensures unfinished { OnOk result (F.unfinished files.new ≡ F.unfinished files.old) }
-    ensures left { IfErr result (StopsOpen (F.unfinished files.old) (F.unfinished files.new)) }
+    ensures count { IfOk result (λ later.
+        (F.state files.new).created ≡ length later.dumps.made.items + 1) }
+    ensures served { (names : List (List ℕ)) → let setup = session_of design.now sizes names in
+        IfOk result (λ later. Serves setup desk later (kinds.Vcd file ∷ [])
+        (S.written out.old) (S.written out.new)
+        (F.made files.old) (F.made files.new)) }
+    ensures stopped { (names : List (List ℕ)) → let setup = session_of design.now sizes names in
+        IfErr result (Stops setup desk (kinds.Vcd file ∷ [])
+        (S.written out.old) (S.written out.new)
+        (F.made files.old) (F.made files.new) (F.state files.new).created) }
+    ensures state { UnitsChanges
+        (record { files = F.state files.old; replies = S.faults out.old })
+        (record { files = F.state files.new; replies = S.faults out.new })
+        result }
 {
     match refusal_of(&desk.dumps, &file) {
         Some(reply) => {

@@ -5,7 +5,7 @@ ghost use Rattle.session_loop.specs.declared.halt.Halt.TheVariants.{Stopped};
 ghost use Rattle.session_loop.specs.declared.stop.Stop.TheVariants.{OutOfMemory as out_of_memory};
 
 use crate::stop::Stop;
-use backsim_io::OutOfMemory;
+use owned_text::OutOfMemory;
 
 /// Why a session halts: its journal couldn't be created or finished, or it stopped between.
 #[derive(Clone, Copy, Debug, PartialEq, Eq)]

@@ -1,12 +1,11 @@
 //! A journal is begun and finished.
 
-ghost use Rattle.std.specs.Prelude.{◌≡◌, ◌++◌, ◌∷◌, [], Contains, IfErr, IfOk, OnErr, OnOk};
-ghost use Rattle.backsim_io.specs.Counts.{Rose};
-ghost use Rattle.backsim_io.specs.Held.{SameMade, without};
+ghost use Rattle.std.specs.Prelude.{◌≡◌, Contains, IfErr, OnOk};
+ghost use Rattle.backsim_io.specs.Held.{SameMade};
 ghost use Rattle.journal_text.specs.Spelling.{head_line};
-ghost use Rattle.session_loop.specs.Faults.{WorkExplains};
-ghost use Rattle.session_loop.specs.Halting.{Stands, HaltsOpen};
+ghost use Rattle.session_loop.specs.Halting.{Stands};
 ghost use Rattle.session_loop.specs.inner.Halting.{IsHeadHalted};
+ghost use Rattle.session_loop.specs.inner.Outside.{BeginChanges, FinishChanges};
 
 use crate::halt::Halt;
 use crate::section::write_piece;
@@ -25,17 +24,13 @@ pub fn begin_journal<F: Files>(
     name: &str,
     files: &mut F,
 ) -> Result<(), Halt>
-    requires { F.files files.old ≡ 0 }
-    ensures begun { OnOk result (Stands name.now (head_line sizes.shards sizes.cells) (F.made files.old) (F.made files.new)) }
-    ensures unfinished { OnOk result (F.unfinished files.new ≡ F.unfinished files.old ++ 0 ∷ []) }
-    ensures one { OnOk result (F.files files.new ≡ 1) }
-    ensures halted { IfErr result (IsHeadHalted name.now (head_line sizes.shards sizes.cells) (F.made files.old) (F.made files.new) (F.files files.old) (F.files files.new)) }
-    ensures left { IfErr result (HaltsOpen (F.unfinished files.old) (F.unfinished files.new)) }
-    ensures cause { IfErr result (WorkExplains (F.write_faults files.old) (F.write_faults files.new) (F.file_faults files.old) (F.file_faults files.new)) }
-    ensures calm_journal { OnOk result (F.write_faults files.new ≡ F.write_faults files.old) }
-    ensures calm_file { OnOk result (F.file_faults files.new ≡ F.file_faults files.old) }
-    ensures read_faults { F.read_faults files.new ≡ F.read_faults files.old }
-    ensures started { F.started files.new ≡ F.started files.old }
+    requires { (F.state files.old).created ≡ 0 }
+    ensures begun { let head = head_line sizes.shards sizes.cells in
+        OnOk result (Stands name.now head (F.made files.old) (F.made files.new)) }
+    ensures halted { let head = head_line sizes.shards sizes.cells in
+        IfErr result (IsHeadHalted name.now head (F.made files.old) (F.made files.new)
+        (F.state files.old).created (F.state files.new).created) }
+    ensures state { BeginChanges (F.state files.old) (F.state files.new) result }
 {
     if files.create(name).is_err() {
         return Err(Halt::JournalUnmade);
@@ -47,17 +42,9 @@ pub fn begin_journal<F: Files>(
 
 /// Finishes the journal.
 pub fn finish_journal<F: Files>(files: &mut F) -> Result<(), Halt>
-    requires { Contains (F.unfinished files.old) 0 }
+    requires { Contains (F.state files.old).unfinished 0 }
     ensures made { SameMade (F.made files.old) (F.made files.new) }
-    ensures finished { OnOk result (F.unfinished files.new ≡ without (F.unfinished files.old) 0) }
-    ensures halted { IfErr result (λ halt. halt ≡ Halt.JournalUnfinished) }
-    ensures left { OnErr result (F.unfinished files.new ≡ F.unfinished files.old) }
-    ensures cause { OnErr result (Rose (F.file_faults files.old) (F.file_faults files.new)) }
-    ensures calm { OnOk result (F.file_faults files.new ≡ F.file_faults files.old) }
-    ensures write_faults { F.write_faults files.new ≡ F.write_faults files.old }
-    ensures read_faults { F.read_faults files.new ≡ F.read_faults files.old }
-    ensures started { F.started files.new ≡ F.started files.old }
-    ensures files { F.files files.new ≡ F.files files.old }
+    ensures state { FinishChanges (F.state files.old) (F.state files.new) result }
 {
     match files.finish(JOURNAL) {
         Ok(()) => Ok(()),

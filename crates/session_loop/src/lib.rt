@@ -5,7 +5,7 @@
 //! write its head, serve over empty stores and finish the journal. What a unit comes to is the matter of `unit_answers`, and who
 //! runs the strands of a batch that of a `batch_crew::Crew`: no handle appears here. What a session means, whole or broken off, is
 //! `session_meaning`; `specs/Halting` says what stands in the journal, in the replies and of the dumps at each end, and
-//! `specs/Faults` what the counts of faults tell of it.
+//! `specs/Outside` what the files, the source and the sink did.
 //!
 //! What callers may rely on:
 //!

@@ -11,8 +11,8 @@ ghost use Rattle.session_loop.specs.declared.desk.Desk.{Desk as DeskRecord};
 ghost use Rattle.session_loop.specs.Serving.{session_of};
 ghost use Rattle.session_loop.specs.inner.Desks.{IsDesk, IsHeldCounted};
 ghost use Rattle.session_loop.specs.inner.Growing.{FileGrowsPart};
-ghost use Rattle.session_loop.specs.inner.Faults.{UnitExplains};
 ghost use Rattle.session_loop.specs.inner.Serving.{IsAnswered, Serves, Stops, held_text};
+ghost use Rattle.session_loop.specs.inner.Outside.{JournalChanges, UnitChanges};
 
 use crate::counting::counted;
 use crate::desk::{Counts, Desk, Dumps};
@@ -45,17 +45,13 @@ fn write_held<F: Files>(
     files: &mut F,
 ) -> Result<Counts, Stop>
     requires few { length lists.now ≤ 4294967295 }
-    requires unfinished { Contains (F.unfinished files.old) 0 }
+    requires unfinished { Contains (F.state files.old).unfinished 0 }
     ensures counted { IfOk result (IsHeldCounted counts lists.now) }
-    ensures written { OnOk result (FileGrows (F.made files.old) (F.made files.new) 0 (held_text (counts.sections + 1) lists.now)) }
-    ensures begun { OnErr result (FileGrowsPart (F.made files.old) (F.made files.new) 0 (held_text (counts.sections + 1) lists.now)) }
-    ensures cause { IfErr result (λ stop. (replies : ℕ) → UnitExplains replies replies (F.write_faults files.old) (F.write_faults files.new) stop) }
-    ensures calm { OnOk result (F.write_faults files.new ≡ F.write_faults files.old) }
-    ensures file_faults { F.file_faults files.new ≡ F.file_faults files.old }
-    ensures read_faults { F.read_faults files.new ≡ F.read_faults files.old }
-    ensures started { F.started files.new ≡ F.started files.old }
-    ensures files { F.files files.new ≡ F.files files.old }
-    ensures unfinished { F.unfinished files.new ≡ F.unfinished files.old }
+    ensures written { let text = held_text (counts.sections + 1) lists.now in
+        OnOk result (FileGrows (F.made files.old) (F.made files.new) 0 text) }
+    ensures begun { let text = held_text (counts.sections + 1) lists.now in
+        OnErr result (FileGrowsPart (F.made files.old) (F.made files.new) 0 text) }
+    ensures state { JournalChanges (F.state files.old) (F.state files.new) result }
 {
     if lists.is_empty() {
         return Ok(counts);
@@ -85,24 +81,28 @@ fn write_answered<F: Files, S: Sink>(
 ) -> Result<Desk, Stop>
     requires few { length answered.lists.items ≤ 4294967295 }
     requires few_held { length answered.held.items ≤ 4294967295 }
-    requires files { F.files files.old ≡ length dumps.made.items + 1 }
-    requires unfinished { Contains (F.unfinished files.old) 0 }
+    requires files { (F.state files.old).created ≡ length dumps.made.items + 1 }
+    requires unfinished { Contains (F.state files.old).unfinished 0 }
     ensures stores { IfOk result (λ later. later.stores.items ≡ answered.stores.items) }
     ensures kept { IfOk result (λ later. later.dumps ≡ dumps) }
-    ensures served { (setup : Setup) (desk : DeskRecord) (unit : UnitRecord) (batch own : BatchRecord) → desk.counts ≡ counts → desk.dumps ≡ dumps
-        → IsAnswered setup desk unit batch own answered.text.items answered.lists.items answered.held.items answered.stores.items
-        → IfOk result (λ later. Serves setup desk later (unit ∷ []) (S.written out.old) (S.written out.new) (F.made files.old) (F.made files.new)) }
-    ensures stopped { (setup : Setup) (desk : DeskRecord) (unit : UnitRecord) (batch own : BatchRecord) → desk.counts ≡ counts → desk.dumps ≡ dumps
-        → IsAnswered setup desk unit batch own answered.text.items answered.lists.items answered.held.items answered.stores.items
-        → IfErr result (Stops setup desk (unit ∷ []) (S.written out.old) (S.written out.new) (F.made files.old) (F.made files.new) (F.files files.new)) }
-    ensures cause { IfErr result (UnitExplains (S.faults out.old) (S.faults out.new) (F.write_faults files.old) (F.write_faults files.new)) }
-    ensures calm_replies { OnOk result (S.faults out.new ≡ S.faults out.old) }
-    ensures calm_journal { OnOk result (F.write_faults files.new ≡ F.write_faults files.old) }
-    ensures file_faults { F.file_faults files.new ≡ F.file_faults files.old }
-    ensures read_faults { F.read_faults files.new ≡ F.read_faults files.old }
-    ensures started { F.started files.new ≡ F.started files.old }
-    ensures files { F.files files.new ≡ F.files files.old }
-    ensures unfinished { F.unfinished files.new ≡ F.unfinished files.old }
+    ensures served { (setup : Setup) (desk : DeskRecord)
+        (unit : UnitRecord) (batch own : BatchRecord)
+        → desk.counts ≡ counts → desk.dumps ≡ dumps
+        → IsAnswered setup desk unit batch own answered.text.items
+        answered.lists.items answered.held.items answered.stores.items
+        → IfOk result (λ later. Serves setup desk later (unit ∷ [])
+        (S.written out.old) (S.written out.new) (F.made files.old) (F.made files.new)) }
+    ensures stopped { (setup : Setup) (desk : DeskRecord)
+        (unit : UnitRecord) (batch own : BatchRecord)
+        → desk.counts ≡ counts → desk.dumps ≡ dumps
+        → IsAnswered setup desk unit batch own answered.text.items
+        answered.lists.items answered.held.items answered.stores.items
+        → IfErr result (Stops setup desk (unit ∷ []) (S.written out.old) (S.written out.new)
+        (F.made files.old) (F.made files.new) (F.state files.new).created) }
+    ensures state { UnitChanges
+        (record { files = F.state files.old; replies = S.faults out.old })
+        (record { files = F.state files.new; replies = S.faults out.new })
+        result }
 {
     let Some(counts) = counted(counts, SectionKind::Batch, &answered.lists) else {
         return Err(Stop::OutOfMemory);
@@ -136,20 +136,23 @@ pub fn serve_first<F: Files, S: Sink>(
 ) -> Result<Desk, Stop>
     requires shards { (0 < sizes.shards) × (sizes.shards ≤ 64) }
     requires desk { IsDesk (setup_of design.now sizes) desk }
-    requires files { F.files files.old ≡ length desk.dumps.made.items + 1 }
-    requires unfinished { Contains (F.unfinished files.old) 0 }
+    requires files { (F.state files.old).created ≡ length desk.dumps.made.items + 1 }
+    requires unfinished { Contains (F.state files.old).unfinished 0 }
     ensures desk { IfOk result (λ later. IsDesk (setup_of design.now sizes) later) }
-    ensures count { IfOk result (λ later. F.files files.new ≡ length later.dumps.made.items + 1) }
-    ensures served { (names : List (List ℕ)) → IfOk result (λ later. Serves (session_of design.now sizes names) desk later (kinds.First item.now ∷ []) (S.written out.old) (S.written out.new) (F.made files.old) (F.made files.new)) }
-    ensures stopped { (names : List (List ℕ)) → IfErr result (Stops (session_of design.now sizes names) desk (kinds.First item.now ∷ []) (S.written out.old) (S.written out.new) (F.made files.old) (F.made files.new) (F.files files.new)) }
-    ensures cause { IfErr result (UnitExplains (S.faults out.old) (S.faults out.new) (F.write_faults files.old) (F.write_faults files.new)) }
-    ensures calm_replies { OnOk result (S.faults out.new ≡ S.faults out.old) }
-    ensures calm_journal { OnOk result (F.write_faults files.new ≡ F.write_faults files.old) }
-    ensures file_faults { F.file_faults files.new ≡ F.file_faults files.old }
-    ensures read_faults { F.read_faults files.new ≡ F.read_faults files.old }
-    ensures started { F.started files.new ≡ F.started files.old }
-    ensures files { F.files files.new ≡ F.files files.old }
-    ensures unfinished { F.unfinished files.new ≡ F.unfinished files.old }
+    ensures count { IfOk result (λ later.
+        (F.state files.new).created ≡ length later.dumps.made.items + 1) }
+    ensures served { (names : List (List ℕ)) → let setup = session_of design.now sizes names in
+        IfOk result (λ later. Serves setup desk later (kinds.First item.now ∷ [])
+        (S.written out.old) (S.written out.new)
+        (F.made files.old) (F.made files.new)) }
+    ensures stopped { (names : List (List ℕ)) → let setup = session_of design.now sizes names in
+        IfErr result (Stops setup desk (kinds.First item.now ∷ [])
+        (S.written out.old) (S.written out.new)
+        (F.made files.old) (F.made files.new) (F.state files.new).created) }
+    ensures state { UnitChanges
+        (record { files = F.state files.old; replies = S.faults out.old })
+        (record { files = F.state files.new; replies = S.faults out.new })
+        result }
 {
     let Desk {
         stores,
@@ -178,20 +181,23 @@ pub fn serve_why<F: Files, S: Sink>(
 ) -> Result<Desk, Stop>
     requires shards { (0 < sizes.shards) × (sizes.shards ≤ 64) }
     requires desk { IsDesk (setup_of design.now sizes) desk }
-    requires files { F.files files.old ≡ length desk.dumps.made.items + 1 }
-    requires unfinished { Contains (F.unfinished files.old) 0 }
+    requires files { (F.state files.old).created ≡ length desk.dumps.made.items + 1 }
+    requires unfinished { Contains (F.state files.old).unfinished 0 }
     ensures desk { IfOk result (λ later. IsDesk (setup_of design.now sizes) later) }
-    ensures count { IfOk result (λ later. F.files files.new ≡ length later.dumps.made.items + 1) }
-    ensures served { (names : List (List ℕ)) → IfOk result (λ later. Serves (session_of design.now sizes names) desk later (kinds.Why item.now ∷ []) (S.written out.old) (S.written out.new) (F.made files.old) (F.made files.new)) }
-    ensures stopped { (names : List (List ℕ)) → IfErr result (Stops (session_of design.now sizes names) desk (kinds.Why item.now ∷ []) (S.written out.old) (S.written out.new) (F.made files.old) (F.made files.new) (F.files files.new)) }
-    ensures cause { IfErr result (UnitExplains (S.faults out.old) (S.faults out.new) (F.write_faults files.old) (F.write_faults files.new)) }
-    ensures calm_replies { OnOk result (S.faults out.new ≡ S.faults out.old) }
-    ensures calm_journal { OnOk result (F.write_faults files.new ≡ F.write_faults files.old) }
-    ensures file_faults { F.file_faults files.new ≡ F.file_faults files.old }
-    ensures read_faults { F.read_faults files.new ≡ F.read_faults files.old }
-    ensures started { F.started files.new ≡ F.started files.old }
-    ensures files { F.files files.new ≡ F.files files.old }
-    ensures unfinished { F.unfinished files.new ≡ F.unfinished files.old }
+    ensures count { IfOk result (λ later.
+        (F.state files.new).created ≡ length later.dumps.made.items + 1) }
+    ensures served { (names : List (List ℕ)) → let setup = session_of design.now sizes names in
+        IfOk result (λ later. Serves setup desk later (kinds.Why item.now ∷ [])
+        (S.written out.old) (S.written out.new)
+        (F.made files.old) (F.made files.new)) }
+    ensures stopped { (names : List (List ℕ)) → let setup = session_of design.now sizes names in
+        IfErr result (Stops setup desk (kinds.Why item.now ∷ [])
+        (S.written out.old) (S.written out.new)
+        (F.made files.old) (F.made files.new) (F.state files.new).created) }
+    ensures state { UnitChanges
+        (record { files = F.state files.old; replies = S.faults out.old })
+        (record { files = F.state files.new; replies = S.faults out.new })
+        result }
 {
     let Desk {
         stores,
@@ -220,20 +226,23 @@ pub fn serve_stuck<F: Files, S: Sink>(
 ) -> Result<Desk, Stop>
     requires shards { (0 < sizes.shards) × (sizes.shards ≤ 64) }
     requires desk { IsDesk (setup_of design.now sizes) desk }
-    requires files { F.files files.old ≡ length desk.dumps.made.items + 1 }
-    requires unfinished { Contains (F.unfinished files.old) 0 }
+    requires files { (F.state files.old).created ≡ length desk.dumps.made.items + 1 }
+    requires unfinished { Contains (F.state files.old).unfinished 0 }
     ensures desk { IfOk result (λ later. IsDesk (setup_of design.now sizes) later) }
-    ensures count { IfOk result (λ later. F.files files.new ≡ length later.dumps.made.items + 1) }
-    ensures served { (names : List (List ℕ)) → IfOk result (λ later. Serves (session_of design.now sizes names) desk later (kinds.Stuck item.now ∷ []) (S.written out.old) (S.written out.new) (F.made files.old) (F.made files.new)) }
-    ensures stopped { (names : List (List ℕ)) → IfErr result (Stops (session_of design.now sizes names) desk (kinds.Stuck item.now ∷ []) (S.written out.old) (S.written out.new) (F.made files.old) (F.made files.new) (F.files files.new)) }
-    ensures cause { IfErr result (UnitExplains (S.faults out.old) (S.faults out.new) (F.write_faults files.old) (F.write_faults files.new)) }
-    ensures calm_replies { OnOk result (S.faults out.new ≡ S.faults out.old) }
-    ensures calm_journal { OnOk result (F.write_faults files.new ≡ F.write_faults files.old) }
-    ensures file_faults { F.file_faults files.new ≡ F.file_faults files.old }
-    ensures read_faults { F.read_faults files.new ≡ F.read_faults files.old }
-    ensures started { F.started files.new ≡ F.started files.old }
-    ensures files { F.files files.new ≡ F.files files.old }
-    ensures unfinished { F.unfinished files.new ≡ F.unfinished files.old }
+    ensures count { IfOk result (λ later.
+        (F.state files.new).created ≡ length later.dumps.made.items + 1) }
+    ensures served { (names : List (List ℕ)) → let setup = session_of design.now sizes names in
+        IfOk result (λ later. Serves setup desk later (kinds.Stuck item.now ∷ [])
+        (S.written out.old) (S.written out.new)
+        (F.made files.old) (F.made files.new)) }
+    ensures stopped { (names : List (List ℕ)) → let setup = session_of design.now sizes names in
+        IfErr result (Stops setup desk (kinds.Stuck item.now ∷ [])
+        (S.written out.old) (S.written out.new)
+        (F.made files.old) (F.made files.new) (F.state files.new).created) }
+    ensures state { UnitChanges
+        (record { files = F.state files.old; replies = S.faults out.old })
+        (record { files = F.state files.new; replies = S.faults out.new })
+        result }
 {
     let Desk {
         stores,

@@ -5,18 +5,18 @@ ghost use Rattle.backsim_io.specs.Held.{ConsumesUpTo};
 ghost use Rattle.session_meaning.specs.Session.{IsSessionOf};
 ghost use Rattle.unit_answers.specs.Stores.{setup_of, AreStores, cells_of};
 ghost use Rattle.session_loop.specs.inner.Desks.{IsDesk};
-ghost use Rattle.session_loop.specs.inner.Faults.{UnitsExplain};
-ghost use Rattle.session_loop.specs.Faults.{Explains};
 ghost use Rattle.session_loop.specs.inner.Serving.{HasTaken, TakesServed, TakesStopped, EndsServed, EndsStopped, Wrote};
-ghost use Rattle.session_loop.specs.Serving.{session_of, IsStopped, StopsOpen};
+ghost use Rattle.session_loop.specs.Serving.{session_of, IsStopped};
+ghost use Rattle.session_loop.specs.inner.Outside.{UnitsChanges, ScriptChanges};
 
 use crate::desk::{Counts, Desk, Dumps};
 use crate::stop::Stop;
 use crate::unit::serve_units;
-use backsim_io::{Files, Sink, Source, Text};
+use backsim_io::{Files, Sink, Source};
 use batch_crew::Crew;
 use cell_store::CellStore;
 use design::Design;
+use owned_text::Text;
 use query_lines::ScriptReader;
 use std::alloc::Global;
 use std::mem;
@@ -53,22 +53,26 @@ impl Script {
         requires read { HasTaken design.now.circuit.horizon self.old.taken self.old.reader }
         requires shards { (0 < sizes.shards) × (sizes.shards ≤ 64) }
         requires desk { IsDesk (setup_of design.now sizes) desk }
-        requires files { F.files files.old ≡ length desk.dumps.made.items + 1 }
-        requires unfinished { Contains (F.unfinished files.old) 0 }
+        requires files { (F.state files.old).created ≡ length desk.dumps.made.items + 1 }
+        requires unfinished { Contains (F.state files.old).unfinished 0 }
         ensures taken { OnOk result (self.new.taken ≡ self.old.taken + length bytes.now) }
-        ensures read { OnOk result (HasTaken design.now.circuit.horizon self.new.taken self.new.reader) }
+        ensures read { let horizon = design.now.circuit.horizon in
+            OnOk result (HasTaken horizon self.new.taken self.new.reader) }
         ensures desk { IfOk result (λ later. IsDesk (setup_of design.now sizes) later) }
-        ensures count { IfOk result (λ later. F.files files.new ≡ length later.dumps.made.items + 1) }
-        ensures served { (names : List (List ℕ)) → IfOk result (λ later. TakesServed (session_of design.now sizes names) self.old.reader self.new.reader bytes.now desk later (S.written out.old) (S.written out.new) (F.made files.old) (F.made files.new)) }
-        ensures stopped { (names : List (List ℕ)) → IfErr result (TakesStopped (session_of design.now sizes names) self.old.reader bytes.now desk (S.written out.old) (S.written out.new) (F.made files.old) (F.made files.new) (F.files files.new)) }
-        ensures cause { IfErr result (UnitsExplain (S.faults out.old) (S.faults out.new) (F.write_faults files.old) (F.write_faults files.new) (F.file_faults files.old) (F.file_faults files.new)) }
-        ensures calm_replies { OnOk result (S.faults out.new ≡ S.faults out.old) }
-        ensures calm_writes { OnOk result (F.write_faults files.new ≡ F.write_faults files.old) }
-        ensures calm_files { OnOk result (F.file_faults files.new ≡ F.file_faults files.old) }
-        ensures read_faults { F.read_faults files.new ≡ F.read_faults files.old }
-        ensures started { F.started files.new ≡ F.started files.old }
-        ensures unfinished { OnOk result (F.unfinished files.new ≡ F.unfinished files.old) }
-        ensures left { IfErr result (StopsOpen (F.unfinished files.old) (F.unfinished files.new)) }
+        ensures count { IfOk result (λ later.
+            (F.state files.new).created ≡ length later.dumps.made.items + 1) }
+        ensures served { (names : List (List ℕ)) → let setup = session_of design.now sizes names in
+            IfOk result (λ later. TakesServed setup self.old.reader self.new.reader bytes.now
+            desk later (S.written out.old) (S.written out.new)
+            (F.made files.old) (F.made files.new)) }
+        ensures stopped { (names : List (List ℕ)) → let setup = session_of design.now sizes names in
+            IfErr result (TakesStopped setup self.old.reader bytes.now desk
+            (S.written out.old) (S.written out.new)
+            (F.made files.old) (F.made files.new) (F.state files.new).created) }
+        ensures state { UnitsChanges
+            (record { files = F.state files.old; replies = S.faults out.old })
+            (record { files = F.state files.new; replies = S.faults out.new })
+            result }
     {
         let mut desk = desk;
         for byte in bytes {
@@ -95,19 +99,22 @@ impl Script {
         requires read { HasTaken design.now.circuit.horizon self.taken self.reader }
         requires shards { (0 < sizes.shards) × (sizes.shards ≤ 64) }
         requires desk { IsDesk (setup_of design.now sizes) desk }
-        requires files { F.files files.old ≡ length desk.dumps.made.items + 1 }
-        requires unfinished { Contains (F.unfinished files.old) 0 }
-        ensures count { IfOk result (λ later. F.files files.new ≡ length later.dumps.made.items + 1) }
-        ensures served { (names : List (List ℕ)) → IfOk result (λ later. EndsServed (session_of design.now sizes names) self.reader desk later (S.written out.old) (S.written out.new) (F.made files.old) (F.made files.new)) }
-        ensures stopped { (names : List (List ℕ)) → IfErr result (EndsStopped (session_of design.now sizes names) self.reader desk (S.written out.old) (S.written out.new) (F.made files.old) (F.made files.new) (F.files files.new)) }
-        ensures cause { IfErr result (UnitsExplain (S.faults out.old) (S.faults out.new) (F.write_faults files.old) (F.write_faults files.new) (F.file_faults files.old) (F.file_faults files.new)) }
-        ensures calm_replies { OnOk result (S.faults out.new ≡ S.faults out.old) }
-        ensures calm_writes { OnOk result (F.write_faults files.new ≡ F.write_faults files.old) }
-        ensures calm_files { OnOk result (F.file_faults files.new ≡ F.file_faults files.old) }
-        ensures read_faults { F.read_faults files.new ≡ F.read_faults files.old }
-        ensures started { F.started files.new ≡ F.started files.old }
-        ensures unfinished { OnOk result (F.unfinished files.new ≡ F.unfinished files.old) }
-        ensures left { IfErr result (StopsOpen (F.unfinished files.old) (F.unfinished files.new)) }
+        requires files { (F.state files.old).created ≡ length desk.dumps.made.items + 1 }
+        requires unfinished { Contains (F.state files.old).unfinished 0 }
+        ensures count { IfOk result (λ later.
+            (F.state files.new).created ≡ length later.dumps.made.items + 1) }
+        ensures served { (names : List (List ℕ)) → let setup = session_of design.now sizes names in
+            IfOk result (λ later. EndsServed setup self.reader desk later
+            (S.written out.old) (S.written out.new)
+            (F.made files.old) (F.made files.new)) }
+        ensures stopped { (names : List (List ℕ)) → let setup = session_of design.now sizes names in
+            IfErr result (EndsStopped setup self.reader desk
+            (S.written out.old) (S.written out.new)
+            (F.made files.old) (F.made files.new) (F.state files.new).created) }
+        ensures state { UnitsChanges
+            (record { files = F.state files.old; replies = S.faults out.old })
+            (record { files = F.state files.new; replies = S.faults out.new })
+            result }
     {
         let units = self.reader.end()?;
         serve_units(crew, alloc, design, units, sizes, desk, files, out)
@@ -129,25 +136,32 @@ pub fn serve_script<C: Crew, F: Files, Q: Source, S: Sink>(
     requires shards { (0 < sizes.shards) × (sizes.shards ≤ 64) }
     requires stores { AreStores (setup_of design.now sizes) stores.items }
     requires empty { (shard : ℕ) → shard < sizes.shards → cells_of stores.items shard ≡ [] }
-    requires files { F.files files.old ≡ 1 }
-    requires unfinished { Contains (F.unfinished files.old) 0 }
-    ensures cause { IfErr result (Explains
-        (record { script = Q.faults queries.old; replies = S.faults out.old; writes = F.write_faults files.old; files = F.file_faults files.old })
-        (record { script = Q.faults queries.new; replies = S.faults out.new; writes = F.write_faults files.new; files = F.file_faults files.new })) }
-    ensures calm_queries { OnOk result (Q.faults queries.new ≡ Q.faults queries.old) }
-    ensures calm_replies { OnOk result (S.faults out.new ≡ S.faults out.old) }
-    ensures calm_writes { OnOk result (F.write_faults files.new ≡ F.write_faults files.old) }
-    ensures calm_files { OnOk result (F.file_faults files.new ≡ F.file_faults files.old) }
-    ensures read_faults { F.read_faults files.new ≡ F.read_faults files.old }
-    ensures started { F.started files.new ≡ F.started files.old }
-    ensures unfinished { OnOk result (F.unfinished files.new ≡ F.unfinished files.old) }
-    ensures left { IfErr result (StopsOpen (F.unfinished files.old) (F.unfinished files.new)) }
-    ensures at_most { (script : List ℕ) → Q.left queries.old ≡ Some script → ConsumesUpTo (Some script) (Q.left queries.new) 16777217 }
-    ensures short { (script : List ℕ) → Q.left queries.old ≡ Some script → OnOk result (length script ≤ 16777216) }
-    ensures served { (script : List ℕ) → Q.left queries.old ≡ Some script
-        → OnOk result (Wrote (session_of design.now sizes names.items) (IsSessionOf (session_of design.now sizes names.items) script) (S.written out.old) (S.written out.new) (F.made files.old) (F.made files.new) (F.files files.new)) }
-    ensures stopped { (script : List ℕ) → Q.left queries.old ≡ Some script
-        → IfErr result (λ stop. Wrote (session_of design.now sizes names.items) (IsStopped (session_of design.now sizes names.items) script (Q.left queries.new) stop) (S.written out.old) (S.written out.new) (F.made files.old) (F.made files.new) (F.files files.new)) }
+    requires files { (F.state files.old).created ≡ 1 }
+    requires unfinished { Contains (F.state files.old).unfinished 0 }
+    ensures at_most { (script : List ℕ) → (Q.state queries.old).left ≡ Some script
+        → ConsumesUpTo (Some script) (Q.state queries.new).left 16777217 }
+    ensures short { (script : List ℕ) → (Q.state queries.old).left ≡ Some script
+        → OnOk result (length script ≤ 16777216) }
+    ensures served { let setup = session_of design.now sizes names.items in
+        (script : List ℕ) → (Q.state queries.old).left ≡ Some script
+        → OnOk result (Wrote setup (IsSessionOf setup script)
+        (S.written out.old) (S.written out.new)
+        (F.made files.old) (F.made files.new) (F.state files.new).created) }
+    ensures stopped { let setup = session_of design.now sizes names.items in
+        (script : List ℕ) → (Q.state queries.old).left ≡ Some script
+        → IfErr result (λ stop. Wrote setup (IsStopped setup script (Q.state queries.new).left stop)
+        (S.written out.old) (S.written out.new)
+        (F.made files.old) (F.made files.new) (F.state files.new).created) }
+    ensures state { ScriptChanges
+        (record {
+          outputs = record { files = F.state files.old; replies = S.faults out.old };
+          script = Q.state queries.old;
+        })
+        (record {
+          outputs = record { files = F.state files.new; replies = S.faults out.new };
+          script = Q.state queries.new;
+        })
+        result }
 {
     let mut script = Script {
         reader: ScriptReader::new(alloc, design.horizon()),

@@ -1,6 +1,6 @@
 //! Replies and sections are written.
 
-ghost use Rattle.std.specs.Prelude.{◌≡◌, ◌++◌, ◌<◌, ◌≤◌, ℕ, length, flat_map, Contains, IfErr, IfOk, OnErr, OnOk};
+ghost use Rattle.std.specs.Prelude.{◌≡◌, ◌++◌, ◌<◌, ◌≤◌, length, flat_map, Contains, IfOk, OnErr, OnOk};
 ghost use Rattle.std.specs.List.{AllZip};
 ghost use Rattle.backsim_io.specs.Counts.{Grows};
 ghost use Rattle.backsim_io.specs.Held.{FileGrows};
@@ -8,12 +8,13 @@ ghost use Rattle.journal_text.specs.Spelling.{entry_line, kind_word, shard_lines
 ghost use Rattle.reply_lines.specs.Replies.{Suits};
 ghost use Rattle.session_meaning.specs.Replies.{replies_text};
 ghost use Rattle.session_loop.specs.inner.Growing.{GrowsPart, FileGrowsPart, shard_line};
-ghost use Rattle.session_loop.specs.inner.Faults.{UnitExplains};
+ghost use Rattle.session_loop.specs.inner.Outside.{RepliesChanges, JournalChanges};
 
 use crate::stop::Stop;
-use backsim_io::{Files, OutOfMemory, Sink, write_all, write_file};
+use backsim_io::{Files, Sink, write_all, write_file};
 use journal_meaning::Entry;
 use journal_text::{EntryList, SectionKind, push_entry};
+use owned_text::OutOfMemory;
 use query_lines::Item;
 use reply_lines::{Reply, reply_text};
 use std::alloc::Global;
@@ -25,8 +26,7 @@ const PIECE: usize = 512;
 pub fn write_reply<S: Sink>(text: &[u8], out: &mut S) -> Result<(), Stop>
     ensures written { OnOk result (Grows (S.written out.old) (S.written out.new) text.now) }
     ensures begun { OnErr result (GrowsPart (S.written out.old) (S.written out.new) text.now) }
-    ensures cause { IfErr result (λ stop. (writes : ℕ) → UnitExplains (S.faults out.old) (S.faults out.new) writes writes stop) }
-    ensures calm { OnOk result (S.faults out.new ≡ S.faults out.old) }
+    ensures state { RepliesChanges (S.faults out.old) (S.faults out.new) result }
 {
     match write_all(out, text) {
         Ok(()) => Ok(()),
@@ -42,10 +42,11 @@ pub fn write_replies<S: Sink>(
     out: &mut S,
 ) -> Result<(), Stop>
     requires suits { AllZip (λ item reply. Suits item.what reply) items.now replies.now }
-    ensures written { OnOk result (Grows (S.written out.old) (S.written out.new) (replies_text items.now replies.now)) }
-    ensures begun { OnErr result (GrowsPart (S.written out.old) (S.written out.new) (replies_text items.now replies.now)) }
-    ensures cause { IfErr result (λ stop. (writes : ℕ) → UnitExplains (S.faults out.old) (S.faults out.new) writes writes stop) }
-    ensures calm { OnOk result (S.faults out.new ≡ S.faults out.old) }
+    ensures written { let text = replies_text items.now replies.now in
+        OnOk result (Grows (S.written out.old) (S.written out.new) text) }
+    ensures begun { let text = replies_text items.now replies.now in
+        OnErr result (GrowsPart (S.written out.old) (S.written out.new) text) }
+    ensures state { RepliesChanges (S.faults out.old) (S.faults out.new) result }
 {
     for i in 0..items.len() {
         let text = reply_text(alloc, &items[i], &replies[i])?;
@@ -56,16 +57,11 @@ pub fn write_replies<S: Sink>(
 
 /// Writes a text after the bytes of a created file.
 pub fn write_piece<F: Files>(slot: u32, text: &[u8], files: &mut F) -> Result<(), Stop>
-    requires unfinished { Contains (F.unfinished files.old) slot }
+    requires unfinished { Contains (F.state files.old).unfinished slot }
     ensures written { OnOk result (FileGrows (F.made files.old) (F.made files.new) slot text.now) }
-    ensures begun { OnErr result (FileGrowsPart (F.made files.old) (F.made files.new) slot text.now) }
-    ensures cause { IfErr result (λ stop. (replies : ℕ) → UnitExplains replies replies (F.write_faults files.old) (F.write_faults files.new) stop) }
-    ensures calm { OnOk result (F.write_faults files.new ≡ F.write_faults files.old) }
-    ensures file_faults { F.file_faults files.new ≡ F.file_faults files.old }
-    ensures read_faults { F.read_faults files.new ≡ F.read_faults files.old }
-    ensures started { F.started files.new ≡ F.started files.old }
-    ensures files { F.files files.new ≡ F.files files.old }
-    ensures unfinished { F.unfinished files.new ≡ F.unfinished files.old }
+    ensures begun { OnErr result
+        (FileGrowsPart (F.made files.old) (F.made files.new) slot text.now) }
+    ensures state { JournalChanges (F.state files.old) (F.state files.new) result }
 {
     match write_file(files, slot, text) {
         Ok(()) => Ok(()),
@@ -91,16 +87,12 @@ fn write_entries<F: Files>(
     slot: u32,
     files: &mut F,
 ) -> Result<(), Stop>
-    requires unfinished { Contains (F.unfinished files.old) slot }
-    ensures written { OnOk result (FileGrows (F.made files.old) (F.made files.new) slot (flat_map entry_line entries.now)) }
-    ensures begun { OnErr result (FileGrowsPart (F.made files.old) (F.made files.new) slot (flat_map entry_line entries.now)) }
-    ensures cause { IfErr result (λ stop. (replies : ℕ) → UnitExplains replies replies (F.write_faults files.old) (F.write_faults files.new) stop) }
-    ensures calm { OnOk result (F.write_faults files.new ≡ F.write_faults files.old) }
-    ensures file_faults { F.file_faults files.new ≡ F.file_faults files.old }
-    ensures read_faults { F.read_faults files.new ≡ F.read_faults files.old }
-    ensures started { F.started files.new ≡ F.started files.old }
-    ensures files { F.files files.new ≡ F.files files.old }
-    ensures unfinished { F.unfinished files.new ≡ F.unfinished files.old }
+    requires unfinished { Contains (F.state files.old).unfinished slot }
+    ensures written { let lines = flat_map entry_line entries.now in
+        OnOk result (FileGrows (F.made files.old) (F.made files.new) slot lines) }
+    ensures begun { let lines = flat_map entry_line entries.now in
+        OnErr result (FileGrowsPart (F.made files.old) (F.made files.new) slot lines) }
+    ensures state { JournalChanges (F.state files.old) (F.state files.new) result }
 {
     let mut done = 0;
     while done < entries.len() {
@@ -120,16 +112,12 @@ fn write_shard<F: Files>(
     slot: u32,
     files: &mut F,
 ) -> Result<(), Stop>
-    requires unfinished { Contains (F.unfinished files.old) slot }
-    ensures written { OnOk result (FileGrows (F.made files.old) (F.made files.new) slot (shard_line number ++ flat_map entry_line entries.now)) }
-    ensures begun { OnErr result (FileGrowsPart (F.made files.old) (F.made files.new) slot (shard_line number ++ flat_map entry_line entries.now)) }
-    ensures cause { IfErr result (λ stop. (replies : ℕ) → UnitExplains replies replies (F.write_faults files.old) (F.write_faults files.new) stop) }
-    ensures calm { OnOk result (F.write_faults files.new ≡ F.write_faults files.old) }
-    ensures file_faults { F.file_faults files.new ≡ F.file_faults files.old }
-    ensures read_faults { F.read_faults files.new ≡ F.read_faults files.old }
-    ensures started { F.started files.new ≡ F.started files.old }
-    ensures files { F.files files.new ≡ F.files files.old }
-    ensures unfinished { F.unfinished files.new ≡ F.unfinished files.old }
+    requires unfinished { Contains (F.state files.old).unfinished slot }
+    ensures written { let lines = shard_line number ++ flat_map entry_line entries.now in
+        OnOk result (FileGrows (F.made files.old) (F.made files.new) slot lines) }
+    ensures begun { let lines = shard_line number ++ flat_map entry_line entries.now in
+        OnErr result (FileGrowsPart (F.made files.old) (F.made files.new) slot lines) }
+    ensures state { JournalChanges (F.state files.old) (F.state files.new) result }
 {
     let line = format!(in alloc; "shard {number}\n")?;
     write_piece(slot, line.as_bytes(), files)?;
@@ -144,16 +132,12 @@ fn write_shards<F: Files>(
     files: &mut F,
 ) -> Result<(), Stop>
     requires few { length lists.now ≤ 4294967295 }
-    requires unfinished { Contains (F.unfinished files.old) slot }
-    ensures written { OnOk result (FileGrows (F.made files.old) (F.made files.new) slot (shard_lines 0 lists.now)) }
-    ensures begun { OnErr result (FileGrowsPart (F.made files.old) (F.made files.new) slot (shard_lines 0 lists.now)) }
-    ensures cause { IfErr result (λ stop. (replies : ℕ) → UnitExplains replies replies (F.write_faults files.old) (F.write_faults files.new) stop) }
-    ensures calm { OnOk result (F.write_faults files.new ≡ F.write_faults files.old) }
-    ensures file_faults { F.file_faults files.new ≡ F.file_faults files.old }
-    ensures read_faults { F.read_faults files.new ≡ F.read_faults files.old }
-    ensures started { F.started files.new ≡ F.started files.old }
-    ensures files { F.files files.new ≡ F.files files.old }
-    ensures unfinished { F.unfinished files.new ≡ F.unfinished files.old }
+    requires unfinished { Contains (F.state files.old).unfinished slot }
+    ensures written { let lines = shard_lines 0 lists.now in
+        OnOk result (FileGrows (F.made files.old) (F.made files.new) slot lines) }
+    ensures begun { let lines = shard_lines 0 lists.now in
+        OnErr result (FileGrowsPart (F.made files.old) (F.made files.new) slot lines) }
+    ensures state { JournalChanges (F.state files.old) (F.state files.new) result }
 {
     let mut number = 0u32;
     for list in lists {
@@ -183,16 +167,14 @@ pub fn write_section<F: Files>(
     files: &mut F,
 ) -> Result<(), Stop>
     requires few { length lists.now ≤ 4294967295 }
-    requires unfinished { Contains (F.unfinished files.old) slot }
-    ensures written { OnOk result (FileGrows (F.made files.old) (F.made files.new) slot (section_lines (record { kind = kind; number = number; shards = lists.now }))) }
-    ensures begun { OnErr result (FileGrowsPart (F.made files.old) (F.made files.new) slot (section_lines (record { kind = kind; number = number; shards = lists.now }))) }
-    ensures cause { IfErr result (λ stop. (replies : ℕ) → UnitExplains replies replies (F.write_faults files.old) (F.write_faults files.new) stop) }
-    ensures calm { OnOk result (F.write_faults files.new ≡ F.write_faults files.old) }
-    ensures file_faults { F.file_faults files.new ≡ F.file_faults files.old }
-    ensures read_faults { F.read_faults files.new ≡ F.read_faults files.old }
-    ensures started { F.started files.new ≡ F.started files.old }
-    ensures files { F.files files.new ≡ F.files files.old }
-    ensures unfinished { F.unfinished files.new ≡ F.unfinished files.old }
+    requires unfinished { Contains (F.state files.old).unfinished slot }
+    ensures written { let lines =
+        section_lines (record { kind = kind; number = number; shards = lists.now }) in
+        OnOk result (FileGrows (F.made files.old) (F.made files.new) slot lines) }
+    ensures begun { let lines =
+        section_lines (record { kind = kind; number = number; shards = lists.now }) in
+        OnErr result (FileGrowsPart (F.made files.old) (F.made files.new) slot lines) }
+    ensures state { JournalChanges (F.state files.old) (F.state files.new) result }
 {
     let word = word_of(kind);
     let line = format!(in alloc; "{word} {number}\n")?;

@@ -3,17 +3,18 @@
 ghost use Rattle.std.specs.Prelude.{◌≡◌, ◌++◌, ◌∷◌, ◌<◌, ◌≤◌, [], ℕ, List, Some, length, map, IsErrOf, IfErr, IfOk, OnOk};
 ghost use Rattle.backsim_io.specs.Held.{ConsumesUpTo};
 ghost use Rattle.session_meaning.specs.Session.{IsSessionOf};
-ghost use Rattle.session_loop.specs.Faults.{HaltExplains};
-ghost use Rattle.session_loop.specs.Halting.{WroteFiles, HaltsOpen, IsHalted, IsUntouched};
+ghost use Rattle.session_loop.specs.Halting.{WroteFiles, IsHalted, IsUntouched};
 ghost use Rattle.session_loop.specs.Serving.{session_of};
+ghost use Rattle.session_loop.specs.Outside.{SessionChanges};
 
 use crate::halt::Halt;
 use crate::journal::{begin_journal, finish_journal};
 use crate::script::serve_script;
 use crate::stores::empty_stores;
-use backsim_io::{Files, OutOfMemory, Sink, Source, Text};
+use backsim_io::{Files, Sink, Source};
 use batch_crew::Crew;
 use design::Design;
+use owned_text::{OutOfMemory, Text};
 use std::alloc::Global;
 use unit_answers::Sizes;
 
@@ -47,26 +48,38 @@ pub fn serve_session<C: Crew, F: Files, Q: Source, S: Sink>(
 ) -> Result<(), Halt>
     requires shards { (0 < sizes.shards) × (sizes.shards ≤ 64) }
     requires cells { (0 < sizes.cells) × (sizes.cells ≤ 65536) }
-    requires files { F.files files.old ≡ 0 }
-    ensures served { (script : List ℕ) → Q.left queries.old ≡ Some script
-        → OnOk result (WroteFiles (IsSessionOf (session_of design.now sizes (map (λ name. name.now) inputs.now ++ journal.now ∷ [])) script) journal.now (S.written out.old) (S.written out.new) (F.made files.old) (F.made files.new) (F.files files.new)) }
-    ensures short { (script : List ℕ) → Q.left queries.old ≡ Some script → OnOk result (length script ≤ 16777216) }
-    ensures halted { (script : List ℕ) → Q.left queries.old ≡ Some script
-        → IfErr result (IsHalted (session_of design.now sizes (map (λ name. name.now) inputs.now ++ journal.now ∷ [])) journal.now script (Q.left queries.old) (Q.left queries.new) (S.written out.old) (S.written out.new) (F.made files.old) (F.made files.new) (F.files files.new)) }
+    requires files { (F.state files.old).created ≡ 0 }
+    ensures served { let setup = session_of design.now sizes
+        (map (λ name. name.now) inputs.now ++ journal.now ∷ []) in
+        (script : List ℕ) → (Q.state queries.old).left ≡ Some script
+        → OnOk result (WroteFiles (IsSessionOf setup script) journal.now
+        (S.written out.old) (S.written out.new)
+        (F.made files.old) (F.made files.new) (F.state files.new).created) }
+    ensures short { (script : List ℕ) → (Q.state queries.old).left ≡ Some script
+        → OnOk result (length script ≤ 16777216) }
+    ensures halted { let setup = session_of design.now sizes
+        (map (λ name. name.now) inputs.now ++ journal.now ∷ []) in
+        (script : List ℕ) → (Q.state queries.old).left ≡ Some script
+        → IfErr result (IsHalted setup journal.now script
+        (Q.state queries.old).left (Q.state queries.new).left
+        (S.written out.old) (S.written out.new)
+        (F.made files.old) (F.made files.new) (F.state files.new).created) }
     ensures untouched { IsErrOf result Halt.JournalUnmade
-        → IsUntouched (Q.left queries.old) (Q.left queries.new) (S.written out.old) (S.written out.new) (F.made files.old) (F.made files.new) (F.files files.old) (F.files files.new) }
-    ensures at_most { (script : List ℕ) → Q.left queries.old ≡ Some script → ConsumesUpTo (Some script) (Q.left queries.new) 16777217 }
-    ensures unfinished { OnOk result (F.unfinished files.new ≡ F.unfinished files.old) }
-    ensures left { IfErr result (HaltsOpen (F.unfinished files.old) (F.unfinished files.new)) }
-    ensures cause { IfErr result (HaltExplains
-        (record { script = Q.faults queries.old; replies = S.faults out.old; writes = F.write_faults files.old; files = F.file_faults files.old })
-        (record { script = Q.faults queries.new; replies = S.faults out.new; writes = F.write_faults files.new; files = F.file_faults files.new })) }
-    ensures calm_queries { OnOk result (Q.faults queries.new ≡ Q.faults queries.old) }
-    ensures calm_replies { OnOk result (S.faults out.new ≡ S.faults out.old) }
-    ensures calm_writes { OnOk result (F.write_faults files.new ≡ F.write_faults files.old) }
-    ensures calm_files { OnOk result (F.file_faults files.new ≡ F.file_faults files.old) }
-    ensures read_faults { F.read_faults files.new ≡ F.read_faults files.old }
-    ensures started { F.started files.new ≡ F.started files.old }
+        → IsUntouched (Q.state queries.old).left (Q.state queries.new).left
+        (S.written out.old) (S.written out.new) (F.made files.old) (F.made files.new)
+        (F.state files.old).created (F.state files.new).created }
+    ensures at_most { (script : List ℕ) → (Q.state queries.old).left ≡ Some script
+        → ConsumesUpTo (Some script) (Q.state queries.new).left 16777217 }
+    ensures state { SessionChanges
+        (record {
+          outputs = record { files = F.state files.old; replies = S.faults out.old };
+          script = Q.state queries.old;
+        })
+        (record {
+          outputs = record { files = F.state files.new; replies = S.faults out.new };
+          script = Q.state queries.new;
+        })
+        result }
 {
     begin_journal(alloc, sizes, journal, files)?;
     let stores = empty_stores(alloc, sizes)?;

@@ -3,7 +3,7 @@
 ghost use Rattle.std.specs.Prelude.{◌≡◌};
 ghost use Rattle.session_loop.specs.declared.stop.Stop.TheVariants.{OutOfMemory as out_of_memory};
 
-use backsim_io::OutOfMemory;
+use owned_text::OutOfMemory;
 use std::alloc::AllocError;
 
 /// Why a session stops.

@@ -3,8 +3,8 @@
 ghost use Rattle.std.specs.Prelude.{◌≡◌, ◌<◌, ◌≤◌, replicate, [], IfOk};
 ghost use Rattle.cell_store.specs.Recency.{contents};
 
-use backsim_io::OutOfMemory;
 use cell_store::CellStore;
+use owned_text::OutOfMemory;
 use std::alloc::Global;
 use unit_answers::Sizes;
 

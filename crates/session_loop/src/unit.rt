@@ -1,14 +1,14 @@
 //! A unit is served.
 
-ghost use Rattle.std.specs.Prelude.{◌≡◌, ◌+◌, ◌<◌, ◌≤◌, ◌∷◌, [], ℕ, List, length, All, Contains, IfErr, IfOk, OnOk};
+ghost use Rattle.std.specs.Prelude.{◌≡◌, ◌+◌, ◌<◌, ◌≤◌, ◌∷◌, [], ℕ, List, length, All, Contains, IfErr, IfOk};
 ghost use Rattle.query_lines.specs.declared.unit.Unit.TheVariants as kinds;
 ghost use Rattle.query_lines.specs.Laws.{IsWithin};
 ghost use Rattle.query_lines.specs.Fit.{AsksByName, HaveOwnLines, IsFit};
 ghost use Rattle.unit_answers.specs.Stores.{setup_of};
-ghost use Rattle.session_loop.specs.Serving.{session_of, StopsOpen};
+ghost use Rattle.session_loop.specs.Serving.{session_of};
 ghost use Rattle.session_loop.specs.inner.Desks.{IsDesk};
-ghost use Rattle.session_loop.specs.inner.Faults.{UnitExplains, UnitsExplain};
 ghost use Rattle.session_loop.specs.inner.Serving.{Serves, Stops};
+ghost use Rattle.session_loop.specs.inner.Outside.{UnitChanges, UnitsChanges};
 
 use crate::counting::{cells_in, counted, entries_in};
 use crate::desk::{Desk, LastBatch};
@@ -42,20 +42,23 @@ pub fn serve_batch<C: Crew, F: Files, S: Sink>(
     requires lines { HaveOwnLines items }
     requires named { All (λ item. AsksByName item.what) items }
     requires desk { IsDesk (setup_of design.now sizes) desk }
-    requires files { F.files files.old ≡ length desk.dumps.made.items + 1 }
-    requires unfinished { Contains (F.unfinished files.old) 0 }
+    requires files { (F.state files.old).created ≡ length desk.dumps.made.items + 1 }
+    requires unfinished { Contains (F.state files.old).unfinished 0 }
     ensures desk { IfOk result (λ later. IsDesk (setup_of design.now sizes) later) }
-    ensures count { IfOk result (λ later. F.files files.new ≡ length later.dumps.made.items + 1) }
-    ensures served { (names : List (List ℕ)) → IfOk result (λ later. Serves (session_of design.now sizes names) desk later (kinds.Batch items ∷ []) (S.written out.old) (S.written out.new) (F.made files.old) (F.made files.new)) }
-    ensures stopped { (names : List (List ℕ)) → IfErr result (Stops (session_of design.now sizes names) desk (kinds.Batch items ∷ []) (S.written out.old) (S.written out.new) (F.made files.old) (F.made files.new) (F.files files.new)) }
-    ensures cause { IfErr result (UnitExplains (S.faults out.old) (S.faults out.new) (F.write_faults files.old) (F.write_faults files.new)) }
-    ensures calm_replies { OnOk result (S.faults out.new ≡ S.faults out.old) }
-    ensures calm_journal { OnOk result (F.write_faults files.new ≡ F.write_faults files.old) }
-    ensures file_faults { F.file_faults files.new ≡ F.file_faults files.old }
-    ensures read_faults { F.read_faults files.new ≡ F.read_faults files.old }
-    ensures started { F.started files.new ≡ F.started files.old }
-    ensures files { F.files files.new ≡ F.files files.old }
-    ensures unfinished { F.unfinished files.new ≡ F.unfinished files.old }
+    ensures count { IfOk result (λ later.
+        (F.state files.new).created ≡ length later.dumps.made.items + 1) }
+    ensures served { (names : List (List ℕ)) → let setup = session_of design.now sizes names in
+        IfOk result (λ later. Serves setup desk later (kinds.Batch items ∷ [])
+        (S.written out.old) (S.written out.new)
+        (F.made files.old) (F.made files.new)) }
+    ensures stopped { (names : List (List ℕ)) → let setup = session_of design.now sizes names in
+        IfErr result (Stops setup desk (kinds.Batch items ∷ [])
+        (S.written out.old) (S.written out.new)
+        (F.made files.old) (F.made files.new) (F.state files.new).created) }
+    ensures state { UnitChanges
+        (record { files = F.state files.old; replies = S.faults out.old })
+        (record { files = F.state files.new; replies = S.faults out.new })
+        result }
 {
     let Desk {
         stores,
@@ -99,20 +102,23 @@ pub fn serve_trim<F: Files, S: Sink>(
     out: &mut S,
 ) -> Result<Desk, Stop>
     requires desk { IsDesk (setup_of design.now sizes) desk }
-    requires files { F.files files.old ≡ length desk.dumps.made.items + 1 }
-    requires unfinished { Contains (F.unfinished files.old) 0 }
+    requires files { (F.state files.old).created ≡ length desk.dumps.made.items + 1 }
+    requires unfinished { Contains (F.state files.old).unfinished 0 }
     ensures desk { IfOk result (λ later. IsDesk (setup_of design.now sizes) later) }
-    ensures count { IfOk result (λ later. F.files files.new ≡ length later.dumps.made.items + 1) }
-    ensures served { (names : List (List ℕ)) → IfOk result (λ later. Serves (session_of design.now sizes names) desk later (kinds.Trim most ∷ []) (S.written out.old) (S.written out.new) (F.made files.old) (F.made files.new)) }
-    ensures stopped { (names : List (List ℕ)) → IfErr result (Stops (session_of design.now sizes names) desk (kinds.Trim most ∷ []) (S.written out.old) (S.written out.new) (F.made files.old) (F.made files.new) (F.files files.new)) }
-    ensures cause { IfErr result (UnitExplains (S.faults out.old) (S.faults out.new) (F.write_faults files.old) (F.write_faults files.new)) }
-    ensures calm_replies { OnOk result (S.faults out.new ≡ S.faults out.old) }
-    ensures calm_journal { OnOk result (F.write_faults files.new ≡ F.write_faults files.old) }
-    ensures file_faults { F.file_faults files.new ≡ F.file_faults files.old }
-    ensures read_faults { F.read_faults files.new ≡ F.read_faults files.old }
-    ensures started { F.started files.new ≡ F.started files.old }
-    ensures files { F.files files.new ≡ F.files files.old }
-    ensures unfinished { F.unfinished files.new ≡ F.unfinished files.old }
+    ensures count { IfOk result (λ later.
+        (F.state files.new).created ≡ length later.dumps.made.items + 1) }
+    ensures served { (names : List (List ℕ)) → let setup = session_of design.now sizes names in
+        IfOk result (λ later. Serves setup desk later (kinds.Trim most ∷ [])
+        (S.written out.old) (S.written out.new)
+        (F.made files.old) (F.made files.new)) }
+    ensures stopped { (names : List (List ℕ)) → let setup = session_of design.now sizes names in
+        IfErr result (Stops setup desk (kinds.Trim most ∷ [])
+        (S.written out.old) (S.written out.new)
+        (F.made files.old) (F.made files.new) (F.state files.new).created) }
+    ensures state { UnitChanges
+        (record { files = F.state files.old; replies = S.faults out.old })
+        (record { files = F.state files.new; replies = S.faults out.new })
+        result }
 {
     let Desk {
         stores,
@@ -153,20 +159,23 @@ pub fn serve_stats<F: Files, S: Sink>(
     out: &mut S,
 ) -> Result<Desk, Stop>
     requires desk { IsDesk (setup_of design.now sizes) desk }
-    requires files { F.files files.old ≡ length desk.dumps.made.items + 1 }
-    requires unfinished { Contains (F.unfinished files.old) 0 }
+    requires files { (F.state files.old).created ≡ length desk.dumps.made.items + 1 }
+    requires unfinished { Contains (F.state files.old).unfinished 0 }
     ensures desk { IfOk result (λ later. IsDesk (setup_of design.now sizes) later) }
-    ensures count { IfOk result (λ later. F.files files.new ≡ length later.dumps.made.items + 1) }
-    ensures served { (names : List (List ℕ)) → IfOk result (λ later. Serves (session_of design.now sizes names) desk later (kinds.Stats ∷ []) (S.written out.old) (S.written out.new) (F.made files.old) (F.made files.new)) }
-    ensures stopped { (names : List (List ℕ)) → IfErr result (Stops (session_of design.now sizes names) desk (kinds.Stats ∷ []) (S.written out.old) (S.written out.new) (F.made files.old) (F.made files.new) (F.files files.new)) }
-    ensures cause { IfErr result (UnitExplains (S.faults out.old) (S.faults out.new) (F.write_faults files.old) (F.write_faults files.new)) }
-    ensures calm_replies { OnOk result (S.faults out.new ≡ S.faults out.old) }
-    ensures calm_journal { OnOk result (F.write_faults files.new ≡ F.write_faults files.old) }
-    ensures file_faults { F.file_faults files.new ≡ F.file_faults files.old }
-    ensures read_faults { F.read_faults files.new ≡ F.read_faults files.old }
-    ensures started { F.started files.new ≡ F.started files.old }
-    ensures files { F.files files.new ≡ F.files files.old }
-    ensures unfinished { F.unfinished files.new ≡ F.unfinished files.old }
+    ensures count { IfOk result (λ later.
+        (F.state files.new).created ≡ length later.dumps.made.items + 1) }
+    ensures served { (names : List (List ℕ)) → let setup = session_of design.now sizes names in
+        IfOk result (λ later. Serves setup desk later (kinds.Stats ∷ [])
+        (S.written out.old) (S.written out.new)
+        (F.made files.old) (F.made files.new)) }
+    ensures stopped { (names : List (List ℕ)) → let setup = session_of design.now sizes names in
+        IfErr result (Stops setup desk (kinds.Stats ∷ [])
+        (S.written out.old) (S.written out.new)
+        (F.made files.old) (F.made files.new) (F.state files.new).created) }
+    ensures state { UnitChanges
+        (record { files = F.state files.old; replies = S.faults out.old })
+        (record { files = F.state files.new; replies = S.faults out.new })
+        result }
 {
     let Some(cells) = cells_in(&desk.stores) else {
         return Err(Stop::OutOfMemory);
@@ -191,20 +200,23 @@ pub fn serve_unit<C: Crew, F: Files, S: Sink>(
     requires shards { (0 < sizes.shards) × (sizes.shards ≤ 64) }
     requires fit { IsFit design.now.circuit.horizon unit }
     requires desk { IsDesk (setup_of design.now sizes) desk }
-    requires files { F.files files.old ≡ length desk.dumps.made.items + 1 }
-    requires unfinished { Contains (F.unfinished files.old) 0 }
+    requires files { (F.state files.old).created ≡ length desk.dumps.made.items + 1 }
+    requires unfinished { Contains (F.state files.old).unfinished 0 }
     ensures desk { IfOk result (λ later. IsDesk (setup_of design.now sizes) later) }
-    ensures count { IfOk result (λ later. F.files files.new ≡ length later.dumps.made.items + 1) }
-    ensures served { (names : List (List ℕ)) → IfOk result (λ later. Serves (session_of design.now sizes names) desk later (unit ∷ []) (S.written out.old) (S.written out.new) (F.made files.old) (F.made files.new)) }
-    ensures stopped { (names : List (List ℕ)) → IfErr result (Stops (session_of design.now sizes names) desk (unit ∷ []) (S.written out.old) (S.written out.new) (F.made files.old) (F.made files.new) (F.files files.new)) }
-    ensures cause { IfErr result (UnitsExplain (S.faults out.old) (S.faults out.new) (F.write_faults files.old) (F.write_faults files.new) (F.file_faults files.old) (F.file_faults files.new)) }
-    ensures calm_replies { OnOk result (S.faults out.new ≡ S.faults out.old) }
-    ensures calm_writes { OnOk result (F.write_faults files.new ≡ F.write_faults files.old) }
-    ensures calm_files { OnOk result (F.file_faults files.new ≡ F.file_faults files.old) }
-    ensures read_faults { F.read_faults files.new ≡ F.read_faults files.old }
-    ensures started { F.started files.new ≡ F.started files.old }
-    ensures unfinished { OnOk result (F.unfinished files.new ≡ F.unfinished files.old) }
-    ensures left { IfErr result (StopsOpen (F.unfinished files.old) (F.unfinished files.new)) }
+    ensures count { IfOk result (λ later.
+        (F.state files.new).created ≡ length later.dumps.made.items + 1) }
+    ensures served { (names : List (List ℕ)) → let setup = session_of design.now sizes names in
+        IfOk result (λ later. Serves setup desk later (unit ∷ [])
+        (S.written out.old) (S.written out.new)
+        (F.made files.old) (F.made files.new)) }
+    ensures stopped { (names : List (List ℕ)) → let setup = session_of design.now sizes names in
+        IfErr result (Stops setup desk (unit ∷ [])
+        (S.written out.old) (S.written out.new)
+        (F.made files.old) (F.made files.new) (F.state files.new).created) }
+    ensures state { UnitsChanges
+        (record { files = F.state files.old; replies = S.faults out.old })
+        (record { files = F.state files.new; replies = S.faults out.new })
+        result }
 {
     match unit {
         Unit::Batch(items) => { serve_batch(crew, alloc, design, items, sizes, desk, files, out) }
@@ -231,20 +243,23 @@ pub fn serve_units<C: Crew, F: Files, S: Sink>(
     requires shards { (0 < sizes.shards) × (sizes.shards ≤ 64) }
     requires fit { All (IsFit design.now.circuit.horizon) units }
     requires desk { IsDesk (setup_of design.now sizes) desk }
-    requires files { F.files files.old ≡ length desk.dumps.made.items + 1 }
-    requires unfinished { Contains (F.unfinished files.old) 0 }
+    requires files { (F.state files.old).created ≡ length desk.dumps.made.items + 1 }
+    requires unfinished { Contains (F.state files.old).unfinished 0 }
     ensures desk { IfOk result (λ later. IsDesk (setup_of design.now sizes) later) }
-    ensures count { IfOk result (λ later. F.files files.new ≡ length later.dumps.made.items + 1) }
-    ensures served { (names : List (List ℕ)) → IfOk result (λ later. Serves (session_of design.now sizes names) desk later (units) (S.written out.old) (S.written out.new) (F.made files.old) (F.made files.new)) }
-    ensures stopped { (names : List (List ℕ)) → IfErr result (Stops (session_of design.now sizes names) desk (units) (S.written out.old) (S.written out.new) (F.made files.old) (F.made files.new) (F.files files.new)) }
-    ensures cause { IfErr result (UnitsExplain (S.faults out.old) (S.faults out.new) (F.write_faults files.old) (F.write_faults files.new) (F.file_faults files.old) (F.file_faults files.new)) }
-    ensures calm_replies { OnOk result (S.faults out.new ≡ S.faults out.old) }
-    ensures calm_writes { OnOk result (F.write_faults files.new ≡ F.write_faults files.old) }
-    ensures calm_files { OnOk result (F.file_faults files.new ≡ F.file_faults files.old) }
-    ensures read_faults { F.read_faults files.new ≡ F.read_faults files.old }
-    ensures started { F.started files.new ≡ F.started files.old }
-    ensures unfinished { OnOk result (F.unfinished files.new ≡ F.unfinished files.old) }
-    ensures left { IfErr result (StopsOpen (F.unfinished files.old) (F.unfinished files.new)) }
+    ensures count { IfOk result (λ later.
+        (F.state files.new).created ≡ length later.dumps.made.items + 1) }
+    ensures served { (names : List (List ℕ)) → let setup = session_of design.now sizes names in
+        IfOk result (λ later. Serves setup desk later units
+        (S.written out.old) (S.written out.new)
+        (F.made files.old) (F.made files.new)) }
+    ensures stopped { (names : List (List ℕ)) → let setup = session_of design.now sizes names in
+        IfErr result (Stops setup desk units
+        (S.written out.old) (S.written out.new)
+        (F.made files.old) (F.made files.new) (F.state files.new).created) }
+    ensures state { UnitsChanges
+        (record { files = F.state files.old; replies = S.faults out.old })
+        (record { files = F.state files.new; replies = S.faults out.new })
+        result }
 {
     let mut desk = desk;
     for unit in units.into_vec() {

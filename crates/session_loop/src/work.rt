@@ -1,11 +1,11 @@
 //! A session of one batch, without a script.
 
-ghost use Rattle.std.specs.Prelude.{◌≡◌, ◌<◌, ◌≤◌, IsErrOf, IfErr, IfOk, OnOk};
+ghost use Rattle.std.specs.Prelude.{◌≡◌, ◌<◌, ◌≤◌, IfErr, IfOk};
 ghost use Rattle.query_lines.specs.Laws.{IsWithin};
 ghost use Rattle.query_lines.specs.Fit.{HaveOwnLines};
 ghost use Rattle.unit_answers.specs.Stores.{setup_of};
-ghost use Rattle.session_loop.specs.Faults.{WorkExplains};
 ghost use Rattle.session_loop.specs.Halting.{WroteJournal, IsWork, IsWorkHalted};
+ghost use Rattle.session_loop.specs.Outside.{WorkChanges};
 
 use crate::halt::Halt;
 use crate::journal::{JOURNAL, begin_journal, finish_journal};
@@ -36,17 +36,14 @@ pub fn serve_work<C: Crew, F: Files>(
     requires cells { (0 < sizes.cells) × (sizes.cells ≤ 65536) }
     requires within { IsWithin design.now.circuit.horizon items.now }
     requires lines { HaveOwnLines items.now }
-    requires files { F.files files.old ≡ 0 }
-    ensures worked { IfOk result (λ replies. WroteJournal (IsWork (setup_of design.now sizes) items.now replies.items) journal.now (F.made files.old) (F.made files.new)) }
-    ensures halted { IfErr result (IsWorkHalted (setup_of design.now sizes) items.now journal.now (F.made files.old) (F.made files.new)) }
-    ensures no_file { IsErrOf result Halt.JournalUnmade → F.files files.new ≡ F.files files.old }
-    ensures one { OnOk result (F.files files.new ≡ 1) }
-    ensures unfinished { OnOk result (F.unfinished files.new ≡ F.unfinished files.old) }
-    ensures cause { IfErr result (WorkExplains (F.write_faults files.old) (F.write_faults files.new) (F.file_faults files.old) (F.file_faults files.new)) }
-    ensures calm_journal { OnOk result (F.write_faults files.new ≡ F.write_faults files.old) }
-    ensures calm_file { OnOk result (F.file_faults files.new ≡ F.file_faults files.old) }
-    ensures read_faults { F.read_faults files.new ≡ F.read_faults files.old }
-    ensures started { F.started files.new ≡ F.started files.old }
+    requires files { (F.state files.old).created ≡ 0 }
+    ensures worked { let setup = setup_of design.now sizes in
+        IfOk result (λ replies. WroteJournal (IsWork setup items.now replies.items) journal.now
+        (F.made files.old) (F.made files.new)) }
+    ensures halted { let setup = setup_of design.now sizes in
+        IfErr result (IsWorkHalted setup items.now journal.now
+        (F.made files.old) (F.made files.new)) }
+    ensures state { WorkChanges (F.state files.old) (F.state files.new) result }
 {
     begin_journal(alloc, sizes, journal, files)?;
     let stores = empty_stores(alloc, sizes)?;

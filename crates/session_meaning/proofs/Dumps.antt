@@ -1,8 +1,8 @@
 -- What a line that asks for a dump writes, and where a session breaks off in a dump.
-use Rattle.std.proofs.Common.{◌≡◌, ℕ, ◌+◌, ◌<◌, Bool, true, false, cond, nat_lt, List, [], ◌∷◌, ◌++◌, length, Option, Some, None, refl, sym, ap, ◌∙◌, append_assoc, append-nil, length-append, arith}
+use Rattle.std.proofs.Common.{◌≡◌, ℕ, ◌<◌, Bool, true, false, cond, nat_lt, List, [], ◌∷◌, ◌++◌, length, Option, Some, None, refl, sym, ap, ◌∙◌, append_assoc, append-nil, length-append, arith, inl, inr}
 use Rattle.std.specs.Prelude.{codes}
 use Rattle.std.specs.Fmt.{decimal}
-use Rattle.backsim_io.specs.Held.{Made}
+use Rattle.owned_text.specs.Made.{Made}
 use Rattle.query_lines.specs.declared.unit.Unit.{Unit as ScriptUnit}
 use Rattle.query_lines.specs.declared.unit.Unit.TheVariants.{Vcd}
 use Rattle.reply_lines.specs.declared.reply.VcdReply.{VcdReply}
@@ -131,6 +131,8 @@ module _ (setup : Setup) where
           replied = (vcd_line file is.reply, is.out_is);
           recorded = ([], same ∙ sym (append-nil (journal_of setup now)));
           dumped = begun;
+          replies_first = inr refl;
+          dumps_first = inl refl;
           cut = omega (arith, vcd-longer setup now file, ap length same);
         };
       }

@@ -1,16 +1,14 @@
 -- A query whose budget is as great as its need has its wave.
-use Rattle.std.proofs.Common.{◌≡◌, ◌≢◌, ℕ, zero, suc, ◌<◌, List, [], ◌∷◌, ◌++◌, length, map, get_or, Contains, All, AllPairs, Option, Some, None, refl, sym, ap, subst, ◌∙◌, arith, ◌⊎◌, inl, inr}
+use Rattle.std.proofs.Common.{◌≡◌, ◌≢◌, ℕ, zero, suc, ◌<◌, List, [], ◌∷◌, length, map, get_or, Contains, All, AllPairs, Option, Some, None, refl, sym, ap, subst, ◌∙◌, arith, ◌⊎◌, inl, inr}
 use Rattle.std.specs.List.{AllZip, slice_index_or}
 use Rattle.std.proofs.lemmas.List.Elements.{All-head}
 use Rattle.circuit_meaning.specs.Circuit.{Circuit, IsCircuit}
 use Rattle.circuit_meaning.specs.Forward.{wave}
 use Rattle.circuit_meaning.specs.declared.Run.{Run}
-use Rattle.valid_intervals.specs.declared.Point.{Point}
 use Rattle.circuit_meaning.proofs.Alike.{held-fits}
 use Rattle.batch_meaning.specs.declared.Query.{Query}
-use Rattle.batch_meaning.specs.Batches.{Site, NeedOf, IsNeededBy}
+use Rattle.batch_meaning.specs.Batches.{Site, NeedOf}
 use Rattle.journal_meaning.specs.Laws.{IsOwnQuery, IsRoomy, IsLegalFrom, NeedsAtMost}
-use Rattle.journal_meaning.specs.declared.Entry.{Entry}
 use Rattle.journal_meaning.specs.Replay.{IsLegalBatch}
 use Rattle.journal_meaning.specs.Sections.{of_batch, cells_after}
 use Rattle.journal_meaning.specs.Answers.{IsAnswer, IsSpent}
@@ -39,7 +37,7 @@ use Rattle.session_meaning.specs.declared.Verdict.TheVariants.{Ask, Unknown, Pas
 use Rattle.session_meaning.specs.Verdicts.{verdict_of, first_verdict, why_verdict, site_of, stuck_verdict, asked, asked_at}
 use Rattle.session_meaning.specs.FirstTimes.{first_time, up_to_first, IsFirstReply}
 use Rattle.session_meaning.specs.Explanations.{IsWhyReply}
-use Rattle.session_meaning.specs.StuckSignals.{stuck_circuit, held_batch, IsStuckAnswer, IsStuckReply, IsHeldMemo}
+use Rattle.session_meaning.specs.StuckSignals.{stuck_circuit, held_batch, IsStuckReply, IsHeldMemo}
 use Rattle.query_lines.proofs.OwnLines.{first-part, later-part}
 use Rattle.session_meaning.proofs.Asked.{asks-line, asked-in, in-asked}
 use Rattle.session_meaning.specs.Replies.{IsReply}
@@ -237,7 +235,7 @@ unit-ample setup circuit now next (units.Why item) served own = enough-why setup
 unit-ample setup circuit now next (units.Vcd file) served own = tt
 unit-ample setup circuit now next (units.Stuck item) served own = enough-stuck setup circuit now next item served
 
-session-ample : (setup : Setup) → IsCircuit setup.design.circuit → (us : List ScriptUnit) (course : Course) → All HasOwnLines us → (session : Session setup us course) → IsAmple setup us course session
+pub session-ample : (setup : Setup) → IsCircuit setup.design.circuit → (us : List ScriptUnit) (course : Course) → All HasOwnLines us → (session : Session setup us course) → IsAmple setup us course session
 session-ample setup circuit us course own Opened = tt
 session-ample setup circuit us course own (Served {units = before} {now = now} {next = next} unit session served) = (
   session-ample setup circuit before now (first-part HasOwnLines before (unit ∷ []) own) session,

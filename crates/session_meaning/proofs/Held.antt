@@ -1,11 +1,11 @@
 -- Each dump of a session is the text of wires that a dump can hold.
-use Rattle.std.proofs.Common.{◌≡◌, ℕ, ◌+◌, ◌≤◌, Bool, true, false, cond, nat_lt, List, [], ◌∷◌, ◌++◌, length, All, Option, Some, None, refl, sym, subst, ◌∙◌, length-append, arith}
+use Rattle.std.proofs.Common.{◌≡◌, ℕ, ◌+◌, ◌≤◌, Bool, true, false, cond, nat_lt, List, [], ◌∷◌, length, All, Option, Some, None, refl, sym, subst, ◌∙◌, length-append, arith}
 use Rattle.std.specs.Prelude.{⊤}
 use Rattle.std.specs.List.{list_all}
 use Rattle.std.proofs.lemmas.Bool.{and_from}
 use Rattle.std.proofs.lemmas.List.Elements.{All-nil, All-head, All-tail, All-push}
 use Rattle.std.proofs.lemmas.List.Folds.{list_all-append}
-use Rattle.backsim_io.specs.Held.{Made}
+use Rattle.owned_text.specs.Made.{Made}
 use Rattle.circuit_meaning.specs.Circuit.{Circuit}
 use Rattle.circuit_meaning.specs.Forward.{value}
 use Rattle.design.specs.Joined.{Joined}
@@ -15,7 +15,7 @@ use Rattle.query_lines.specs.declared.line.What.TheVariants as whats
 use Rattle.query_lines.specs.declared.unit.Item.{Item}
 use Rattle.query_lines.specs.declared.unit.Unit.{Unit as ScriptUnit}
 use Rattle.query_lines.specs.declared.unit.Unit.TheVariants as units
-use Rattle.query_lines.specs.Fit.{AsksByName, IsFit, ScriptUnitsAreFit}
+use Rattle.query_lines.specs.Fit.{AsksByName, IsFit}
 use Rattle.reply_lines.specs.declared.reply.Reply.{Reply}
 use Rattle.reply_lines.specs.declared.reply.Reply.TheVariants as replies
 use Rattle.reply_lines.specs.declared.reply.VcdReply.TheVariants as dumps
@@ -28,7 +28,6 @@ use Rattle.session_meaning.specs.declared.Verdict.TheVariants.{Ask, Unknown, Pas
 use Rattle.session_meaning.specs.Verdicts.{verdict_of}
 use Rattle.session_meaning.specs.Dumps.{wire_of, wires_of}
 use Rattle.session_meaning.specs.Session.{Setup, Course, IsServed, Session, Opened, Served, is_taken, with_reply, with_dump, with_last}
-use Rattle.session_meaning.specs.Laws.{DumpsHoldWires}
 use Rattle.query_lines.proofs.OwnLines.{first-part, later-part}
 
 -- ---- the wires of a batch
@@ -87,18 +86,18 @@ module _ (d : Joined) where
 -- ---- what holds throughout a session
 
 -- the dump is the text of wires that a dump can hold
-abbrev HoldsWires : Made → Type 0
+abbrev pub HoldsWires : Made → Type 0
 HoldsWires dump = (wires : List Wire) × AreWires wires × (dump.bytes ≡ vcd_of wires)
 
 -- so are the waves of the last batch, if there was one
-abbrev AreLast : Option (List Wire) → Type 0
+abbrev pub AreLast : Option (List Wire) → Type 0
 AreLast None = ⊤
 AreLast (Some wires) = AreWires wires
 
 -- both of these
-record IsHeld (now : Course) : Type 0 where
-  waves : AreLast now.waves
-  dumps : All HoldsWires now.dumps
+pub record IsHeld (now : Course) : Type 0 where
+  pub waves : AreLast now.waves
+  pub dumps : All HoldsWires now.dumps
 
 module _ (now : Course) (file : List ℕ) (held : IsHeld now) where
   held-with-reply : (text : List ℕ) → IsHeld (with_reply now text)
@@ -130,13 +129,8 @@ module _ (setup : Setup) (short : setup.design.circuit.horizon ≤ 1000000) wher
   unit-held now next (units.Stuck item) served fit held = subst (λ c. IsHeld c) (sym served.leads) (record { waves = held.waves; dumps = held.dumps })
   unit-held now next (units.Vcd file) served fit held = subst (λ c. IsHeld c) (sym served) (held-with-name now file held (is_taken setup now file))
 
-  session-held : (us : List ScriptUnit) (course : Course) → All (IsFit setup.design.circuit.horizon) us → Session setup us course → IsHeld course
+  pub session-held : (us : List ScriptUnit) (course : Course) → All (IsFit setup.design.circuit.horizon) us → Session setup us course → IsHeld course
   session-held us course fit Opened = record { waves = tt; dumps = All-nil HoldsWires }
   session-held us course fit (Served {units = before} {now = now} {next = next} unit session served) =
       let one = All-head (IsFit setup.design.circuit.horizon) unit [] (later-part (IsFit setup.design.circuit.horizon) before (unit ∷ []) fit) in
       unit-held now next unit served one (session-held before now (first-part (IsFit setup.design.circuit.horizon) before (unit ∷ []) fit) session)
-
--- each dump of a script's session is the text of wires that a dump can hold, for its units are fit
-pub dumps-hold : ScriptUnitsAreFit → DumpsHoldWires
-dumps-hold fit setup short script out journal dumps is =
-    subst (λ ds. All HoldsWires ds) (sym is.dumps_are) (session-held setup short _ is.course (fit setup.design.circuit.horizon script short) is.served).dumps

@@ -1,8 +1,8 @@
 -- The text of a journal with one section more, and where a session breaks off.
-use Rattle.std.proofs.Common.{◌≡◌, ℕ, ◌+◌, ◌<◌, List, [], ◌∷◌, ◌++◌, length, refl, sym, ap, subst, ◌∙◌, append_assoc, append-nil, length-append, arith, inl, inr}
+use Rattle.std.proofs.Common.{◌≡◌, ℕ, ◌+◌, ◌<◌, List, [], ◌∷◌, ◌++◌, length, refl, sym, ap, subst, ◌∙◌, append_assoc, append-nil, length-append, arith, ◌⊎◌, inl, inr}
 use Rattle.std.specs.Prelude.{flat_map}
 use Rattle.std.proofs.lemmas.List.Concat.{flat_map-append}
-use Rattle.backsim_io.specs.Held.{Made}
+use Rattle.owned_text.specs.Made.{Made}
 use Rattle.journal_meaning.specs.declared.Entry.{Entry}
 use Rattle.journal_meaning.specs.Sections.{SectionEntries, Purpose}
 use Rattle.journal_text.specs.Spelling.{section_lines, head_line}
@@ -81,9 +81,10 @@ module _ (setup : Setup) where
   pub broken-at : (units : List ScriptUnit) (unit : ScriptUnit) (now next : Course) (out journal : List ℕ) (dumps : List Made) → Session setup units now → IsServed setup now unit next
       → IsPrefix now.out out → IsPrefix (journal_of setup now) journal → IsPrefix out next.out → IsPrefix journal (journal_of setup next)
       → ((more : List Made) × (dumps ≡ now.dumps ++ more)) → AreBegun dumps next.dumps
+      → (out ≡ next.out) ⊎ (journal ≡ journal_of setup now) → (out ≡ now.out) ⊎ (dumps ≡ next.dumps)
       → (length out ≡ length next.out → length journal ≡ length (journal_of setup next) → dumps ≡ next.dumps)
       → IsBroken setup (units ++ unit ∷ []) out journal dumps
-  broken-at units unit now next out journal dumps session served before above replied recorded kept begun whole = cases replied.0 recorded.0 replied.1 recorded.1
+  broken-at units unit now next out journal dumps session served before above replied recorded kept begun replies_first dumps_first whole = cases replied.0 recorded.0 replied.1 recorded.1
     where
       part : length out + length journal < length next.out + length (journal_of setup next) → IsBroken setup (units ++ unit ∷ []) out journal dumps
       part cut = record {
@@ -95,7 +96,7 @@ module _ (setup : Setup) where
         replied = before;
         recorded = above;
         kept = kept;
-        begun = inr (record { next = next; served = served; replied = replied; recorded = recorded; dumped = begun; cut = cut });
+        begun = inr (record { next = next; served = served; replied = replied; recorded = recorded; dumped = begun; replies_first = replies_first; dumps_first = dumps_first; cut = cut });
       }
 
       cases : (r s : List ℕ) → next.out ≡ out ++ r → journal_of setup next ≡ journal ++ s → IsBroken setup (units ++ unit ∷ []) out journal dumps

@@ -4,3 +4,8 @@ pub mod Held
 pub mod Legal
 pub mod Enough
 pub mod Journals
+pub mod Shown
+pub mod Spread
+pub mod Again
+pub mod Accepted
+pub mod Whole

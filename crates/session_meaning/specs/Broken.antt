@@ -1,6 +1,6 @@
 -- A session that stopped before its script's end: some units stand whole, and of the next one a beginning of what it writes.
 use Rattle.std.specs.Prelude.{◌≡◌, ⊤, ℕ, ◌+◌, ◌<◌, ◌⊎◌, List, [], ◌∷◌, ◌++◌, length, take}
-use Rattle.backsim_io.specs.Held.{Made}
+use Rattle.owned_text.specs.Made.{Made}
 use Rattle.query_lines.specs.declared.unit.Unit.{Unit as ScriptUnit}
 use Rattle.query_lines.specs.declared.unit.Unit.TheVariants.{Vcd}
 use Rattle.query_lines.specs.Reading.{script_units, completed_units}
@@ -22,15 +22,18 @@ AreBegun (part ∷ parts) [] = ⊥
 AreBegun (part ∷ []) (file ∷ files) = (part.name ≡ file.name) × IsPrefix part.bytes file.bytes
 AreBegun (part ∷ next ∷ parts) (file ∷ files) = (part ≡ file) × AreBegun (next ∷ parts) files
 
--- The unit was served in such a way that it leads from now to the next course, and of what it then writes only a part stands:
--- a prefix of its replies, a prefix of its sections, and a beginning of its dump. Its lists are legal and its replies are right, also
--- those not written.
+-- The unit was served in such a way that it leads from now to the next course, and of what it then
+-- writes only a part stands: a prefix of its replies, a prefix of its sections, and a beginning of
+-- its dump. A section begins only once all of its replies stand, and a reply only once its dump
+-- stands whole. Its lists are legal and its replies are right, also those not written.
 pub record IsBegun (setup : Setup) (now : Course) (unit : ScriptUnit) (out journal : List ℕ) (dumps : List Made) : Type 0 where
   pub next : Course
   pub served : IsServed setup now unit next
   pub replied : IsPrefix out next.out
   pub recorded : IsPrefix journal (journal_of setup next)
   pub dumped : AreBegun dumps next.dumps
+  pub replies_first : (out ≡ next.out) ⊎ (journal ≡ journal_of setup now)
+  pub dumps_first : (out ≡ now.out) ⊎ (dumps ≡ next.dumps)
   pub cut : length out + length journal < length next.out + length (journal_of setup next)
 
 -- nothing more was written

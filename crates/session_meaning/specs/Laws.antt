@@ -1,15 +1,18 @@
 -- What holds of every session.
 use Rattle.std.specs.Prelude.{◌≡◌, ℕ, ◌<◌, ◌≤◌, List, [], All}
-use Rattle.backsim_io.specs.Held.{Made}
+use Rattle.owned_text.specs.Made.{Made}
 use Rattle.circuit_meaning.specs.Circuit.{IsCircuit}
+use Rattle.design.specs.Joined.{IsDesign}
 use Rattle.journal_meaning.specs.Sections.{AreLegal}
-use Rattle.query_lines.specs.Fit.{HaveOwnLines}
+use Rattle.query_lines.specs.Fit.{HaveOwnLines, IsFit}
 use Rattle.query_lines.specs.declared.unit.Item.{Item}
 use Rattle.query_lines.specs.declared.unit.Unit.{Unit as ScriptUnit}
-use Rattle.vcd_answers.specs.Wires.{Wire, AreWires}
-use Rattle.vcd_answers.specs.Dumps.{vcd_of}
 use Rattle.session_meaning.specs.Session.{Setup, Course, Session, IsBatchServed, IsSessionOf}
 use Rattle.session_meaning.specs.Ample.{IsAmpleBatch, IsAmpleSession}
+use Rattle.session_meaning.specs.Shown.{ShowsOwnWaves}
+use Rattle.session_meaning.specs.Again.{AreFrugal}
+use Rattle.session_meaning.specs.Accepted.{AreAccepted}
+use Rattle.session_meaning.specs.Whole.{KeepsPromises, IsWhole}
 
 -- each shard's lists are legal, each from the cells that those before it leave: what holds of legal journals holds of sessions
 abbrev pub SessionsAreLegal : Type 0
@@ -26,12 +29,36 @@ abbrev pub EnoughBudgetsAreServed : Type 0
 EnoughBudgetsAreServed = (setup : Setup) → IsCircuit setup.design.circuit → (script out journal : List ℕ) (dumps : List Made)
     → IsSessionOf setup script out journal dumps → IsAmpleSession setup script out journal dumps
 
--- the file is the text of wires that a dump can hold, so that its reader reads them back
-abbrev pub HoldsWires : Made → Type 0
-HoldsWires dump = (wires : List Wire) × AreWires wires × (dump.bytes ≡ vcd_of wires)
+-- In a session whose units are fit, each dump shows the waves of the last batch before its line,
+-- and reading it back gives just these.
+abbrev pub DumpsShowOwnWaves : Type 0
+DumpsShowOwnWaves = (setup : Setup) → setup.design.circuit.horizon ≤ 1000000
+    → (units : List ScriptUnit) → All (IsFit setup.design.circuit.horizon) units
+    → (course : Course) (session : Session setup units course)
+    → ShowsOwnWaves setup units course session
 
--- In the session of a script each dump is such a file.
-abbrev pub DumpsHoldWires : Type 0
-DumpsHoldWires = (setup : Setup) → setup.design.circuit.horizon ≤ 1000000 → (script out journal : List ℕ) (dumps : List Made)
-    → IsSessionOf setup script out journal dumps
-    → All HoldsWires dumps
+-- In every session a point is evaluated again only after the eviction of its cell.
+abbrev pub SessionsAreFrugal : Type 0
+SessionsAreFrugal = (setup : Setup) → IsCircuit setup.design.circuit
+    → (units : List ScriptUnit) (course : Course) → Session setup units course
+    → AreFrugal setup.shards course.sections
+
+-- In a session whose units are fit, each explanation is a proof that its checker accepts.
+abbrev pub ExplanationsAreAccepted : Type 0
+ExplanationsAreAccepted = (setup : Setup) → IsDesign setup.design
+    → (units : List ScriptUnit) → All (IsFit setup.design.circuit.horizon) units
+    → (course : Course) (session : Session setup units course)
+    → AreAccepted setup units course session
+
+-- So every session whose units are fit keeps its promises,
+abbrev pub SessionsKeepPromises : Type 0
+SessionsKeepPromises = (setup : Setup) → IsDesign setup.design
+    → (units : List ScriptUnit) → All (IsFit setup.design.circuit.horizon) units
+    → (course : Course) (session : Session setup units course)
+    → KeepsPromises setup units course session
+
+-- and every session of a script is whole.
+abbrev pub SessionsAreWhole : Type 0
+SessionsAreWhole = (setup : Setup) → IsDesign setup.design
+    → (script out journal : List ℕ) (dumps : List Made)
+    → IsSessionOf setup script out journal dumps → IsWhole setup script out journal dumps

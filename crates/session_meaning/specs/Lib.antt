@@ -8,5 +8,9 @@ pub mod Dumps
 pub mod Session
 pub mod Broken
 pub mod Ample
+pub mod Shown
+pub mod Again
+pub mod Accepted
+pub mod Whole
 pub mod Laws
 pub mod inner

@@ -2,7 +2,7 @@
 use Rattle.std.specs.Prelude.{◌≡◌, ℕ, ◌<◌, Bool, true, false, nat_lt, List, [], ◌∷◌, ◌++◌, length, get_or, map, drop, reverse, filter, sum_by, Option, Some, None, if◌then◌else◌}
 use Rattle.std.specs.List.{AllZip, list_any, range_with_len}
 use Rattle.std.specs.Str.{bytes_eq}
-use Rattle.backsim_io.specs.Held.{Made}
+use Rattle.owned_text.specs.Made.{Made}
 use Rattle.valid_intervals.specs.declared.SignalCell.{SignalCell}
 use Rattle.journal_meaning.specs.declared.Entry.{Entry}
 use Rattle.journal_meaning.specs.declared.Entry.TheVariants.{Filled, Evicted}

@@ -18,7 +18,7 @@ use Rattle.reply_lines.specs.declared.reply.StuckAnswer.TheVariants.{Wave, Budge
 use Rattle.reply_lines.specs.declared.reply.StuckReply.{StuckReply}
 use Rattle.reply_lines.specs.declared.reply.StuckReply.TheVariants as replies
 use Rattle.session_meaning.specs.declared.Verdict.{Verdict}
-use Rattle.session_meaning.specs.declared.Verdict.TheVariants.{Ask, Unknown, Past, Bad}
+use Rattle.session_meaning.specs.declared.Verdict.TheVariants.{Ask, Unknown, Past}
 
 -- The question is asked of two memos: that of the session for what is free of the site, and for all else one of its own, which is one
 -- shard, begins with no cell, and ends with the question.

@@ -13,16 +13,24 @@
 //! - `specs/Session` is a session, as the list of the units that were served. Each kind of unit is a case of its own, which says
 //!   what the session comes to by one such unit; the clauses are its fields. A line that asks for a dump adds a file, or the reply
 //!   says why not: the name is taken, there was no batch, or three dumps were made.
-//! - `specs/Broken` is a session that stopped early: some units whole, and of the next one a beginning of what it writes. Of the
-//!   files of the dumps at most the last is in part, and a session may break off in a dump, before the reply.
-//! - `specs/Ample` is a session in which every query whose budget is as great as its need has its wave.
-//! - `specs/Laws` holds what follows for every session: its lists are legal, budgets that are great enough are served, and each
-//!   dump can be read back. The functions below carry these laws as their contracts, and do nothing.
+//! - `specs/Broken` is a session that stopped early: some units whole, and of the next one a
+//!   beginning of what it writes, where a section begins only behind all replies of its unit. Of the
+//!   files of the dumps at most the last is in part, and a session may break off in a dump, before
+//!   the reply.
+//! - `specs/Whole` is the session of a whole script, with all that follows for it. `specs/Ample`:
+//!   every query whose budget is as great as its need has its wave. `specs/Shown`: each dump shows
+//!   the waves of the last batch before its line, and reading it back gives just these.
+//!   `specs/Again`: a point is evaluated again only after the eviction of its cell.
+//!   `specs/Accepted`: each explanation is a proof to which its checker answers yes.
+//! - `specs/Laws` holds what follows for every session: its lists are legal, and the session of a
+//!   script is whole, by a law for each of these four. The functions below carry the laws as their
+//!   contracts, and do nothing.
 //!
 //! Nothing here costs anything: no function does anything, and a verdict is a few numbers, which are copied.
 #![tactic(auto)]
 
-ghost use Rattle.session_meaning.specs.Laws.{SessionsAreLegal, EnoughBudgetIsServed, EnoughBudgetsAreServed, DumpsHoldWires};
+ghost use Rattle.session_meaning.specs.Laws.{SessionsAreLegal, EnoughBudgetIsServed, EnoughBudgetsAreServed};
+ghost use Rattle.session_meaning.specs.Laws.{DumpsShowOwnWaves, SessionsAreFrugal, ExplanationsAreAccepted, SessionsKeepPromises, SessionsAreWhole};
 
 use batch_meaning::Query;
 use query_lines::{script_units_are_fit, units_have_own_lines};
@@ -58,9 +66,31 @@ pub fn enough_budgets_are_served()
     units_have_own_lines();
 }
 
-/// Each dump of the session of a script is the text of wires that a dump can hold: `vcd_answers::read_vcd` reads them back.
-pub fn dumps_are_read_back()
-    ensures { DumpsHoldWires }
+/// Each dump of a session shows the waves of the last batch before its line:
+/// `vcd_answers::read_vcd` reads just these from it.
+pub fn dumps_show_own_waves()
+    ensures { DumpsShowOwnWaves }
+{}
+
+/// The evaluations of a session are those of different points and those that come again, each after
+/// the eviction of its cell.
+pub fn sessions_are_frugal()
+    ensures { SessionsAreFrugal }
+{}
+
+/// What is replied as an explanation is a proof to which `why_proofs::check_proof` answers yes.
+pub fn explanations_are_accepted()
+    ensures { ExplanationsAreAccepted }
+{}
+
+/// Every session keeps its promises: ample budgets are served, and the three laws above hold.
+pub fn sessions_keep_promises()
+    ensures { SessionsKeepPromises }
+{}
+
+/// Every session of a script is whole: it keeps its promises, since the units of a script are fit.
+pub fn sessions_are_whole()
+    ensures { SessionsAreWhole }
 {
     script_units_are_fit();
 }

@@ -32,8 +32,8 @@ ghost use Rattle.std.specs.Prelude.{◌≡◌};
 mod form;
 mod reader;
 
-use backsim_io::{OutOfMemory, Text};
 use gate_values::Value;
+use owned_text::{OutOfMemory, Text};
 pub use reader::read_stimulus;
 use std::alloc::{AllocError, AllocFailed};
 use std::marker::Model;

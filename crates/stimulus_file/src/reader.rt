@@ -8,8 +8,8 @@ ghost use Rattle.stimulus_file.specs.inner.Reading.{Reads, ReadsAll, line_seen};
 
 use crate::form::{Form, form_of};
 use crate::{SetRow, Stimulus, StimulusCause, StimulusFault};
-use backsim_io::Text;
 use gate_values::Value;
+use owned_text::Text;
 use std::alloc::Global;
 use std::collections::HashSet;
 use text_rules::next_line;

@@ -1,4 +1,4 @@
-//! The waveform of a signal where another is stuck at a value.
+//! The answer to a question for the waveform of a signal where another is stuck, asked of two memos.
 //!
 //! [`stuck_wave`] answers one query of the circuit in which one signal, the site, has the same value at all times. Where a signal is free
 //! of the site, that is where the site is not in its cone, its values and its cells are those of the circuit itself: so what is free is

@@ -10,9 +10,9 @@ ghost use Rattle.stuck_faults.specs.inner.Both.{IsAsked, Rests, GivesUp, IsRefus
 
 use crate::both::{Held, Memos, Question};
 use crate::turn::{Turn, take_turn};
-use backsim_io::OutOfMemory;
 use demand_points::{BatchName, Strand};
 use design::Design;
+use owned_text::OutOfMemory;
 use std::alloc::Global;
 use strand_meaning::Next;
 use valid_intervals::Cell;

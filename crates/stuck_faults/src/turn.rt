@@ -10,11 +10,11 @@ ghost use Rattle.stuck_faults.specs.inner.Turns.{OfTurn, IsNotFree};
 
 use crate::both::{Held, Memos, Question};
 use asked_cells::reach;
-use backsim_io::OutOfMemory;
 use batch_meaning::Query;
 use demand_points::{BatchName, Strand};
 use design::Design;
 use memo_shards::Asked;
+use owned_text::OutOfMemory;
 use strand_meaning::Next;
 use valid_intervals::Point;
 

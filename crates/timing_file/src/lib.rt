@@ -53,9 +53,9 @@ mod reader;
 mod stated;
 
 use crate::stated::Stated;
-use backsim_io::{OutOfMemory, Text};
 use flip_flops::Clock;
 use gate_values::{Kind, Value};
+use owned_text::{OutOfMemory, Text};
 pub use reader::read_timing;
 use std::alloc::{AllocError, AllocFailed};
 use std::marker::Model;

@@ -10,9 +10,9 @@ ghost use Rattle.timing_file.specs.inner.Views.{entry_seen};
 
 use crate::entry::Entry;
 use crate::{ClockRow, TimingFault, TimingRow, TimingWhat};
-use backsim_io::Text;
 use flip_flops::Clock;
 use gate_values::Kind;
+use owned_text::Text;
 use std::alloc::Global;
 use std::marker::Model;
 

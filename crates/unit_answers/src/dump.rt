@@ -10,8 +10,8 @@ ghost use Rattle.unit_answers.specs.Dumps.{IsOwnWave, AreReplied};
 ghost use Rattle.vcd_answers.specs.Dumps.{vcd_of};
 ghost use Rattle.vcd_answers.specs.Wires.{is_wire};
 
-use backsim_io::OutOfMemory;
 use design::Design;
+use owned_text::OutOfMemory;
 use query_lines::{Item, What};
 use reply_lines::Reply;
 use std::alloc::Global;

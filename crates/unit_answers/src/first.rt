@@ -11,13 +11,13 @@ ghost use Rattle.unit_answers.specs.Done.{IsFirstDone};
 
 use crate::run::{begin_all, end_all, have_room, no_entries};
 use crate::sizes::Sizes;
-use backsim_io::OutOfMemory;
 use batch_meaning::Query;
 use cell_store::CellStore;
 use demand_points::BatchName;
 use design::Design;
 use first_times::first_time;
 use journal_text::EntryList;
+use owned_text::OutOfMemory;
 use query_lines::FirstItem;
 use reply_lines::FirstReply;
 use std::alloc::Global;

@@ -5,8 +5,8 @@ ghost use Rattle.std.specs.Vec.Iter.{into_iter_items, into_iter_len};
 ghost use Rattle.session_meaning.specs.Verdicts.{asked};
 ghost use Rattle.unit_answers.specs.inner.Placed.{reply_to, left_by, placed};
 
-use backsim_io::OutOfMemory;
 use batch_meaning::Query;
+use owned_text::OutOfMemory;
 use reply_lines::Reply;
 use session_meaning::Verdict;
 use std::alloc::Global;

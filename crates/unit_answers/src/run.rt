@@ -8,7 +8,6 @@ ghost use Rattle.unit_answers.specs.Stores.{setup_of, cells_of, AreStores};
 ghost use Rattle.unit_answers.specs.inner.Runs.{asks, store_of, AreOpened, AreBegun, HasRun};
 
 use crate::sizes::Sizes;
-use backsim_io::OutOfMemory;
 use batch_crew::Crew;
 use batch_meaning::Query;
 use cell_store::CellStore;
@@ -16,6 +15,7 @@ use demand_points::BatchName;
 use design::Design;
 use journal_text::EntryList;
 use memo_shards::Shard;
+use owned_text::OutOfMemory;
 use reply_lines::Reply;
 use std::alloc::Global;
 use window_answers::{Settled, settle, strands_of};

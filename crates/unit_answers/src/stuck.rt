@@ -11,12 +11,12 @@ ghost use Rattle.unit_answers.specs.Done.{IsStuckDone};
 
 use crate::run::{begin_all, end_all, have_room, no_entries};
 use crate::sizes::Sizes;
-use backsim_io::OutOfMemory;
 use batch_meaning::Query;
 use cell_store::CellStore;
 use demand_points::BatchName;
 use design::Design;
 use journal_text::EntryList;
+use owned_text::OutOfMemory;
 use query_lines::StuckItem;
 use reply_lines::StuckReply;
 use std::alloc::Global;

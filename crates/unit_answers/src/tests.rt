@@ -5,7 +5,6 @@ ghost use Rattle.cell_store.specs.Recency.{contents};
 ghost use Rattle.unit_answers.specs.Stores.{setup_of, AreStores};
 
 use super::*;
-use backsim_io::{OutOfMemory, Text};
 use batch_crew::Workers;
 use bench_reader::read_bench;
 use cell_store::CellStore;
@@ -13,6 +12,7 @@ use circuit_meaning::Run;
 use design::{Design, JoinFault};
 use gate_values::Value;
 use journal_text::{EntryList, entry_text};
+use owned_text::{OutOfMemory, Text};
 use query_lines::{First, FirstItem, Item, Stuck, StuckItem, What, Why, WhyItem};
 use reply_lines::{FirstAnswer, FirstReply, Reply, stuck_text, why_text};
 use std::alloc::Global;

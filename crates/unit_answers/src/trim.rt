@@ -6,11 +6,11 @@ ghost use Rattle.unit_answers.specs.Done.{IsTrimDone};
 ghost use Rattle.unit_answers.specs.inner.Trims.{eviction_of, trimmed, entries_at};
 
 use crate::sizes::Sizes;
-use backsim_io::OutOfMemory;
 use cell_store::{CellStore, Key};
 use design::Design;
 use journal_meaning::Entry;
 use journal_text::EntryList;
+use owned_text::OutOfMemory;
 use std::alloc::Global;
 
 /// What came of a trim: the entries of each shard, and the stores that are left.

@@ -7,9 +7,9 @@ ghost use Rattle.vcd_answers.specs.inner.Reading.{line_at, time_in, change_in, i
 
 use crate::wire::{Wire, WireList};
 use crate::writing::vcd_text;
-use backsim_io::OutOfMemory;
 use circuit_meaning::Run;
 use gate_values::Value;
+use owned_text::OutOfMemory;
 use std::alloc::Global;
 use text_rules::{Amount, next_line, read_amount};
 

@@ -1,7 +1,7 @@
 use crate::{Wire, WireList, read_vcd, vcd_text, wire_of};
-use backsim_io::OutOfMemory;
 use circuit_meaning::Run;
 use gate_values::Value::{self, One, X, Z, Zero};
+use owned_text::OutOfMemory;
 use std::alloc::Global;
 use std::test::Fail;
 use window_walks::Runs;

@@ -10,9 +10,9 @@ ghost use Rattle.vcd_answers.specs.Wires.{answered, before_window, framed, goes_
 ghost use Rattle.vcd_answers.specs.Wires as wires;
 ghost use Rattle.vcd_answers.specs.inner.Reading.{blank, put_at};
 
-use backsim_io::OutOfMemory;
 use circuit_meaning::Run;
 use gate_values::Value;
+use owned_text::OutOfMemory;
 use std::alloc::Global;
 use std::marker::Model;
 use text_rules::is_name;

@@ -7,10 +7,10 @@ ghost use Rattle.vcd_answers.specs.Wires.{AreWires, is_wire};
 ghost use Rattle.vcd_answers.specs.inner.Events.{event, run_of, by_wire, by_time, event_line, event_text};
 
 use crate::wire::{Wire, WireList};
-use backsim_io::OutOfMemory;
 use circuit_meaning::Run;
 use gate_values::Value;
 use itoa::Buffer;
+use owned_text::OutOfMemory;
 use std::alloc::Global;
 
 /// A change of the wire that has this code.

@@ -9,9 +9,9 @@ ghost use Rattle.why_proofs.specs.inner.Judged.{IsJudged};
 use crate::cells::CellLine;
 use crate::known::KnownCells;
 use crate::reading::{after, cells_of, claim_of};
-use backsim_io::OutOfMemory;
 use design::Design;
 use gate_values::Value;
+use owned_text::OutOfMemory;
 use std::alloc::Global;
 
 /// What a checker answers of a text. Lines are counted from 1.

@@ -14,9 +14,9 @@ ghost use Rattle.why_proofs.specs.inner.Walks.{IsPoint, IsWalk, IsLooking, Looks
 
 use crate::cells::CellLine;
 use crate::walk::Walk;
-use backsim_io::OutOfMemory;
 use design::Design;
 use gate_values::Value;
+use owned_text::OutOfMemory;
 use std::alloc::Global;
 use std::collections::BTreeMap;
 use valid_intervals::{Cell, Point};

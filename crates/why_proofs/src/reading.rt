@@ -4,8 +4,8 @@ ghost use Rattle.std.specs.Prelude.{◌≡◌, ◌≤◌, ◌^◌, length, posit
 ghost use Rattle.why_proofs.specs.inner.Reading.{behind_is, read_is, words_are, claim_is, after_word, digit_at, digits_at, number_at, field_at, value_at, last_field_at, name_at, claim_at, cell_at, cells_at, is_space};
 
 use crate::cells::CellLine;
-use backsim_io::OutOfMemory;
 use gate_values::Value;
+use owned_text::OutOfMemory;
 use std::alloc::Global;
 use text_rules::is_name;
 

@@ -4,9 +4,9 @@ ghost use Rattle.std.specs.Prelude.{◌≡◌, ◌++◌, OnOk, IfOk, flat_map};
 ghost use Rattle.why_proofs.specs.Spelling.{field, last_field, cell_line, proof_lines};
 
 use crate::CellList;
-use backsim_io::OutOfMemory;
 use gate_values::Value;
 use itoa::Buffer;
+use owned_text::OutOfMemory;
 use std::alloc::{AllocError, Global};
 use valid_intervals::SignalCell;
 

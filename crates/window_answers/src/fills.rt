@@ -7,10 +7,10 @@ ghost use Rattle.plan_machine.specs.Settling.{fills_of};
 ghost use Rattle.window_answers.specs.inner.Fills.{points_in, added_for};
 ghost use Rattle.asked_cells.specs.Memos.{entries_of};
 
-use backsim_io::OutOfMemory;
 use demand_points::BatchName;
 use journal_meaning::Entry;
 use memo_shards::Shard;
+use owned_text::OutOfMemory;
 use std::alloc::Global;
 use std::collections::BTreeMap;
 use valid_intervals::Point;

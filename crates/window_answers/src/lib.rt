@@ -1,4 +1,4 @@
-//! Answers to the queries of a batch.
+//! Answers to the queries of a batch: verdicts, strands for the pieces of windows, and settlement.
 //!
 //! [`verdicts_of`] says what becomes of each item of a batch, [`first_verdict_of`] of a question for a first time, and
 //! [`why_verdict_of`] of one for an explanation, [`stuck_site_of`] and [`stuck_verdict_of`] of one for a wave where a signal is stuck. [`strands_of`]
@@ -14,15 +14,20 @@
 //!
 //! What settlement costs grows with what the batch recorded, and not with the number of its queries. Let n be the number of entries
 //! that the journals have in the end:
-//! - The journals are read as settlement begins, once for an index of the cells that entries say, by signal and first time, and once
-//!   for the points that each query filled. After that only what a strand adds is read, once it has run.
-//! - An entry takes O(log n) steps to be read, and so does a look-up of a cell or of a query's points.
-//! - Cells are looked up once for each looked pin of each point that is visited, and once for each cell of each window.
+//! - The journals are read as settlement begins, once to note the places of the entries, and once for the points that each query
+//!   filled. After that only what a strand adds is read, once it has run.
+//! - Cells are looked up once for each looked pin of each point that is visited, and once for each cell of each window. A strand that
+//!   came to its end left an entry for each of these points, and such an entry is found by hashing. So where all strands came to
+//!   their ends, a look-up takes a few steps, whatever n.
+//! - The first point that has no entry of its own has an index made of all cells, in O(n log n) steps; from then on such a look-up takes
+//!   O(log n) steps, and so does an entry that is added.
 //! - A look-up that finds nothing starts a strand. This adds at least one entry, and takes a step for each shard besides.
+//! - The points of a query are found in O(log q) steps of q queries, once for each fill and once for each query.
 //!
-//! So for s shards, p looked pins and c cells of windows settlement takes O((n + p + c) log n + s n) steps. It takes memory for the
-//! index and the points, at most one of each for an entry, and for the runs. `strands_of` takes a step for each piece, and
-//! `verdicts_of` one look-up by hashing for each item.
+//! So for q queries, f fills, p looked pins and c cells of windows settlement takes O(n + p + c + f log q) steps where all strands came
+//! to their ends, and with s shards at most O((n + p + c) log n + s n). It takes memory for a number or two for each entry and for the
+//! points, for the index where one is made, and for the runs. `strands_of` takes a step for each piece, and `verdicts_of` one look-up
+//! by hashing for each item.
 //!
 //! ```
 //! let strands = strands_of::<B>(alloc, queries)?;

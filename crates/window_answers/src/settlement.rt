@@ -7,11 +7,11 @@ ghost use Rattle.window_answers.specs.Settlement.{HasSettled};
 
 use crate::answers::{answer_all, feed_all};
 use asked_cells::begin;
-use backsim_io::OutOfMemory;
 use batch_meaning::Query;
 use demand_points::BatchName;
 use design::Design;
 use memo_shards::Shard;
+use owned_text::OutOfMemory;
 use reply_lines::Reply;
 use std::alloc::Global;
 

@@ -9,9 +9,9 @@ ghost use Rattle.plan_core.specs.Parts.{strands_in};
 ghost use Rattle.window_answers.specs.Strands.{IsInOrder};
 ghost use Rattle.window_answers.specs.inner.Starts.{piece_start};
 
-use backsim_io::OutOfMemory;
 use batch_meaning::Query;
 use demand_points::{BatchName, Strand};
+use owned_text::OutOfMemory;
 use std::alloc::Global;
 
 /// The least multiple of 65,536 above a time.

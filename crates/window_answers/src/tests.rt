@@ -3,7 +3,6 @@ ghost use Rattle.std.specs.Prelude.{◌≡◌, ◌<◌, ◌≤◌, ◌+◌, [], 
 ghost use Rattle.batch_meaning.specs.Lawful.{IsLawful};
 
 use super::*;
-use backsim_io::OutOfMemory;
 use batch_meaning::Query;
 use bench_reader::read_bench;
 use cell_store::CellStore;
@@ -12,6 +11,7 @@ use design::{Design, JoinFault};
 use gate_values::Value;
 use journal_text::entry_text;
 use memo_shards::Shard;
+use owned_text::OutOfMemory;
 use plan_core::Plan;
 use plan_machine::Turned;
 use query_lines::{Item, Line, read_line};

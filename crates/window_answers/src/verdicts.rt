@@ -4,9 +4,9 @@ ghost use Rattle.std.specs.Prelude.{◌≡◌, map, IfOk};
 ghost use Rattle.design.specs.Join.{number};
 ghost use Rattle.session_meaning.specs.Verdicts.{window_verdict, verdict_of, first_verdict, why_verdict, stuck_verdict};
 
-use backsim_io::{OutOfMemory, Text};
 use batch_meaning::Query;
 use design::Design;
+use owned_text::{OutOfMemory, Text};
 use query_lines::{FirstItem, Item, StuckItem, What, WhyItem};
 use session_meaning::Verdict;
 use std::alloc::Global;

@@ -16,10 +16,10 @@ ghost use Rattle.asked_cells.specs.inner.Standings.{live, standing};
 ghost use Rattle.window_answers.specs.inner.Sources.{IsSourceCovered};
 
 use asked_cells::{Memo, reach};
-use backsim_io::OutOfMemory;
 use batch_meaning::Query;
 use demand_points::{BatchName, Frame};
 use design::Design;
+use owned_text::OutOfMemory;
 use std::alloc::Global;
 use valid_intervals::Point;
 use window_walks::{Runs, WindowWalk};

@@ -6,9 +6,9 @@ ghost use Rattle.window_walks.specs.Runs as runs;
 ghost use Rattle.window_walks.specs.Runs.{maximal_runs, with_point};
 ghost use Rattle.circuit_meaning.specs.declared.Run.{Run as RunRecord};
 
-use backsim_io::OutOfMemory;
 use circuit_meaning::Run;
 use gate_values::Value;
+use owned_text::OutOfMemory;
 use std::alloc::Global;
 use std::marker::Model;
 

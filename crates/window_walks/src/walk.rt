@@ -9,7 +9,7 @@ ghost use Rattle.window_walks.specs.Runs.{with_point};
 ghost use Rattle.window_walks.specs.Walks.{IsWalked};
 
 use crate::runs::Runs;
-use backsim_io::OutOfMemory;
+use owned_text::OutOfMemory;
 use std::alloc::Global;
 use std::marker::Model;
 use valid_intervals::Cell;

@@ -8,10 +8,10 @@ ghost use Rattle.memo_shards.specs.Asks.{IsHere, OfAsk};
 ghost use Rattle.memo_shards.specs.Ends.{OfFill, DropsIt};
 ghost use Rattle.worker_gate.specs.Ends.{booked_in, HasRoom};
 
-use backsim_io::OutOfMemory;
 use demand_points::{BatchName, Point, Strand};
 use design::Design;
 use memo_shards::{Asked, Shard};
+use owned_text::OutOfMemory;
 use smallvec::SmallVec;
 
 /// A shard, and for each strand the number of claims and fills that the shard has recorded of it.

@@ -5,7 +5,6 @@ ghost use Rattle.batch_meaning.specs.Lawful.{IsLawful, IsQueryOf};
 ghost use Rattle.worker_gate.specs.Ends.{AreInOrder, AreNew};
 
 use super::*;
-use backsim_io::OutOfMemory;
 use batch_meaning::Query;
 use bench_reader::read_bench;
 use cell_store::CellStore;
@@ -14,6 +13,7 @@ use design::{Design, JoinFault};
 use gate_values::Value;
 use journal_meaning::Entry;
 use memo_shards::Shard;
+use owned_text::OutOfMemory;
 use std::alloc::Global;
 use std::marker::Brand;
 use std::sync::Wait;

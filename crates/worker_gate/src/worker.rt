@@ -8,10 +8,10 @@ ghost use Rattle.strand_meaning.specs.declared.Next.TheVariants.{Ask, Fill, Drop
 use crate::board::Board;
 use crate::gate::{Gate, Pass};
 use crate::slot::Slot;
-use backsim_io::OutOfMemory;
 use demand_points::{BatchName, Next, Point, Strand};
 use design::Design;
 use memo_shards::Asked;
+use owned_text::OutOfMemory;
 use ready_queue::{QueuePass, ReadyQueue};
 use smallvec::SmallVec;
 use std::hint::spin_loop;

@@ -35,8 +35,8 @@ mod words;
 use crate::draws::Draws;
 use crate::read::{items_in, joined, netlist_in, stimulus_in, timing_in};
 use crate::texts::{netlist_text, script_text, stimulus_text};
-use backsim_io::OutOfMemory;
 use design::Design;
+use owned_text::OutOfMemory;
 use query_lines::ItemList;
 use std::alloc::Global;
 

@@ -4,7 +4,7 @@ ghost use Rattle.std.specs.Prelude.{◌≡◌, ◌++◌, ◌+◌, ◌<◌, OnOk}
 ghost use Rattle.workload.specs.Texts as texts;
 
 use crate::words::{kind_word, put, put_below, put_gate, put_input, put_number};
-use backsim_io::OutOfMemory;
+use owned_text::OutOfMemory;
 
 pub fn put_input_line(text: &mut Vec<u8>, number: u32) -> Result<(), OutOfMemory>
     ensures { OnOk result (text.new.items ≡ text.old.items ++ texts.input_line number) }

@@ -8,9 +8,9 @@ ghost use Rattle.design.specs.Join.{design_of};
 ghost use Rattle.query_lines.specs.Reading.{script_units};
 ghost use Rattle.query_lines.specs.declared.unit.Unit.TheVariants.{Batch};
 
-use backsim_io::OutOfMemory;
 use bench_reader::{Netlist, read_bench};
 use design::Design;
+use owned_text::OutOfMemory;
 use query_lines::{ItemList, Unit, UnitList, read_script};
 use std::alloc::Global;
 use stimulus_file::{Stimulus, read_stimulus};

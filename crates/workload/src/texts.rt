@@ -9,7 +9,7 @@ use crate::lines::{
     put_gate_line, put_input_line, put_output_line, put_query_line, put_setting_line,
 };
 use crate::words::put;
-use backsim_io::OutOfMemory;
+use owned_text::OutOfMemory;
 use std::alloc::Global;
 
 const LAYER: u32 = 2000;

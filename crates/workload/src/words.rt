@@ -3,8 +3,8 @@
 ghost use Rattle.std.specs.Prelude.{◌≡◌, ◌++◌, ◌<◌, OnOk, decimal};
 ghost use Rattle.workload.specs.Texts.{input, gate, below, kind};
 
-use backsim_io::OutOfMemory;
 use itoa::Buffer;
+use owned_text::OutOfMemory;
 
 pub fn put(text: &mut Vec<u8>, word: &[u8]) -> Result<(), OutOfMemory>
     ensures { OnOk result (text.new.items ≡ text.old.items ++ word.now) }

@@ -4,7 +4,8 @@ ghost use Rattle.std.specs.Prelude.{◌≡◌, ◌<◌, IfOk};
 
 use crate::serve::serve;
 use crate::status::Status;
-use backsim_io::{Files, MemFiles, MemSink, MemSource, Sink, Source, Text};
+use backsim_io::{Files, MemFiles, MemSink, MemSource, Sink, Source};
+use owned_text::Text;
 use std::alloc::Global;
 use std::sync::Wait;
 use std::test::Fail;
@@ -44,8 +45,8 @@ fn inverter(alloc: Global) -> Result<Vec<(Text, Vec<u8>)>, Fail> {
 
 /// The files of the inverter, of which these calls fail.
 pub fn files_of(alloc: Global, failing: Vec<u64>) -> Result<MemFiles, Fail>
-    ensures started { IfOk result (λ files. ⟦<MemFiles as Files>⟧.started files ≡ 0) }
-    ensures created { IfOk result (λ files. ⟦<MemFiles as Files>⟧.files files ≡ 0) }
+    ensures started { IfOk result (λ files. (⟦<MemFiles as Files>⟧.state files).started ≡ 0) }
+    ensures created { IfOk result (λ files. (⟦<MemFiles as Files>⟧.state files).created ≡ 0) }
 {
     Ok(MemFiles::new(alloc, inverter(alloc)?, failing))
 }
@@ -59,8 +60,8 @@ pub fn ends<F: Files, Q: Source, S: Sink, R: Threads + Wait + Sync>(
     queries: &mut Q,
     out: &mut S,
 ) -> Status
-    requires started { F.started files.old ≡ 0 }
-    requires created { F.files files.old ≡ 0 }
+    requires started { (F.state files.old).started ≡ 0 }
+    requires created { (F.state files.old).created ≡ 0 }
 {
     serve(rt, alloc, words, files, queries, out, &OpenGate)
 }
@@ -75,7 +76,7 @@ fn failing(alloc: Global, object: Object, faulty: Object, call: u64) -> Result<V
 }
 
 /// What was written into the created file at this place; nothing where there is none.
-fn bytes_in(alloc: Global, files: &MemFiles, place: u32) -> Result<Vec<u8>, Fail> {
+pub fn bytes_in(alloc: Global, files: &MemFiles, place: u32) -> Result<Vec<u8>, Fail> {
     match files.made(place) {
         Some(bytes) => Ok(bytes.to_vec(alloc)?),
         None => Ok(Vec::new(alloc)),

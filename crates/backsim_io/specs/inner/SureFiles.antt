@@ -1,6 +1,6 @@
 -- What only the proofs and the private functions of this crate speak of, beside `SureFiles`.
 use Rattle.std.specs.Prelude.{ℕ, ◌≡◌, List, [], take}
-use Rattle.backsim_io.specs.Held.{Made}
+use Rattle.owned_text.specs.Made.{Made}
 use Rattle.backsim_io.specs.KeptBytes.{Kept}
 
 -- the first 255 bytes of a file's name, and the first bytes of the file, as many as there is room for

@@ -7,7 +7,7 @@ ghost use Rattle.cell_store.specs.Recency.{contents, with_cells, key_of, last_ke
 ghost use Rattle.valid_intervals.specs.Cells.{stored_at, is_stored};
 
 use crate::{Key, Put};
-use backsim_io::OutOfMemory;
+use owned_text::OutOfMemory;
 use std::alloc::{AllocError, Global};
 use std::marker::Model;
 use valid_intervals::{Cell, Point, SignalCell};

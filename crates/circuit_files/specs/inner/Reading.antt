@@ -1,6 +1,8 @@
 -- What only the proofs and the private functions of this crate speak of.
-use Rattle.std.specs.Prelude.{◌≡◌, ⊤, ℕ, List, Result, Ok, Err}
-use Rattle.circuit_files.specs.Stops.{IsAnswerOf}
+use Rattle.std.specs.Prelude.{◌≡◌, ◌+◌, ⊤, List, ℕ, Result, Ok, Err}
+use Rattle.backsim_io.specs.State.{FilesState, FileFault}
+use Rattle.circuit_files.specs.Changes.{Opened, OpenedThenUnread}
+use Rattle.circuit_files.specs.Stops.{before, IsAnswerOf}
 use Rattle.circuit_files.specs.declared.refusal.CircuitFile.{CircuitFile}
 use Rattle.circuit_files.specs.declared.refusal.FileRefusal.{FileRefusal}
 use Rattle.circuit_files.specs.declared.stop.FilesStop.{FilesStop}
@@ -17,3 +19,14 @@ IsAt file (Refused refusal) = ⊤
 IsAt file (NotOpened met) = met ≡ file
 IsAt file (Unread met) = met ≡ file
 IsAt file OutOfMemory = ⊤
+
+-- what reading one of the files changes
+abbrev pub TextStops : CircuitFile → FilesState → FilesState → FilesStop → Type 0
+TextStops file old new (Refused refusal) = Opened (before file + 1) old new
+TextStops file old new (NotOpened met) = FileFault old new
+TextStops file old new (Unread met) = OpenedThenUnread (before file + 1) old new
+TextStops file old new OutOfMemory = Opened (before file + 1) old new
+
+abbrev pub TextChanges : {T : Type 0} → CircuitFile → FilesState → FilesState → Result T FilesStop → Type 0
+TextChanges file old new (Ok text) = Opened (before file + 1) old new
+TextChanges file old new (Err stop) = TextStops file old new stop

@@ -1,6 +1,6 @@
 -- What only the proofs and the private functions of this crate speak of, beside `Asks`.
 use Rattle.std.specs.Prelude.{◌≡◌, ◌<◌, ◌%◌, Bool, true, false, if◌then◌else◌, [], ◌∷◌, ◌++◌, None, Result, Ok, Err}
-use Rattle.backsim_io.specs.declared.OutOfMemory.{OutOfMemory}
+use Rattle.owned_text.specs.declared.OutOfMemory.{OutOfMemory}
 use Rattle.valid_intervals.specs.declared.Point.{Point}
 use Rattle.valid_intervals.specs.Cells.{stored_at}
 use Rattle.journal_meaning.specs.declared.Entry.TheVariants as entry

@@ -1,5 +1,5 @@
 -- What only the proofs and the private functions of this crate speak of, beside `Parts`.
-use Rattle.std.specs.Prelude.{◌≡◌, ℕ, false, List, [], map, Option}
+use Rattle.std.specs.Prelude.{ℕ, false, List, [], map, Option}
 use Rattle.valid_intervals.specs.declared.SignalCell.{SignalCell}
 use Rattle.batch_meaning.specs.Batches.{Batch}
 use Rattle.batch_meaning.specs.Lawful.{IsLawful}

@@ -1,6 +1,6 @@
 -- What only the proofs and the private functions of this crate speak of, beside `Refusals`.
 use Rattle.std.specs.Prelude.{◌≡◌, ℕ, false, true, List, slice_get, Option, Some, None, Result, Ok, Err}
-use Rattle.backsim_io.specs.declared.OutOfMemory.{OutOfMemory}
+use Rattle.owned_text.specs.declared.OutOfMemory.{OutOfMemory}
 use Rattle.valid_intervals.specs.declared.Point.{Point}
 use Rattle.valid_intervals.specs.declared.SignalCell.{SignalCell}
 use Rattle.batch_meaning.specs.Batches.{Batch}

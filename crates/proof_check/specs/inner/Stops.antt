@@ -1,10 +1,12 @@
 -- Why a proof is not judged, and what is written of it.
 use Rattle.std.specs.Prelude.{◌≡◌, ◌≤◌, ◌<◌, ⊤, ℕ, List, Result, Ok, Err}
-use Rattle.backsim_io.specs.Counts.{Rose, Grows, GrowsByPrefix, Stays}
-use Rattle.circuit_files.specs.Causes.{Counts, Calm}
+use Rattle.backsim_io.specs.Counts.{Grows, GrowsByPrefix, Stays}
+use Rattle.backsim_io.specs.State.{FilesState, FileFault, Rises}
+use Rattle.circuit_files.specs.Changes.{Opened, OpenedUpTo, OpenedThenUnread}
 use Rattle.circuit_files.specs.Texts.{refusal_text}
 use Rattle.circuit_files.specs.declared.stop.FilesStop.{FilesStop}
 use Rattle.circuit_files.specs.declared.stop.FilesStop.TheVariants as files
+use Rattle.proof_check.specs.Changes.{MissingOf, UnreadOf}
 use Rattle.proof_check.specs.Given.{Given}
 use Rattle.proof_check.specs.Texts.{too_long}
 use Rattle.proof_check.specs.Refused.{IsRefused}
@@ -28,15 +30,26 @@ line_of (OfFiles refusal) = refusal_text refusal
 line_of ProofTooLong = too_long
 
 -- a stop comes only with its cause
-abbrev pub ExplainsStop : Counts → Counts → Stop → Type 0
-ExplainsStop old new (Refused refusal) = Calm old new
-ExplainsStop old new NotOpened = Rose old.file new.file
-ExplainsStop old new Unread = Rose old.read new.read
-ExplainsStop old new OutOfMemory = ⊤
+abbrev pub StopChanges : FilesState → FilesState → Stop → Type 0
+StopChanges old new (Refused refusal) = OpenedUpTo 4 old new
+StopChanges old new NotOpened = MissingOf 4 old new
+StopChanges old new Unread = UnreadOf 4 old new
+StopChanges old new OutOfMemory = OpenedUpTo 4 old new
 
-abbrev pub Explains : {T : Type 0} → Counts → Counts → Result T Stop → Type 0
-Explains old new (Ok t) = Calm old new
-Explains old new (Err stop) = ExplainsStop old new stop
+abbrev pub ReadChanges : {T : Type 0} → FilesState → FilesState → Result T Stop → Type 0
+ReadChanges old new (Ok t) = Opened 4 old new
+ReadChanges old new (Err stop) = StopChanges old new stop
+
+-- what reading the proof changes, behind the three files
+abbrev pub ProofStops : FilesState → FilesState → Stop → Type 0
+ProofStops old new (Refused refusal) = Opened 4 old new
+ProofStops old new NotOpened = FileFault old new
+ProofStops old new Unread = OpenedThenUnread 4 old new
+ProofStops old new OutOfMemory = Opened 4 old new
+
+abbrev pub ProofChanges : {T : Type 0} → FilesState → FilesState → Result T Stop → Type 0
+ProofChanges old new (Ok t) = Opened 4 old new
+ProofChanges old new (Err stop) = ProofStops old new stop
 
 -- what is refused of these four files is refused rightly
 abbrev pub RefusesRight : Given → List ℕ → Stop → Type 0
@@ -45,12 +58,12 @@ RefusesRight given proof NotOpened = ⊤
 RefusesRight given proof Unread = ⊤
 RefusesRight given proof OutOfMemory = ⊤
 
--- the first n files are refused with this line, unless a fault at one of them, or a lack of memory, came before
+-- the first n files are refused with this line, unless a fault at one of them, or a lack of memory, came before; no file behind was opened
 abbrev pub StopsFirst : ℕ → List ℕ → (started : ℕ) → Stop → Type 0
-StopsFirst n line started (Refused refusal) = line_of refusal ≡ line
+StopsFirst n line started (Refused refusal) = (line_of refusal ≡ line) × (started ≤ n)
 StopsFirst n line started NotOpened = started < n
 StopsFirst n line started Unread = started ≤ n
-StopsFirst n line started OutOfMemory = ⊤
+StopsFirst n line started OutOfMemory = started ≤ n
 
 abbrev pub RefusedFirst : {T : Type 0} → ℕ → List ℕ → (started : ℕ) → Result T Stop → Type 0
 RefusedFirst n line started (Ok t) = ⊥
@@ -74,5 +87,5 @@ EndsWith OutOfMemory out new_out status = (status ≡ statuses.OutOfMemory) × S
 
 -- the faults of the sink say whether the line was written
 abbrev pub OutExplains : ℕ → ℕ → CheckStatus → Type 0
-OutExplains old new statuses.WriteFault = Rose old new
+OutExplains old new statuses.WriteFault = Rises old new
 OutExplains old new _ = new ≡ old

@@ -2,7 +2,8 @@
 use Rattle.std.specs.Prelude.{◌≡◌, ℕ, ◌⊎◌, List, [], ◌∷◌, ◌++◌, length, codes}
 use Rattle.journal_text.specs.Spelling.{field, line_feed}
 use Rattle.backsim_io.specs.Counts.{Grows}
-use Rattle.backsim_io.specs.Held.{Made, FileGrows}
+use Rattle.owned_text.specs.Made.{Made}
+use Rattle.backsim_io.specs.Held.{FileGrows}
 use Rattle.session_meaning.specs.Broken.{IsPrefix}
 use Rattle.session_loop.specs.Halting.{session_files}
 

@@ -1,7 +1,7 @@
 -- What only the proofs and the private functions of this crate speak of, beside `Serving`.
 use Rattle.std.specs.Prelude.{◌≡◌, ℕ, ◌+◌, ◌<◌, ◌⊎◌, List, [], ◌∷◌, ◌++◌, length, get_or, Option}
 use Rattle.std.specs.Io.KnownBytes.{Consumes}
-use Rattle.backsim_io.specs.Held.{Made}
+use Rattle.owned_text.specs.Made.{Made}
 use Rattle.cell_store.specs.Recency.{Contents}
 use Rattle.batch_meaning.specs.Batches.{Batch}
 use Rattle.journal_meaning.specs.declared.Entry.{Entry}

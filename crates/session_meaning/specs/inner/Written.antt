@@ -1,7 +1,6 @@
 -- What only the proofs and the private functions of this crate speak of, beside `Written`.
-use Rattle.std.specs.Prelude.{ℕ, ◌+◌, List, [], ◌∷◌, flat_map}
+use Rattle.std.specs.Prelude.{ℕ, List, flat_map}
 use Rattle.journal_meaning.specs.Sections.{SectionEntries}
-use Rattle.journal_text.specs.declared.sections.SectionKind.TheVariants as kinds
 use Rattle.journal_text.specs.Spelling.{section_lines}
 use Rattle.session_meaning.specs.Written.{numbered_from}
 

@@ -1,16 +1,7 @@
-use Rattle.std.proofs.Common.{List, All, sym, subst}
-use Rattle.std.specs.BTreeMap.{get}
-use Rattle.journal_meaning.specs.inner.Grown.{IsRightEntry}
-use Rattle.journal_meaning.specs.inner.Index.{cells_said, IsCellIndex}
-use Rattle.valid_intervals.specs.Cells.{point_cmp}
-use Rattle.journal_meaning.proofs.Lists.{Each}
-use Rattle.plan_machine.specs.Sound.{IsFresh}
-use Rattle.plan_machine.specs.Settle.{AreShards, AreFreed}
-use Rattle.plan_machine.proofs.Settle.{right-of}
+use Rattle.std.proofs.Common.{List, All, subst}
+use Rattle.plan_machine.specs.Settle.{AreShards}
 use Rattle.memo_shards.specs.KeptShards.{KeptShard, IsKnownShard}
 use Rattle.plan_core.specs.Parts.{shards_in}
-use Rattle.asked_cells.specs.Memos.{AreFreeShards, entries_of}
-use Rattle.asked_cells.proofs.Lists.{each-from}
 use Rattle.asked_cells.proofs.Freeing.{known-shards, shards-freed, freed-numbers, freed-fresh}
 use Rattle.asked_cells.proofs.memo.begin.Goals as goal
 
@@ -19,21 +10,10 @@ returns-clause-shards g c =
     let b = g.B.BatchName.batch in
     known-shards b g.B.BatchName.opening c.args.shards.items c.requires.count c.requires.numbers (subst (λ (ms : List KeptShard). All (IsKnownShard b g.B.BatchName.opening) ms) c.deref.ensures.value c.know_all.ensures)
 
-pub returns-in_err-cells-clause-shards : goal.returns-in_err-cells-clause-shards
-returns-in_err-cells-clause-shards g c =
+pub returns-in_err-places-clause-shards : goal.returns-in_err-places-clause-shards
+returns-in_err-places-clause-shards g c =
     let b = g.B.BatchName.batch in
     known-shards b g.B.BatchName.opening c.args.shards.items c.requires.count c.requires.numbers (subst (λ (ms : List KeptShard). All (IsKnownShard b g.B.BatchName.opening) ms) c.deref.ensures.value c.know_all.ensures)
-
-pub invariant_of-result : goal.invariant_of-result
-invariant_of-result g c =
-    let b = g.B.BatchName.batch in
-    let opening = g.B.BatchName.opening in
-    let old = c.args.shards.items in
-    let new = c.free_all.new.shards.items in
-    let are : AreShards b opening (shards_in old) = known-shards b opening old c.requires.count c.requires.numbers (subst (λ (ms : List KeptShard). All (IsKnownShard b opening) ms) c.deref.ensures.value c.know_all.ensures) in
-    let fresh : IsFresh b opening (shards_in new) = freed-fresh b c.requires.lawful opening old new are (shards-freed old new c.free_all.ensures.count c.free_all.ensures.freed) in
-    subst (λ (ms : List KeptShard). Each (IsRightEntry b.circuit) (entries_of ms) → IsCellIndex b.circuit (cells_said (entries_of ms)) (get point_cmp c.in_ok-cells.cells.cells)) c.deref-2.ensures.value
-    (c.in_ok-cells.ensures b.circuit c.requires.lawful.circuit) (each-from (IsRightEntry b.circuit) (entries_of new) (right-of b c.requires.lawful opening (shards_in new) fresh))
 
 pub returns-clause-freed : goal.returns-clause-freed
 returns-clause-freed g c = shards-freed c.args.shards.items c.free_all.new.shards.items c.free_all.ensures.count c.free_all.ensures.freed

@@ -41,7 +41,7 @@ returns-clause-asked g c =
     let alone : strands_in c.push.new.self.items ≡ strands.started b.circuit a ∷ [] = ap strands_in items ∙ ap (λ s. s ∷ []) c.start-strand.ensures.strand in
     let is : c.in_ok-plan.plan ≡ made = c.in_ok-plan.ensures.ok ∙ ap (λ ss. record { strands = ss; shards = old }) alone in
     let o : Option Point = point_of c.in_ok-alone.alone in
-    let ran = c.in_ok-alone.ensures a (subst (BeginsAlone b opening 0 a) (sym is) (begins b c.requires.lawful opening old c.requires.fresh a c.requires.start)) in
+    let ran = c.in_ok-alone.ensures.ran a (subst (BeginsAlone b opening 0 a) (sym is) (begins b c.requires.lawful opening old c.requires.fresh a c.requires.start)) in
     let from : RanAlone b opening 0 a made c.run_alone.new.self o = subst (λ p. RanAlone b opening 0 a p c.run_alone.new.self o) is ran in
     let known : AskedAlone b opening a old c.run_alone.new.self.shards o = asked b c.requires.lawful opening old a c.run_alone.new.self o from in
     let spent : c.match-matches.matches ≡ is_some o = elim c.match-matches.branch [

@@ -1,10 +1,8 @@
-use Rattle.std.proofs.Common.{◌≡◌, map}
-use Rattle.command_words.specs.Words.{words_of}
+use Rattle.std.proofs.Common.{◌≡◌, ◌∙◌, [], inl, inr, refl, sym, subst, map, Option, Some, None}
+use Rattle.command_words.specs.Words.{words_of, Form}
+use Rattle.backsim.specs.Seen.{Seen}
 use Rattle.backsim.specs.declared.status.Status.TheVariants.{Ended, OutOfMemory}
-use Rattle.backsim.specs.Work.{IsWorkServed}
-use Rattle.backsim.proofs.Asked.{session-complete, form-said, workload-explained, any-session, any-workload}
-use Rattle.backsim.proofs.Ends.{early-not_ended}
-use Rattle.backsim.proofs.Halts.{unbegun-open}
+use Rattle.backsim.proofs.Asked.{form-said, none-said, on-session, on-workload, on-usage, no-memory}
 use Rattle.backsim.proofs.Ranges.{session-in-range, workload-in-range}
 use Rattle.backsim.proofs.serve.serve.Goals as goal
 
@@ -30,30 +28,6 @@ serve_files-requires-clause-cells g c κs within =
     (session-in-range (map (λ word. word.now) c.args.words.now) s.netlist.now s.timing.now s.stimulus.now s.journal.now s.workers s.shards s.cells
     (form-said s.field-0 s.field-0-0 _ asked s.field-0-is s.field-0-0-is s.ensures)).cells
 
--- there was no memory to read the words
-pub returns-in-Err-clause-unfinished : goal.returns-in-Err-clause-unfinished
-returns-in-Err-clause-unfinished g c =
-    any-session _ (λ command. unbegun-open (g.F.Files.files c.args.files.now) (g.F.Files.unfinished c.args.files.now) c.requires.created (g.met.F.Files.places c.args.files.now)) _
-
-pub returns-in-Err-clause-work_served : goal.returns-in-Err-clause-work_served
-returns-in-Err-clause-work_served g c =
-    let W = g.S.Sink.written in
-    let M = g.F.Files.made in
-    any-workload (λ number journal. OutOfMemory ≡ Ended → IsWorkServed number journal (W c.args.out.now) (W c.args.out.now) (M c.args.files.now) (M c.args.files.now))
-    (λ number journal is. absurd (early-not_ended OutOfMemory tt is)) (words_of (map (λ word. word.now) c.args.words.now))
-
--- a session without a fault, of files and a script that are accepted
-pub returns-in-Ok-Some-Session-clause-complete : goal.returns-in-Ok-Some-Session-clause-complete
-returns-in-Ok-Some-Session-clause-complete g c =
-    let s = c.in-Ok-Some-Session in
-    let asked = words_of (map (λ word. word.now) c.args.words.now) in
-    let served = c.serve_files.ensures in
-    let W = g.S.Sink.written in
-    let M = g.F.Files.made in
-    session-complete asked s.netlist.now s.timing.now s.stimulus.now s.journal.now s.workers s.shards s.cells
-    (g.F.Files.held c.args.files.now) (g.Q.Source.left c.args.queries.now) (g.Q.Source.left c.serve_files.new.queries) (W c.args.out.now) (W c.serve_files.new.out) (M c.args.files.now) (M c.serve_files.new.files) (g.F.Files.files c.serve_files.new.files) _ _ c.serve_files.result
-    (form-said s.field-0 s.field-0-0 _ asked s.field-0-is s.field-0-0-is s.ensures) served.cause served.no_usage served.refused
-
 pub serve_workload-requires-clause-number : goal.serve_workload-requires-clause-number
 serve_workload-requires-clause-number g c κs within =
     let s = c.in-Ok-Some-Workload in
@@ -68,9 +42,34 @@ serve_workload-requires-clause-workers g c κs within =
     (workload-in-range (map (λ word. word.now) c.args.words.now) s.number s.journal.now s.workers
     (form-said s.field-0 s.field-0-0 _ asked s.field-0-is s.field-0-0-is s.ensures)).workers
 
-pub returns-in-Ok-Some-Workload-clause-cause : goal.returns-in-Ok-Some-Workload-clause-cause
-returns-in-Ok-Some-Workload-clause-cause g c =
+-- there was no memory to read the words
+pub returns-in-Err-clause-serves : goal.returns-in-Err-clause-serves
+returns-in-Err-clause-serves g c =
+    let before : Seen = record { outside = record { outputs = record { files = g.F.Files.state c.args.files.now; replies = g.S.Sink.faults c.args.out.now }; script = g.Q.Source.state c.args.queries.now }; written = g.S.Sink.written c.args.out.now; made = g.F.Files.made c.args.files.now } in
+    no-memory before (words_of (map (λ word. word.now) c.args.words.now)) c.requires.started c.requires.created (g.met.F.Files.places c.args.files.now)
+
+-- they are of no form
+pub returns-in-Ok-None-clause-serves : goal.returns-in-Ok-None-clause-serves
+returns-in-Ok-None-clause-serves g c =
+    let told = c.write_usage.ensures in
+    on-usage (g.Q.Source.state c.args.queries.now) (g.S.Sink.faults c.args.out.now) (g.S.Sink.faults c.write_usage.new.out) (g.F.Files.state c.args.files.now)
+    (g.S.Sink.written c.args.out.now) (g.S.Sink.written c.write_usage.new.out) (g.F.Files.made c.args.files.now) c.write_usage.result (words_of (map (λ word. word.now) c.args.words.now))
+    (none-said c.in-Ok-None.field-0 (words_of (map (λ word. word.now) c.args.words.now)) c.in-Ok-None.field-0-is c.in-Ok-None.ensures) told.status told.whole told.part told.calm told.failed
+
+pub returns-in-Ok-Some-Session-clause-serves : goal.returns-in-Ok-Some-Session-clause-serves
+returns-in-Ok-Some-Session-clause-serves g c =
+    let s = c.in-Ok-Some-Session in
+    let asked = words_of (map (λ word. word.now) c.args.words.now) in
+    let before : Seen = record { outside = record { outputs = record { files = g.F.Files.state c.args.files.now; replies = g.S.Sink.faults c.args.out.now }; script = g.Q.Source.state c.args.queries.now }; written = g.S.Sink.written c.args.out.now; made = g.F.Files.made c.args.files.now } in
+    let after : Seen = record { outside = record { outputs = record { files = g.F.Files.state c.serve_files.new.files; replies = g.S.Sink.faults c.serve_files.new.out }; script = g.Q.Source.state c.serve_files.new.queries }; written = g.S.Sink.written c.serve_files.new.out; made = g.F.Files.made c.serve_files.new.files } in
+    on-session before after c.serve_files.result asked s.netlist.now s.timing.now s.stimulus.now s.journal.now s.workers s.shards s.cells
+    (form-said s.field-0 s.field-0-0 _ asked s.field-0-is s.field-0-0-is s.ensures) c.serve_files.ensures.serves
+
+pub returns-in-Ok-Some-Workload-clause-serves : goal.returns-in-Ok-Some-Workload-clause-serves
+returns-in-Ok-Some-Workload-clause-serves g c =
     let s = c.in-Ok-Some-Workload in
     let asked = words_of (map (λ word. word.now) c.args.words.now) in
-    workload-explained asked s.number s.journal.now s.workers _ _ c.serve_workload.result
-    (form-said s.field-0 s.field-0-0 _ asked s.field-0-is s.field-0-0-is s.ensures) (c.serve_workload.ensures.cause (g.Q.Source.faults c.args.queries.now))
+    let before : Seen = record { outside = record { outputs = record { files = g.F.Files.state c.args.files.now; replies = g.S.Sink.faults c.args.out.now }; script = g.Q.Source.state c.args.queries.now }; written = g.S.Sink.written c.args.out.now; made = g.F.Files.made c.args.files.now } in
+    let after : Seen = record { outside = record { outputs = record { files = g.F.Files.state c.serve_workload.new.files; replies = g.S.Sink.faults c.serve_workload.new.out }; script = g.Q.Source.state c.args.queries.now }; written = g.S.Sink.written c.serve_workload.new.out; made = g.F.Files.made c.serve_workload.new.files } in
+    on-workload before after c.serve_workload.result asked s.number s.journal.now s.workers
+    (form-said s.field-0 s.field-0-0 _ asked s.field-0-is s.field-0-0-is s.ensures) (c.serve_workload.ensures.serves (g.Q.Source.state c.args.queries.now))

@@ -1,143 +1,140 @@
-use Rattle.std.proofs.Common.{◌∙◌, inl, subst}
-use Rattle.backsim.proofs.Explained.{calm-files, files-explain, end-explains, halt-ends}
-use Rattle.backsim.proofs.Ends.{of-files, files-refused, files-leave, first-refuses, all-refuse, files-refuse}
-use Rattle.backsim.proofs.Halts.{served-all, halt-refused, halt-leaves, halted-script, err-of, untouched-script, of-halt, none-unfinished, files-open, halt-open}
+use Rattle.std.proofs.Common.{◌≡◌, ◌∙◌, ◌≤◌, inl, inr, refl, sym, ap, subst, arith, [], List, Some, Ok, Err}
+use Rattle.circuit_files.specs.declared.stop.FilesStop.{FilesStop}
+use Rattle.backsim_io.specs.Counts.{Stays}
+use Rattle.backsim_io.specs.State.{FilesState}
+use Rattle.session_loop.specs.Halting.{IsHalted}
+use Rattle.session_loop.specs.Outside.{Outside}
 use Rattle.session_loop.specs.declared.halt.Halt.TheVariants.{JournalUnmade}
-use Rattle.backsim.specs.Commands.{command_of}
-use Rattle.backsim.specs.Session.{setup_of}
-use Rattle.backsim.specs.inner.Stops.{files_stop, EndExplains}
+use Rattle.backsim.specs.Cause.{counts_in, Calm, Explains}
+use Rattle.backsim.specs.Commands.{Command, command_of}
+use Rattle.backsim.specs.Refused.{EndsEarly, IsRefused}
+use Rattle.backsim.specs.Seen.{Seen, left_in, created_in, IsUntouched}
+use Rattle.backsim.specs.Session.{Given, AreGiven, setup_of}
 use Rattle.backsim.specs.declared.refusal.Stop.{Stop}
+use Rattle.backsim.specs.declared.status.Status.{Status}
+use Rattle.backsim.specs.declared.status.Status.TheVariants.{Ended, Words}
+use Rattle.backsim.specs.declared.status.Status.TheVariants as statuses
+use Rattle.backsim.specs.inner.Stops.{files_stop, stop_of, EndsWith, EndExplains}
+use Rattle.backsim.proofs.Asked.{session-complete, of-accepted, no-refusal, short-script, ended-no-usage, early-serves}
+use Rattle.backsim.proofs.Ends.{NoneCreated, of-files, ends-early, early-no_usage, files-refused, files-leave, files-untouched, first-refuses, all-refuse, files-refuse}
+use Rattle.backsim.proofs.Explained.{outside_at, calm-then, calm-files, calm-served, files-explain, files-kept, end-explains, halt-ends, halt-open, files-open, none-unfinished}
+use Rattle.backsim.proofs.Halts.{served-all, halt-refused, halt-leaves, halted-script, err-of, of-halt, halt-no_file}
 use Rattle.backsim.proofs.serve.serve_files.Goals as goal
 
 -- the files made no design
-pub returns-in-Err-clause-cause : goal.returns-in-Err-clause-cause
-returns-in-Err-clause-cause g c =
-    end-explains 3 _ _ _ (files_stop c.in-Err.stop) _
-    (files-explain (g.Q.Source.faults c.args.queries.now) (g.S.Sink.faults c.args.out.now) _ _ (g.F.Files.files c.args.files.now) (g.F.Files.files c.read_design.new.files) _ _ c.in-Err.stop c.in-Err.ensures.cause c.in-Err.ensures.write_faults)
-    (subst (λ (s : Stop). EndExplains s (g.S.Sink.faults c.args.out.now) (g.S.Sink.faults c.end_stopped.new.out) c.end_stopped.result) c.from.ensures c.end_stopped.ensures.cause)
-
-pub returns-in-Err-clause-refused : goal.returns-in-Err-clause-refused
-returns-in-Err-clause-refused g c given are is =
-    let W = g.S.Sink.written in
-    let M = g.F.Files.made in
-    let told = of-files c.in-Err.stop c.from.result (W c.args.out.now) (W c.end_stopped.new.out) c.end_stopped.result c.from.ensures c.end_stopped.ensures.told in
-    inl (files-refused given c.in-Err.stop (g.Q.Source.left c.args.queries.now) (W c.args.out.now) (W c.end_stopped.new.out) (M c.args.files.now) (M c.read_design.new.files) c.end_stopped.result
-    (c.in-Err.ensures.design given.netlist given.timing given.stimulus are.netlist are.timing are.stimulus) are.script c.in-Err.ensures.made told is)
-
-pub returns-in-Err-clause-broken : goal.returns-in-Err-clause-broken
-returns-in-Err-clause-broken g c given are =
-    let W = g.S.Sink.written in
-    let M = g.F.Files.made in
-    let N = g.F.Files.files in
-    let told = of-files c.in-Err.stop c.from.result (W c.args.out.now) (W c.end_stopped.new.out) c.end_stopped.result c.from.ensures c.end_stopped.ensures.told in
-    files-leave _ given c.in-Err.stop (g.Q.Source.left c.args.queries.now) (W c.args.out.now) (W c.end_stopped.new.out) (M c.args.files.now) (M c.read_design.new.files) (N c.args.files.now) (N c.read_design.new.files) c.end_stopped.result
-    (c.in-Err.ensures.design given.netlist given.timing given.stimulus are.netlist are.timing are.stimulus) are.script c.in-Err.ensures.made c.in-Err.ensures.files told
-
-pub returns-in-Err-clause-netlist_refused : goal.returns-in-Err-clause-netlist_refused
-returns-in-Err-clause-netlist_refused g c refusal first held is =
-    let W = g.S.Sink.written in
-    let M = g.F.Files.made in
-    let N = g.F.Files.files in
-    let told = of-files c.in-Err.stop c.from.result (W c.args.out.now) (W c.end_stopped.new.out) c.end_stopped.result c.from.ensures c.end_stopped.ensures.told in
-    files-refuse c.in-Err.stop refusal (g.Q.Source.left c.args.queries.now) (W c.args.out.now) (W c.end_stopped.new.out) (M c.args.files.now) (M c.read_design.new.files) (N c.args.files.now) (N c.read_design.new.files) c.end_stopped.result
-    (first-refuses 1 c.in-Err.stop _ refusal (c.in-Err.ensures.first first held) is) c.in-Err.ensures.made c.in-Err.ensures.files told
-
-pub returns-in-Err-clause-timing_refused : goal.returns-in-Err-clause-timing_refused
-returns-in-Err-clause-timing_refused g c refusal first second held_first held_second is =
-    let W = g.S.Sink.written in
-    let M = g.F.Files.made in
-    let N = g.F.Files.files in
-    let told = of-files c.in-Err.stop c.from.result (W c.args.out.now) (W c.end_stopped.new.out) c.end_stopped.result c.from.ensures c.end_stopped.ensures.told in
-    files-refuse c.in-Err.stop refusal (g.Q.Source.left c.args.queries.now) (W c.args.out.now) (W c.end_stopped.new.out) (M c.args.files.now) (M c.read_design.new.files) (N c.args.files.now) (N c.read_design.new.files) c.end_stopped.result
-    (first-refuses 2 c.in-Err.stop _ refusal (c.in-Err.ensures.second first second held_first held_second) is) c.in-Err.ensures.made c.in-Err.ensures.files told
-
-pub returns-in-Err-clause-files_refused : goal.returns-in-Err-clause-files_refused
-returns-in-Err-clause-files_refused g c refusal first second third held_first held_second held_third is =
-    let W = g.S.Sink.written in
-    let M = g.F.Files.made in
-    let N = g.F.Files.files in
-    let told = of-files c.in-Err.stop c.from.result (W c.args.out.now) (W c.end_stopped.new.out) c.end_stopped.result c.from.ensures c.end_stopped.ensures.told in
-    files-refuse c.in-Err.stop refusal (g.Q.Source.left c.args.queries.now) (W c.args.out.now) (W c.end_stopped.new.out) (M c.args.files.now) (M c.read_design.new.files) (N c.args.files.now) (N c.read_design.new.files) c.end_stopped.result
-    (all-refuse c.in-Err.stop _ refusal (c.in-Err.ensures.design first second third held_first held_second held_third) is) c.in-Err.ensures.made c.in-Err.ensures.files told
-
-pub returns-in-Err-clause-unfinished : goal.returns-in-Err-clause-unfinished
-returns-in-Err-clause-unfinished g c =
-    let W = g.S.Sink.written in
-    let told = of-files c.in-Err.stop c.from.result (W c.args.out.now) (W c.end_stopped.new.out) c.end_stopped.result c.from.ensures c.end_stopped.ensures.told in
-    files-open (g.F.Files.unfinished c.read_design.new.files) c.in-Err.stop (W c.args.out.now) (W c.end_stopped.new.out) c.end_stopped.result
-    (none-unfinished (g.F.Files.files c.read_design.new.files) (g.F.Files.unfinished c.read_design.new.files) (c.in-Err.ensures.files ∙ c.requires.created) (g.met.F.Files.places c.read_design.new.files)) told
-
--- the session ended
-pub returns-in-Ok-serve_session-clause-cause : goal.returns-in-Ok-serve_session-clause-cause
-returns-in-Ok-serve_session-clause-cause g c =
-    let calm = c.in-Ok.ensures.cause in
-    let served = c.in-Ok-serve_session.ensures in
+pub returns-in-Err-clause-serves : goal.returns-in-Err-clause-serves
+returns-in-Err-clause-serves g c =
+    let stop = c.in-Err.stop in
+    let status = c.end_stopped.result in
+    let command : Command = command_of c.args.netlist.now c.args.timing.now c.args.stimulus.now c.args.journal.now c.args.workers c.args.sizes.shards c.args.sizes.cells in
+    let before : Seen = record { outside = record { outputs = record { files = g.F.Files.state c.args.files.now; replies = g.S.Sink.faults c.args.out.now }; script = g.Q.Source.state c.args.queries.now }; written = g.S.Sink.written c.args.out.now; made = g.F.Files.made c.args.files.now } in
+    let after : Seen = record { outside = record { outputs = record { files = g.F.Files.state c.read_design.new.files; replies = g.S.Sink.faults c.end_stopped.new.out }; script = g.Q.Source.state c.args.queries.now }; written = g.S.Sink.written c.end_stopped.new.out; made = g.F.Files.made c.read_design.new.files } in
+    let old = g.F.Files.state c.args.files.now in
+    let new = g.F.Files.state c.read_design.new.files in
+    let changes = c.in-Err.ensures.state in
+    let kept = files-kept old new stop changes in
+    let none : NoneCreated before after = record { unread = refl; same_files = c.in-Err.ensures.made; no_file = kept.0 } in
+    let told = of-files stop c.from.result before.written after.written status c.from.ensures c.end_stopped.ensures.told in
+    let early = ends-early (files_stop stop) before.written after.written status told in
+    let cause : Explains 3 before.outside after.outside status =
+    end-explains 3 before.outside (outside_at (g.Q.Source.state c.args.queries.now) (g.S.Sink.faults c.args.out.now) new) (g.S.Sink.faults c.end_stopped.new.out) (files_stop stop) status
+    (files-explain (g.Q.Source.state c.args.queries.now) (g.S.Sink.faults c.args.out.now) old new stop changes)
+    (subst (λ (s : Stop). EndExplains s (g.S.Sink.faults c.args.out.now) (g.S.Sink.faults c.end_stopped.new.out) status) c.from.ensures c.end_stopped.ensures.cause) in
+    let refused : (given : Given) → AreGiven before command given → status ≡ statuses.Refused → IsRefused command given before after =
+    λ given are is. inl (files-refused before after none given stop status (c.in-Err.ensures.design given.netlist given.timing given.stimulus are.netlist are.timing are.stimulus) are.script told is) in
     record {
-      queries = served.calm_queries;
-      replies = served.calm_replies;
-      file = served.calm_files ∙ calm.file;
-      read = served.read_faults ∙ calm.read;
-      write = served.calm_writes ∙ c.in-Ok.ensures.write_faults;
+      ended = λ given are is. early-serves command given before after status early is;
+      refused = refused;
+      netlist_refused = λ refusal first held is. files-refuse before after none 1 stop refusal status (first-refuses 1 old new stop _ refusal changes (c.in-Err.ensures.first first held) is) told;
+      timing_refused = λ refusal first second held_first held_second is.
+          files-refuse before after none 2 stop refusal status (first-refuses 2 old new stop _ refusal changes (c.in-Err.ensures.second first second held_first held_second) is) told;
+      files_refused = λ refusal first second third held_first held_second held_third is.
+          files-refuse before after none 3 stop refusal status (all-refuse old new stop _ refusal changes (c.in-Err.ensures.design first second third held_first held_second held_third) is) told;
+      script_refused = λ given are long. early;
+      no_usage = early-no_usage status early;
+      cause = cause;
+      leaves = λ given are. files-leave before after none command given stop status (c.in-Err.ensures.design given.netlist given.timing given.stimulus are.netlist are.timing are.stimulus) are.script told;
+      untouched = files-untouched before after none stop status told;
+      unfinished = files-open new stop before.written after.written status
+          (kept.1 ∙ none-unfinished old.created old.unfinished c.requires.created (g.met.F.Files.places c.args.files.now)) told;
+      complete = session-complete command before after status cause (early-no_usage status early) refused;
     }
 
-pub returns-in-Ok-serve_session-clause-session : goal.returns-in-Ok-serve_session-clause-session
-returns-in-Ok-serve_session-clause-session g c given are is =
-    let W = g.S.Sink.written in
-    let M = g.F.Files.made in
-    served-all _ given c.in-Ok.design (c.in-Ok.ensures.design given.netlist given.timing given.stimulus are.netlist are.timing are.stimulus)
-    c.enough_budgets_are_served.ensures c.dumps_are_read_back.ensures c.facts.ensures (W c.args.out.now) (W c.serve_session.new.out) (M c.args.files.now) (M c.read_design.new.files) (M c.serve_session.new.files) (g.F.Files.files c.serve_session.new.files)
-    (c.in-Ok-serve_session.ensures.short given.script are.script) c.in-Ok.ensures.made (c.in-Ok-serve_session.ensures.served given.script are.script)
-
-pub returns-in-Ok-serve_session-clause-unfinished : goal.returns-in-Ok-serve_session-clause-unfinished
-returns-in-Ok-serve_session-clause-unfinished g c =
-    c.in-Ok-serve_session.ensures.unfinished
-    ∙ none-unfinished (g.F.Files.files c.read_design.new.files) (g.F.Files.unfinished c.read_design.new.files) (c.in-Ok.ensures.files ∙ c.requires.created) (g.met.F.Files.places c.read_design.new.files)
+-- the session ended
+pub returns-in-Ok-serve_session-clause-serves : goal.returns-in-Ok-serve_session-clause-serves
+returns-in-Ok-serve_session-clause-serves g c =
+    let command : Command = command_of c.args.netlist.now c.args.timing.now c.args.stimulus.now c.args.journal.now c.args.workers c.args.sizes.shards c.args.sizes.cells in
+    let before : Seen = record { outside = record { outputs = record { files = g.F.Files.state c.args.files.now; replies = g.S.Sink.faults c.args.out.now }; script = g.Q.Source.state c.args.queries.now }; written = g.S.Sink.written c.args.out.now; made = g.F.Files.made c.args.files.now } in
+    let after : Seen = record { outside = record { outputs = record { files = g.F.Files.state c.serve_session.new.files; replies = g.S.Sink.faults c.serve_session.new.out }; script = g.Q.Source.state c.serve_session.new.queries }; written = g.S.Sink.written c.serve_session.new.out; made = g.F.Files.made c.serve_session.new.files } in
+    let old = g.F.Files.state c.args.files.now in
+    let mid = g.F.Files.state c.read_design.new.files in
+    let served = c.in-Ok-serve_session.ensures in
+    let calm : Calm (counts_in before.outside) (counts_in after.outside) =
+    calm-then (counts_in before.outside) (counts_in (outside_at (g.Q.Source.state c.args.queries.now) (g.S.Sink.faults c.args.out.now) mid)) (counts_in after.outside)
+    (calm-files (g.Q.Source.state c.args.queries.now) (g.S.Sink.faults c.args.out.now) 3 old mid c.in-Ok.ensures.state)
+    (calm-served (outside_at (g.Q.Source.state c.args.queries.now) (g.S.Sink.faults c.args.out.now) mid) after.outside served.state) in
+    of-accepted command before after Ended c.in-Ok.design mid.started c.in-Ok.ensures.first c.in-Ok.ensures.second c.in-Ok.ensures.design
+    (record {
+      ended = λ given are is. served-all command given c.in-Ok.design (c.in-Ok.ensures.design given.netlist given.timing given.stimulus are.netlist are.timing are.stimulus)
+          before after after.written (g.F.Files.made c.read_design.new.files) c.in-Ok.ensures.made c.sessions_are_whole.ensures c.facts.ensures
+          (λ start h. h) (served.short given.script are.script) (served.served given.script are.script);
+      refused = λ given are is. no-refusal command given before after is;
+      script_refused = λ given are long. short-script given (served.short given.script are.script) long;
+      no_usage = ended-no-usage;
+      cause = calm;
+      leaves = λ given are. tt;
+      untouched = tt;
+      unfinished = ap (λ (s : FilesState). s.unfinished) served.state.outputs.changed.same ∙ (ap (λ (s : FilesState). s.unfinished) c.in-Ok.ensures.state
+          ∙ none-unfinished old.created old.unfinished c.requires.created (g.met.F.Files.places c.args.files.now));
+    })
 
 -- it halted
-pub returns-in-Err-serve_session-clause-cause : goal.returns-in-Err-serve_session-clause-cause
-returns-in-Err-serve_session-clause-cause g c =
+pub returns-in-Err-serve_session-clause-serves : goal.returns-in-Err-serve_session-clause-serves
+returns-in-Err-serve_session-clause-serves g c =
+    let halt = c.in-Err-serve_session.halt in
+    let status = c.end_stopped-in-Err-serve_session.result in
+    let command : Command = command_of c.args.netlist.now c.args.timing.now c.args.stimulus.now c.args.journal.now c.args.workers c.args.sizes.shards c.args.sizes.cells in
+    let before : Seen = record { outside = record { outputs = record { files = g.F.Files.state c.args.files.now; replies = g.S.Sink.faults c.args.out.now }; script = g.Q.Source.state c.args.queries.now }; written = g.S.Sink.written c.args.out.now; made = g.F.Files.made c.args.files.now } in
+    let after : Seen = record { outside = record { outputs = record { files = g.F.Files.state c.serve_session.new.files; replies = g.S.Sink.faults c.end_stopped-in-Err-serve_session.new.out }; script = g.Q.Source.state c.serve_session.new.queries }; written = g.S.Sink.written c.end_stopped-in-Err-serve_session.new.out; made = g.F.Files.made c.serve_session.new.files } in
+    let old = g.F.Files.state c.args.files.now in
+    let mid = g.F.Files.state c.read_design.new.files in
+    let read : Outside = outside_at (g.Q.Source.state c.args.queries.now) (g.S.Sink.faults c.args.out.now) mid in
+    let served : Outside = outside_at (g.Q.Source.state c.serve_session.new.queries) (g.S.Sink.faults c.serve_session.new.out) (g.F.Files.state c.serve_session.new.files) in
+    let w' = g.S.Sink.written c.serve_session.new.out in
+    let m' = g.F.Files.made c.read_design.new.files in
     let halted = c.in-Err-serve_session.ensures in
-    halt-ends _ _ _ _ c.in-Err-serve_session.halt c.from-in-Err-serve_session.result _
-    (calm-files (g.Q.Source.faults c.args.queries.now) (g.S.Sink.faults c.args.out.now) _ _ (g.F.Files.files c.args.files.now) (g.F.Files.files c.read_design.new.files) _ _ c.in-Ok.ensures.cause c.in-Ok.ensures.write_faults)
-    c.in-Ok.ensures.started halted.started halted.read_faults halted.cause c.from-in-Err-serve_session.ensures c.end_stopped-in-Err-serve_session.ensures.cause
-
-pub returns-in-Err-serve_session-clause-refused : goal.returns-in-Err-serve_session-clause-refused
-returns-in-Err-serve_session-clause-refused g c given are is =
-    let W = g.S.Sink.written in
-    let M = g.F.Files.made in
-    let L = g.Q.Source.left in
-    let halt = c.in-Err-serve_session.halt in
-    let command = command_of c.args.netlist.now c.args.timing.now c.args.stimulus.now c.args.journal.now c.args.workers c.args.sizes.shards c.args.sizes.cells in
-    halt-refused command given c.in-Ok.design (c.in-Ok.ensures.design given.netlist given.timing given.stimulus are.netlist are.timing are.stimulus)
-    halt (L c.serve_session.new.queries) (W c.args.out.now) (W c.serve_session.new.out) (W c.end_stopped-in-Err-serve_session.new.out) (M c.args.files.now) (M c.read_design.new.files) (M c.serve_session.new.files) (g.F.Files.files c.serve_session.new.files) c.end_stopped-in-Err-serve_session.result
-    c.in-Ok.ensures.made
-    (halted-script (setup_of command c.in-Ok.design) c.args.journal.now given.script (L c.args.queries.now) (L c.serve_session.new.queries) (W c.args.out.now) (W c.serve_session.new.out) (M c.read_design.new.files) (M c.serve_session.new.files) (g.F.Files.files c.serve_session.new.files) halt
-    are.script (c.in-Err-serve_session.ensures.halted given.script are.script))
-    (of-halt halt c.from-in-Err-serve_session.result (W c.serve_session.new.out) (W c.end_stopped-in-Err-serve_session.new.out) c.end_stopped-in-Err-serve_session.result c.from-in-Err-serve_session.ensures c.end_stopped-in-Err-serve_session.ensures.told) is
-
-pub returns-in-Err-serve_session-clause-broken : goal.returns-in-Err-serve_session-clause-broken
-returns-in-Err-serve_session-clause-broken g c given are =
-    let W = g.S.Sink.written in
-    let M = g.F.Files.made in
-    let L = g.Q.Source.left in
-    let N = g.F.Files.files in
-    let halt = c.in-Err-serve_session.halt in
-    let command = command_of c.args.netlist.now c.args.timing.now c.args.stimulus.now c.args.journal.now c.args.workers c.args.sizes.shards c.args.sizes.cells in
-    halt-leaves command given c.in-Ok.design (c.in-Ok.ensures.design given.netlist given.timing given.stimulus are.netlist are.timing are.stimulus)
-    c.enough_budgets_are_served.ensures c.dumps_are_read_back.ensures c.facts.ensures halt (L c.serve_session.new.queries) (W c.args.out.now) (W c.serve_session.new.out) (W c.end_stopped-in-Err-serve_session.new.out) (M c.args.files.now) (M c.read_design.new.files) (M c.serve_session.new.files) (N c.args.files.now) (N c.serve_session.new.files) c.end_stopped-in-Err-serve_session.result
-    c.in-Ok.ensures.made
-    (λ unmade. untouched-script given.script (L c.args.queries.now) (L c.serve_session.new.queries) (W c.args.out.now) (W c.serve_session.new.out) (M c.args.files.now) (M c.read_design.new.files) (M c.serve_session.new.files) (N c.args.files.now) (N c.read_design.new.files) (N c.serve_session.new.files)
-    are.script c.in-Ok.ensures.made c.in-Ok.ensures.files (c.in-Err-serve_session.ensures.untouched (err-of halt JournalUnmade unmade)))
-    (halted-script (setup_of command c.in-Ok.design) c.args.journal.now given.script (L c.args.queries.now) (L c.serve_session.new.queries) (W c.args.out.now) (W c.serve_session.new.out) (M c.read_design.new.files) (M c.serve_session.new.files) (g.F.Files.files c.serve_session.new.files) halt
-    are.script (c.in-Err-serve_session.ensures.halted given.script are.script))
-    (of-halt halt c.from-in-Err-serve_session.result (W c.serve_session.new.out) (W c.end_stopped-in-Err-serve_session.new.out) c.end_stopped-in-Err-serve_session.result c.from-in-Err-serve_session.ensures c.end_stopped-in-Err-serve_session.ensures.told)
-
-pub returns-in-Err-serve_session-clause-unfinished : goal.returns-in-Err-serve_session-clause-unfinished
-returns-in-Err-serve_session-clause-unfinished g c =
-    let W = g.S.Sink.written in
-    let U = g.F.Files.unfinished in
-    let halt = c.in-Err-serve_session.halt in
-    halt-open (U c.read_design.new.files) (U c.serve_session.new.files) halt (W c.serve_session.new.out) (W c.end_stopped-in-Err-serve_session.new.out) c.end_stopped-in-Err-serve_session.result
-    (none-unfinished (g.F.Files.files c.read_design.new.files) (U c.read_design.new.files) (c.in-Ok.ensures.files ∙ c.requires.created) (g.met.F.Files.places c.read_design.new.files))
-    c.in-Err-serve_session.ensures.left
-    (of-halt halt c.from-in-Err-serve_session.result (W c.serve_session.new.out) (W c.end_stopped-in-Err-serve_session.new.out) c.end_stopped-in-Err-serve_session.result c.from-in-Err-serve_session.ensures c.end_stopped-in-Err-serve_session.ensures.told)
+    let told = of-halt halt c.from-in-Err-serve_session.result w' after.written status c.from-in-Err-serve_session.ensures c.end_stopped-in-Err-serve_session.ensures.told in
+    let early = ends-early (stop_of halt) w' after.written status told in
+    let started : mid.started ≡ 3 = ap (λ (s : FilesState). s.started) c.in-Ok.ensures.state in
+    let created : mid.created ≡ 0 = ap (λ (s : FilesState). s.created) c.in-Ok.ensures.state ∙ c.requires.created in
+    let none : mid.unfinished ≡ [] = ap (λ (s : FilesState). s.unfinished) c.in-Ok.ensures.state ∙ none-unfinished old.created old.unfinished c.requires.created (g.met.F.Files.places c.args.files.now) in
+    let cause : Explains 3 before.outside after.outside status =
+    halt-ends before.outside read served (g.S.Sink.faults c.end_stopped-in-Err-serve_session.new.out) halt c.from-in-Err-serve_session.result status
+    (calm-files (g.Q.Source.state c.args.queries.now) (g.S.Sink.faults c.args.out.now) 3 old mid c.in-Ok.ensures.state)
+    started halted.state c.from-in-Err-serve_session.ensures c.end_stopped-in-Err-serve_session.ensures.cause in
+    let design = c.in-Ok.design in
+    let script-halted : (given : Given) → AreGiven before command given
+    → IsHalted (setup_of command design) command.journal given.script (Some given.script) (left_in after) before.written w' m' after.made (created_in after) halt =
+    λ given are. halted-script (setup_of command design) command.journal given.script (left_in before) (left_in after) before.written w' m' after.made (created_in after) halt are.script (halted.halted given.script are.script) in
+    let refused : (given : Given) → AreGiven before command given → status ≡ statuses.Refused → IsRefused command given before after =
+    λ given are is. halt-refused command given design (c.in-Ok.ensures.design given.netlist given.timing given.stimulus are.netlist are.timing are.stimulus)
+    before after w' m' c.in-Ok.ensures.made halt status (script-halted given are) told is in
+    let untouched : halt ≡ JournalUnmade → Stays w' after.written → IsUntouched before after =
+    λ unmade stays. let is = halted.untouched (err-of halt JournalUnmade unmade) in record {
+      unread = is.unread;
+      unreplied = λ start h. stays start (is.unreplied start h);
+      same_files = λ start h. is.same_files start (c.in-Ok.ensures.made start h);
+      no_file = is.no_file ∙ ap (λ (s : FilesState). s.created) c.in-Ok.ensures.state;
+    } in
+    of-accepted command before after status design mid.started c.in-Ok.ensures.first c.in-Ok.ensures.second c.in-Ok.ensures.design
+    (record {
+      ended = λ given are is. early-serves command given before after status early is;
+      refused = refused;
+      script_refused = λ given are long. early;
+      no_usage = early-no_usage status early;
+      cause = cause;
+      leaves = λ given are. halt-leaves command given design (c.in-Ok.ensures.design given.netlist given.timing given.stimulus are.netlist are.timing are.stimulus)
+          before after w' m' c.in-Ok.ensures.made c.sessions_are_whole.ensures c.facts.ensures halt status untouched (script-halted given are) told;
+      untouched = halt-no_file (IsUntouched before after) halt w' after.written status told;
+      unfinished = halt-open read served halt w' after.written status created none halted.state told;
+    })

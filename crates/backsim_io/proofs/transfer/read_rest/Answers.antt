@@ -9,4 +9,4 @@ returns-then-is_err-clause-at_most g c =
     let room : c.in-Ok.n ≤ c.args.limit + 1 - length c.loop-block.bytes.items = search rules in
     let within : length c.loop-block.bytes.items ≤ c.args.limit + 1 = search rules in
     let taken : length piece ≤ c.in-Ok.n = search rules in
-    (c.loop-block.bytes.items ++ piece, Consumes-trans _ _ _ _ _ c.loop-block.invariant.2 c.in-Ok.ensures.bytes.0, omega (arith, length-append c.loop-block.bytes.items piece, room, within, taken))
+    (c.loop-block.bytes.items ++ piece, Consumes-trans _ _ _ _ _ c.loop-block.invariant.2.1 c.in-Ok.ensures.bytes.1, omega (arith, length-append c.loop-block.bytes.items piece, room, within, taken))

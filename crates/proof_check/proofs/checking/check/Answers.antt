@@ -1,4 +1,5 @@
+use Rattle.proof_check.proofs.Changed.{usage-changes}
 use Rattle.proof_check.proofs.checking.check.Goals as goal
 
-pub returns-in_default-clause-cause : goal.returns-in_default-clause-cause
-returns-in_default-clause-cause g c = c.write_usage.ensures.cause (g.F.Files.file_faults c.args.files.now) (g.F.Files.read_faults c.args.files.now) (g.F.Files.write_faults c.args.files.now)
+pub returns-in_default-clause-state : goal.returns-in_default-clause-state
+returns-in_default-clause-state g c = usage-changes (g.F.Files.state c.args.files.now) _ _ c.write_usage.result c.requires c.write_usage.ensures.status c.write_usage.ensures.cause

@@ -1,6 +1,7 @@
 use Rattle.std.proofs.Common.{sym}
 use Rattle.proof_check.proofs.Ends.{stop-refuses, stop-wrote, stop-part}
 use Rattle.proof_check.proofs.Answered.{judged-part, judged-proved, judged-unproved}
+use Rattle.proof_check.proofs.Changed.{judged-changes, stopped-changes}
 use Rattle.proof_check.proofs.checking.check_files.Goals as goal
 
 -- the proof was judged
@@ -43,19 +44,30 @@ returns-in-Err-clause-cut g c given bytes are is =
 pub returns-in-Err-clause-netlist_refused : goal.returns-in-Err-clause-netlist_refused
 returns-in-Err-clause-netlist_refused g c refusal first held is =
     let W = g.S.Sink.written in
-    stop-refuses 1 _ (g.F.Files.started c.read_all.new.files) (W c.args.out.now) (W c.end_stopped.new.out) c.in-Err.stop c.end_stopped.result (c.in-Err.ensures.first first refusal held is) c.end_stopped.ensures.told
+    stop-refuses 1 _ (g.F.Files.state c.read_all.new.files).started (W c.args.out.now) (W c.end_stopped.new.out) c.in-Err.stop c.end_stopped.result (c.in-Err.ensures.first first refusal held is) c.end_stopped.ensures.told
 
 pub returns-in-Err-clause-timing_refused : goal.returns-in-Err-clause-timing_refused
 returns-in-Err-clause-timing_refused g c refusal first second held_first held_second is =
     let W = g.S.Sink.written in
-    stop-refuses 2 _ (g.F.Files.started c.read_all.new.files) (W c.args.out.now) (W c.end_stopped.new.out) c.in-Err.stop c.end_stopped.result (c.in-Err.ensures.second first second refusal held_first held_second is) c.end_stopped.ensures.told
+    stop-refuses 2 _ (g.F.Files.state c.read_all.new.files).started (W c.args.out.now) (W c.end_stopped.new.out) c.in-Err.stop c.end_stopped.result (c.in-Err.ensures.second first second refusal held_first held_second is) c.end_stopped.ensures.told
 
 pub returns-in-Err-clause-files_refused : goal.returns-in-Err-clause-files_refused
 returns-in-Err-clause-files_refused g c refusal given are is =
     let W = g.S.Sink.written in
-    stop-refuses 3 _ (g.F.Files.started c.read_all.new.files) (W c.args.out.now) (W c.end_stopped.new.out) c.in-Err.stop c.end_stopped.result (c.in-Err.ensures.third given refusal are is) c.end_stopped.ensures.told
+    stop-refuses 3 _ (g.F.Files.state c.read_all.new.files).started (W c.args.out.now) (W c.end_stopped.new.out) c.in-Err.stop c.end_stopped.result (c.in-Err.ensures.third given refusal are is) c.end_stopped.ensures.told
 
 pub returns-in-Err-clause-proof_refused : goal.returns-in-Err-clause-proof_refused
 returns-in-Err-clause-proof_refused g c design given bytes are is long =
     let W = g.S.Sink.written in
-    stop-refuses 4 _ (g.F.Files.started c.read_all.new.files) (W c.args.out.now) (W c.end_stopped.new.out) c.in-Err.stop c.end_stopped.result (c.in-Err.ensures.fourth given bytes design are.circuit are.proof_is is long) c.end_stopped.ensures.told
+    stop-refuses 4 _ (g.F.Files.state c.read_all.new.files).started (W c.args.out.now) (W c.end_stopped.new.out) c.in-Err.stop c.end_stopped.result (c.in-Err.ensures.fourth given bytes design are.circuit are.proof_is is long) c.end_stopped.ensures.told
+
+-- what it changed
+pub returns-in-Ok-clause-state : goal.returns-in-Ok-clause-state
+returns-in-Ok-clause-state g c =
+    let W = g.S.Sink.written in
+    judged-changes _ _ _ _ c.in-Ok.design c.in-Ok.text.items (W c.args.out.now) (W c.judge.new.out) c.judge.result c.in-Ok.ensures.state (rw (sym c.deref.ensures.value) c.judge.ensures.judged) c.judge.ensures.cause
+
+pub returns-in-Err-clause-state : goal.returns-in-Err-clause-state
+returns-in-Err-clause-state g c =
+    let W = g.S.Sink.written in
+    stopped-changes _ _ _ _ (W c.args.out.now) (W c.end_stopped.new.out) c.in-Err.stop c.end_stopped.result c.in-Err.ensures.state c.end_stopped.ensures.told c.end_stopped.ensures.cause

@@ -1,20 +1,38 @@
-use Rattle.std.proofs.Common.{◌++◌, ◌∷◌, [], ap, sym, ◌∙◌}
-use Rattle.std.proofs.lemmas.Result.{err_from_is_err_and}
+use Rattle.std.proofs.Common.{sym, subst, ◌∙◌}
+use Rattle.session_loop.specs.declared.halt.Halt.TheVariants.{Stopped}
+use Rattle.session_loop.specs.declared.stop.Stop.TheVariants.{OutOfMemory}
+use Rattle.session_loop.specs.Outside.{JournalStops}
+use Rattle.session_loop.specs.inner.Outside.{BeginChanges}
 use Rattle.session_loop.proofs.Dumping.{when-passed}
-use Rattle.session_loop.proofs.Files.{head-open, work-explains}
+use Rattle.session_loop.proofs.Changes.{handed-on, journal-open}
 use Rattle.session_loop.proofs.journal.begin_journal.Goals as goal
 
-pub returns-in_err-write_piece-clause-cause : goal.returns-in_err-write_piece-clause-cause
-returns-in_err-write_piece-clause-cause g c =
-    let p = err_from_is_err_and c.from_residual-in_err-write_piece.result c.from_residual-in_err-write_piece.ensures.1 in
-    rw (p.1, p.2) (work-explains _ _ _ 0 0 c.in_err-write_piece.field-0.0 c.create.ensures.write_faults c.in_err-write_piece.ensures.cause)
-
--- the journal, which was created, is left unfinished
-pub returns-in_err-write_piece-clause-left : goal.returns-in_err-write_piece-clause-left
-returns-in_err-write_piece-clause-left g c =
-    let U = g.F.Files.unfinished in
-    let p = err_from_is_err_and c.from_residual-in_err-write_piece.result c.from_residual-in_err-write_piece.ensures.1 in
+-- the head has no text
+pub returns-in_err-head-clause-state : goal.returns-in_err-head-clause-state
+returns-in_err-head-clause-state g c =
+    let F = g.F.Files.state in
     let passed = sym c.is_err.ensures.value ∙ c.if-is_err.false in
-    rw (p.1, p.2)
-    (head-open (U c.args.files.now) (U c.create.new.self) (U c.write_piece.new.files) 0 0 _ _ c.in_err-write_piece.field-0.0
-    (when-passed c.create.result passed c.create.ensures.unfinished ∙ ap (λ k. U c.args.files.now ++ k ∷ []) c.requires) (c.in_err-write_piece.ensures.cause 0) c.write_piece.ensures.unfinished)
+    handed-on (BeginChanges (F c.args.files.now) (F c.create.new.self)) (Stopped OutOfMemory) c.from_residual.result c.from_residual.ensures.1
+    (when-passed c.create.result passed c.create.ensures.creates)
+
+-- the journal that was created is not finished
+pub write_piece-requires : goal.write_piece-requires
+write_piece-requires g c =
+    let F = g.F.Files.state in
+    let passed = sym c.is_err.ensures.value ∙ c.if-is_err.false in
+    record { unfinished = journal-open (F c.args.files.now) (F c.create.new.self) c.requires (when-passed c.create.result passed c.create.ensures.creates) }
+
+-- the head was begun
+pub returns-in_err-write_piece-clause-state : goal.returns-in_err-write_piece-clause-state
+returns-in_err-write_piece-clause-state g c =
+    let F = g.F.Files.state in
+    let stop = c.in_err-write_piece.field-0.0 in
+    let passed = sym c.is_err.ensures.value ∙ c.if-is_err.false in
+    handed-on (BeginChanges (F c.args.files.now) (F c.write_piece.new.files)) (Stopped stop) c.from_residual-in_err-write_piece.result c.from_residual-in_err-write_piece.ensures.1
+    (subst (λ f. JournalStops f (F c.write_piece.new.files) stop) (when-passed c.create.result passed c.create.ensures.creates) c.in_err-write_piece.ensures.state)
+
+-- it was written
+pub returns-clause-state : goal.returns-clause-state
+returns-clause-state g c =
+    let passed = sym c.is_err.ensures.value ∙ c.if-is_err.false in
+    c.in_ok-write_piece.ensures.state ∙ when-passed c.create.result passed c.create.ensures.creates

@@ -5,6 +5,10 @@ use Rattle.session_meaning.specs.Verdicts.{site_of, stuck_verdict}
 use Rattle.unit_answers.specs.Stores.{setup_of}
 use Rattle.session_loop.specs.Serving.{session_of}
 use Rattle.session_loop.specs.inner.Serving.{IsAnswered}
+use Rattle.session_loop.specs.declared.stop.Stop.TheVariants.{OutOfMemory}
+use Rattle.session_loop.specs.Outside.{Outputs}
+use Rattle.session_loop.specs.inner.Outside.{UnitChanges}
+use Rattle.session_loop.proofs.Changes.{handed-on}
 use Rattle.session_loop.proofs.Growing.{err-is}
 use Rattle.session_loop.proofs.Named.{stuck-named}
 use Rattle.session_loop.proofs.Questions.{own-batch, held-few, stuck-answered}
@@ -51,3 +55,14 @@ returns-clause-stopped g c names =
     (subst (λ (text : List ℕ). IsAnswered setup c.args.desk (Stuck item) (stuck_batch setup item) (own-batch setup item) text done.lists.items done.held.items done.stores.items) (sym c.in_ok-stuck_text.ensures)
     (stuck-answered setup item c.args.desk done.reply done.lists.items done.held.items done.stores.items
     (stuck-named (setup_of c.args.design.now c.args.sizes) names item c.args.desk.stores.items done.reply done.lists.items done.held.items done.stores.items c.in_ok-done.ensures)))
+
+-- nothing was written
+pub returns-in_err-done-clause-state : goal.returns-in_err-done-clause-state
+returns-in_err-done-clause-state g c =
+    let old : Outputs = record { files = g.F.Files.state c.args.files.now; replies = g.S.Sink.faults c.args.out.now } in
+    handed-on (UnitChanges old old) OutOfMemory c.from_residual.result c.from_residual.ensures.1 refl
+
+pub returns-in_err-stuck_text-clause-state : goal.returns-in_err-stuck_text-clause-state
+returns-in_err-stuck_text-clause-state g c =
+    let old : Outputs = record { files = g.F.Files.state c.args.files.now; replies = g.S.Sink.faults c.args.out.now } in
+    handed-on (UnitChanges old old) OutOfMemory c.from_residual-in_err-stuck_text.result c.from_residual-in_err-stuck_text.ensures.1 refl

@@ -4,6 +4,10 @@ use Rattle.session_meaning.specs.Session.{why_batch}
 use Rattle.unit_answers.specs.Stores.{setup_of}
 use Rattle.session_loop.specs.Serving.{session_of}
 use Rattle.session_loop.specs.inner.Serving.{IsAnswered}
+use Rattle.session_loop.specs.declared.stop.Stop.TheVariants.{OutOfMemory}
+use Rattle.session_loop.specs.Outside.{Outputs}
+use Rattle.session_loop.specs.inner.Outside.{UnitChanges}
+use Rattle.session_loop.proofs.Changes.{handed-on}
 use Rattle.session_loop.proofs.Growing.{err-is}
 use Rattle.session_loop.proofs.Named.{question-named}
 use Rattle.session_loop.proofs.Questions.{why-answered}
@@ -42,3 +46,14 @@ returns-clause-stopped g c names =
     (subst (λ (text : List ℕ). IsAnswered setup c.args.desk (Why item) (why_batch setup item) (why_batch setup item) text done.lists.items c.new.result.items done.stores.items) (sym c.in_ok-why_text.ensures)
     (why-answered setup item c.args.desk done.reply done.lists.items c.new.result.items done.stores.items c.new.ensures.items
     (question-named (setup_of c.args.design.now c.args.sizes) names _ _ c.args.desk.stores.items done.lists.items done.stores.items c.in_ok-done.ensures)))
+
+-- nothing was written
+pub returns-in_err-done-clause-state : goal.returns-in_err-done-clause-state
+returns-in_err-done-clause-state g c =
+    let old : Outputs = record { files = g.F.Files.state c.args.files.now; replies = g.S.Sink.faults c.args.out.now } in
+    handed-on (UnitChanges old old) OutOfMemory c.from_residual.result c.from_residual.ensures.1 refl
+
+pub returns-in_err-why_text-clause-state : goal.returns-in_err-why_text-clause-state
+returns-in_err-why_text-clause-state g c =
+    let old : Outputs = record { files = g.F.Files.state c.args.files.now; replies = g.S.Sink.faults c.args.out.now } in
+    handed-on (UnitChanges old old) OutOfMemory c.from_residual-in_err-why_text.result c.from_residual-in_err-why_text.ensures.1 refl

@@ -9,12 +9,7 @@ abbrev pub invariant-loop-done : goal.invariant-loop-done
 invariant-loop-done g l = record {
   within : l.done ≤ length l.entries;
   written : FileGrows (g.F.Files.made l.initial.files) (g.F.Files.made l.files) l.slot (flat_map entry_line (take l.done l.entries));
-  calm : g.F.Files.write_faults l.files ≡ g.F.Files.write_faults l.initial.files;
-  file_faults : g.F.Files.file_faults l.files ≡ g.F.Files.file_faults l.initial.files;
-  read_faults : g.F.Files.read_faults l.files ≡ g.F.Files.read_faults l.initial.files;
-  started : g.F.Files.started l.files ≡ g.F.Files.started l.initial.files;
-  files : g.F.Files.files l.files ≡ g.F.Files.files l.initial.files;
-  unfinished : g.F.Files.unfinished l.files ≡ g.F.Files.unfinished l.initial.files;
+  same : g.F.Files.state l.files ≡ g.F.Files.state l.initial.files;
 }
 
 abbrev pub decreases-loop-done : goal.decreases-loop-done

@@ -1,10 +1,11 @@
 use Rattle.std.proofs.Common.{refl, subst, ◌∙◌, ◌++◌, arith}
 use Rattle.std.specs.Prelude.{flat_map}
-use Rattle.std.proofs.lemmas.Result.{err_from_is_err_and}
 use Rattle.backsim_io.specs.Held.{FileGrows}
 use Rattle.journal_text.specs.Spelling.{entry_line}
 use Rattle.session_loop.specs.inner.Growing.{FileGrowsPart, shard_line}
-use Rattle.session_loop.specs.inner.Faults.{UnitExplains}
+use Rattle.session_loop.specs.Outside.{JournalStops}
+use Rattle.session_loop.specs.inner.Outside.{JournalChanges}
+use Rattle.session_loop.proofs.Changes.{handed-on}
 use Rattle.session_loop.proofs.Growing.{on-err, file-none}
 use Rattle.session_loop.proofs.Pieces.{shards-next, shards-part}
 use Rattle.session_loop.proofs.section.write_shards.Goals as goal
@@ -13,12 +14,7 @@ pub loop-list-init : goal.loop-list-init
 loop-list-init g c = record {
   number = refl;
   written = file-none (g.F.Files.made c.args.files.now) c.args.slot;
-  calm = refl;
-  file_faults = refl;
-  read_faults = refl;
-  started = refl;
-  files = refl;
-  unfinished = refl;
+  same = refl;
 }
 
 pub loop-list-preserved : goal.loop-list-preserved
@@ -31,12 +27,7 @@ loop-list-preserved g c =
       written = shards-next c.args.slot (M c.args.files.now) (M c.loop-list.files) (M c.write_shard.new.files) c.args.lists.now c.loop-list.list-index c.list-item.result c.loop-list-test.true c.list-item.is held.written
           (subst (λ es. FileGrows (M c.loop-list.files) (M c.write_shard.new.files) c.args.slot (shard_line c.loop-list.list-index ++ flat_map entry_line es)) c.as_slice.ensures
           (subst (λ n. FileGrows (M c.loop-list.files) (M c.write_shard.new.files) c.args.slot (shard_line n ++ flat_map entry_line c.as_slice.result.now)) held.number done.written));
-      calm = done.calm ∙ held.calm;
-      file_faults = done.file_faults ∙ held.file_faults;
-      read_faults = done.read_faults ∙ held.read_faults;
-      started = done.started ∙ held.started;
-      files = done.files ∙ held.files;
-      unfinished = done.unfinished ∙ held.unfinished;
+      same = done.state ∙ held.same;
     }
 
 pub returns-in_err-write_shard-clause-begun : goal.returns-in_err-write_shard-clause-begun
@@ -48,7 +39,9 @@ returns-in_err-write_shard-clause-begun g c =
     (subst (λ es. FileGrowsPart (M c.loop-list.files) (M c.write_shard.new.files) c.args.slot (shard_line c.loop-list.list-index ++ flat_map entry_line es)) c.as_slice.ensures
     (subst (λ n. FileGrowsPart (M c.loop-list.files) (M c.write_shard.new.files) c.args.slot (shard_line n ++ flat_map entry_line c.as_slice.result.now)) held.number c.in_err-write_shard.ensures.begun)))
 
-pub returns-in_err-write_shard-clause-cause : goal.returns-in_err-write_shard-clause-cause
-returns-in_err-write_shard-clause-cause g c =
-    let p = err_from_is_err_and c.from_residual.result c.from_residual.ensures.1 in
-    rw (p.1, p.2) (λ replies. subst (λ n. UnitExplains replies replies n (g.F.Files.write_faults c.write_shard.new.files) c.in_err-write_shard.field-0.0) c.loop-list.invariant.calm (c.in_err-write_shard.ensures.cause replies))
+pub returns-in_err-write_shard-clause-state : goal.returns-in_err-write_shard-clause-state
+returns-in_err-write_shard-clause-state g c =
+    let F = g.F.Files.state in
+    let stop = c.in_err-write_shard.field-0.0 in
+    handed-on (JournalChanges (F c.args.files.now) (F c.write_shard.new.files)) stop c.from_residual.result c.from_residual.ensures.1
+    (subst (λ f. JournalStops f (F c.write_shard.new.files) stop) c.loop-list.invariant.same c.in_err-write_shard.ensures.state)

@@ -1,5 +1,4 @@
 use Rattle.std.proofs.Common.{refl, subst, ap, length, sum_by, ◌∙◌}
-use Rattle.std.proofs.lemmas.Result.{err_from_is_err_and}
 use Rattle.backsim_io.specs.Counts.{Grows}
 use Rattle.backsim_io.specs.Held.{FileGrows}
 use Rattle.journal_text.specs.Spelling.{section_lines}
@@ -9,9 +8,13 @@ use Rattle.session_loop.specs.inner.Growing.{GrowsPart, FileGrowsPart}
 use Rattle.unit_answers.specs.Stores.{setup_of}
 use Rattle.session_loop.specs.Serving.{session_of}
 use Rattle.session_loop.specs.inner.Desks.{IsCounted}
-use Rattle.session_loop.proofs.Growing.{err-is, part-whole, file-part-none}
+use Rattle.session_loop.specs.declared.stop.Stop.TheVariants.{OutOfMemory}
+use Rattle.session_loop.specs.Outside.{Outputs}
+use Rattle.session_loop.specs.inner.Outside.{UnitChanges}
+use Rattle.session_loop.proofs.Changes.{handed-on, journal-created, of-replies, of-journal, same-outputs}
+use Rattle.session_loop.proofs.Growing.{err-is}
 use Rattle.session_loop.proofs.Named.{trim-named}
-use Rattle.session_loop.proofs.Served.{of-unit, stops-none, trim-served, trim-stopped}
+use Rattle.session_loop.proofs.Served.{text-begun, lines-begun, replies-of-unit, journal-of-unit, stops-none, trim-served, trim-stopped}
 use Rattle.session_loop.proofs.unit.serve_trim.Goals as goal
 
 -- no entries were made
@@ -38,14 +41,9 @@ returns-in_err-write_reply-clause-stopped g c names =
     (trim-named (setup_of c.args.design.now c.args.sizes) names c.args.most c.args.desk.stores.items done.lists.items done.stores.items c.in_ok-done.ensures)
     some.counts (subst (λ l. IsCounted c.args.desk.counts Trim l some.counts) c.deref.ensures.value some.ensures)
     (W c.args.out.now) (W c.write_reply.new.out) (M c.args.files.now) (M c.args.files.now)
-    (g.F.Files.files c.args.files.now) c.in_err-write_reply.field-0.0 c.requires.files (of-unit _ _ _ _ _ (c.in_err-write_reply.ensures.cause 0))
-    (subst (GrowsPart (W c.args.out.now) (W c.write_reply.new.out)) (c.deref-3.ensures.value ∙ c.in_ok-text.ensures ∙ ap trimmed_line (some.ensures' ∙ ap (sum_by length) c.deref-2.ensures.value)) c.in_err-write_reply.ensures.begun)
-    (file-part-none (M c.args.files.now) 0 _))
-
-pub returns-in_err-write_reply-clause-cause : goal.returns-in_err-write_reply-clause-cause
-returns-in_err-write_reply-clause-cause g c =
-    let p = err_from_is_err_and c.from_residual-in_err-write_reply.result c.from_residual-in_err-write_reply.ensures.1 in
-    rw (p.1, p.2) (c.in_err-write_reply.ensures.cause (g.F.Files.write_faults c.args.files.now))
+    (g.F.Files.state c.args.files.now).created c.in_err-write_reply.field-0.0 c.requires.files (replies-of-unit _ _ _ c.in_err-write_reply.ensures.state)
+    (text-begun (W c.args.out.now) (W c.write_reply.new.out) (M c.args.files.now) (trimmed_line (sum_by length done.lists.items)) _
+    (subst (GrowsPart (W c.args.out.now) (W c.write_reply.new.out)) (c.deref-3.ensures.value ∙ c.in_ok-text.ensures ∙ ap trimmed_line (some.ensures' ∙ ap (sum_by length) c.deref-2.ensures.value)) c.in_err-write_reply.ensures.begun)))
 
 -- the section was begun
 pub returns-in_err-write_section-clause-stopped : goal.returns-in_err-write_section-clause-stopped
@@ -59,15 +57,10 @@ returns-in_err-write_section-clause-stopped g c names =
     (trim-named (setup_of c.args.design.now c.args.sizes) names c.args.most c.args.desk.stores.items done.lists.items done.stores.items c.in_ok-done.ensures)
     some.counts (subst (λ l. IsCounted c.args.desk.counts Trim l some.counts) c.deref.ensures.value some.ensures)
     (W c.args.out.now) (W c.write_reply.new.out) (M c.args.files.now) (M c.write_section.new.files)
-    (g.F.Files.files c.write_section.new.files) c.in_err-write_section.field-0.0 (c.write_section.ensures.files ∙ c.requires.files) (of-unit _ _ _ _ _ (c.in_err-write_section.ensures.cause 0))
-    (part-whole (W c.args.out.now) (W c.write_reply.new.out) (trimmed_line (sum_by length done.lists.items))
-    (subst (Grows (W c.args.out.now) (W c.write_reply.new.out)) (c.deref-3.ensures.value ∙ c.in_ok-text.ensures ∙ ap trimmed_line (some.ensures' ∙ ap (sum_by length) c.deref-2.ensures.value)) c.in_ok-write_reply.ensures.written))
-    (subst (λ l. FileGrowsPart (M c.args.files.now) (M c.write_section.new.files) 0 (section_lines (record { kind = Trim; number = some.counts.sections; shards = l }))) c.deref-4.ensures.value c.in_err-write_section.ensures.begun))
-
-pub returns-in_err-write_section-clause-cause : goal.returns-in_err-write_section-clause-cause
-returns-in_err-write_section-clause-cause g c =
-    let p = err_from_is_err_and c.from_residual-in_err-write_section.result c.from_residual-in_err-write_section.ensures.1 in
-    rw (p.1, p.2, c.in_ok-write_reply.ensures.calm) (c.in_err-write_section.ensures.cause (g.S.Sink.faults c.args.out.now))
+    (g.F.Files.state c.write_section.new.files).created c.in_err-write_section.field-0.0 (journal-created _ _ _ c.in_err-write_section.ensures.state ∙ c.requires.files) (journal-of-unit _ _ _ c.in_err-write_section.ensures.state)
+    (lines-begun (W c.args.out.now) (W c.write_reply.new.out) (M c.args.files.now) (M c.write_section.new.files) (trimmed_line (sum_by length done.lists.items)) _
+    (subst (Grows (W c.args.out.now) (W c.write_reply.new.out)) (c.deref-3.ensures.value ∙ c.in_ok-text.ensures ∙ ap trimmed_line (some.ensures' ∙ ap (sum_by length) c.deref-2.ensures.value)) c.in_ok-write_reply.ensures.written)
+    (subst (λ l. FileGrowsPart (M c.args.files.now) (M c.write_section.new.files) 0 (section_lines (record { kind = Trim; number = some.counts.sections; shards = l }))) c.deref-4.ensures.value c.in_err-write_section.ensures.begun)))
 
 pub returns-clause-served : goal.returns-clause-served
 returns-clause-served g c names =
@@ -82,3 +75,40 @@ returns-clause-served g c names =
     (record { stores = done.stores; counts = some.counts; dumps = c.args.desk.dumps }) refl refl refl
     (subst (Grows (W c.args.out.now) (W c.write_reply.new.out)) (c.deref-3.ensures.value ∙ c.in_ok-text.ensures ∙ ap trimmed_line (some.ensures' ∙ ap (sum_by length) c.deref-2.ensures.value)) c.in_ok-write_reply.ensures.written)
     (subst (λ l. FileGrows (M c.args.files.now) (M c.write_section.new.files) 0 (section_lines (record { kind = Trim; number = some.counts.sections; shards = l }))) c.deref-4.ensures.value c.in_ok-write_section.ensures.written)
+
+-- What it changes of the outside.
+
+pub returns-in_err-done-clause-state : goal.returns-in_err-done-clause-state
+returns-in_err-done-clause-state g c =
+    let old : Outputs = record { files = g.F.Files.state c.args.files.now; replies = g.S.Sink.faults c.args.out.now } in
+    handed-on (UnitChanges old old) OutOfMemory c.from_residual.result c.from_residual.ensures.1 refl
+
+pub returns-in_err-text-clause-state : goal.returns-in_err-text-clause-state
+returns-in_err-text-clause-state g c =
+    let old : Outputs = record { files = g.F.Files.state c.args.files.now; replies = g.S.Sink.faults c.args.out.now } in
+    handed-on (UnitChanges old old) OutOfMemory c.from_residual-in_err-text.result c.from_residual-in_err-text.ensures.1 refl
+
+pub returns-in_err-write_reply-clause-state : goal.returns-in_err-write_reply-clause-state
+returns-in_err-write_reply-clause-state g c =
+    let F = g.F.Files.state in
+    let N = g.S.Sink.faults in
+    let stop = c.in_err-write_reply.field-0.0 in
+    handed-on (UnitChanges (record { files = F c.args.files.now; replies = N c.args.out.now }) (record { files = F c.args.files.now; replies = N c.write_reply.new.out })) stop
+    c.from_residual-in_err-write_reply.result c.from_residual-in_err-write_reply.ensures.1
+    (of-replies (F c.args.files.now) (N c.args.out.now) (N c.write_reply.new.out) stop c.in_err-write_reply.ensures.state)
+
+pub returns-in_err-write_section-clause-state : goal.returns-in_err-write_section-clause-state
+returns-in_err-write_section-clause-state g c =
+    let F = g.F.Files.state in
+    let N = g.S.Sink.faults in
+    let stop = c.in_err-write_section.field-0.0 in
+    handed-on (UnitChanges (record { files = F c.args.files.now; replies = N c.args.out.now }) (record { files = F c.write_section.new.files; replies = N c.write_reply.new.out })) stop
+    c.from_residual-in_err-write_section.result c.from_residual-in_err-write_section.ensures.1
+    (of-journal (N c.args.out.now) (N c.write_reply.new.out) (F c.args.files.now) (F c.args.files.now) (F c.write_section.new.files) stop c.in_ok-write_reply.ensures.state refl c.in_err-write_section.ensures.state)
+
+pub returns-clause-state : goal.returns-clause-state
+returns-clause-state g c =
+    let F = g.F.Files.state in
+    let N = g.S.Sink.faults in
+    same-outputs (record { files = F c.write_section.new.files; replies = N c.write_reply.new.out }) (record { files = F c.args.files.now; replies = N c.args.out.now })
+    c.in_ok-write_section.ensures.state c.in_ok-write_reply.ensures.state

@@ -1,8 +1,10 @@
-use Rattle.std.proofs.Common.{refl, subst, ◌∙◌, ap, length}
+use Rattle.std.proofs.Common.{refl, ◌∙◌, ap, length}
 use Rattle.query_lines.specs.Fit.{IsFit}
-use Rattle.session_loop.specs.Serving.{StopsOpen}
+use Rattle.session_loop.specs.Outside.{Outputs}
+use Rattle.session_loop.specs.inner.Outside.{UnitsChanges}
+use Rattle.session_loop.proofs.Changes.{handed-on, calm, outputs-more, still-open, dumped-then}
 use Rattle.session_loop.proofs.Growing.{err-is}
-use Rattle.session_loop.proofs.Units.{some-first, some-unit, some-more, some-stop, some-all, explains-from}
+use Rattle.session_loop.proofs.Units.{some-first, some-unit, some-more, some-stop, some-all}
 use Rattle.session_loop.proofs.unit.serve_units.Goals as goal
 
 pub loop-unit-init : goal.loop-unit-init
@@ -13,13 +15,8 @@ loop-unit-init g c =
       finite = tt;
       desk = c.requires.desk;
       count = c.requires.files;
+      state = (let old : Outputs = record { files = g.F.Files.state c.args.files.now; replies = g.S.Sink.faults c.args.out.now } in calm old old refl);
       served = some-first c.args.design.now c.args.sizes c.args.units _ _ c.args.desk (g.S.Sink.written c.args.out.now) (g.F.Files.made c.args.files.now) (k.0 ∙ c.into_vec-unit-items.ensures) (k.1 ∙ c.into_vec-unit-items.result.ok.0 ∙ ap length c.into_vec-unit-items.ensures);
-      calm_replies = refl;
-      calm_writes = refl;
-      calm_files = refl;
-      read_faults = refl;
-      started = refl;
-      unfinished = refl;
     }
 
 -- the next unit was served
@@ -27,6 +24,8 @@ pub loop-unit-preserved : goal.loop-unit-preserved
 loop-unit-preserved g c =
     let W = g.S.Sink.written in
     let M = g.F.Files.made in
+    let F = g.F.Files.state in
+    let N = g.S.Sink.faults in
     let held = c.loop-unit.invariant in
     let served = c.in_ok-desk.ensures in
     record {
@@ -34,14 +33,9 @@ loop-unit-preserved g c =
       finite = tt;
       desk = served.desk;
       count = served.count;
+      state = outputs-more (record { files = F c.args.files.now; replies = N c.args.out.now }) (record { files = F c.loop-unit.files; replies = N c.loop-unit.out }) (record { files = F c.serve_unit.new.files; replies = N c.serve_unit.new.out }) held.state served.state;
       served = some-more c.args.design.now c.args.sizes c.args.units _ _ c.args.desk c.loop-unit.desk (W c.args.out.now) (W c.loop-unit.out) (M c.args.files.now) (M c.loop-unit.files) held.served
           c.in_ok-desk.desk c.in-Some.unit _ _ (W c.serve_unit.new.out) (M c.serve_unit.new.files) c.in-Some.ensures.steps.0 c.in-Some.ensures.steps.1 served.served;
-      calm_replies = served.calm_replies ∙ held.calm_replies;
-      calm_writes = served.calm_writes ∙ held.calm_writes;
-      calm_files = served.calm_files ∙ held.calm_files;
-      read_faults = c.serve_unit.ensures.read_faults ∙ held.read_faults;
-      started = c.serve_unit.ensures.started ∙ held.started;
-      unfinished = served.unfinished ∙ held.unfinished;
     }
 
 -- the session broke off in the next unit
@@ -53,16 +47,6 @@ returns-in_err-desk-clause-stopped g c names =
     (some-stop c.args.design.now c.args.sizes c.args.units _ _ c.args.desk c.loop-unit.desk (W c.args.out.now) (W c.loop-unit.out) (M c.args.files.now) (M c.loop-unit.files) c.loop-unit.invariant.served
     names c.in-Some.unit _ (W c.serve_unit.new.out) (M c.serve_unit.new.files) _ c.in_err-desk.field-0.0 c.in-Some.ensures.steps.0 (c.in_err-desk.ensures.stopped names))
 
-pub returns-in_err-desk-clause-cause : goal.returns-in_err-desk-clause-cause
-returns-in_err-desk-clause-cause g c =
-    let held = c.loop-unit.invariant in
-    err-is _ _ c.from_residual.result c.from_residual.ensures.1 (explains-from _ _ _ _ _ _ _ _ _ c.in_err-desk.field-0.0 held.calm_replies held.calm_writes held.calm_files c.in_err-desk.ensures.cause)
-
-pub returns-in_err-desk-clause-left : goal.returns-in_err-desk-clause-left
-returns-in_err-desk-clause-left g c =
-    let U = g.F.Files.unfinished in
-    err-is _ _ c.from_residual.result c.from_residual.ensures.1 (subst (λ u. StopsOpen u (U c.serve_unit.new.files) c.in_err-desk.field-0.0) c.loop-unit.invariant.unfinished c.in_err-desk.ensures.left)
-
 pub serve_unit-requires-clause-fit : goal.serve_unit-requires-clause-fit
 serve_unit-requires-clause-fit g c = λ κs w.
     some-unit c.args.design.now c.args.sizes c.args.units _ _ c.args.desk c.loop-unit.desk (g.S.Sink.written c.args.out.now) (g.S.Sink.written c.loop-unit.out) (g.F.Files.made c.args.files.now) (g.F.Files.made c.loop-unit.files) c.loop-unit.invariant.served
@@ -73,3 +57,18 @@ pub returns-clause-served : goal.returns-clause-served
 returns-clause-served g c names =
     some-all c.args.design.now c.args.sizes c.args.units _ _ c.args.desk c.loop-unit.desk (g.S.Sink.written c.args.out.now) (g.S.Sink.written c.loop-unit.out) (g.F.Files.made c.args.files.now) (g.F.Files.made c.loop-unit.files) c.loop-unit.invariant.served
     names c.in-None.ensures.steps.0
+
+-- the journal still isn't finished
+pub serve_unit-requires-clause-unfinished : goal.serve_unit-requires-clause-unfinished
+serve_unit-requires-clause-unfinished g c = λ κs w.
+    still-open (g.F.Files.state c.args.files.now) (g.F.Files.state c.loop-unit.files) 0 c.loop-unit.invariant.state.changed c.requires.unfinished
+
+pub returns-in_err-desk-clause-state : goal.returns-in_err-desk-clause-state
+returns-in_err-desk-clause-state g c =
+    let F = g.F.Files.state in
+    let N = g.S.Sink.faults in
+    let old : Outputs = record { files = F c.args.files.now; replies = N c.args.out.now } in
+    let mid : Outputs = record { files = F c.loop-unit.files; replies = N c.loop-unit.out } in
+    let new : Outputs = record { files = F c.serve_unit.new.files; replies = N c.serve_unit.new.out } in
+    let stop = c.in_err-desk.field-0.0 in
+    handed-on (UnitsChanges old new) stop c.from_residual.result c.from_residual.ensures.1 (dumped-then old mid new stop c.loop-unit.invariant.state c.in_err-desk.ensures.state)

@@ -5,8 +5,8 @@ use Rattle.backsim_io.specs.inner.SureFiles.{cut}
 use Rattle.backsim_io.proofs.KeptFiles.{kept-grown}
 use Rattle.backsim_io.proofs.sure_files.SureFilesFiles.write.Goals as goal
 
-pub returns-clause-bytes : goal.returns-clause-bytes
-returns-clause-bytes c = λ before told.
+pub returns-clause-made : goal.returns-clause-made
+returns-clause-made c = λ before told.
     let within : c.args.slot < length c.args.self.now.created.items = search rules in
     let fits : c.index_mut.result.now.bytes.room ≡ c.args.self.now.room = search rules in
     let taken : take (length c.args.piece.now) c.args.piece.now ≡ c.args.piece.now = take_all _ c.args.piece.now (omega arith) in

@@ -52,4 +52,5 @@ returns-in_default g c =
       less = λ more. round-less b c.args.self.now c.turn.new.self c.args.number c.in_ok-turn.field-0 c.in_ok-turn.ensures.comes c.in_ok-turn.ensures.ok c.in_default.not-NotReady;
       runs = λ a old r. round-on b c.args.self.now c.turn.new.self c.args.number c.in_ok-turn.field-0 c.in_ok-turn.ensures.comes c.in_ok-turn.ensures.ok c.requires.lawful g.B.BatchName.opening a old _ r c.in_default.not-Spent;
       ended = λ a old r e. absurd (true≢false e);
+      stops = λ a old r. tt;
     }

@@ -2,6 +2,7 @@
 use Rattle.std.proofs.Common.{◌≡◌, ℕ, ◌+◌, List, length, take}
 use Rattle.unit_answers.specs.Stores.{setup_of}
 use Rattle.session_loop.specs.Serving.{session_of}
+use Rattle.session_loop.specs.Outside.{OfFiles, Dumped}
 use Rattle.session_loop.specs.inner.Desks.{IsDesk}
 use Rattle.session_loop.specs.inner.Serving.{HasTaken, TakesServed}
 use Rattle.session_loop.proofs.script.Script.serve_bytes.Given as goal
@@ -11,12 +12,7 @@ invariant-loop-byte g l = record {
   read : HasTaken l.design.circuit.horizon l.self.taken l.self.reader;
   taken : l.self.taken ≡ l.initial.self.taken + l.byte-index;
   desk : IsDesk (setup_of l.design l.sizes) l.desk;
-  count : g.F.Files.files l.files ≡ length l.desk.dumps.made.items + 1;
+  count : (g.F.Files.state l.files).created ≡ length l.desk.dumps.made.items + 1;
+  state : OfFiles Dumped (record { files = g.F.Files.state l.initial.files; replies = g.S.Sink.faults l.initial.out }) (record { files = g.F.Files.state l.files; replies = g.S.Sink.faults l.out });
   served : (names : List (List ℕ)) → TakesServed (session_of l.design l.sizes names) l.initial.self.reader l.self.reader (take l.byte-index l.bytes) l.initial.desk l.desk (g.S.Sink.written l.initial.out) (g.S.Sink.written l.out) (g.F.Files.made l.initial.files) (g.F.Files.made l.files);
-  calm_replies : g.S.Sink.faults l.out ≡ g.S.Sink.faults l.initial.out;
-  calm_writes : g.F.Files.write_faults l.files ≡ g.F.Files.write_faults l.initial.files;
-  calm_files : g.F.Files.file_faults l.files ≡ g.F.Files.file_faults l.initial.files;
-  read_faults : g.F.Files.read_faults l.files ≡ g.F.Files.read_faults l.initial.files;
-  started : g.F.Files.started l.files ≡ g.F.Files.started l.initial.files;
-  unfinished : g.F.Files.unfinished l.files ≡ g.F.Files.unfinished l.initial.files;
 }

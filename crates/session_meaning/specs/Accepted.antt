@@ -1,0 +1,59 @@
+-- An explanation that is replied is a proof that whoever checks it accepts.
+use Rattle.std.specs.Prelude.{◌≡◌, ⊤, ℕ, ◌≤◌, List, length}
+use Rattle.gate_values.specs.declared.Value.{Value}
+use Rattle.valid_intervals.specs.declared.SignalCell.{SignalCell}
+use Rattle.design.specs.Joined.{Joined}
+use Rattle.query_lines.specs.declared.line.Why.{Why}
+use Rattle.query_lines.specs.declared.unit.Unit.{Unit as ScriptUnit}
+use Rattle.query_lines.specs.declared.unit.Unit.TheVariants as units
+use Rattle.reply_lines.specs.Replies.{why_lines}
+use Rattle.reply_lines.specs.declared.reply.WhyAnswer.TheVariants as explained
+use Rattle.reply_lines.specs.declared.reply.WhyReply.{WhyReply}
+use Rattle.reply_lines.specs.declared.reply.WhyReply.TheVariants as whys
+use Rattle.why_proofs.specs.Spelling.{Proof}
+use Rattle.why_proofs.specs.Justified.{IsJustifiedProof}
+use Rattle.why_proofs.specs.Verdicts.{IsTextOf, IsVerdict}
+use Rattle.why_proofs.specs.declared.checker.Checked.{Checked}
+use Rattle.why_proofs.specs.declared.checker.Checked.TheVariants.{Yes}
+use Rattle.session_meaning.specs.Session.{Setup, Course, IsServed, Session, Opened, Served}
+
+-- what the reply claims of the signal that the question names, at its time
+abbrev pub proof_of : Why → List SignalCell → Value → Proof
+proof_of why cells v = record { name = why.name; time = why.time; value = v; cells = cells }
+
+-- The text is that of this proof, and the proof is justified. Of a text that is not too long for
+-- the checker, whatever this may answer is yes, with what the proof claims.
+pub record IsAccepted (d : Joined) (text : List ℕ) (p : Proof) : Type 0 where
+  pub spelled : IsTextOf text p
+  pub signal : ℕ
+  pub justified : IsJustifiedProof d p signal
+  pub answered : length text ≤ 268435456
+      → (answer : Checked) → IsVerdict d text answer → answer ≡ Yes signal p.time p.value
+
+-- so it is where the reply is an explanation
+abbrev pub IsAcceptedReply : Joined → Why → WhyReply → Type 0
+IsAcceptedReply d why whys.Unknown = ⊤
+IsAcceptedReply d why whys.Past = ⊤
+IsAcceptedReply d why (whys.Answer (explained.Budget budget)) = ⊤
+IsAcceptedReply d why (whys.Answer (explained.Proof cells v)) =
+    IsAccepted d (why_lines why (whys.Answer (explained.Proof cells v))) (proof_of why cells v)
+
+-- so it is in a unit, if it asks for one
+abbrev pub IsAcceptedUnit : (setup : Setup) (now next : Course) (unit : ScriptUnit)
+    → IsServed setup now unit next → Type 0
+IsAcceptedUnit setup now next (units.Batch items) served = ⊤
+IsAcceptedUnit setup now next (units.Trim most) served = ⊤
+IsAcceptedUnit setup now next units.Stats served = ⊤
+IsAcceptedUnit setup now next (units.First item) served = ⊤
+IsAcceptedUnit setup now next (units.Why item) served =
+    IsAcceptedReply setup.design item.why served.reply
+IsAcceptedUnit setup now next (units.Vcd file) served = ⊤
+IsAcceptedUnit setup now next (units.Stuck item) served = ⊤
+
+-- and in every unit of a session
+abbrev pub AreAccepted : (setup : Setup) (all : List ScriptUnit) (course : Course)
+    → Session setup all course → Type 0
+AreAccepted setup all course Opened = ⊤
+AreAccepted setup all course
+    (Served {units = before} {now = now} {next = next} unit session served) =
+    AreAccepted setup before now session × IsAcceptedUnit setup now next unit served
