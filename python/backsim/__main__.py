@@ -1,0 +1,4 @@
+"""`python -m backsim` is `backsim-tools`."""
+from .main import entry
+
+entry()

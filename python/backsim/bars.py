@@ -1,0 +1,54 @@
+"""A bar on standard error, where that is a terminal: what is done of all, evaluations, time left. It is drawn by tqdm."""
+from __future__ import annotations
+
+import sys
+import threading
+from collections.abc import Callable
+from types import TracebackType
+from typing import Any
+
+_PERIOD = 0.3
+
+
+class Bar:
+    """A context manager. `add` counts what is done; `evaluations`, where it is given, is asked from time to time and shown. Where
+    standard error is no terminal nothing is shown; where tqdm is not there, a line says so."""
+
+    def __init__(self, total: int, what: str, evaluations: Callable[[], int] | None = None) -> None:
+        self._total, self._what, self._evaluations = total, what, evaluations
+        self._bar: Any = None
+        self._done = 0
+        self._ends = threading.Event()
+        self._thread = threading.Thread(target=self._draw, daemon=True)
+
+    def __enter__(self) -> Bar:
+        if sys.stderr is not None and sys.stderr.isatty():
+            try:
+                from tqdm import tqdm
+            except ImportError:
+                print("no bar: tqdm is not there (Debian's package python3-tqdm, or the extra bars)", file=sys.stderr)
+            else:
+                self._bar = tqdm(total=self._total, unit=f" {self._what}", file=sys.stderr, dynamic_ncols=True)
+                self._thread.start()
+        return self
+
+    def __exit__(self, kind: type[BaseException] | None, error: BaseException | None, trace: TracebackType | None) -> None:
+        if self._bar is not None:
+            self._ends.set()
+            self._thread.join()
+            self._show()
+            self._bar.close()
+
+    def add(self, count: int = 1) -> None:
+        """So many more are done."""
+        self._done += count
+
+    def _draw(self) -> None:
+        while not self._ends.wait(_PERIOD):
+            self._show()
+
+    def _show(self) -> None:
+        if self._evaluations is not None:
+            self._bar.set_postfix(evaluations=self._evaluations(), refresh=False)
+        self._bar.update(self._done - self._bar.n)
+        self._bar.refresh()

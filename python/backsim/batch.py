@@ -1,0 +1,113 @@
+"""Many questions at once."""
+from __future__ import annotations
+
+from types import TracebackType
+from typing import TYPE_CHECKING, Any, Generic, TypeVar
+
+from . import questions
+from .errors import UsageError
+from .exchange import CHUNK, Asked
+from .formats.script import Line
+from .outcomes import SessionError
+from .questions import Question
+from .values import Answer, At, Budget, First, Past, Proof, Stuck, Unknown, Wave
+
+if TYPE_CHECKING:
+    from .session import Session
+
+T = TypeVar("T")
+
+
+class Pending(Generic[T]):
+    """A question of a batch, and its answer once the batch was asked."""
+
+    __slots__ = ("_answer", "_is_answered", "_question")
+
+    def __init__(self, question: Question[T]) -> None:
+        self._question = question
+        self._answer: T | Unknown | Past | Budget | None = None
+        self._is_answered = False
+
+    def result(self) -> T | Unknown | Past | Budget:
+        """The answer. UsageError before the batch was asked."""
+        if not self._is_answered:
+            raise UsageError("the batch was not asked yet: its answers are there once its `with` block has ended")
+        return self._answer  # type: ignore[return-value]
+
+
+class Batch:
+    """Takes questions, sends them while more are taken, and has answered all when its `with` block ends, or after `ask`. Each question
+    is that of the session's method of the same name. The program divides what is asked into batches of at most 64 lines; those share
+    what they evaluate.
+
+        with session.batch() as batch:
+            waves = [batch.wave(name, 0, 31) for name in session.names("G1?")]
+        print([wave.result() for wave in waves])
+
+    SessionError where the session ends before; its `answered` has the pairs of a line and its answer that had come."""
+
+    def __init__(self, session: Session) -> None:
+        self._session = session
+        self._pending: list[Pending[Any]] = []
+        self._lines: list[Line] = []
+        self._sent: list[Asked] = []
+        self._got: list[Answer] = []
+        self.results: list[Any] = []
+
+    def __enter__(self) -> Batch:
+        return self
+
+    def __exit__(self, kind: type[BaseException] | None, error: BaseException | None, trace: TracebackType | None) -> None:
+        if kind is None:
+            self.ask()
+
+    def ask(self) -> list[Any]:
+        """Asks what was not asked yet, and gives the answers in the order of the questions; `results` has them too."""
+        self._send(True)
+        pending, self._pending = self._pending, []
+        answers, self._got, self._sent = iter(self._got), [], []
+        for one in pending:
+            one._answer = one._question.answer([next(answers) for _ in one._question.lines])
+            one._is_answered = True
+        self.results += [one._answer for one in pending]
+        return self.results
+
+    def _add(self, question: Question[T]) -> Pending[T]:
+        pending = Pending(question)
+        self._pending.append(pending)
+        self._lines += question.lines
+        if len(self._lines) >= CHUNK:
+            self._send(False)
+        return pending
+
+    def _send(self, ends: bool) -> None:
+        """Sends the lines that were added, and reads the answers to those that were sent before; where all have ended, to all."""
+        lines, self._lines = self._lines, []
+        self._sent.append(self._session._send(lines, ends))
+        try:
+            for asked in self._sent[-2:] if ends else self._sent[-2:-1]:
+                self._got += self._session._answers(asked)
+        except SessionError as error:
+            lines = [line for asked in self._sent for line in asked.lines]
+            error.answered = tuple(zip(lines, self._got))
+            raise
+
+    def wave(self, name: str, start: int, stop: int, budget: int | None = None) -> Pending[Wave]:
+        """As `Session.wave`."""
+        return self._add(questions.wave(self._session.bits, name, start, stop, budget))
+
+    def at(self, name: str, time: int, budget: int | None = None) -> Pending[At]:
+        """As `Session.at`."""
+        return self._add(questions.at(self._session.bits, name, time, budget))
+
+    def first(self, name: str, value: str | int, start: int, stop: int, budget: int | None = None) -> Pending[First]:
+        """As `Session.first`."""
+        return self._add(questions.first(self._session.bits, name, value, start, stop, budget))
+
+    def why(self, name: str, time: int, budget: int | None = None) -> Pending[Proof]:
+        """As `Session.why`."""
+        return self._add(questions.why(self._session.bits, name, time, budget))
+
+    def stuck(self, site: str, value: str | int, name: str, start: int, stop: int, budget: int | None = None) -> Pending[Stuck]:
+        """As `Session.stuck`."""
+        return self._add(questions.stuck(self._session.bits, site, value, name, start, stop, budget))

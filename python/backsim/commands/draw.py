@@ -1,0 +1,61 @@
+"""Draws waves as a timing diagram."""
+from __future__ import annotations
+
+import argparse
+from pathlib import Path
+
+from ..errors import UsageError
+from ..pictures.figures import FORMS
+from ..pictures.files import form_of, write_picture
+from ..pictures.rows import RADIXES, with_buses
+from ..pictures.sources import chosen, rows_of_replies, rows_of_session, rows_of_vcd
+from ..pictures.waves import waves_picture
+
+HELP = "a timing diagram (SVG or PNG) of replies, of a VCD file, or of a session that it asks"
+EXAMPLE = """\
+  backsim-tools draw --replies examples/pulse/pulse.replies -o pulse.svg
+  backsim-tools draw --vcd examples/pulse/pulse.vcd --scope top pulse parity -o pulse.png
+  backsim-tools draw examples/s27/s27.bench examples/s27/s27.timing examples/s27/s27.stim G17 'G1?' --from 0 --to 31 -o s27.svg
+
+A NAME may be a pattern, with * for any letters and ? for one, or a bus, as 'count[7:0]'. Of a session FROM is 0 and TO is after the
+horizon where they are left out. x is a hatched band, z a dashed middle line; where nothing was asked the row is dotted."""
+
+
+def add_arguments(parser: argparse.ArgumentParser) -> None:
+    parser.usage = ("backsim-tools draw (--replies FILE | --vcd FILE [--scope SCOPE]) [NAME ...] -o FILE\n"
+                    "       backsim-tools draw NETLIST TIMING STIMULUS NAME [NAME ...] [--from T] [--to T] -o FILE")
+    parser.add_argument("words", nargs="*", metavar="NAME", help="the signals to draw, from top to bottom; all where none is named")
+    source = parser.add_mutually_exclusive_group()
+    source.add_argument("--replies", type=Path, metavar="FILE", help="draw the `wave`, `at` and `stuck` replies of this file")
+    source.add_argument("--vcd", type=Path, metavar="FILE", help="draw the waves of this dump")
+    parser.add_argument("--scope", metavar="SCOPE",
+                        help="the scope of the dump, as top.dut; that of the first variable where it is left out")
+    parser.add_argument("--from", dest="start", type=int, metavar="T", help="the first time")
+    parser.add_argument("--to", dest="stop", type=int, metavar="T", help="the time before which the diagram ends")
+    parser.add_argument("--budget", type=int, metavar="N", help="how many points a session may evaluate for each wave")
+    parser.add_argument("--radix", choices=RADIXES, default="hex", help="how values of buses are written, hex where it is left out")
+    parser.add_argument("--bits", action="store_true", help="draw the bits of a bus in rows of their own where no bus is named")
+    parser.add_argument("--mark", type=int, action="append", default=[], metavar="T", help="a vertical line at this time; may be repeated")
+    parser.add_argument("--title", default="", metavar="TEXT")
+    parser.add_argument("--output", "-o", type=Path, required=True, metavar="FILE", help="the picture, .svg or .png")
+
+
+def run(arguments: argparse.Namespace) -> int:
+    form = form_of(arguments.output, FORMS)
+    if arguments.scope and not arguments.vcd:
+        raise UsageError("--scope goes with --vcd")
+    names = arguments.words
+    if arguments.replies:
+        rows = chosen(rows_of_replies(arguments.replies), names, arguments.replies)
+    elif arguments.vcd:
+        rows = rows_of_vcd(arguments.vcd, arguments.scope, names)
+    else:
+        if len(names) < 4:
+            raise UsageError("say NETLIST TIMING STIMULUS and the names of the signals, or --replies FILE, or --vcd FILE")
+        rows = rows_of_session(names[:3], names[3:], arguments.start, arguments.stop, arguments.budget)
+    if not arguments.bits:
+        rows = with_buses(rows)
+    picture = waves_picture(rows, form, start=arguments.start, stop=arguments.stop, radix=arguments.radix, marks=arguments.mark,
+                            title=arguments.title)
+    write_picture(arguments.output, picture)
+    return 0

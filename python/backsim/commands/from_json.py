@@ -1,0 +1,95 @@
+"""Writes a netlist and its timing file from Yosys's JSON."""
+from __future__ import annotations
+
+import argparse
+from pathlib import Path
+
+from ..arguments import count_of
+from ..convert.clocks import Edge, timing_of
+from ..convert.design import Asynchronous, Design, design_of
+from ..convert.dump import Dump, clock_of
+from ..convert.output import say, whole_text
+from ..convert.resets import lost_reset
+from ..convert.yosys import read_module
+from ..errors import FormatError, UsageError
+from ..formats.netlist import write_netlist
+from ..formats.text import number_of
+from ..formats.timing import MOST_TIME, Clock, write_timing
+from ..formats.vcd import read_vcd
+from .from_vcd import MOST_TICKS
+
+HELP = "writes a netlist and its timing file from what Yosys's write_json makes of a Verilog design, with the names of its nets"
+EXAMPLE = """  yosys -q -p "read_verilog chip.v; synth -flatten -noabc -top chip; write_json chip.json"
+  backsim-tools from-json chip.json chip.bench chip.timing --vcd chip.vcd --scope chip_test.dut
+  backsim-tools from-json chip.json chip.bench chip.timing --clock clk=100,200 --async-reset edge"""
+
+
+def add_arguments(parser: argparse.ArgumentParser) -> None:
+    parser.add_argument("json", type=Path, metavar="JSON")
+    parser.add_argument("netlist", type=Path, metavar="NETLIST", help="the netlist that is written")
+    parser.add_argument("timing", type=Path, metavar="TIMING", help="the timing file that is written")
+    parser.add_argument("--top", metavar="MODULE", help="the module; the top module where it is left out")
+    parser.add_argument("--clock", action="append", default=[], metavar="NAME=FIRST,PERIOD", help="the edges of a clock; NAME is that of "
+                        "its signal, with _falls behind it where falls count")
+    parser.add_argument("--vcd", type=Path, metavar="VCD", help="a dump from which the edges of the other clocks are taken")
+    parser.add_argument("--scope", metavar="SCOPE", help="the instance of the design in the dump, as chip_test.dut")
+    parser.add_argument("--ticks", type=count_of(1, MOST_TICKS), default=1, metavar="N", help="how many ticks of the VCD file are a unit "
+                        "of time, 1 where it is left out")
+    parser.add_argument("--async-reset", choices=[how.value for how in Asynchronous], help="what becomes of asynchronous resets: edge, "
+                        "they act at the next edge, and the register stays a flip-flop; gates, they act at once by gates that have the "
+                        "register's name. Where it is left out they are refused")
+    parser.add_argument("--no-aliases", action="store_true", help="one name for each net; else each further name is a BUFF of it")
+
+
+def run(arguments: argparse.Namespace) -> int:
+    if (arguments.vcd is None) != (arguments.scope is None):
+        raise UsageError("backsim-tools from-json: --vcd and --scope go together")
+    given = dict(map(_clock_in, arguments.clock))
+    module = read_module(arguments.json, arguments.top)
+    how = Asynchronous(arguments.async_reset) if arguments.async_reset else None
+    design = design_of(module, how, not arguments.no_aliases)
+    dump = Dump(read_vcd(arguments.vcd), arguments.scope, arguments.ticks) if arguments.vcd else None
+    strange = given.keys() - {edge.name for edge in design.edges.values()}
+    if strange:
+        known = ", ".join(sorted({edge.name for edge in design.edges.values()})) or "none"
+        raise UsageError(f"backsim-tools from-json: no flip-flop has the clock {strange.pop()}; the clocks are: {known}")
+    timing = timing_of(design.edges, design.initials, lambda edge: _times_of(edge, given, dump, arguments.json))
+    _check_resets(design, timing.clocks, dump, arguments.json)
+    with whole_text(arguments.netlist) as stream:
+        write_netlist(design.netlist, stream)
+    with whole_text(arguments.timing) as stream:
+        write_timing(timing, stream)
+    for note in design.notes:
+        say(note)
+    return 0
+
+
+def _clock_in(word: str) -> tuple[str, Clock]:
+    name, _, times = word.rpartition("=")
+    numbers = [number for number in map(number_of, times.split(",")) if number is not None and number <= MOST_TIME]
+    if not name or times.count(",") != 1 or len(numbers) != 2 or numbers[1] == 0:
+        raise UsageError(f"backsim-tools from-json: `{word}` is no NAME=FIRST,PERIOD with times up to {MOST_TIME}")
+    return name, Clock(*numbers)
+
+
+def _times_of(edge: Edge, given: dict[str, Clock], dump: Dump | None, path: Path) -> Clock:
+    if edge.name in given:
+        return given[edge.name]
+    if dump is None:
+        raise FormatError(path, None, f"the times of the clock {edge.name} are not known: give --clock {edge.name}=FIRST,PERIOD, or a dump "
+                          "by --vcd and --scope")
+    return clock_of(dump, edge.signal, edge.is_falling)
+
+
+def _check_resets(design: Design, clocks: dict[str, Clock], dump: Dump | None, path: Path) -> None:
+    """Refuses a reset of which the dump shows that no edge is in it; says where that is not known."""
+    unknown: dict[str, None] = {}
+    for register, reset, active, edge in design.resets:
+        lost = lost_reset(dump, reset, active, clocks[edge.name]) if dump else None
+        if lost is None:
+            unknown[reset] = None
+        elif lost:
+            raise FormatError(path, None, f"the register {register} can't be had: its asynchronous reset {reset} is active from "
+                              f"{lost[0]} to {lost[1]} with no edge of {edge.name} in between, so a flip-flop would forget it")
+    if unknown:
+        say(f"not looked at, since no dump has them: whether each time that {', '.join(unknown)} is active has a clock's edge in it")

@@ -1,0 +1,120 @@
+"""`backsim-tools run`: a script in one process or several."""
+from __future__ import annotations
+
+import argparse
+import sys
+import tempfile
+from collections.abc import Sequence
+from contextlib import closing
+from pathlib import Path
+
+from ..arguments import add_files, add_memo, add_program, count_of, opened
+from ..bars import Bar
+from ..errors import FormatError
+from ..evaluations import Tail
+from ..formats.script import SCRIPT_LIMIT, Line, parse_script
+from ..outcomes import Refused, SessionError
+from ..parts import check_divisible
+from ..plans import PLANS, Plan
+from ..profile import Profile, profile_of
+from ..program import Options, find_program
+from ..running import Files, Run
+from ..values import Budget
+
+HELP = "runs a script, in one process or several, and writes its replies"
+EXAMPLE = """\
+  backsim-tools run c17.bench c17.timing c17.stim c17.script > replies
+  backsim-tools run c17.bench c17.timing c17.stim c17.script --jobs 4 --shards 64 > replies
+  backsim-tools run chip.bench chip.timing chip.stim questions.script --jobs 16 --plan slurm"""
+_MOST_JOBS = 1024
+_MOST_TOLD = 20
+
+
+def add_arguments(parser: argparse.ArgumentParser) -> None:
+    add_files(parser)
+    parser.add_argument("script", metavar="SCRIPT", help="the script, or - for standard input")
+    parser.add_argument("--journal", metavar="FILE", help="keep the journal; with several jobs they are FILE.1, FILE.2 and so on")
+    parser.add_argument("--jobs", metavar="N", type=count_of(1, _MOST_JOBS), default=1,
+                        help="divide the script over N processes; the replies are those of one session")
+    add_memo(parser)
+    parser.add_argument("--plan", choices=sorted(PLANS), help="run nothing, and print the commands that do it by GNU parallel or Slurm")
+    parser.add_argument("--parts", metavar="FOLDER", default="parts", help="the folder that a plan makes for its parts (parts)")
+    add_program(parser)
+
+
+def run(arguments: argparse.Namespace) -> int:
+    is_divided = arguments.jobs > 1 or arguments.plan is not None
+    options = Options(arguments.workers or (1 if is_divided else None), arguments.shards, arguments.cells)
+    lines = _lines_of(arguments.script)
+    if is_divided:
+        check_divisible(lines, arguments.script)
+    if arguments.plan:
+        names = [arguments.netlist, arguments.timing, arguments.stimulus]
+        plan = Plan(find_program(arguments.program), names, options.words(), arguments.script, arguments.jobs, arguments.parts)
+        print(PLANS[arguments.plan](plan))
+        return 0
+    with tempfile.TemporaryDirectory(prefix="backsim") as folder:
+        journal = arguments.journal or Path(folder) / "journal"
+        files = Files(arguments.netlist, arguments.timing, arguments.stimulus, journal)
+        return _serve(Run(files, lines, options, arguments.jobs, arguments.program), lines)
+
+
+def _lines_of(path: str) -> list[Line]:
+    with opened(path) as stream:
+        data = stream.read(SCRIPT_LIMIT + 1)
+    if len(data) > SCRIPT_LIMIT:
+        raise FormatError(path, None, "the script has more than 16 MiB, which a session refuses")
+    return list(parse_script(data))
+
+
+def _serve(session: Run, lines: Sequence[Line]) -> int:
+    """Writes the replies, and then what is to be said of the run."""
+    total = sum(line.has_reply for line in lines)
+    spent: list[int] = []
+    answered = 0
+    try:
+        with closing(session.pairs()) as pairs, Bar(total, "lines", Tail(session.journals).count) as bar:
+            for line, reply in pairs:
+                sys.stdout.buffer.write(reply.text)
+                answered += 1
+                bar.add()
+                if isinstance(reply.answer, Budget):
+                    spent.append(line.number)
+    except Refused as refused:
+        sys.stdout.buffer.write(refused.reply)
+        raise
+    except SessionError as error:
+        _say(f"{error}; {answered} of {total} lines were answered before")
+        return error.status
+    _tell(session, spent)
+    return 0
+
+
+def _tell(session: Run, spent: Sequence[int]) -> None:
+    if session.restarts:
+        _say(f"{session.restarts} times a part was run again after a fault")
+    if spent and len(session.journals) > 1:
+        shown = " ".join(map(str, spent[:_MOST_TOLD])) + (" .." if len(spent) > _MOST_TOLD else "")
+        _say(f"lines answered by their budget: {shown}; one session of the whole script may answer such a line by more, from what other "
+             "lines evaluated")
+    stats = session.stats()
+    # a point is evaluated again only where a cell was evicted between
+    if stats.fills and 2 * stats.evictions > stats.fills:
+        _tell_repeats([profile_of(path) for path in session.journals])
+
+
+def _tell_repeats(profiles: Sequence[Profile]) -> None:
+    """Where more than half of the evaluations came again, says which memo would have held all."""
+    fills, again = sum(profile.fills for profile in profiles), sum(profile.again for profile in profiles)
+    if 2 * again <= fills:
+        return
+    # of each number of shards the room that every process needs
+    rooms = [max(rooms, key=lambda room: room.cells) for rooms in zip(*(profile.rooms() for profile in profiles))]
+    fitting = [room for room in rooms if room.fits and room.shards >= profiles[0].shards]
+    what = f"--shards {fitting[0].shards} --cells {fitting[0].cells} would have held all" if fitting else "no memo would have held all"
+    _say(f"{again} of {fills} evaluations were of points that were evaluated before, since their cells had been evicted; {what}")
+
+
+def _say(text: str) -> None:
+    sys.stdout.flush()
+    print(text, file=sys.stderr)

@@ -1,0 +1,41 @@
+"""`backsim-tools settled`: whether the gates have settled before each clock edge."""
+from __future__ import annotations
+
+import argparse
+
+from ..arguments import add_files
+from ..errors import FormatError
+from ..formats.netlist import read_netlist
+from ..formats.stimulus import read_stimulus
+from ..formats.timing import read_timing
+from ..settling import settle
+
+HELP = "says whether the gates have settled before each clock edge"
+EXAMPLE = "  backsim-tools settled chip.bench chip.timing chip.stim"
+
+
+def add_arguments(parser: argparse.ArgumentParser) -> None:
+    parser.description = (
+        "Says whether flip-flops take what they would if gates took no time. One line for each pair of a source, the inputs or a clock's "
+        "flip-flops, and a clock: the longest path between them, and the shortest time from a change of the source to the next edge. The "
+        "last line has the longest path to any signal: so long after the last change of an input and the last edge, a signal has its "
+        "settled value. Status 1 where a path is longer than the time that it has, or where an input that a flip-flop's gates look at "
+        "changes at an edge itself.")
+    add_files(parser)
+
+
+def run(arguments: argparse.Namespace) -> int:
+    netlist = read_netlist(arguments.netlist)
+    timing = read_timing(arguments.timing, netlist)
+    stimulus = read_stimulus(arguments.stimulus, netlist)
+    try:
+        found = settle(netlist, timing, stimulus)
+    except ValueError as cycle:
+        name = str(cycle)
+        raise FormatError(arguments.netlist, netlist.gates[name].line, f"the gates of {name} make a cycle") from None
+    if not found.has_changes and netlist.flops():
+        print("inputs: none that is read is set after time 0, so no time was compared with their paths")
+    for pair in found.pairs:
+        print(f"{pair.source} to {pair.clock}: path {pair.path}, time {pair.time}" + ", TOO LATE" * pair.is_late)
+    print(f"longest path {found.longest}")
+    return 1 if any(pair.is_late for pair in found.pairs) else 0

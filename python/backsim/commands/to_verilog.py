@@ -1,0 +1,48 @@
+"""Writes a circuit, its stimulus and its questions as Verilog."""
+from __future__ import annotations
+
+import argparse
+from pathlib import Path
+
+from ..convert.output import add_output, whole_text
+from ..convert.verilog import Circuit, questions_of, with_dump, with_questions
+from ..errors import UsageError
+from ..formats.netlist import read_netlist
+from ..formats.script import read_script
+from ..formats.stimulus import read_stimulus
+from ..formats.timing import read_timing
+
+HELP = "writes a circuit with its stimulus as one Verilog file, which answers a script or dumps all signals, for another simulator"
+EXAMPLE = """  backsim-tools to-verilog c17.bench c17.timing c17.stim c17.script -o c17.v
+  iverilog -g2005 -s circuit -o c17.vvp c17.v
+  vvp -n c17.vvp | sort -snk1,1 | cut -d' ' -f2- > replies
+
+Each line of a reply has the number of its question's line before it; the last command puts the replies in the order of the script.
+With `vvp -n c17.vvp +line=3` the question of line 3 alone is answered, and the run ends after it."""
+
+
+def add_arguments(parser: argparse.ArgumentParser) -> None:
+    parser.add_argument("netlist", type=Path, metavar="NETLIST")
+    parser.add_argument("timing", type=Path, metavar="TIMING")
+    parser.add_argument("stimulus", type=Path, metavar="STIMULUS")
+    parser.add_argument("script", type=Path, nargs="?", metavar="SCRIPT", help="the questions: wave, at, first and go lines")
+    parser.add_argument("--dump", metavar="VCD", help="in place of a script: dump all signals up to the horizon into this file, in the "
+                        "scope `circuit`, 10 ticks to a unit")
+    parser.add_argument("--primitives", action="store_true", help="gates are Verilog's own, which are faster, and whose delays are "
+                        "inertial: they swallow pulses that are shorter than the delay")
+    add_output(parser, "the Verilog text")
+
+
+def run(arguments: argparse.Namespace) -> int:
+    if (arguments.script is None) == (arguments.dump is None):
+        raise UsageError("backsim-tools to-verilog: either a SCRIPT or --dump VCD is wanted")
+    netlist = read_netlist(arguments.netlist)
+    timing, stimulus = read_timing(arguments.timing, netlist), read_stimulus(arguments.stimulus, netlist)
+    circuit = Circuit(netlist, timing, stimulus, arguments.primitives)
+    if arguments.dump is not None:
+        lines = with_dump(circuit, arguments.dump)
+    else:
+        lines = with_questions(circuit, questions_of(read_script(arguments.script), circuit, arguments.script))
+    with whole_text(arguments.output) as stream:
+        stream.writelines(f"{line}\n" for line in lines)
+    return 0

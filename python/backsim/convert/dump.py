@@ -1,0 +1,142 @@
+"""From a dump of another simulator: the stimulus of a netlist, the edges of clocks, and replies to compare with.
+
+A unit of time is so many ticks of the dump. A change between two units counts at the later one; where an input or a clock has such a
+change, it is refused."""
+from __future__ import annotations
+
+from collections.abc import Iterable, Iterator, Sequence
+from dataclasses import dataclass
+
+from ..errors import FormatError, type_of_path
+from ..formats.netlist import Netlist
+from ..formats.script import AtLine, FirstLine, Go, Line, WaveLine
+from ..formats.stimulus import MOST_TIME, Stimulus
+from ..formats.timing import Clock
+from ..formats.vcd import Changes, Vcd, value_at
+from .build import constant_value
+
+
+@dataclass(frozen=True, slots=True)
+class Dump:
+    """The signals of a scope of a dump, with times in units of so many ticks. `scope` has dots between its parts, as `bench.dut`."""
+
+    vcd: Vcd
+    scope: str
+    ticks: int = 1
+
+    @property
+    def last(self) -> int:
+        """The last whole unit that the dump reaches."""
+        return self.vcd.last // self.ticks
+
+    def bits(self, names: Iterable[str]) -> dict[str, Changes]:
+        """The changes of the bits of these names that are dumped. A single bit is also found as bit 0 of a vector of one bit."""
+        names = list(names)
+        found = self.vcd.bits(self.scope, {*names, *(f"{name}[0]" for name in names)})
+        single = {name: found.get(name, found.get(f"{name}[0]")) for name in names}
+        return {name: changes for name, changes in single.items() if changes is not None}
+
+    def in_units(self, changes: Changes) -> list[tuple[int, str]]:
+        """The changes at whole units, of those within one unit the last; neighbours differ."""
+        units: dict[int, str] = {}
+        for tick, value in changes:
+            units[-(-tick // self.ticks)] = value
+        before = ""
+        found = []
+        for time, value in units.items():
+            if value != before:
+                found.append((time, value))
+                before = value
+        return found
+
+    def exact(self, name: str, changes: Changes) -> list[tuple[int, str]]:
+        """The changes of a signal. FormatError where one is not at a whole unit."""
+        between = next((tick for tick, _ in changes if tick % self.ticks), None)
+        if between is not None:
+            raise FormatError(self.vcd.path, None, f"{self.scope}.{name} changes at {between} ticks, between two units of {self.ticks}: "
+                              "give a unit fewer ticks")
+        return self.in_units(changes)
+
+
+def stimulus_of(netlist: Netlist, dump: Dump) -> Stimulus:
+    """The stimulus that sets each input as it changes in the dump; the horizon is the last time of it. An input that stands for a
+    constant (`vdd`, `gnd`) and is not dumped is set at the time 0. FormatError where another is not dumped, changes between two
+    units, or has a value other than 0, 1, x and z, and where the horizon is above 1,000,000."""
+    if dump.last > MOST_TIME:
+        raise FormatError(dump.vcd.path, None, f"its last time is {dump.last} units, above {MOST_TIME}: end the dump earlier, or give a "
+                          "unit more ticks")
+    bits = dump.bits(netlist.inputs)
+    stimulus = Stimulus(dump.last)
+    for name in netlist.inputs:
+        value = constant_value(name)
+        if name in bits:
+            changes = dump.exact(name, bits[name])
+            # an input that is not set is x
+            stimulus.settings[name] = changes[1:] if changes[:1] == [(0, "x")] else changes
+        elif value is not None:
+            stimulus.settings[name] = [(0, value)]
+        else:
+            raise FormatError(dump.vcd.path, None, f"the input {name} is not dumped in the scope {dump.scope}")
+    return stimulus
+
+
+def clock_of(dump: Dump, name: str, is_falling: bool) -> Clock:
+    """The clock whose edges are the rises (or falls) of a signal. FormatError where it is not dumped, or its edges are not FIRST,
+    FIRST + PERIOD and so on up to the end of the dump, or its first value may be an edge."""
+    bits = dump.bits((name,))
+    value, word = ("0", "falls") if is_falling else ("1", "rises")
+    if name not in bits:
+        raise _fault(dump, f"the clock {name} is not dumped in the scope {dump.scope}")
+    changes = dump.exact(name, bits[name])
+    if changes[:1] == [(0, value)]:
+        raise _fault(dump, f"the clock {name} begins with {value}, and Verilog leaves open whether that is an edge: let it begin with "
+                     "the other value, or state its times (from-json --clock)")
+    edges = [time for time, own in changes if own == value and time <= dump.last]
+    if len(edges) < 2:
+        raise _fault(dump, f"the clock {name} has {len(edges)} {word}, too few for a period")
+    first, period = edges[0], edges[1] - edges[0]
+    wrong = next((edge for place, edge in enumerate(edges) if edge != first + place * period), None)
+    if wrong is None and edges[-1] + period <= dump.last:
+        wrong = edges[-1] + period
+    if wrong is not None:
+        raise _fault(dump, f"the clock {name} is not regular: it {word} at {first}, {first + period} and so on, but not so at {wrong}")
+    if max(first, period) > MOST_TIME:
+        raise _fault(dump, f"the clock {name} has a time above {MOST_TIME}: give a unit more ticks")
+    return Clock(first, period)
+
+
+def _fault(dump: Dump, cause: str) -> FormatError:
+    return FormatError(dump.vcd.path, None, cause)
+
+
+def replies_of(lines: Sequence[Line], path: type_of_path, dump: Dump) -> Iterator[str]:
+    """The replies of the dump to the `wave`, `at` and `first` lines of a script. FormatError at a line of another form, of a signal
+    that is not dumped, or of a time after the end of the dump."""
+    asked = [line for line in lines if isinstance(line, (WaveLine, AtLine, FirstLine))]
+    other = next((line for line in lines if not isinstance(line, (WaveLine, AtLine, FirstLine, Go))), None)
+    if other is not None:
+        raise FormatError(path, other.number, f"a dump answers `wave`, `at` and `first` lines alone: `{other.text.strip()[:60]}`")
+    bits = dump.bits({line.name for line in asked})
+    for line in asked:
+        if line.name not in bits:
+            raise FormatError(path, line.number, f"{line.name} is not dumped in the scope {dump.scope} of {dump.vcd.path}")
+        if (line.time + 1 if isinstance(line, AtLine) else line.stop) > dump.last + 1:
+            raise FormatError(path, line.number, f"{dump.vcd.path} ends before, at {dump.last}")
+    known = {name: dump.in_units(changes) for name, changes in bits.items()}
+    for line in asked:
+        yield from _reply(line, known[line.name])
+
+
+def _reply(line: WaveLine | AtLine | FirstLine, changes: list[tuple[int, str]]) -> Iterator[str]:
+    if isinstance(line, AtLine):
+        yield f"at {line.name} {line.time} {value_at(changes, line.time)}"
+        return
+    runs = [(line.start, value_at(changes, line.start))] if line.start < line.stop else []
+    runs += [change for change in changes if line.start < change[0] < line.stop]
+    if isinstance(line, WaveLine):
+        yield f"wave {line.name} {line.start} {line.stop}"
+        yield from (f"{time} {value}" for time, value in runs)
+        yield "end"
+    else:
+        found = next((str(time) for time, value in runs if value == line.value), "none")
+        yield f"first {line.name} {line.value} {line.start} {line.stop} {found}"

@@ -1,0 +1,126 @@
+"""What is asked about the faults of a circuit, and what the answers say."""
+from __future__ import annotations
+
+from collections.abc import Iterable, Iterator, Sequence
+from dataclasses import dataclass, field
+
+from ..formats.netlist import Netlist
+from ..formats.script import AtLine, StuckLine
+from ..values import Answer, At, Stuck
+from .branches import Made
+from .collapse import FaultClass
+from .model import Site, cone_of, outputs_reached
+
+_KNOWN = ("0", "1")
+_MOST_SINGLE = 16
+_MOST_TIMES = 64
+
+
+@dataclass(slots=True)
+class Outcome:
+    """What came of a class: the first time and an output that show it, or None; and the questions that were answered by their
+    budget, so that nothing is known of them."""
+
+    time: int | None = None
+    output: str | None = None
+    unanswered: list[str] = field(default_factory=list)
+
+    @property
+    def is_shown(self) -> bool:
+        return self.time is not None
+
+
+class Plan:
+    """The questions: the circuit with its branches, the classes, the times at which the tester looks (ascending, in the units of the
+    user's files) and the budget of a question."""
+
+    def __init__(self, netlist: Netlist, made: Made, classes: Sequence[FaultClass], times: Sequence[int], budget: int) -> None:
+        self.made = made
+        self.classes = tuple(classes)
+        self.times = tuple(times)
+        self.budget = budget
+        self._reached = outputs_reached(netlist)
+        self._flops = {gate.name for gate in netlist.flops()}
+        self._before_flops = cone_of(netlist, (gate.pins[0] for gate in netlist.flops()))
+        self.outputs = netlist.outputs
+
+    def reached(self, site: Site) -> tuple[str, ...]:
+        """The outputs that a fault of this line can reach."""
+        if site.is_output:
+            return (site.source,)
+        return self._reached[site.source if site.reader is None else site.reader]
+
+    def good_lines(self) -> list[AtLine]:
+        """What asks for each output at each time without a fault."""
+        return [AtLine(output, self.made.scale * time, self.budget) for time in self.times for output in self.outputs]
+
+    def stuck_lines(self, own: FaultClass, times: Sequence[int], good: Good) -> list[StuckLine]:
+        """What asks for the outputs that the fault reaches, from the first of the times to the last. An output that has no known
+        value at any of them is left out, and so is the branch to an output, whose value is that of the fault."""
+        site, scale = own.asked.site, self.made.scale
+        return [StuckLine(self.made.signal(site), own.asked.value, output, scale * times[0], scale * times[-1] + 1, self.budget)
+                for output in self.reached(site) if good.is_known(output, times)]
+
+    def chunks(self, own: FaultClass) -> Iterator[tuple[int, ...]]:
+        """The times in the pieces for which a class is asked, one question each. A question for one time evaluates what is settled then,
+        and one for several also all that changes in between; but where the fault reaches flip-flops, each question works out their
+        past anew. So the first times are asked one by one, and with flip-flops the later ones in pieces that get longer."""
+        start, length = 0, 1
+        while start < len(self.times):
+            yield self.times[start:start + length]
+            start += length
+            if start >= _MOST_SINGLE and self._has_past(own.asked.site):
+                length = min(start, _MOST_TIMES)
+
+    def _has_past(self, site: Site) -> bool:
+        """Whether a fault of the line reaches a flip-flop."""
+        return site.reader in self._flops or (site.reader or site.source) in self._before_flops
+
+    def judge(self, times: Sequence[int], lines: Sequence[StuckLine], answers: Sequence[Answer], good: Good, outcome: Outcome) -> None:
+        """Takes the answers to lines of `stuck_lines` into the outcome."""
+        for line, answer in zip(lines, answers, strict=True):
+            if isinstance(answer, Stuck):
+                self._take(((time, answer.wave.value_at(self.made.scale * time)) for time in times), line.name, good, outcome)
+            else:
+                outcome.unanswered.append(line.name)
+
+    def judge_output(self, own: FaultClass, good: Good, outcome: Outcome) -> None:
+        """Takes what the branch to an output shows into the outcome: its value is that of the fault."""
+        self._take(((time, own.asked.value) for time in self.times), own.asked.site.source, good, outcome)
+
+    def _take(self, values: Iterable[tuple[int, str]], output: str, good: Good, outcome: Outcome) -> None:
+        """Takes the first time at which the output has a wrong value, where none before is known."""
+        shown = next((time for time, value in values if good.differs(output, time, value)), None)
+        if shown is not None and (outcome.time is None or shown < outcome.time):
+            outcome.time, outcome.output = shown, output
+
+
+class Good:
+    """The values of the outputs without a fault, by output and time in the user's units."""
+
+    def __init__(self, plan: Plan, answers: Sequence[Answer]) -> None:
+        self._values: dict[tuple[str, int], str] = {}
+        self.unanswered: list[str] = []
+        for line, answer in zip(plan.good_lines(), answers, strict=True):
+            time = line.time // plan.made.scale
+            if isinstance(answer, At):
+                self._values[line.name, time] = answer.value
+            else:
+                self.unanswered.append(f"{line.name} at {time}")
+
+    @classmethod
+    def unknown(cls, plan: Plan) -> Good:
+        """What is to be taken before the values are known: that each output may have a known value."""
+        good = cls.__new__(cls)
+        good._values = {(output, time): "0" for output in plan.outputs for time in plan.times}
+        good.unanswered = []
+        return good
+
+    def is_known(self, output: str, times: Sequence[int]) -> bool:
+        """Whether the output is 0 or 1 at one of the times."""
+        return any(self._values.get((output, time)) in _KNOWN for time in times)
+
+    def differs(self, output: str, time: int, value: str) -> bool:
+        """Whether a tester sees the value as wrong: both are known, and another."""
+        own = self._values.get((output, time))
+        return own in _KNOWN and value in _KNOWN and own != value

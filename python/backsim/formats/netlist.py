@@ -1,0 +1,240 @@
+"""The netlist, in the form of the ISCAS'85 and ISCAS'89 benchmarks (docs/use/FORMATS.md, The netlist)."""
+from __future__ import annotations
+
+import enum
+import re
+from collections.abc import Iterable, Iterator
+from dataclasses import dataclass, field
+from typing import TextIO
+
+from .. import causes
+from ..errors import FormatError, type_of_path
+from .text import NAME_LIMIT, content_of, is_name, lines_of, read_bytes
+
+MOST_PINS_OF_A_GATE = 64
+MOST_NAMES = 1_048_576
+MOST_PINS = 4_194_304
+_TOKEN = re.compile(r"[(),=]|[^(),= ]+")
+
+
+class Kind(enum.Enum):
+    """The nine kinds; the value is the word of a netlist."""
+
+    AND = "AND"
+    NAND = "NAND"
+    OR = "OR"
+    NOR = "NOR"
+    XOR = "XOR"
+    XNOR = "XNOR"
+    NOT = "NOT"
+    BUFF = "BUFF"
+    DFF = "DFF"
+
+    @property
+    def is_unary(self) -> bool:
+        """Whether the kind has exactly one pin."""
+        return self in (Kind.NOT, Kind.BUFF, Kind.DFF)
+
+
+def kind_of(word: str) -> Kind | None:
+    """The kind of this word, in either case and with BUF for BUFF; None where it is none of the nine."""
+    upper = word.upper()
+    return Kind.__members__.get("BUFF" if upper == "BUF" else upper)
+
+
+@dataclass(frozen=True, slots=True)
+class Gate:
+    """A gate or flip-flop: the signal that it drives, its kind, the signals at its pins in order (1 to 64, exactly one for NOT,
+    BUFF and DFF), and its line in the file, 0 where it is of no file."""
+
+    name: str
+    kind: Kind
+    pins: tuple[str, ...]
+    line: int = 0
+
+
+@dataclass(frozen=True, slots=True)
+class Netlist:
+    """Inputs and outputs in order, each once, the gates by their names, and all names in the order of the signals' numbers, which
+    is that in which they first appear in the file."""
+
+    inputs: tuple[str, ...]
+    outputs: tuple[str, ...]
+    gates: dict[str, Gate]
+    names: tuple[str, ...]
+    _numbers: dict[str, int] = field(init=False, repr=False, compare=False)
+
+    def __post_init__(self) -> None:
+        object.__setattr__(self, "_numbers", {name: number for number, name in enumerate(self.names)})
+
+    @classmethod
+    def build(cls, inputs: Iterable[str], outputs: Iterable[str], gates: Iterable[Gate]) -> Netlist:
+        """The netlist of these parts, with the names in the order in which `write_netlist` writes them."""
+        inputs, outputs = tuple(dict.fromkeys(inputs)), tuple(dict.fromkeys(outputs))
+        by_name = {gate.name: gate for gate in gates}
+        names = dict.fromkeys((*inputs, *outputs))
+        for gate in by_name.values():
+            names.update(dict.fromkeys((gate.name, *gate.pins)))
+        return cls(inputs, outputs, by_name, tuple(names))
+
+    def __contains__(self, name: object) -> bool:
+        return name in self._numbers
+
+    def number_of(self, name: str) -> int:
+        """The signal's number. KeyError where there is no such signal."""
+        return self._numbers[name]
+
+    def flops(self) -> tuple[Gate, ...]:
+        """The flip-flops, in the order of the file."""
+        return tuple(gate for gate in self.gates.values() if gate.kind is Kind.DFF)
+
+    def fanout(self) -> dict[str, tuple[str, ...]]:
+        """For each signal the gates and flip-flops that have it at a pin, each once, in the order of the file."""
+        readers: dict[str, list[str]] = {name: [] for name in self.names}
+        for gate in self.gates.values():
+            for pin in dict.fromkeys(gate.pins):
+                readers[pin].append(gate.name)
+        return {name: tuple(found) for name, found in readers.items()}
+
+    def cone(self, name: str) -> set[str]:
+        """The fan-in cone: the signal and all that it can come from, through flip-flops too. KeyError where there is no such."""
+        self.number_of(name)
+        return _closure(name, lambda signal: self.gates[signal].pins if signal in self.gates else ())
+
+    def reached(self, name: str) -> set[str]:
+        """The signal and all in whose fan-in cone it is. KeyError where there is no such signal."""
+        self.number_of(name)
+        fanout = self.fanout()
+        return _closure(name, lambda signal: fanout[signal])
+
+
+def _closure(start, followers) -> set[str]:
+    found, left = {start}, [start]
+    while left:
+        for name in followers(left.pop()):
+            if name not in found:
+                found.add(name)
+                left.append(name)
+    return found
+
+
+def read_netlist(path: type_of_path) -> Netlist:
+    """The netlist of a file. FormatError where the program refuses the file, with the same line and cause, or it can't be read."""
+    return parse_netlist(read_bytes(path), str(path))
+
+
+def parse_netlist(data: bytes, path: str) -> Netlist:
+    """The netlist of a file's bytes; `path` is what errors name."""
+    return _Parser(path).parse(data)
+
+
+def write_netlist(netlist: Netlist, stream: TextIO) -> None:
+    """Writes the INPUT lines, the OUTPUT lines, and a line for each gate, in order."""
+    stream.writelines(f"INPUT({name})\n" for name in netlist.inputs)
+    stream.writelines(f"OUTPUT({name})\n" for name in netlist.outputs)
+    stream.writelines(f"{gate.name} = {gate.kind.value}({', '.join(gate.pins)})\n" for gate in netlist.gates.values())
+
+
+class _Parser:
+    """Reads the lines of one file, and keeps what they define."""
+
+    def __init__(self, path: str) -> None:
+        self.path = path
+        self.inputs: dict[str, None] = {}
+        self.outputs: dict[str, None] = {}
+        self.gates: dict[str, Gate] = {}
+        self.names: dict[str, None] = {}
+        self.used: dict[str, int] = {}
+        self.pins = 0
+
+    def parse(self, data: bytes) -> Netlist:
+        for number, line in enumerate(lines_of(data), 1):
+            text = content_of(line)
+            if text.strip(" "):
+                self.take(number, text)
+        for name, number in self.used.items():
+            if name not in self.gates and name not in self.inputs:
+                raise self.fault(number, 5, name)
+        return Netlist(tuple(self.inputs), tuple(self.outputs), self.gates, tuple(self.names))
+
+    def fault(self, number: int, cause: int, what: str = "") -> FormatError:
+        return FormatError(self.path, number, causes.NETLIST[cause] + (f": {what}" if what else ""))
+
+    def take(self, number: int, text: str) -> None:
+        tokens = _TOKEN.findall(text)
+        if tokens[1:2] == ["="]:
+            name, kind, pins = self.gate_of(number, tokens)
+            self.check_names(number, (name, *pins))
+            if name in self.gates or name in self.inputs:
+                raise self.fault(number, 4, name)
+            self.gates[name] = Gate(name, kind, pins, number)
+            self.pins += len(pins)
+            self.add_names(number, (name, *pins))
+            used: Iterable[str] = pins
+        else:
+            word, name = self.port_of(number, tokens)
+            self.check_names(number, (name,))
+            if word == "INPUT" and name in self.gates:
+                raise self.fault(number, 4, name)
+            (self.inputs if word == "INPUT" else self.outputs)[name] = None
+            self.add_names(number, (name,))
+            used = (name,) if word == "OUTPUT" else ()
+        for pin in used:
+            self.used.setdefault(pin, number)
+
+    def gate_of(self, number: int, tokens: list[str]) -> tuple[str, Kind, tuple[str, ...]]:
+        inner = tokens[4:-1]
+        pins, commas = inner[::2], inner[1::2]
+        well_formed = (len(tokens) >= 5 and tokens[3] == "(" and tokens[-1] == ")" and is_name(tokens[0]) and is_name(tokens[2])
+                       and (not inner or len(inner) % 2 == 1) and all(map(is_name, pins)) and all(mark == "," for mark in commas))
+        if not well_formed:
+            raise self.fault(number, 1)
+        kind = kind_of(tokens[2])
+        if kind is None:
+            raise self.fault(number, 2, tokens[2])
+        if not 1 <= len(pins) <= MOST_PINS_OF_A_GATE or kind.is_unary and len(pins) != 1:
+            raise self.fault(number, 3, f"{kind.value} with {len(pins)} pins")
+        return tokens[0], kind, tuple(pins)
+
+    def port_of(self, number: int, tokens: list[str]) -> tuple[str, str]:
+        if len(tokens) != 4 or tokens[1] != "(" or tokens[3] != ")" or not is_name(tokens[2]):
+            raise self.fault(number, 1)
+        word = tokens[0].upper()
+        if word not in ("INPUT", "OUTPUT"):
+            raise self.fault(number, 1)
+        return word, tokens[2]
+
+    def check_names(self, number: int, names: Iterable[str]) -> None:
+        if any(len(name) > NAME_LIMIT for name in names):
+            raise self.fault(number, 6)
+
+    def add_names(self, number: int, names: Iterable[str]) -> None:
+        self.names.update(dict.fromkeys(names))
+        if len(self.names) > MOST_NAMES or self.pins > MOST_PINS:
+            raise self.fault(number, 7)
+
+
+def in_order(netlist: Netlist) -> Iterator[Gate]:
+    """The gates, each after the gates that its pins read; flip-flops are left out. ValueError, with the name of a signal on it,
+    where gates make a cycle."""
+    done: set[str] = set()
+    for root in netlist.gates:
+        open_gates: dict[str, Iterator[str]] = {}
+        if _is_gate(netlist, root) and root not in done:
+            open_gates[root] = iter(netlist.gates[root].pins)
+        while open_gates:
+            name = next(reversed(open_gates))
+            for pin in open_gates[name]:
+                if pin in open_gates:
+                    raise ValueError(pin)
+                if pin not in done and _is_gate(netlist, pin):
+                    open_gates[pin] = iter(netlist.gates[pin].pins)
+                    break
+            else:
+                del open_gates[name]
+                done.add(name)
+                yield netlist.gates[name]
+
+
+def _is_gate(netlist: Netlist, name: str) -> bool:
+    return name in netlist.gates and netlist.gates[name].kind is not Kind.DFF

@@ -1,0 +1,265 @@
+"""The script: the lines of questions that a session reads (docs/use/FORMATS.md, The script)."""
+from __future__ import annotations
+
+from collections.abc import Iterable, Iterator
+from dataclasses import dataclass
+from typing import ClassVar, TextIO, Union
+
+from ..errors import FormatError, type_of_path
+from .text import is_name, lines_of, logic_of, number_of, read_bytes, words_of
+
+SCRIPT_LIMIT = 16 * 1024 * 1024
+LINE_LIMIT = 4096
+MOST_TIME = 4_294_967_294
+MOST_BUDGET = 500_000
+USUAL_BUDGET = 50_000
+MOST_CELLS = 65_536
+MOST_ITEMS = 64
+MOST_BUDGETS = 1_000_000
+MOST_LENGTHS = 4_000_000
+
+
+@dataclass(frozen=True, slots=True, kw_only=True)
+class _Line:
+    """`number` counts the lines of the script from 1, `text` is the line as it stands there, without its line feed."""
+
+    number: int = 0
+    text: str = ""
+    # whether the line has a reply, and whether it is an item of a batch (else it is served by itself)
+    has_reply: ClassVar[bool] = True
+    is_item: ClassVar[bool] = False
+
+
+@dataclass(frozen=True, slots=True)
+class WaveLine(_Line):
+    """Asks for the waveform of `name` from `start` up to, and not with, `stop`."""
+
+    name: str
+    start: int
+    stop: int
+    budget: int | None = None
+    is_item: ClassVar[bool] = True
+
+    def __str__(self) -> str:
+        return f"wave {self.name} {self.start} {self.stop}{_tail(self.budget)}"
+
+
+@dataclass(frozen=True, slots=True)
+class AtLine(_Line):
+    """Asks for the value of `name` at `time`."""
+
+    name: str
+    time: int
+    budget: int | None = None
+    is_item: ClassVar[bool] = True
+
+    def __str__(self) -> str:
+        return f"at {self.name} {self.time}{_tail(self.budget)}"
+
+
+@dataclass(frozen=True, slots=True)
+class FirstLine(_Line):
+    """Asks for the first time from `start` up to, and not with, `stop` at which `name` has the value."""
+
+    name: str
+    value: str
+    start: int
+    stop: int
+    budget: int | None = None
+
+    def __str__(self) -> str:
+        return f"first {self.name} {self.value} {self.start} {self.stop}{_tail(self.budget)}"
+
+
+@dataclass(frozen=True, slots=True)
+class WhyLine(_Line):
+    """Asks why `name` has the value that it has at `time`."""
+
+    name: str
+    time: int
+    budget: int | None = None
+
+    def __str__(self) -> str:
+        return f"why {self.name} {self.time}{_tail(self.budget)}"
+
+
+@dataclass(frozen=True, slots=True)
+class StuckLine(_Line):
+    """Asks for the waveform of `name` where `site` has the value `0` or `1` at all times."""
+
+    site: str
+    value: str
+    name: str
+    start: int
+    stop: int
+    budget: int | None = None
+
+    def __str__(self) -> str:
+        return f"stuck {self.site} {self.value} {self.name} {self.start} {self.stop}{_tail(self.budget)}"
+
+
+@dataclass(frozen=True, slots=True)
+class Go(_Line):
+    """Runs the pending batch."""
+
+    has_reply: ClassVar[bool] = False
+
+    def __str__(self) -> str:
+        return "go"
+
+
+@dataclass(frozen=True, slots=True)
+class Trim(_Line):
+    """Evicts the least recent cells of every shard until at most `cells` are left in each."""
+
+    cells: int
+
+    def __str__(self) -> str:
+        return f"trim {self.cells}"
+
+
+@dataclass(frozen=True, slots=True)
+class StatsLine(_Line):
+    """Asks for the counts of the session."""
+
+    def __str__(self) -> str:
+        return "stats"
+
+
+@dataclass(frozen=True, slots=True)
+class VcdLine(_Line):
+    """Asks for a dump of the last batch in this file."""
+
+    file: str
+
+    def __str__(self) -> str:
+        return f"vcd {self.file}"
+
+
+@dataclass(frozen=True, slots=True)
+class BadScriptLine(_Line):
+    """A line that has none of the forms, or a number above its limit, or more than 4,096 bytes."""
+
+    is_item: ClassVar[bool] = True
+
+    def __str__(self) -> str:
+        return self.text
+
+
+Line = Union[WaveLine, AtLine, FirstLine, WhyLine, StuckLine, Go, Trim, StatsLine, VcdLine, BadScriptLine]
+
+
+def _tail(budget: int | None) -> str:
+    return "" if budget is None else f" {budget}"
+
+
+def read_script(path: type_of_path) -> list[Line]:
+    """The lines of a script that aren't blank. FormatError where it can't be read or has more than 16 MiB; a line that is none of
+    the forms is no error, but a `BadScriptLine`, as a session replies to it."""
+    return list(parse_script(read_bytes(path, SCRIPT_LIMIT)))
+
+
+def parse_script(data: bytes) -> Iterator[Line]:
+    """The lines of a script's bytes that aren't blank."""
+    for number, line in enumerate(lines_of(data), 1):
+        parsed = parse_line(line, number)
+        if parsed is not None:
+            yield parsed
+
+
+def parse_line(line: bytes, number: int) -> Line | None:
+    """The line, given without its line feed; None where it is blank."""
+    words, text = words_of(line), line.decode("latin-1")
+    if len(line) <= LINE_LIMIT and not words:
+        return None
+    try:
+        return _form_of(words if len(line) <= LINE_LIMIT else (), number, text)
+    except _NoForm:
+        return BadScriptLine(number=number, text=text)
+
+
+class _NoForm(Exception):
+    """A line has none of the forms, or a number above its limit."""
+
+
+def _form_of(words: tuple[str, ...], number: int, text: str) -> Line:
+    """The line of one of the forms."""
+    match words:
+        case ("wave", name, start, stop, *budget) if is_name(name):
+            return WaveLine(name, _time(start), _time(stop), _budget(budget), number=number, text=text)
+        case ("at", name, time, *budget) if is_name(name):
+            return AtLine(name, _time(time), _budget(budget), number=number, text=text)
+        case ("first", name, word, start, stop, *budget) if is_name(name) and (value := logic_of(word)):
+            return FirstLine(name, value, _time(start), _time(stop), _budget(budget), number=number, text=text)
+        case ("why", name, time, *budget) if is_name(name):
+            return WhyLine(name, _time(time), _budget(budget), number=number, text=text)
+        case ("stuck", site, "0" | "1" as value, name, start, stop, *budget) if is_name(site) and is_name(name):
+            return StuckLine(site, value, name, _time(start), _time(stop), _budget(budget), number=number, text=text)
+        case ("go",):
+            return Go(number=number, text=text)
+        case ("stats",):
+            return StatsLine(number=number, text=text)
+        case ("vcd", file) if is_name(file):
+            return VcdLine(file, number=number, text=text)
+        case ("trim", cells):
+            return Trim(_at_most(cells, MOST_CELLS), number=number, text=text)
+    raise _NoForm
+
+
+def _at_most(word: str, most: int) -> int:
+    number = number_of(word)
+    if number is None or number > most:
+        raise _NoForm
+    return number
+
+
+def _time(word: str) -> int:
+    return _at_most(word, MOST_TIME)
+
+
+def _budget(words: list[str]) -> int | None:
+    """The budget, or None where it is left out."""
+    if len(words) > 1:
+        raise _NoForm
+    return _at_most(words[0], MOST_BUDGET) if words else None
+
+
+def units(lines: Iterable[Line], horizon: int) -> Iterator[list[Line]]:
+    """The lines as they are served: batches of items, and each other line by itself; `go` lines are left out."""
+    batch: list[Line] = []
+    budgets = lengths = 0
+    for line in lines:
+        budget, length = _costs(line, horizon)
+        if batch and (not line.is_item or budgets + budget > MOST_BUDGETS or lengths + length > MOST_LENGTHS):
+            yield batch
+            batch, budgets, lengths = [], 0, 0
+        if line.is_item:
+            batch.append(line)
+            budgets, lengths = budgets + budget, lengths + length
+            if len(batch) == MOST_ITEMS:
+                yield batch
+                batch, budgets, lengths = [], 0, 0
+        elif line.has_reply:
+            yield [line]
+    if batch:
+        yield batch
+
+
+def _costs(line: Line, horizon: int) -> tuple[int, int]:
+    """The budget and the length of the window of an item, which have sums that a batch does not go above."""
+    if not isinstance(line, (WaveLine, AtLine)):
+        return 0, 0
+    start, stop = (line.start, line.stop) if isinstance(line, WaveLine) else (line.time, line.time + 1)
+    budget = USUAL_BUDGET if line.budget is None else line.budget
+    return budget, 0 if stop > horizon + 1 else max(0, stop - start)
+
+
+def write_script(lines: Iterable[Line], stream: TextIO, path: type_of_path = "script") -> None:
+    """Writes the lines one after another. FormatError, of the name `path`, before the line with which there were more than 16 MiB."""
+    size = 0
+    for number, line in enumerate(lines, 1):
+        text = f"{line}\n"
+        size += len(text)
+        if size > SCRIPT_LIMIT:
+            raise FormatError(path, number, "with this line the script has more than 16 MiB, which a session refuses")
+        stream.write(text)

@@ -1,0 +1,101 @@
+"""The stimulus file: the horizon and the settings of inputs (docs/use/FORMATS.md, The stimulus file)."""
+from __future__ import annotations
+
+from bisect import bisect_right
+from dataclasses import dataclass, field
+from typing import TextIO
+
+from .. import causes
+from ..errors import FormatError, type_of_path
+from .netlist import Netlist
+from .text import Row, is_name, logic_of, number_of, read_bytes, rows_of
+
+MOST_TIME = 1_000_000
+
+
+@dataclass(slots=True)
+class Stimulus:
+    """The horizon, 0 to 1,000,000, is the last time of the simulation. `settings` has for each input the (time, value) of its
+    settings by ascending time. `lines` has the line of each setting, by name and time, where the stimulus was read from a file."""
+
+    horizon: int
+    settings: dict[str, list[tuple[int, str]]] = field(default_factory=dict)
+    lines: dict[tuple[str, int], int] = field(default_factory=dict, repr=False, compare=False)
+
+    def value_at(self, name: str, time: int) -> str:
+        """The value of an input at a time: that of its last setting at or before it, and x before its first setting."""
+        settings = self.settings.get(name, [])
+        place = bisect_right(settings, time, key=lambda setting: setting[0])
+        return settings[place - 1][1] if place else "x"
+
+    def times(self) -> list[int]:
+        """The times at which something is set, ascending."""
+        return sorted({time for settings in self.settings.values() for time, _ in settings})
+
+
+def read_stimulus(path: type_of_path, netlist: Netlist | None = None) -> Stimulus:
+    """The stimulus of a file. FormatError where the program refuses the file, or, with a netlist, a row of it for that netlist."""
+    stimulus = parse_stimulus(read_bytes(path), str(path))
+    if netlist is not None:
+        check_stimulus(stimulus, netlist, str(path))
+    return stimulus
+
+
+def parse_stimulus(data: bytes, path: str) -> Stimulus:
+    """The stimulus of a file's bytes; `path` is what errors name."""
+    stimulus = None
+    for row in rows_of(data):
+        if row.words[0] == "horizon":
+            horizon = _horizon_of(row, path)
+            if stimulus is not None:
+                raise FormatError(path, row.number, f"{causes.STIMULUS[4]}: horizon")
+            stimulus = Stimulus(horizon)
+        else:
+            _take(stimulus, row, path)
+    if stimulus is None:
+        raise FormatError(path, None, f"{causes.STIMULUS[2]}: the file has no such line")
+    for settings in stimulus.settings.values():
+        settings.sort()
+    return stimulus
+
+
+def _horizon_of(row: Row, path: str) -> int:
+    horizon = number_of(row.words[1]) if len(row.words) == 2 else None
+    if horizon is None:
+        raise FormatError(path, row.number, causes.STIMULUS[1])
+    if horizon > MOST_TIME:
+        raise FormatError(path, row.number, causes.STIMULUS[3])
+    return horizon
+
+
+def _take(stimulus: Stimulus | None, row: Row, path: str) -> None:
+    if len(row.words) != 4 or row.words[0] != "set" or not is_name(row.words[1]):
+        raise FormatError(path, row.number, causes.STIMULUS[1])
+    name, time, value = row.words[1], number_of(row.words[2]), logic_of(row.words[3])
+    if time is None or value is None:
+        raise FormatError(path, row.number, causes.STIMULUS[1])
+    if stimulus is None:
+        raise FormatError(path, row.number, causes.STIMULUS[2])
+    if time > MOST_TIME:
+        raise FormatError(path, row.number, causes.STIMULUS[3])
+    if (name, time) in stimulus.lines:
+        raise FormatError(path, row.number, f"{causes.STIMULUS[4]}: line {stimulus.lines[name, time]}")
+    stimulus.lines[name, time] = row.number
+    stimulus.settings.setdefault(name, []).append((time, value))
+
+
+def check_stimulus(stimulus: Stimulus, netlist: Netlist, path: str) -> None:
+    """FormatError at the first row of a read stimulus file that does not fit the netlist."""
+    inputs = set(netlist.inputs)
+    for (name, time), line in stimulus.lines.items():
+        cause = 11 if name not in netlist else 13 if name not in inputs else 15 if time > stimulus.horizon else None
+        if cause:
+            raise FormatError(path, line, f"{causes.JOIN[cause]}: {name}")
+
+
+def write_stimulus(stimulus: Stimulus, stream: TextIO) -> None:
+    """Writes the horizon and a line for each setting, by time and then in the order of the inputs in `settings`."""
+    stream.write(f"horizon {stimulus.horizon}\n")
+    order = {name: place for place, name in enumerate(stimulus.settings)}
+    rows = [(time, order[name], name, value) for name, settings in stimulus.settings.items() for time, value in settings]
+    stream.writelines(f"set {name} {time} {value}\n" for time, _, name, value in sorted(rows))

@@ -1,0 +1,76 @@
+"""The rules that the text files share: lines, comments, words, names and numbers (docs/use/FORMATS.md, Common rules)."""
+from __future__ import annotations
+
+import re
+from collections.abc import Iterator
+from dataclasses import dataclass
+
+from ..errors import FormatError, reason_of, type_of_path
+
+FILE_LIMIT = 64 * 1024 * 1024
+NAME_LIMIT = 255
+NAME = re.compile(r"[^\x00-\x20\x7f-\U0010ffff(),=#]+")
+DIGITS = re.compile(r"[0-9]+")
+_BLANKS = bytes.maketrans(b"\t\r", b"  ")
+
+
+@dataclass(frozen=True, slots=True)
+class Row:
+    """A line that isn't blank: its number, counted from 1, and its words without the comment."""
+
+    number: int
+    words: tuple[str, ...]
+
+
+def read_bytes(path: type_of_path, limit: int = FILE_LIMIT) -> bytes:
+    """The file's bytes. FormatError where it can't be read, or has more than `limit` bytes."""
+    try:
+        with open(path, "rb") as file:
+            data = file.read(limit + 1)
+    except (OSError, ValueError) as error:
+        raise FormatError(path, None, reason_of(error)) from None
+    if len(data) > limit:
+        raise FormatError(path, None, f"the file has more than {limit} bytes")
+    return data
+
+
+def lines_of(data: bytes) -> list[bytes]:
+    """The lines without their line feeds. Bytes after the last line feed are a line too, unless there are none."""
+    lines = data.split(b"\n")
+    return lines if lines[-1] else lines[:-1]
+
+
+def content_of(line: bytes) -> str:
+    """The line without its comment, with each byte as one character and each blank as a space."""
+    return line.partition(b"#")[0].translate(_BLANKS).decode("latin-1")
+
+
+def words_of(line: bytes) -> tuple[str, ...]:
+    """The words of a line, without its comment."""
+    return tuple(word for word in content_of(line).split(" ") if word)
+
+
+def rows_of(data: bytes) -> Iterator[Row]:
+    """The lines that aren't blank."""
+    for number, line in enumerate(lines_of(data), 1):
+        words = words_of(line)
+        if words:
+            yield Row(number, words)
+
+
+def is_name(word: str) -> bool:
+    """Whether the word is a name: bytes from 33 to 126 that are none of `(`, `)`, `,`, `=` and `#`."""
+    return NAME.fullmatch(word) is not None
+
+
+def number_of(word: str) -> int | None:
+    """The number that the word is, or None. A number of more than 18 digits is told as the 10 ** 18 that is above every limit."""
+    if not DIGITS.fullmatch(word):
+        return None
+    digits = word.lstrip("0")
+    return 10 ** 18 if len(digits) > 18 else int(digits or "0")
+
+
+def logic_of(word: str) -> str | None:
+    """The logic value that the word is, in lower case, or None."""
+    return word.lower() if word in ("0", "1", "x", "X", "z", "Z") else None

@@ -1,0 +1,24 @@
+"""Where pictures go."""
+from __future__ import annotations
+
+from collections.abc import Sequence
+from pathlib import Path
+
+from ..errors import FormatError, UsageError, reason_of
+
+
+def form_of(path: Path, forms: Sequence[str]) -> str:
+    """The form of a picture by the end of its file's name. UsageError where it is none of the forms."""
+    form = path.suffix.lower().removeprefix(".")
+    if form not in forms:
+        ends = [f".{form}" for form in forms]
+        raise UsageError(f"{path}: the name of this picture must end in {', '.join(ends[:-1])} or {ends[-1]}")
+    return form
+
+
+def write_picture(path: Path, data: bytes) -> None:
+    """Writes a file whole. FormatError where that can't be."""
+    try:
+        path.write_bytes(data)
+    except (OSError, ValueError) as error:
+        raise FormatError(path, None, f"it can't be written: {reason_of(error)}") from None

@@ -1,0 +1,114 @@
+"""The rules by which a cell follows from others (docs/meaning/RULES.md: Values, Looking order, Cells, Clocks and Base answers).
+
+The gates have the tables of the gate primitives of IEEE 1364 over 0, 1, x and z, and z at a pin counts as x."""
+from __future__ import annotations
+
+import enum
+from bisect import bisect_right
+from collections.abc import Sequence
+from dataclasses import dataclass
+
+from ..errors import type_of_path
+from ..formats.netlist import Gate, Kind, Netlist, read_netlist
+from ..formats.stimulus import Stimulus, read_stimulus
+from ..formats.timing import Clock, Timing, read_timing
+
+_DECIDING = {Kind.AND: "0", Kind.NAND: "0", Kind.OR: "1", Kind.NOR: "1", Kind.XOR: "xz", Kind.XNOR: "xz"}
+_NEGATING = (Kind.NAND, Kind.NOR, Kind.XNOR, Kind.NOT)
+_NEGATION = {"0": "1", "1": "0", "x": "x"}
+
+
+class Role(enum.Enum):
+    """What a cell is: one that was evaluated, or a base answer, or the x that a pin sees before its delay has passed."""
+
+    GATE = "gate"
+    FLOP = "flip-flop"
+    INPUT = "input"
+    INITIAL = "initial value"
+    EARLY = "before the least delay"
+    UNSEEN = "pin before its delay"
+
+    @property
+    def is_leaf(self) -> bool:
+        """Whether a cell of this role follows from no other."""
+        return self not in (Role.GATE, Role.FLOP)
+
+
+@dataclass(frozen=True, slots=True)
+class Cell:
+    """The value `0`, `1`, `x` or `z` at the times from `start` on and below `end`."""
+
+    start: int
+    end: int
+    value: str
+
+
+def decides(kind: Kind, value: str) -> bool:
+    """Whether a pin with this value settles a gate of the kind, whatever its other pins are."""
+    return value in _DECIDING.get(kind, "")
+
+
+def gate_value(kind: Kind, values: Sequence[str]) -> str:
+    """The value of a gate whose pins have these values; for DFF the value that its pin gives it."""
+    if kind in (Kind.AND, Kind.NAND, Kind.OR, Kind.NOR):
+        deciding = _DECIDING[kind]
+        plain = deciding if deciding in values else "x" if _has_unknown(values) else _NEGATION[deciding]
+    else:
+        plain = "x" if _has_unknown(values) else str(values.count("1") % 2)
+    return _NEGATION[plain] if kind in _NEGATING else plain
+
+
+def _has_unknown(values: Sequence[str]) -> bool:
+    return "x" in values or "z" in values
+
+
+@dataclass(frozen=True, slots=True)
+class Design:
+    """The three files of a circuit."""
+
+    netlist: Netlist
+    timing: Timing
+    stimulus: Stimulus
+
+    def delays(self, gate: Gate) -> tuple[int, ...]:
+        """The delay of each pin of a gate or flip-flop."""
+        return tuple(self.timing.delay(gate, place) for place in range(len(gate.pins)))
+
+    def clock_of(self, flop: Gate) -> Clock | None:
+        """The clock of a flip-flop, or None where it has none."""
+        return self.timing.clock_of(flop.name)
+
+    def shown_edge(self, flop: Gate, time: int) -> int | None:
+        """The last edge of the flip-flop's clock whose delay has passed at the time; None before any."""
+        clock = self.clock_of(flop)
+        if clock is None:
+            return None
+        since = time - self.timing.delay(flop) - clock.first
+        return None if since < 0 else clock.first + since // clock.period * clock.period
+
+    def base(self, name: str, time: int) -> tuple[Role, Cell] | None:
+        """The base answer of a signal at a time, or None where the point is evaluable."""
+        end = self.stimulus.horizon + 1
+        gate = self.netlist.gates.get(name)
+        if gate is None:
+            return Role.INPUT, self._input_cell(name, time)
+        if gate.kind is not Kind.DFF:
+            least = min(self.delays(gate))
+            return (Role.EARLY, Cell(0, min(least, end), "x")) if time < least else None
+        if self.shown_edge(gate, time) is not None:
+            return None
+        clock = self.clock_of(gate)
+        shown = end if clock is None else min(clock.first + self.timing.delay(gate), end)
+        return Role.INITIAL, Cell(0, shown, self.timing.initial(name))
+
+    def _input_cell(self, name: str, time: int) -> Cell:
+        settings = self.stimulus.settings.get(name, [])
+        place = bisect_right(settings, time, key=lambda setting: setting[0])
+        start, value = settings[place - 1] if place else (0, "x")
+        return Cell(start, settings[place][0] if place < len(settings) else self.stimulus.horizon + 1, value)
+
+
+def read_design(netlist: type_of_path, timing: type_of_path, stimulus: type_of_path) -> Design:
+    """The design of three files. FormatError where the program refuses one of them, with its line and cause."""
+    read = read_netlist(netlist)
+    return Design(read, read_timing(timing, read), read_stimulus(stimulus, read))

@@ -1,0 +1,76 @@
+"""What the tests share: the program, the examples, and the commands."""
+from __future__ import annotations
+
+import os
+import shutil
+import subprocess
+import sys
+from collections.abc import Callable
+from pathlib import Path
+
+import pytest
+
+TOP = Path(__file__).resolve().parents[2]
+BUILT = TOP / "crates" / "backsim" / "out" / "backsim"
+CHECKER = TOP / "crates" / "backsim_check" / "out" / "backsim_check"
+
+
+def _program(variable: str, built: Path) -> str | None:
+    named = os.environ.get(variable)
+    if named:
+        return shutil.which(named)
+    return str(built) if built.is_file() else None
+
+
+@pytest.fixture(scope="session")
+def program() -> str:
+    """The program: that of $BACKSIM, or the one that is built in this repository."""
+    found = _program("BACKSIM", BUILT)
+    if found is None:
+        pytest.skip("the program is not built, and BACKSIM does not name it")
+    return found
+
+
+@pytest.fixture(scope="session")
+def checker(program: str) -> str:
+    """The checker of proofs, beside the program or built in this repository."""
+    beside = Path(program).with_name("backsim_check")
+    found = _program("BACKSIM_CHECK", beside if beside.is_file() else CHECKER)
+    if found is None:
+        pytest.skip("backsim_check is not built, and BACKSIM_CHECK does not name it")
+    return found
+
+
+@pytest.fixture
+def example() -> Callable[[str], list[str]]:
+    """The netlist, timing and stimulus of an example of the repository."""
+
+    def files(name: str) -> list[str]:
+        stem = TOP / "examples" / name / name
+        return [f"{stem}.{kind}" for kind in ("bench", "timing", "stim")]
+
+    return files
+
+
+@pytest.fixture
+def tools() -> Callable[..., subprocess.CompletedProcess[bytes]]:
+    """Runs a command of backsim-tools in a process of its own."""
+
+    def run(*words: object, **options: object) -> subprocess.CompletedProcess[bytes]:
+        environment = os.environ | {"PYTHONPATH": str(TOP / "python")} | options.pop("env", {})
+        return subprocess.run([sys.executable, "-m", "backsim", *map(str, words)], env=environment, capture_output=True, timeout=120,
+                              **({"stdin": subprocess.DEVNULL} | options if "input" not in options else options))
+
+    return run
+
+
+@pytest.fixture
+def write(tmp_path: Path) -> Callable[[str, str | bytes], Path]:
+    """Writes a file of the test's folder."""
+
+    def file(name: str, text: str | bytes) -> Path:
+        path = tmp_path / name
+        path.write_bytes(text if isinstance(text, bytes) else text.encode("latin-1"))
+        return path
+
+    return file

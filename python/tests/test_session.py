@@ -1,0 +1,291 @@
+"""Sessions with the program. What is expected is worked out by hand, or by the plain simulator of `stand_in`."""
+from __future__ import annotations
+
+import subprocess
+import sys
+from pathlib import Path
+
+import pytest
+from backsim import (At, Budget, Dump, Fault, First, FormatError, Past, Proof, Refused, Session, SessionError, Stats, Stuck, Trimmed,
+                     Unknown, UsageError, Wave, parse_netlist, read_netlist)
+from backsim.formats.proof import write_proof
+from backsim.formats.script import AtLine, BadScriptLine, Go, WaveLine
+from backsim.formats.stimulus import Stimulus
+from backsim.formats.timing import Timing
+from backsim.formats.vcd import read_vcd
+from backsim.values import BadLine
+from stand_in import Circuit
+
+STAND_IN = str(Path(__file__).with_name("stand_in.py"))
+COUNTER = b"""INPUT(in)
+OUTPUT(count[1])
+count[0] = NOT(in)
+count[1] = BUFF(in)
+u1.a = NOT(in)
+u1.b = NOT(u1.a)
+u2.a = NOT(in)
+"""
+
+
+def runs(circuit: Circuit, name: str, start: int, stop: int, *stuck: str) -> tuple[tuple[int, str], ...]:
+    """The maximal runs of a signal, of the rows of the plain simulator."""
+    rows, found = circuit.rows(*stuck), []
+    for time in range(start, stop):
+        if not found or rows[time][name] != found[-1][1]:
+            found.append((time, rows[time][name]))
+    return tuple(found)
+
+
+@pytest.mark.parametrize("name", ["c17", "s27", "pulse"])
+def test_answers_are_those_of_forward_simulation(name: str, example, program: str) -> None:
+    files = example(name)
+    circuit = Circuit(*files)
+    stop = circuit.horizon + 1
+    with Session(*files, program=program) as session:
+        assert set(session.names()) == set(circuit.names)
+        for signal in circuit.names:
+            expected = runs(circuit, signal, 0, stop)
+            wave = session.wave(signal, 0, stop)
+            assert wave == Wave(signal, 0, stop, expected)
+            for time in (0, stop // 2, stop - 1):
+                value = circuit.rows()[time][signal]
+                assert session.at(signal, time) == At(signal, time, value)
+                assert wave.value_at(time) == value
+            for value in "01xz":
+                times = [start for start, found in expected if found == value]
+                assert session.first(signal, value, 0, stop) == First(signal, value, 0, stop, times[0] if times else None)
+            site = circuit.names[len(circuit.names) // 2]
+            for value in "01":
+                found = runs(circuit, signal, 0, stop, site, value)
+                assert session.stuck(site, value, signal, 0, stop) == Stuck(site, value, Wave(signal, 0, stop, found))
+
+
+def test_a_proof_is_taken_by_the_checker(example, program: str, checker: str, tmp_path) -> None:
+    files = example("s27")
+    with Session(*files, program=program) as session:
+        proof = session.why("G17", 12)
+    assert isinstance(proof, Proof) and (proof.name, proof.time) == ("G17", 12)
+    with open(tmp_path / "proof", "w") as stream:
+        write_proof(proof, stream)
+    said = subprocess.run([checker, *files, tmp_path / "proof"], capture_output=True, text=True).stdout
+    assert said == f"yes G17 12 {Circuit(*files).rows()[12]['G17']}\n"
+
+
+def test_answers_that_are_no_value(example, program: str) -> None:
+    with Session(*example("c17"), program=program) as session:
+        assert session.wave("22", 0, 100) == Past("22", 0, 100)
+        assert session.at("22", 99) == Past("22", 99, 100)
+        unknown = session.at("222", 3)
+        assert unknown == Unknown("222") and unknown.nearest[0] == "22"
+        # 22 at 3 needs 10 and 16 at 2 beside itself
+        assert session.at("22", 3, 0) == Budget("22", 0)
+        assert session.first("22", "z", 0, 11) == First("22", "z", 0, 11, None)
+
+
+def test_counts_and_dumps(example, program: str, tmp_path) -> None:
+    with Session(*example("c17"), program=program, journal=tmp_path / "journal") as session:
+        dumped = tmp_path / "waves.vcd"
+        assert session.vcd(dumped) == Dump("none")
+        assert session.stats() == Stats(0, 0, 0, 0)
+        session.wave("22", 0, 11)
+        # 22 is evaluated from 1 on with 10 and 16 before it, and once more from 2 on
+        stats = session.stats()
+        assert stats.batches == 1 and stats.evictions == 0 and stats.fills == stats.cells > 0
+        assert session.vcd(dumped) == Dump("written", str(dumped), 1)
+        assert session.vcd(dumped) == Dump("taken", str(dumped))
+        assert session.trim(0) == Trimmed(stats.cells)
+        assert session.stats() == Stats(1, stats.fills, stats.cells, 0)
+    assert read_vcd(dumped).signal("top", "22")[:2] == ((0, "x"), (2, "0"))
+    assert (tmp_path / "journal").read_text().startswith("journal shards 8 cells 16384\nbatch 1\n")
+
+
+def test_buses_and_patterns(program: str) -> None:
+    netlist = parse_netlist(COUNTER, "netlist")
+    with Session(netlist, Timing(default=1), Stimulus(10, {"in": [(0, "0"), (4, "1"), (7, "x")]}), program=program) as session:
+        # NOT and BUFF of the input an instant later
+        assert session.wave("count[1:0]", 0, 11) == Wave("count[1:0]", 0, 11, ((0, "xx"), (1, "01"), (5, "10"), (8, "xx")))
+        assert session.wave("count[0:1]", 3, 6).changes == ((3, "10"), (5, "01"))
+        assert session.at("count[1:0]", 5) == At("count[1:0]", 5, "10")
+        assert session.first("count[1:0]", "10", 0, 11).time == 5
+        assert session.stuck("in", 1, "count[1:0]", 0, 3) == Stuck("in", "1", Wave("count[1:0]", 0, 3, ((0, "xx"), (1, "10"))))
+        assert session.wave("count[2:0]", 0, 3) == Unknown("count[2]")
+        assert session.names("u1.*") == ("u1.a", "u1.b")
+        assert session.names("u?.a") == ("u1.a", "u2.a")
+        assert session.names("count[*]") == ("count[1]", "count[0]")
+        with pytest.raises(UsageError, match="is a bus"):
+            session.why("count[1:0]", 5)
+        with pytest.raises(UsageError, match="2 of the letters"):
+            session.first("count[1:0]", "101", 0, 5)
+
+
+def test_a_batch(example) -> None:
+    with Session(*example("c17"), program=STAND_IN) as session:
+        with session.batch() as batch:
+            asked = [batch.at("22", 3), batch.wave("23", 0, 11), batch.first("22", 0, 0, 11), batch.stuck("10", 1, "22", 0, 11)]
+            with pytest.raises(UsageError, match="not asked yet"):
+                asked[0].result()
+        circuit = Circuit(*example("c17"))
+        assert [one.result() for one in asked] == batch.results
+        assert asked[0].result() == At("22", 3, circuit.rows()[3]["22"])
+        assert asked[1].result() == Wave("23", 0, 11, runs(circuit, "23", 0, 11))
+
+
+def test_a_batch_is_sent_while_it_is_filled(example) -> None:
+    """Other questions may come between, and each answer is that of its own question."""
+    values = [row["22"] for row in Circuit(*example("c17")).rows()]
+    with Session(*example("c17"), program=STAND_IN) as session:
+        with session.batch() as batch:
+            asked = []
+            for place in range(1000):
+                asked.append(batch.at("22", place % 11))
+                if place % 300 == 299:
+                    assert session.at("22", place % 11) == At("22", place % 11, values[place % 11])
+        assert [one.result() for one in asked] == [At("22", place % 11, values[place % 11]) for place in range(1000)]
+        with pytest.raises(ValueError, match="enough"), session.batch() as batch:
+            for place in range(600):
+                batch.at("23", 3)
+            raise ValueError("enough")
+        assert session.at("22", 5) == At("22", 5, values[5])
+
+
+def test_a_batch_that_breaks_off_says_what_was_answered(example, monkeypatch) -> None:
+    monkeypatch.setenv("STAND_IN", "cut 700")
+    with Session(*example("c17"), program=STAND_IN) as session, pytest.raises(SessionError) as error:
+        with session.batch() as batch:
+            for place in range(1000):
+                batch.at("22", place % 11)
+    assert [(line.time, answer.time) for line, answer in error.value.answered] == [(place % 11, place % 11) for place in range(699)]
+
+
+def test_a_batch_of_any_length_ends(example) -> None:
+    """Neither side waits for the other, though what is asked and what is replied are more than a pipe holds."""
+    count = 20_000
+    lines = [WaveLine("22", 0, 11) for _ in range(count)]
+    with Session(*example("c17"), program=STAND_IN) as session:
+        answers = session.ask(lines)
+    assert len(answers) == count and len(set(answers)) == 1
+
+
+def test_answers_come_one_by_one_and_may_be_left(example) -> None:
+    with Session(*example("c17"), program=STAND_IN) as session:
+        lines = [AtLine("22", time) for time in range(11)] + [Go()]
+        for line, answer in session.ask_each(lines):
+            assert answer.time == line.time
+            if line.time == 4:
+                break
+        assert session.at("23", 3).name == "23"
+
+
+def test_bad_lines_have_their_numbers(example, program: str) -> None:
+    with Session(*example("c17"), program=program) as session:
+        # the first line of the session is its own
+        assert session.ask([AtLine("22", 3), BadScriptLine(text="nonsense"), AtLine("22", 4)])[1] == BadLine(3)
+        assert session.ask([BadScriptLine(text="a\nb")]) == [BadLine(6)]
+
+
+@pytest.mark.parametrize("ask, cause", [
+    (lambda session: session.at("a b", 3), "is no name"), (lambda session: session.at("", 3), "is no name"),
+    (lambda session: session.at("22", -1), "is no time"), (lambda session: session.at("22", 1.5), "is no time"),
+    (lambda session: session.wave("22", 0, 5, 500_001), "is no budget"), (lambda session: session.stuck("10", "x", "22", 0, 5), "stuck at"),
+    (lambda session: session.trim(70_000), "trim takes"), (lambda session: session.vcd("a b"), "can name this file"),
+    (lambda session: session.first("22", 2, 0, 5), "is no value")])
+def test_what_no_line_can_say(example, ask, cause: str) -> None:
+    with Session(*example("c17"), program=STAND_IN) as session, pytest.raises(UsageError, match=cause):
+        ask(session)
+
+
+def test_a_refused_netlist_is_told_in_words(example, program: str, write) -> None:
+    netlist = write("bad.bench", "INPUT(a)\n# a comment\ny = MUX(a, a, a)  # here\n")
+    _, timing, stimulus = example("c17")
+    with pytest.raises(Refused) as error:
+        Session(netlist, timing, stimulus, program=program)
+    refused = error.value
+    assert (refused.file, refused.path, refused.line, refused.number) == ("netlist", str(netlist), 3, 2)
+    assert refused.line_text == "y = MUX(a, a, a)  # here"
+    assert str(refused) == (f"{netlist}:3: the kind is none of AND, NAND, OR, NOR, XOR, XNOR, NOT, BUFF (or BUF) and DFF: "
+                            "`y = MUX(a, a, a)  # here`")
+    assert refused.status == 2
+
+
+def test_a_stimulus_without_a_line_is_refused(example, program: str, write) -> None:
+    netlist, timing, _ = example("c17")
+    path = write("empty", "")
+    with pytest.raises(Refused) as error:
+        Session(netlist, timing, path, program=program)
+    assert str(error.value) == f"{path}: the first line that isn't blank must be `horizon H`"
+
+
+def test_a_missing_file_is_told_with_its_reason(example, program: str, tmp_path) -> None:
+    _, timing, stimulus = example("c17")
+    with pytest.raises(Fault) as error:
+        Session(tmp_path / "nothing", timing, stimulus, program=program)
+    assert (error.value.place, error.value.path, error.value.status) == ("netlist", str(tmp_path / "nothing"), 5)
+    assert str(error.value).startswith(f"{tmp_path / 'nothing'}: ") and "No such file" in str(error.value)
+    with pytest.raises(Fault) as error:
+        Session(*example("c17"), program=program, journal=tmp_path / "no" / "journal")
+    assert error.value.place == "journal"
+
+
+def test_programs_that_are_none(example, write, monkeypatch) -> None:
+    with pytest.raises(UsageError, match="no program of this name"):
+        Session(*example("c17"), program="/nothing")
+    path = write("program", "no program\n")
+    path.chmod(0o755)
+    with pytest.raises((UsageError, SessionError)):
+        Session(*example("c17"), program=path)
+    monkeypatch.setenv("BACKSIM", STAND_IN)
+    with Session(*example("c17")) as session:
+        assert session.at("22", 3).value in "01"
+
+
+@pytest.mark.parametrize("how, cause", [("leave 3", "is no reply to `at 22 2`"), ("cut 3", "ended before all"), ("refuse 3", "16 MiB")])
+def test_a_session_that_breaks_off_says_what_was_answered(example, monkeypatch, how: str, cause: str) -> None:
+    monkeypatch.setenv("STAND_IN", how)
+    lines = [AtLine("22", time) for time in range(6)]
+    with Session(*example("c17"), program=STAND_IN) as session:
+        with pytest.raises(SessionError, match=cause) as error:
+            session.ask(lines)
+        values = [row["22"] for row in Circuit(*example("c17")).rows()]
+        assert error.value.answered == tuple((line, At("22", line.time, values[line.time])) for line in lines[:2])
+        with pytest.raises(SessionError, match=cause):
+            session.at("22", 3)
+
+
+def test_a_session_that_was_closed(example) -> None:
+    session = Session(*example("c17"), program=STAND_IN)
+    journal = Path(session.journal)
+    session.close()
+    session.close()
+    assert not journal.parent.exists()
+    with pytest.raises(UsageError, match="closed"):
+        session.at("22", 3)
+
+
+def test_a_netlist_that_was_read_may_be_given(example) -> None:
+    netlist, timing, stimulus = example("c17")
+    with Session(read_netlist(netlist), timing, stimulus, program=STAND_IN) as session:
+        assert session.at("22", 3) == At("22", 3, Circuit(netlist, timing, stimulus).rows()[3]["22"])
+
+
+def test_options_out_of_range(example) -> None:
+    with pytest.raises(UsageError, match="shards must be from 1 to 64"):
+        Session(*example("c17"), program=STAND_IN, shards=65)
+
+
+def test_the_readers_error_is_one_of_the_session_too(example, write) -> None:
+    with Session(*example("c17"), program=STAND_IN) as session:
+        session._netlist_path = str(write("gone", "y = AND(\n"))
+        assert session.at("G22", 3) == Unknown("G22")
+        with pytest.raises(FormatError):
+            session.names()
+
+
+def test_values_of_a_wave() -> None:
+    wave = Wave("a", 2, 9, ((2, "x"), (4, "1"), (8, "0")))
+    assert list(wave) == [(2, 4, "x"), (4, 8, "1"), (8, 9, "0")]
+    assert [wave.value_at(time) for time in range(2, 9)] == ["x", "x", "1", "1", "1", "1", "0"]
+    for time in (1, 9):
+        with pytest.raises(IndexError):
+            wave.value_at(time)
+    assert Wave("a", 5, 5, ()) == Wave("a", 5, 5, ()) != wave
+    assert sys.getsizeof(wave) < 100

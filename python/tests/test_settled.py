@@ -1,0 +1,82 @@
+"""The command settled. The expected paths and times are worked out by hand."""
+from __future__ import annotations
+
+from backsim.main import main
+
+NETLIST = """INPUT(a)
+OUTPUT(q)
+n = NOT(a)
+m = AND(n, r)
+q = DFF(m)
+r = DFF(q)
+"""
+TIMING = "version 2\nclock 10 20\nclock slow 15 40\nclocked r slow\ndefault 2\ndelay q 3\npin m 1 4\n"
+STIMULUS = "horizon 100\nset a 0 0\nset a 21 1\nset a 43 0\n"
+
+
+def settled(write, capsys, netlist: str = NETLIST, timing: str = TIMING, stimulus: str = STIMULUS) -> tuple[int, str, str]:
+    status = main(["settled", str(write("netlist", netlist)), str(write("timing", timing)), str(write("stimulus", stimulus))])
+    said = capsys.readouterr()
+    return status, said.out, said.err
+
+
+def test_paths_and_times(write, capsys) -> None:
+    """Edges are at 10, 30, 50, 70, 90, and of the slow clock at 15, 55, 95. The inputs change at 21 and 43, and reach m after 2 + 2. q is
+    shown 3 after its edge and reaches r's pin at once: from 50 to 55 there is the least time. r is shown 2 after its edge, and m 4
+    after that: from 15 to 30."""
+    assert settled(write, capsys) == (0, "inputs to clock: path 4, time 7\n"
+                                         "clock to clock slow: path 3, time 5\n"
+                                         "clock slow to clock: path 6, time 15\n"
+                                         "longest path 6\n", "")
+
+
+def test_a_path_that_is_too_long(write, capsys) -> None:
+    status, out, _ = settled(write, capsys, timing=TIMING.replace("delay q 3", "delay q 6"))
+    assert (status, out.splitlines()[1]) == (1, "clock to clock slow: path 6, time 5, TOO LATE")
+
+
+def test_an_input_that_changes_at_an_edge(write, capsys) -> None:
+    status, out, _ = settled(write, capsys, stimulus="horizon 100\nset a 0 0\nset a 30 1\n")
+    assert (status, out.splitlines()[0]) == (1, "inputs to clock: path 4, time 0, TOO LATE")
+
+
+def test_a_stimulus_that_sets_nothing_is_told(write, capsys) -> None:
+    status, out, _ = settled(write, capsys, stimulus="horizon 100\n")
+    assert status == 0
+    assert out.splitlines()[0] == "inputs: none that is read is set after time 0, so no time was compared with their paths"
+
+
+def test_an_empty_stimulus_is_refused(write, capsys) -> None:
+    status, out, err = settled(write, capsys, stimulus="")
+    assert (status, out) == (2, "")
+    assert err.endswith("/stimulus: the first line that isn't blank must be `horizon H`: the file has no such line\n")
+
+
+def test_a_blif_file_is_no_timing_file(write, capsys) -> None:
+    status, out, err = settled(write, capsys, timing=".model counter\n.inputs a\n.end\n")
+    assert (status, out) == (2, "")
+    assert "/timing:1: the line has none of the forms of a timing file" in err and err.count("\n") == 1
+
+
+def test_a_timing_file_of_another_netlist_is_refused(write, capsys) -> None:
+    status, out, err = settled(write, capsys, timing=TIMING + "delay other 3\n")
+    assert (status, out) == (2, "") and "/timing:8: the netlist has no signal of this name: other" in err
+
+
+def test_a_netlist_without_inputs(write, capsys) -> None:
+    netlist = "OUTPUT(y)\ny = NOT(y2)\ny2 = DFF(y)\n"
+    assert settled(write, capsys, netlist, "clock 5 10\ndefault 1\n", "horizon 50\n") == (
+        0, "inputs: none that is read is set after time 0, so no time was compared with their paths\n"
+           "clock to clock: path 2, time 10\nlongest path 2\n", "")
+    assert settled(write, capsys, "", "", "horizon 5\n") == (0, "longest path 0\n", "")
+
+
+def test_gates_that_make_a_cycle(write, capsys) -> None:
+    status, out, err = settled(write, capsys, "INPUT(a)\nb = AND(a, c)\nc = NOT(b)\n", "", "horizon 5\n")
+    assert (status, out) == (2, "")
+    assert err.count("\n") == 1 and "make a cycle" in err
+
+
+def test_a_chain_of_many_gates(write, capsys) -> None:
+    gates = "".join(f"n{place + 1} = NOT(n{place})\n" for place in range(20_000))
+    assert settled(write, capsys, "INPUT(n0)\n" + gates, "", "horizon 5\n") == (0, "longest path 20000\n", "")
