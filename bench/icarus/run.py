@@ -32,8 +32,8 @@ EXAMPLE = os.path.join(TOP, "examples/from_verilog")
 LONG = 60  # seconds; what takes longer is run once, and else three times
 
 
-def tool(name, *words):
-    return subprocess.run([os.path.join(TOP, "tools", name), *words], check=True, stdout=subprocess.PIPE).stdout
+def tool(*words):
+    return subprocess.run([os.path.join(TOP, "backsim-tools"), *words], check=True, stdout=subprocess.PIPE).stdout
 
 
 def timed(words, runs=3, **places):
@@ -84,7 +84,7 @@ class Circuit:
         """A compiled model, and how long the compilation took."""
         verilog, binary = self.path("model.v"), self.path(f"model{len(os.listdir(self.work))}")
         with open(verilog, "wb") as file:
-            file.write(tool("verilog_from_bench.py", *(["--primitives"] if model == "primitives" else []), *self.files(), *asked))
+            file.write(tool("to-verilog", *(["--primitives"] if model == "primitives" else []), *self.files(), *asked))
         return binary, timed(["iverilog", "-g2005", "-s", "circuit", "-o", binary, verilog], runs=1)[1]
 
     def models(self, *asked):
@@ -140,7 +140,8 @@ class Circuit:
         running, models = {}, self.models("--dump", self.path("all.vcd"))
         for model, (binary, _) in models.items():
             _, took = timed(["vvp", "-n", binary], stderr=subprocess.DEVNULL)
-            running[model] = took, tool("replies_from_vcd.py", script_path, self.path("all.vcd"), "circuit", "10") == replies
+            words = [self.files()[0], self.path("all.vcd"), "circuit", "--ticks", "10", "--script", script_path]
+            running[model] = took, tool("from-vcd", *words) == replies
         if not running["transport"][1]:
             sys.exit(f"{self.name}, everything: the replies differ")
         self.row("everything", models["transport"][1], running, own)

@@ -9,6 +9,7 @@ The circuits are those of bench/icarus/generate.py, 100 layers of WIDTH gates (2
 each of 100 sites stuck, spread over all layers; the replies must be those of the sessions over the rewritten netlists, of which the
 first ten are run. The times are the best of three, by one worker; a line of the table has the gates, milliseconds for one `stuck`
 line, milliseconds for one session over a rewritten netlist, and the ratio."""
+import io
 import os
 import re
 import subprocess
@@ -17,7 +18,9 @@ import tempfile
 import time
 
 TOP = os.path.dirname(os.path.dirname(os.path.dirname(os.path.abspath(__file__))))
-sys.path.insert(0, os.path.join(TOP, "bench", "icarus"))
+sys.path[:0] = [os.path.join(TOP, "bench", "icarus"), os.path.join(TOP, "python")]
+from backsim import Stuck  # noqa: E402
+from backsim.formats.replies import read_replies  # noqa: E402
 from generate import main as generate  # noqa: E402
 
 PROGRAM = os.path.join(TOP, "crates/backsim/out/backsim")
@@ -48,7 +51,8 @@ def session(folder, netlist, stimulus, script):
 
 
 def waves(replies):
-    return re.findall(r"^(?:wave|stuck) [^\n]*\n((?:[0-9]+ [01xz]\n)*)end\n", replies, re.M)
+    answers = [reply.answer for reply in read_replies(io.BytesIO(replies.encode()))]
+    return [answer.wave if isinstance(answer, Stuck) else answer for answer in answers]
 
 
 def main(widths):

@@ -3,11 +3,11 @@
 #
 #     examples/from_verilog/make.sh
 #
-# It needs Icarus Verilog, Yosys with its ABC, and Python 3. The replies are those of the Verilog source. The netlist, run by Icarus
-# Verilog too, must give the same; BACKSIM has no part in any of it.
+# It needs Icarus Verilog, Yosys and Python 3. The replies are those of the Verilog source. The netlist, run by Icarus Verilog too, must
+# give the same; BACKSIM has no part in any of it.
 set -euo pipefail
 here=$(cd "$(dirname "$0")" && pwd)
-tools=$(cd "$here/../../tools" && pwd)
+tools=$(cd "$here/../.." && pwd)/backsim-tools
 stem=$here/from_verilog
 work=$(mktemp -d)
 trap 'rm -rf "$work"' EXIT
@@ -18,22 +18,15 @@ cd "$work"
 iverilog -g2005 -Wall -o source processor_test.v processor.v
 vvp -n source >source.log 2>&1
 
-# The netlist.
+# The netlist, its clocks, initial values and inputs, and that its gates settle before each edge.
 yosys -q -s netlist.ys
-yosys-abc -q "read_blif processor.blif; strash; balance; write_bench -l abc.bench"
-{
-    echo "# processor.v by Yosys and ABC: make.sh"
-    "$tools/from_abc.py" abc.bench
-} >"$stem.bench"
-
-# Its clocks, initial values and inputs, and that its gates settle before each edge.
-"$tools/timing_from_blif.py" "$stem.bench" processor.blif processor.vcd processor_test.dut >"$stem.timing"
-"$tools/stimulus_from_vcd.py" "$stem.bench" processor.vcd processor_test.dut >"$stem.stim"
-"$tools/settled.py" "$stem".{bench,timing,stim}
+"$tools" from-json processor.json "$stem.bench" "$stem.timing" --vcd processor.vcd --scope processor_test.dut
+"$tools" from-vcd "$stem.bench" processor.vcd processor_test.dut -o "$stem.stim"
+"$tools" settled "$stem".{bench,timing,stim}
 
 # What the source answers, and what the netlist does.
-"$tools/replies_from_vcd.py" "$stem.script" processor.vcd processor_test.dut >"$stem.replies"
-"$tools/verilog_from_bench.py" "$stem".{bench,timing,stim,script} >netlist.v
-iverilog -g2005 -o netlist netlist.v
+"$tools" from-vcd "$stem.bench" processor.vcd processor_test.dut --script "$stem.script" -o "$stem.replies"
+"$tools" to-verilog "$stem".{bench,timing,stim,script} -o netlist.v
+iverilog -g2005 -s circuit -o netlist netlist.v
 vvp -n netlist | sort -snk1,1 | cut -d' ' -f2- | diff "$stem.replies" -
 echo "the source and the netlist give the same replies"
