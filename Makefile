@@ -12,7 +12,7 @@ DESTDIR ?=
 TO = $(DESTDIR)$(PREFIX)
 PROGRAMS = backsim backsim_check
 COMPLETIONS = $(TO)/share/bash-completion/completions
-DOCUMENTS = README.md $(wildcard docs/*) $(wildcard examples/*/*)
+DOCUMENTS = README.md $(wildcard docs/*/*) $(wildcard examples/*/*)
 
 all:
 	set -e; for name in $(PROGRAMS); do tools/program $$name; done
