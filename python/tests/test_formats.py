@@ -1,4 +1,4 @@
-"""The readers, on the sessions of tests/sessions.txt: they refuse what the program is to refuse, at the same line for the same cause, and
+"""The readers, on the sessions of tests/sessions/: they refuse what the program is to refuse, at the same line for the same cause, and
 read everything else; and what a writer writes is read back."""
 from __future__ import annotations
 
