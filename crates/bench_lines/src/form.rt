@@ -8,6 +8,7 @@ ghost use Rattle.text_rules.specs.Text.{tokens};
 ghost use Rattle.bench_lines.specs.Views.{view};
 ghost use Rattle.bench_lines.specs.inner.Views.{names_of};
 
+use smallvec::SmallVec;
 use std::alloc::{AllocError, Global};
 use text_rules::{content, is_name, next_token};
 
@@ -22,7 +23,7 @@ pub enum Form<'a> {
     Gate {
         name: &'a [u8],
         kind: &'a [u8],
-        pins: Vec<&'a [u8]>,
+        pins: SmallVec<&'a [u8], 4>,
     },
 }
 
@@ -75,10 +76,10 @@ fn port_form<'a>(word: &[u8], bytes: &'a [u8]) -> Form<'a>
 }
 
 /// Names divided by `,`, and then `)`.
-fn listed(alloc: Global, bytes: &[u8]) -> Result<Option<Vec<&[u8]>>, AllocError>
+fn listed(alloc: Global, bytes: &[u8]) -> Result<Option<SmallVec<&[u8], 4>>, AllocError>
     ensures { IfOk result (λ found. names_of found ≡ form.listed (tokens bytes.entry.now)) }
 {
-    let mut names = Vec::new(alloc);
+    let mut names = SmallVec::new(alloc);
     let mut rest = bytes;
     'names: loop {
         let (name, after) = match next_token(rest) {
@@ -107,7 +108,7 @@ fn listed(alloc: Global, bytes: &[u8]) -> Result<Option<Vec<&[u8]>>, AllocError>
 }
 
 /// The pins after `(`.
-fn pins_of(alloc: Global, bytes: &[u8]) -> Result<Option<Vec<&[u8]>>, AllocError>
+fn pins_of(alloc: Global, bytes: &[u8]) -> Result<Option<SmallVec<&[u8], 4>>, AllocError>
     ensures { IfOk result (λ found. names_of found ≡ form.pins_of (tokens bytes.entry.now)) }
 {
     let (first, rest) = match next_token(bytes) {
@@ -117,7 +118,7 @@ fn pins_of(alloc: Global, bytes: &[u8]) -> Result<Option<Vec<&[u8]>>, AllocError
     match next_token(rest) {
         None => {
             if is_the(b')', first) {
-                Ok(Some(Vec::new(alloc)))
+                Ok(Some(SmallVec::new(alloc)))
             } else {
                 Ok(None)
             }
@@ -128,7 +129,8 @@ fn pins_of(alloc: Global, bytes: &[u8]) -> Result<Option<Vec<&[u8]>>, AllocError
 
 /// What follows `name =`.
 fn gate_form<'a>(alloc: Global, name: &'a [u8], bytes: &'a [u8]) -> Result<Form<'a>, AllocError>
-    ensures { IfOk result (λ found. view found ≡ form.gate_line name.entry.now (tokens bytes.entry.now)) }
+    ensures { IfOk result (λ found. view found ≡ form.gate_line name.entry.now
+        (tokens bytes.entry.now)) }
 {
     let (kind, rest) = match next_token(bytes) {
         None => return Ok(Form::Malformed),

@@ -21,7 +21,8 @@
 //!
 //! A contract sees a form as the `Line` of `specs/Lines.antt`, which says by
 //! the list of tokens which form a line has. A call walks over the line a
-//! fixed number of times, and takes memory for the list of pins alone.
+//! fixed number of times, and takes memory only for a list of more than four
+//! pins.
 //!
 //! ```text
 //! match form_of(alloc, b"y = AND(a, b)  # both")? {

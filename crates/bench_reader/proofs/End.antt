@@ -33,7 +33,7 @@ piece f start count xs = ap (take count) (map-drop f start xs) ∙ take-map f co
 driver_told : (all : List Line) (pins : List ℕ) (i : ℕ) (d : Definition) (n : List ℕ) → pins ≡ map (number all) (flat_map pins_in all) → Tells all i d n → driver pins d ≡ driver_of all n
 driver_told all pins i (Missing number) n pins-are h = sym (rw (undriven all n (no_gates all n h.undefined)) refl)
 driver_told all pins i Input n pins-are h = sym (rw (undriven all n h.no_gate) refl)
-driver_told all pins i (Gate kind start count) n pins-are h =
+driver_told all pins i (Gate kind count start) n pins-are h =
     let said : driver_of all n ≡ driven_by (kind_of_word h.word) (map (number all) h.pins) = ap (driver_by (number all)) h.found in
     let kind-is : driven_by (kind_of_word h.word) (map (number all) h.pins) ≡ Driven kind (map (number all) h.pins) = rw h.kind_is refl in
     let ids : take count (drop start pins) ≡ map (number all) h.pins = ap (λ (ps : List ℕ). take count (drop start ps)) pins-are ∙ piece (number all) start count (flat_map pins_in all) ∙ ap (map (number all)) h.pins_are in
@@ -72,8 +72,8 @@ missing_none [] h j lt = absurd (omega arith)
 missing_none (Missing number ∷ rows) h j lt = absurd cc
 missing_none (Input ∷ rows) h zero lt = refl
 missing_none (Input ∷ rows) h (suc j) lt = missing_none rows h j (omega arith)
-missing_none (Gate kind start count ∷ rows) h zero lt = refl
-missing_none (Gate kind start count ∷ rows) h (suc j) lt = missing_none rows h j (omega arith)
+missing_none (Gate kind count start ∷ rows) h zero lt = refl
+missing_none (Gate kind count start ∷ rows) h (suc j) lt = missing_none rows h j (omega arith)
 
 -- one more row in front
 later_missing : (d : Definition) (rows : List Definition) (number : ℕ) → reading.is_defined d ≡ true → (i : ℕ) × FirstMissing rows number i → (i : ℕ) × FirstMissing (d ∷ rows) number i
@@ -87,7 +87,7 @@ pub missing_some : (rows : List Definition) (number : ℕ) → first_missing row
 missing_some [] number h = absurd cc
 missing_some (Missing n ∷ rows) number h = let same : n ≡ number = cc in (0, record { within = omega arith; here = ap Missing same; before = λ j lt. absurd (omega arith) })
 missing_some (Input ∷ rows) number h = later_missing Input rows number refl (missing_some rows number h)
-missing_some (Gate kind start count ∷ rows) number h = later_missing (Gate kind start count) rows number refl (missing_some rows number h)
+missing_some (Gate kind count start ∷ rows) number h = later_missing (Gate kind count start) rows number refl (missing_some rows number h)
 
 -- a pin or output is named on its line
 used_named : (l : Line) (n : List ℕ) → is_among (pins_in l ++ outputs_in l) n ≡ true → is_among (names_in l) n ≡ true

@@ -1,4 +1,7 @@
 pub mod Places
+pub mod Placing
+pub mod Chained
+pub mod Numbering
 pub mod Keys
 pub mod Sound
 pub mod Rows

@@ -8,9 +8,8 @@ use Rattle.bench_reader.specs.declared.fault.BenchCause.TheVariants.{Undefined}
 use Rattle.bench_reader.specs.declared.reader.Reader.{Reader}
 use Rattle.bench_lines.specs.Lines.{Line, line_of}
 use Rattle.bench_reader.specs.Netlists.{cause_of, fault_at, first_fault, out_of_memory, bench_of, names, undefined_from, Content, NetlistDriver}
-use Rattle.bench_reader.specs.inner.KeptNetlists.{driver, texts}
+use Rattle.bench_reader.specs.inner.KeptNetlists.{driver}
 use Rattle.bench_reader.specs.inner.Reading.{HasRead, IsSoundReading, Numbered, first_missing}
-use Rattle.bench_reader.proofs.Steps.{rows_len}
 use Rattle.bench_reader.proofs.End.{rows_said, outputs_said, none_undefined, some_undefined}
 
 -- the lines in front of the rest have been read
@@ -27,9 +26,9 @@ nothing : Numbered [] [] []
 nothing = record { ids_are = refl; there = refl }
 
 -- before the first line
-pub begun : (all : List Line) (text : List ℕ) (r : Reader) → all ≡ map line_of (lines text) → IsSoundReading r → r.names.keys ≡ [] → r.pins.items ≡ [] → r.outputs.keys ≡ [] → Progress all text r 0 text
+pub begun : (all : List Line) (text : List ℕ) (r : Reader) → all ≡ map line_of (lines text) → IsSoundReading r → r.names ≡ [] → r.pins.items ≡ [] → r.outputs.keys ≡ [] → Progress all text r 0 text
 begun all text r all-is sound names-are pins-are outputs-are =
-    let ks : texts r.names.keys ≡ [] = ap texts names-are in
+    let ks : r.names ≡ [] = names-are in
     record {
       sound = sound;
       before = [];
@@ -82,7 +81,7 @@ pub undefined_said : (text : List ℕ) (r : Reader) (number : ℕ) → IsSoundRe
 unfolding bench_of
 undefined_said text r number sound read missing =
     let all = map line_of (lines text) in
-    let first : undefined_from all 1 all ≡ Some (record { cause = Undefined; line = number }) = some_undefined all (texts r.names.keys) r.rows.items r.pins.items r.outputs.keys number read.1 (rows_len r.names.keys r.rows.items sound.rows_len) missing in
+    let first : undefined_from all 1 all ≡ Some (record { cause = Undefined; line = number }) = some_undefined all r.names r.rows.items r.pins.items r.outputs.keys number read.1 sound.rows_len missing in
     rw (read.0, first) refl
 
 abbrev pub content : List (List ℕ) → List NetlistDriver → List ℕ → Content
@@ -93,12 +92,12 @@ same_content n m r q o u e f g = ap (λ (x : List (List ℕ)). content x r o) e 
 
 -- all lines were read, and each name is defined
 pub netlist_said : (text : List ℕ) (r : Reader) → IsSoundReading r → (first_fault [] (map line_of (lines text)) ≡ None) × HasRead (map line_of (lines text)) r → first_missing r.rows.items ≡ None
-    → bench_of text ≡ Ok (record { names = texts r.names.keys; rows = map (driver r.pins.items) r.rows.items; outputs = r.outputs.keys })
+    → bench_of text ≡ Ok (record { names = r.names; rows = map (driver r.pins.items) r.rows.items; outputs = r.outputs.keys })
 unfolding bench_of
 netlist_said text r sound read missing =
     let all = map line_of (lines text) in
-    let len = rows_len r.names.keys r.rows.items sound.rows_len in
-    let none : undefined_from all 1 all ≡ None = none_undefined all (texts r.names.keys) r.rows.items r.pins.items r.outputs.keys read.1 len missing in
-    let rows = rows_said all (texts r.names.keys) r.rows.items r.pins.items r.outputs.keys read.1 len in
-    let outputs = outputs_said all (texts r.names.keys) r.rows.items r.pins.items r.outputs.keys read.1 in
+    let len = sound.rows_len in
+    let none : undefined_from all 1 all ≡ None = none_undefined all r.names r.rows.items r.pins.items r.outputs.keys read.1 len missing in
+    let rows = rows_said all r.names r.rows.items r.pins.items r.outputs.keys read.1 len in
+    let outputs = outputs_said all r.names r.rows.items r.pins.items r.outputs.keys read.1 in
     rw (read.0, none) (ap Ok (same_content _ _ _ _ _ _ (sym read.1.names_are) (sym rows) (sym outputs)))

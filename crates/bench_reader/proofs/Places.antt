@@ -103,7 +103,7 @@ place_new n ks = cases (is_among ks n) refl
 abbrev pub Distinct : List (List ℕ) → Type 0
 Distinct ks = (i : ℕ) → i < length ks → place ks (get_or ks i []) ≡ i
 
-distinct_insert : (ks : List (List ℕ)) (x : List ℕ) → Distinct ks → Distinct (insert_key bytes_eq ks x)
+pub distinct_insert : (ks : List (List ℕ)) (x : List ℕ) → Distinct ks → Distinct (insert_key bytes_eq ks x)
 distinct_insert ks x d = cases (is_among ks x) refl
   where
     at : is_among ks x ≡ false → (i : ℕ) → i < length (ks ++ x ∷ []) → (i < length ks) ⊎ (length ks ≤ i) → place (ks ++ x ∷ []) (get_or (ks ++ x ∷ []) i []) ≡ i

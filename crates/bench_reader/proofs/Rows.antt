@@ -105,7 +105,7 @@ piece_kept xs ys start count h =
 pub told_kept : (before : List Line) (l : Line) (i : ℕ) (d : Definition) (n : List ℕ) → is_among (defined_in l) n ≡ false → Tells before i d n → Tells (before ++ l ∷ []) i d n
 told_kept before l i (Missing number) n none h = record { undefined = stays defined_in before l n false h.undefined none; first = first_kept before l i number h.first }
 told_kept before l i Input n none h = record { defined = stays defined_in before l n true h.defined none; no_gate = stays gates_in before l n false h.no_gate (gates_defined l n none) }
-told_kept before l i (Gate kind start count) n none h = record {
+told_kept before l i (Gate kind count start) n none h = record {
   defined = stays defined_in before l n true h.defined none;
   gate = stays gates_in before l n true h.gate (gates_defined l n none);
   said = h.said;
@@ -208,7 +208,7 @@ told_input before name i none = record { defined = becomes defined_in before (li
 
 -- a gate line's own name
 pub told_gate : (before : List Line) (name word : List ℕ) (pins : List (List ℕ)) (kind : Kind) (i start count : ℕ) → is_among (flat_map defined_in before) name ≡ false → kind_of_word word ≡ Some kind → start ≡ length (flat_map pins_in before) → count ≡ length pins
-    → Tells (before ++ line.Gate name word pins ∷ []) i (Gate kind start count) name
+    → Tells (before ++ line.Gate name word pins ∷ []) i (Gate kind count start) name
 told_gate before name word pins kind i start count none kind-is start-is count-is =
     let l = line.Gate name word pins in
     let P = flat_map pins_in before in
@@ -234,12 +234,12 @@ told_at before ks rows name told there = subst (λ (n : List ℕ). Tells before 
 gate_told : (before : List Line) (i : ℕ) (d : Definition) (n : List ℕ) → Tells before i d n → is_gate d ≡ is_among (flat_map gates_in before) n
 gate_told before i (Missing number) n h = sym (no_gates before n h.undefined)
 gate_told before i Input n h = sym h.no_gate
-gate_told before i (Gate kind start count) n h = sym h.gate
+gate_told before i (Gate kind count start) n h = sym h.gate
 
 pub defined_told : (before : List Line) (i : ℕ) (d : Definition) (n : List ℕ) → Tells before i d n → is_defined d ≡ is_among (flat_map defined_in before) n
 defined_told before i (Missing number) n h = sym h.undefined
 defined_told before i Input n h = sym h.defined
-defined_told before i (Gate kind start count) n h = sym h.defined
+defined_told before i (Gate kind count start) n h = sym h.defined
 
 past : (ks : List (List ℕ)) (rows : List Definition) (name : List ℕ) → length rows ≡ length ks → is_among ks name ≡ false → get_or rows (place ks name) (Missing 0) ≡ Missing 0
 past ks rows name len none = get_or_past rows (place ks name) (Missing 0) (omega (arith, len, absent_place name ks none))

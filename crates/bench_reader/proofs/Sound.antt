@@ -1,7 +1,6 @@
 -- The lists of the reader stay sound.
 use Rattle.std.proofs.Common.{◌≡◌, ℕ, ◌+◌, ◌-◌, ◌*◌, ◌<◌, ◌≤◌, false, ltb, List, length, replicate, set, sym, ap, subst, ◌∙◌, arith, length-append}
 use Rattle.std.specs.List.{All, sum_by}
-use Rattle.std.specs.Global.{Vec}
 use Rattle.std.proofs.lemmas.Bool.{or_parts, ltb-false}
 use Rattle.std.proofs.lemmas.List.{length-set, length-replicate}
 use Rattle.std.proofs.lemmas.List.Elements.{All-append, All-set, All-weaker, All-replicate}
@@ -22,7 +21,7 @@ length-padded rows count line le = length-append rows (replicate (count - length
 fits_more : (few many : ℕ) → few ≤ many → (d : Definition) → FitsRows few d → FitsRows many d
 fits_more few many le (Missing line) h = h
 fits_more few many le Input h = h
-fits_more few many le (Gate kind start count) h = record { within = omega (arith, h.within); counted = h.counted }
+fits_more few many le (Gate kind count start) h = record { within = omega (arith, h.within); counted = h.counted }
 
 pub within : (names pins : ℕ) → exceeds names pins ≡ false → (names ≤ 1048576) × (pins ≤ 4194304)
 within names pins h = let parts = or_parts (ltb 1048576 names) (ltb 4194304 pins) h in (ltb-false 1048576 names parts.0, ltb-false 4194304 pins parts.1)
@@ -35,7 +34,7 @@ total_grown rows count line =
     mul-zero : (n : ℕ) → n * 0 ≡ 0
     mul-zero n = omega arith
 
-pub kept_grown : (ks new_ks : List (Vec ℕ)) (rows new_rows : List Definition) (pins new_pins : List ℕ) (line : ℕ) → IsKeptNetlist ks rows pins → length ks ≤ length new_ks → new_rows ≡ padded rows (length new_ks) line → length pins ≤ length new_pins
+pub kept_grown : (ks new_ks : List (List ℕ)) (rows new_rows : List Definition) (pins new_pins : List ℕ) (line : ℕ) → IsKeptNetlist ks rows pins → length ks ≤ length new_ks → new_rows ≡ padded rows (length new_ks) line → length pins ≤ length new_pins
     → exceeds (length new_ks) (length new_pins) ≡ false → IsKeptNetlist new_ks new_rows new_pins
 kept_grown ks new_ks rows new_rows pins new_pins line kept le is more calm =
     let small = within (length new_ks) (length new_pins) calm in
@@ -51,7 +50,7 @@ kept_grown ks new_ks rows new_rows pins new_pins line kept le is more calm =
     }
 
 -- one definition is written, whose pins are there beside those of the others
-pub kept_set : (ks : List (Vec ℕ)) (rows : List Definition) (pins : List ℕ) (i : ℕ) (d : Definition) → IsKeptNetlist ks rows pins → i < length rows → FitsRows (length pins) d → sum_by pin_count rows + pin_count d ≤ length pins → IsKeptNetlist ks (set rows i d) pins
+pub kept_set : (ks : List (List ℕ)) (rows : List Definition) (pins : List ℕ) (i : ℕ) (d : Definition) → IsKeptNetlist ks rows pins → i < length rows → FitsRows (length pins) d → sum_by pin_count rows + pin_count d ≤ length pins → IsKeptNetlist ks (set rows i d) pins
 kept_set ks rows pins i d kept lt h room = record {
   rows_len = length-set rows i d ∙ kept.rows_len;
   few = kept.few;

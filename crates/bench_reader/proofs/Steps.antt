@@ -2,7 +2,6 @@
 use Rattle.std.proofs.Common.{◌≡◌, ℕ, ◌+◌, ◌||◌, Bool, true, false, cond, nat_eq, List, [], ◌∷◌, ◌++◌, length, map, get_or, set, Some, None, refl, sym, ap, subst, ◌∙◌, length-append}
 use Rattle.std.specs.List.{list_any, list_all, flat_map}
 use Rattle.std.specs.Str.{bytes_eq}
-use Rattle.std.specs.Global.{Vec}
 use Rattle.std.specs.Borrow.{Bor}
 use Rattle.std.proofs.lemmas.Grind.{flat_map-append}
 use Rattle.std.proofs.lemmas.List.{append-nil, length-map}
@@ -17,9 +16,7 @@ use Rattle.bench_reader.specs.declared.fault.BenchCause.TheVariants.{UnknownKind
 use Rattle.bench_lines.specs.Lines.{Line}
 use Rattle.bench_lines.specs.Lines as line
 use Rattle.bench_reader.specs.Netlists.{names, pins_in, outputs_in, gates_in, defined_in, is_among, is_long, place, exceeds, is_crowded, miscounts, cause_of, cause_of_names}
-use Rattle.bench_reader.specs.inner.KeptNetlists.{texts}
 use Rattle.bench_reader.specs.inner.Reading.{Knows, HasRead, Numbered, padded, is_gate_at, is_defined_at}
-use Rattle.bench_reader.proofs.Keys.{length-texts}
 use Rattle.bench_reader.proofs.Places.{same_bytes, is_among_new, all_extends, numbered_kept, numbered_all, numbered_more, number_step, among_all, present_place, place_new}
 use Rattle.bench_reader.proofs.Rows.{Grows, all_names, gate_at, defined_at, told_kept, told_grown, told_set, told_input, told_gate}
 
@@ -45,7 +42,7 @@ knows_blank before ks rows pins outputs k = record {
 }
 
 pub blank_gives : (before : List Line) (r : Reader) (l : Line) → l ≡ line.Blank → HasRead before r → (cause_of before l ≡ None) × HasRead (before ++ l ∷ []) r
-blank_gives before r l is read = subst (λ (x : Line). (cause_of before x ≡ None) × HasRead (before ++ x ∷ []) r) (sym is) (refl, knows_blank before (texts r.names.keys) r.rows.items r.pins.items r.outputs.keys read)
+blank_gives before r l is read = subst (λ (x : Line). (cause_of before x ≡ None) × HasRead (before ++ x ∷ []) r) (sym is) (refl, knows_blank before r.names r.rows.items r.pins.items r.outputs.keys read)
 
 -- an INPUT line
 pub knows_input : (before : List Line) (ks new_ks : List (List ℕ)) (rows new_rows : List Definition) (pins outputs : List ℕ) (name : List ℕ) (number id : ℕ) → Knows before ks rows pins outputs → length rows ≡ length ks
@@ -93,7 +90,7 @@ all_among ks (x ∷ xs) =
 pub knows_gate : (before : List Line) (ks new_ks : List (List ℕ)) (rows new_rows : List Definition) (pins new_pins outputs : List ℕ) (name word : List ℕ) (listed : List (List ℕ)) (kind : Kind) (number id start count : ℕ) → Knows before ks rows pins outputs → length rows ≡ length ks
     → new_ks ≡ insert_all bytes_eq ks (name ∷ listed) → new_rows ≡ padded rows (length new_ks) number → length before + 1 ≡ number → id ≡ place new_ks name → new_pins ≡ pins ++ map (place new_ks) listed
     → is_among (flat_map defined_in before) name ≡ false → kind_of_word word ≡ Some kind → start ≡ length pins → count ≡ length listed
-    → Knows (before ++ line.Gate name word listed ∷ []) new_ks (set new_rows id (Gate kind start count)) new_pins outputs
+    → Knows (before ++ line.Gate name word listed ∷ []) new_ks (set new_rows id (Gate kind count start)) new_pins outputs
 knows_gate before ks new_ks rows new_rows pins new_pins outputs name word listed kind number id start count k len names-are rows-are line-is id-is pins-are none kind-is start-is count-is =
     let l = line.Gate name word listed in
     let all = insert_all bytes_eq ks (name ∷ listed) in
@@ -107,7 +104,7 @@ knows_gate before ks new_ks rows new_rows pins new_pins outputs name word listed
     let moved : Numbered new_ks (pins ++ map (place new_ks) listed) (flat_map pins_in before ++ listed) = subst (λ (ns : List (List ℕ)). Numbered ns (pins ++ map (place ns) listed) (flat_map pins_in before ++ listed)) (sym names-are) both in
     record {
       names_are = all_names before l ks new_ks k.names_are names-are;
-      told = told_set before l ks new_ks rows new_rows number id (Gate kind start count) name g refl there id-is (told_gate before name word listed kind id start count none kind-is start-at count-is);
+      told = told_set before l ks new_ks rows new_rows number id (Gate kind count start) name g refl there id-is (told_gate before name word listed kind id start count none kind-is start-at count-is);
       pins_are = subst (λ (ps : List ℕ). Numbered new_ks ps (flat_map pins_in (before ++ l ∷ []))) (sym pins-are) (same_named new_ks (pins ++ map (place new_ks) listed) _ _ moved (more pins_in before l));
       ids = k.ids;
       ids_are = same_named new_ks k.ids _ _ (subst (λ (ns : List (List ℕ)). Numbered ns k.ids (flat_map outputs_in before)) (sym names-are) (numbered_all ks k.ids (flat_map outputs_in before) (name ∷ listed) k.ids_are)) (none_more outputs_in before l refl);
@@ -135,12 +132,6 @@ pub definition_known : (before : List Line) (ks new_ks : List (List ℕ)) (rows 
 definition_known before ks new_ks rows seen pins outputs name id b r k len names-are id-is seen-is r-is h =
     sym (defined_at before ks rows name k.names_are k.told len) ∙ ap (is_defined_at rows) (id_before ks new_ks name id names-are id-is) ∙ ap (λ (ds : List Definition). is_defined_at ds id) (sym seen-is) ∙ sym r-is ∙ h
 
-pub rows_len : (keys : List (Vec ℕ)) (rows : List Definition) → length rows ≡ length keys → length rows ≡ length (texts keys)
-rows_len keys rows h = h ∙ sym (length-texts keys)
-
-pub rows_are : (keys : List (Vec ℕ)) (rows new : List Definition) (number : ℕ) → new ≡ padded rows (length keys) number → new ≡ padded rows (length (texts keys)) number
-rows_are keys rows new number h = h ∙ ap (λ (n : ℕ). padded rows n number) (sym (length-texts keys))
-
 -- the names after a gate line's own name and then its pins
 pub keys_of : (ks middle new_ks : List (List ℕ)) (name : List ℕ) (pins : List (List ℕ)) → middle ≡ insert_key bytes_eq ks name → new_ks ≡ insert_all bytes_eq middle pins → new_ks ≡ insert_all bytes_eq ks (name ∷ pins)
 keys_of ks middle new_ks name pins first rest = rest ∙ ap (λ (ns : List (List ℕ)). insert_all bytes_eq ns pins) first
@@ -162,9 +153,9 @@ long-map [] = refl
 long-map (p ∷ ps) = ap (λ (b : Bool). is_long p.now || b) (long-map ps)
 
 -- whether there are too many, by what the reader counts
-pub crowd : (lines : List Line) (keys : List (Vec ℕ)) (pins : ℕ) (b : Bool) → texts keys ≡ names lines → pins ≡ length (flat_map pins_in lines) → exceeds (length keys) pins ≡ b → is_crowded lines ≡ b
+pub crowd : (lines : List Line) (keys : List (List ℕ)) (pins : ℕ) (b : Bool) → keys ≡ names lines → pins ≡ length (flat_map pins_in lines) → exceeds (length keys) pins ≡ b → is_crowded lines ≡ b
 crowd lines keys pins b names-are pins-are h =
-    let count : length (names lines) ≡ length keys = ap length (sym names-are) ∙ length-texts keys in
+    let count : length (names lines) ≡ length keys = ap length (sym names-are) in
     ap (λ (k : ℕ). exceeds k (length (flat_map pins_in lines))) count ∙ ap (exceeds (length keys)) (sym pins-are) ∙ h
 
 pub pins_none : (before : List Line) (l : Line) (ks : List (List ℕ)) (pins : List ℕ) → Numbered ks pins (flat_map pins_in before) → pins_in l ≡ [] → length pins ≡ length (flat_map pins_in (before ++ l ∷ []))

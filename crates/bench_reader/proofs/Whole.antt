@@ -14,9 +14,8 @@ use Rattle.bench_reader.specs.declared.netlist.Definition.TheVariants.{Missing, 
 use Rattle.bench_reader.specs.declared.reader.Reader.{Reader}
 use Rattle.bench_lines.specs.Lines.{Line}
 use Rattle.bench_reader.specs.Netlists.{is_among, place, NetlistDriver, pins_of, IsNetlistDriver}
-use Rattle.bench_reader.specs.inner.KeptNetlists.{texts, driver, pin_count, FitsRows, IsKeptName}
+use Rattle.bench_reader.specs.inner.KeptNetlists.{driver, pin_count, FitsRows, IsKeptName}
 use Rattle.bench_reader.specs.inner.Reading.{HasRead, IsSoundReading, Numbered}
-use Rattle.bench_reader.proofs.Keys.{length-texts}
 use Rattle.bench_reader.proofs.Places.{and_true, present_lt}
 use Rattle.bench_reader.proofs.Rows.{distinct}
 
@@ -53,7 +52,7 @@ piece_len pins start count h = length-take-le count (drop start pins) (omega (ar
 driver_fits : (signals : ℕ) (pins : List ℕ) (d : Definition) → All (λ p. p < signals) pins → FitsRows (length pins) d → IsNetlistDriver signals (driver pins d)
 driver_fits signals pins (Missing line) below h = tt
 driver_fits signals pins Input below h = tt
-driver_fits signals pins (Gate kind start count) below h =
+driver_fits signals pins (Gate kind count start) below h =
     let len = piece_len pins start count h.within in
     let first = or_parts (eqb count 0 || ltb 64 count) (is_unary kind && not (eqb count 1)) (grouped (eqb count 0) (ltb 64 count) (is_unary kind && not (eqb count 1)) h.counted) in
     let counts = or_parts (eqb count 0) (ltb 64 count) first.0 in
@@ -75,7 +74,7 @@ drivers_fit signals pins rows below fits = All-map (IsNetlistDriver signals) (dr
 count_is : (pins : List ℕ) (d : Definition) → FitsRows (length pins) d → length (pins_of (driver pins d)) ≡ pin_count d
 count_is pins (Missing line) h = refl
 count_is pins Input h = refl
-count_is pins (Gate kind start count) h = piece_len pins start count h.within
+count_is pins (Gate kind count start) h = piece_len pins start count h.within
 
 counts_are : (pins : List ℕ) (rows : List Definition) → All (FitsRows (length pins)) rows → map (λ d. length (pins_of d)) (map (driver pins) rows) ≡ map pin_count rows
 counts_are pins [] h = refl
@@ -86,17 +85,16 @@ counts_are pins (d ∷ rows) h =
 pins_total : (pins : List ℕ) (rows : List Definition) → All (FitsRows (length pins)) rows → sum_by (λ d. length (pins_of d)) (map (driver pins) rows) ≡ sum_by pin_count rows
 pins_total pins rows h = sym (sum-map (λ (d : NetlistDriver). length (pins_of d)) (map (driver pins) rows)) ∙ ap sum (counts_are pins rows h) ∙ sum-map pin_count rows
 
-pub held : (all : List Line) (r : Reader) → IsSoundReading r → HasRead all r → IsKeptName r.names.keys r.rows.items r.pins.items r.outputs.keys
+pub held : (all : List Line) (r : Reader) → IsSoundReading r → HasRead all r → IsKeptName r.names r.rows.items r.pins.items r.outputs.keys
 held all r sound read =
-    let ks = texts r.names.keys in
-    let len = length-texts r.names.keys in
+    let ks = r.names in
     let pins_below = numbered_below ks r.pins.items _ read.pins_are in
     let outputs_below = inserted_below (length ks) [] read.ids (All-nil (λ p. p < length ks)) (numbered_below ks read.ids _ read.ids_are) in
     record {
       kept = sound;
       netlist = record {
-        rows = length-map r.rows.items (driver r.pins.items) ∙ sound.rows_len ∙ sym len;
-        few = omega (arith, len, sound.few);
+        rows = length-map r.rows.items (driver r.pins.items) ∙ sound.rows_len;
+        few = sound.few;
         fits = drivers_fit (length ks) r.pins.items r.rows.items pins_below sound.fits;
         pins = omega (arith, pins_total r.pins.items r.rows.items sound.fits, sound.total, sound.room);
         outputs = subst (All (λ o. o < length ks)) (sym read.outputs_are) outputs_below;

@@ -1,6 +1,4 @@
 -- What the netlist keeps, and what it says of it.
-use Rattle.std.specs.Prelude.{◌≡◌, ℕ, ◌+◌, ◌≤◌, ⊤}
-use Rattle.bench_reader.specs.declared.netlist.Definition.TheVariants as definition
 use Rattle.bench_reader.specs.declared.netlist.Row.{Row}
 use Rattle.bench_reader.specs.declared.netlist.Row.TheVariants as row
 use Rattle.bench_reader.specs.Netlists.{NetlistDriver, Primary, Driven}

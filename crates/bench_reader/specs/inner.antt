@@ -1,2 +1,4 @@
+pub mod TextLists
+pub mod Chains
 pub mod KeptNetlists
 pub mod Reading

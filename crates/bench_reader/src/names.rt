@@ -1,52 +1,135 @@
 //! Numbering names in the order of first appearance.
 
-ghost use Rattle.std.specs.Prelude.{◌≡◌, ◌+◌, ◌++◌, ◌<◌, ◌≤◌, ◌^◌, length, map, OnOk, IfOk, IfErr};
+ghost use Rattle.std.specs.Prelude.{◌≡◌, ◌+◌, ◌++◌, ◌<◌, ◌≤◌, [], ◌∷◌, length, map, position, slice_get, Some, None, OnOk, OnErr, IfOk, IfErr};
 ghost use Rattle.std.specs.Str.{bytes_eq};
 ghost use Rattle.indexmap.specs.IndexSet.{insert_key, insert_all};
 ghost use Rattle.bench_reader.specs.Netlists.{out_of_memory, place};
-ghost use Rattle.bench_reader.specs.inner.KeptNetlists.{texts};
 ghost use Rattle.bench_lines.specs.Views.{each_now};
 
+use crate::chains::{Chains, bucket_of, seek};
 use crate::fault::BenchFault;
-use indexmap::IndexSet;
-use std::alloc::Global;
+use crate::texts::TextList;
+use std::alloc::{AllocError, Global};
+use std::marker::Model;
 
-/// The number of a name; a new name is copied and gets the next number.
-pub fn number(alloc: Global, names: &mut IndexSet<Vec<u8>>, name: &[u8]) -> Result<u32, BenchFault>
-    requires { length names.old.keys + 1 < 2 ^ 32 }
-    ensures keys { OnOk result (texts names.new.keys ≡ insert_key bytes_eq (texts names.old.keys) name.now) }
-    ensures place { IfOk result (λ id. id ≡ place (texts names.new.keys) name.now) }
-    ensures within { IfOk result (λ id. id < length names.new.keys) }
-    ensures grows { length names.old.keys ≤ length names.new.keys }
-    ensures room { length names.new.keys ≤ length names.old.keys + 1 }
-    ensures memory { IfErr result (λ fault. fault ≡ out_of_memory) }
-{
-    match names.get_index_of(name) {
-        Some(index) => Ok(index as u32),
-        None => {
-            let key = Vec::from_slice(alloc, name)?;
-            let (index, _) = names.insert_full(key)?;
-            Ok(index as u32)
-        }
-    }
+/// Names, each once, numbered from 0 in the order in which they came.
+///
+/// A name is found by its hash: its bucket tells the last name there, and each name the one before
+/// it.
+#[derive(Drop)]
+pub struct Names {
+    texts: TextList,
+    chains: Chains,
 }
 
-/// Adds the numbers of some names to a list.
-pub fn number_all(
-    alloc: Global,
-    names: &mut IndexSet<Vec<u8>>,
-    numbers: &mut Vec<u32>,
-    listed: &[&[u8]],
-) -> Result<(), BenchFault>
-    requires { length names.old.keys + length listed.now < 2 ^ 32 }
-    ensures keys { OnOk result (texts names.new.keys ≡ insert_all bytes_eq (texts names.old.keys) (each_now listed.now)) }
-    ensures numbers { OnOk result (numbers.new.items ≡ numbers.old.items ++ map (place (texts names.new.keys)) (each_now listed.now)) }
-    ensures grows { length names.old.keys ≤ length names.new.keys }
-    ensures room { length names.new.keys ≤ length names.old.keys + length listed.now }
-    ensures memory { IfErr result (λ fault. fault ≡ out_of_memory) }
-{
-    for name in listed {
-        numbers.push(number(alloc, names, name)?)?;
+impl Model for Names {
+    ghost use Rattle.std.specs.Prelude.{List, ℕ};
+
+    ghost Value = { List (List ℕ) };
+
+    ghost use Rattle.bench_reader.specs.inner.Chains.{AreNumbered};
+
+    ghost view = { λ n. n.texts };
+
+    ghost invariant = { λ n. AreNumbered n.texts n.chains.latest.items n.chains.earlier.items };
+}
+
+impl Names {
+    pub fn new(alloc: Global) -> Names
+        ensures { result ≡ [] }
+    {
+        Names {
+            texts: TextList::new(alloc),
+            chains: Chains::new(alloc),
+        }
     }
-    Ok(())
+
+    pub fn len(&self) -> usize
+        ensures { result ≡ length self.now }
+    {
+        self.texts.len()
+    }
+
+    /// The name with this number.
+    pub fn get(&self, number: usize) -> &[u8]
+        requires { number < length self.now }
+        ensures { slice_get self.now number ≡ Some result.now }
+    {
+        self.texts.get(number)
+    }
+
+    /// The number of the name, if it has one.
+    pub fn find(&self, name: &[u8]) -> Option<u32>
+        ensures { result ≡ position (bytes_eq name.now) self.now }
+    {
+        let buckets = self.chains.latest.len();
+        if buckets == 0 {
+            return None;
+        }
+        let last = self.chains.latest[bucket_of(name, buckets)];
+        seek(&self.texts, &self.chains.earlier, last, name)
+    }
+
+    /// Gives a new name the next number.
+    fn add(&mut self, alloc: Global, name: &[u8]) -> Result<u32, AllocError>
+        requires few { length self.old < 2147483648 }
+        requires fresh { position (bytes_eq name.now) self.old ≡ None }
+        ensures added { OnOk result (self.new ≡ self.old ++ name.now ∷ []) }
+        ensures number { IfOk result (λ number. number ≡ length self.old) }
+        ensures unchanged { OnErr result (self.new ≡ self.old) }
+    {
+        self.chains.make_room(alloc, &self.texts)?;
+        let number = self.texts.len();
+        self.texts.push(name)?;
+        let bucket = bucket_of(name, self.chains.latest.len());
+        self.chains.link(number, bucket);
+        Ok(number as u32)
+    }
+
+    /// The number of a name; a new name is copied and gets the next number.
+    pub fn number(&mut self, alloc: Global, name: &[u8]) -> Result<u32, BenchFault>
+        requires { length self.old < 2147483648 }
+        ensures keys { OnOk result (self.new ≡ insert_key bytes_eq self.old name.now) }
+        ensures place { IfOk result (λ id. id ≡ place self.new name.now) }
+        ensures within { IfOk result (λ id. id < length self.new) }
+        ensures grows { length self.old ≤ length self.new }
+        ensures room { length self.new ≤ length self.old + 1 }
+        ensures memory { IfErr result (λ fault. fault ≡ out_of_memory) }
+    {
+        match self.find(name) {
+            Some(number) => Ok(number),
+            None => Ok(self.add(alloc, name)?),
+        }
+    }
+
+    /// Adds the numbers of some names to a list.
+    pub fn number_all(
+        &mut self,
+        alloc: Global,
+        numbers: &mut Vec<u32>,
+        listed: &[&[u8]],
+    ) -> Result<(), BenchFault>
+        requires { length self.old + length listed.now < 2147483648 }
+        ensures keys { OnOk result (self.new ≡ insert_all bytes_eq self.old (each_now listed.now)) }
+        ensures numbers { OnOk result (numbers.new.items ≡ numbers.old.items ++ map (place self.new)
+            (each_now listed.now)) }
+        ensures grows { length self.old ≤ length self.new }
+        ensures room { length self.new ≤ length self.old + length listed.now }
+        ensures memory { IfErr result (λ fault. fault ≡ out_of_memory) }
+    {
+        for name in listed {
+            numbers.push(self.number(alloc, name)?)?;
+        }
+        Ok(())
+    }
+
+    /// The same names once more, in memory of their own.
+    pub fn copy(&self, alloc: Global) -> Result<Names, AllocError>
+        ensures { IfOk result (λ copy. copy ≡ self.now) }
+    {
+        Ok(Names {
+            texts: self.texts.copy(alloc)?,
+            chains: self.chains.copy(alloc)?,
+        })
+    }
 }

@@ -5,6 +5,7 @@ ghost use Rattle.std.specs.Str.{bytes_eq};
 ghost use Rattle.bench_reader.specs.Netlists.{IsNetlist};
 ghost use Rattle.bench_reader.specs.KeptNetlists.{driver_of_row};
 
+use crate::names::Names;
 use gate_values::Kind;
 use indexmap::IndexSet;
 use std::alloc::{AllocError, Global};
@@ -17,7 +18,7 @@ pub enum Definition {
     Missing { line: u32 },
     Input,
     /// The pins are `count` numbers of the netlist's list of pins, from `start` on.
-    Gate { kind: Kind, start: u32, count: u32 },
+    Gate { kind: Kind, count: u8, start: u32 },
 }
 
 /// What drives a signal: the outside, or a gate or flip-flop with these pins in order.
@@ -33,7 +34,7 @@ pub enum Row<'a> {
 /// and the other calls read one place.
 #[derive(Drop)]
 pub struct Netlist {
-    pub(crate) names: IndexSet<Vec<u8>>,
+    pub(crate) names: Names,
     pub(crate) rows: Vec<Definition>,
     pub(crate) pins: Vec<u32>,
     pub(crate) outputs: IndexSet<u32>,
@@ -45,9 +46,9 @@ impl Model for Netlist {
 
     ghost Value = { Content };
 
-    ghost view = { λ n. content n.names.keys n.rows.items n.pins.items n.outputs.keys };
+    ghost view = { λ n. content n.names n.rows.items n.pins.items n.outputs.keys };
 
-    ghost invariant = { λ n. IsKeptName n.names.keys n.rows.items n.pins.items n.outputs.keys };
+    ghost invariant = { λ n. IsKeptName n.names n.rows.items n.pins.items n.outputs.keys };
 }
 
 impl Netlist {
@@ -63,7 +64,7 @@ impl Netlist {
         ensures { IfOk result (λ copy. copy ≡ self.now) }
     {
         Ok(Netlist {
-            names: self.names.clone()?,
+            names: self.names.copy(alloc)?,
             rows: Vec::from_slice(alloc, &self.rows)?,
             pins: Vec::from_slice(alloc, &self.pins)?,
             outputs: self.outputs.clone()?,
@@ -81,10 +82,7 @@ impl Netlist {
     pub fn id_of(&self, name: &[u8]) -> Option<u32>
         ensures { result ≡ position (bytes_eq name.now) self.now.names }
     {
-        match self.names.get_index_of(name) {
-            None => None,
-            Some(index) => Some(index as u32),
-        }
+        self.names.find(name)
     }
 
     /// The name of a signal.
@@ -92,7 +90,7 @@ impl Netlist {
         requires { id < length self.now.names }
         ensures { slice_get self.now.names id ≡ Some result.now }
     {
-        self.names.as_slice()[id as usize].as_slice()
+        self.names.get(id as usize)
     }
 
     /// What drives a signal.
@@ -101,7 +99,7 @@ impl Netlist {
         ensures { slice_get self.now.rows id ≡ Some (driver_of_row result) }
     {
         match self.rows[id as usize] {
-            Definition::Gate { kind, start, count } => {
+            Definition::Gate { kind, count, start } => {
                 let from_start = self.pins.as_slice().split_at(start as usize).1;
                 Row::Gate {
                     kind,

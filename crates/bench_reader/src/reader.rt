@@ -10,7 +10,7 @@ ghost use Rattle.text_rules.specs.Text.{lines};
 ghost use Rattle.bench_lines.specs.Views.{view, each_now};
 
 use crate::fault::{BenchCause, BenchFault};
-use crate::names::{number, number_all};
+use crate::names::Names;
 use crate::netlist::{Definition, Netlist};
 use bench_lines::{Form, form_of};
 use gate_values::Kind;
@@ -22,7 +22,7 @@ use text_rules::next_line;
 /// of all gates in the order of the text, and the outputs.
 #[derive(Drop)]
 pub struct Reader {
-    pub names: IndexSet<Vec<u8>>,
+    pub names: Names,
     pub rows: Vec<Definition>,
     pub pins: Vec<u32>,
     pub outputs: IndexSet<u32>,
@@ -88,13 +88,9 @@ fn fault(cause: BenchCause, line: u32) -> Result<(), BenchFault>
 }
 
 /// Adds rows for new names, which this line is the first to name.
-fn add_rows(
-    rows: &mut Vec<Definition>,
-    names: &IndexSet<Vec<u8>>,
-    line: u32,
-) -> Result<(), BenchFault>
-    requires { length rows.old.items ≤ length names.now.keys }
-    ensures rows { OnOk result (rows.new.items ≡ padded rows.old.items (length names.now.keys) line) }
+fn add_rows(rows: &mut Vec<Definition>, names: &Names, line: u32) -> Result<(), BenchFault>
+    requires { length rows.old.items ≤ length names.now }
+    ensures rows { OnOk result (rows.new.items ≡ padded rows.old.items (length names.now) line) }
     ensures memory { IfErr result (λ fault. fault ≡ out_of_memory) }
 {
     rows.resize(names.len(), Definition::Missing { line })?;
@@ -103,13 +99,13 @@ fn add_rows(
 
 impl Reader {
     fn new(alloc: Global) -> Reader
-        ensures names { result.names.keys ≡ [] }
+        ensures names { result.names ≡ [] }
         ensures rows { result.rows.items ≡ [] }
         ensures pins { result.pins.items ≡ [] }
         ensures outputs { result.outputs.keys ≡ [] }
     {
         Reader {
-            names: IndexSet::new(alloc),
+            names: Names::new(alloc),
             rows: Vec::new(alloc),
             pins: Vec::new(alloc),
             outputs: IndexSet::new(alloc),
@@ -117,7 +113,7 @@ impl Reader {
     }
 
     fn is_crowded(&self) -> bool
-        ensures { result ≡ netlists.exceeds (length self.now.names.keys) (length self.now.pins.items) }
+        ensures { result ≡ netlists.exceeds (length self.now.names) (length self.now.pins.items) }
     {
         self.names.len() > MOST_NAMES || self.pins.len() > MOST_PINS
     }
@@ -130,7 +126,7 @@ impl Reader {
         if is_long(name) {
             return fault(BenchCause::NameLong, line);
         }
-        let id = number(alloc, &mut self.names, name)?;
+        let id = self.names.number(alloc, name)?;
         if is_gate(&self.rows, id) {
             return fault(BenchCause::Twice, line);
         }
@@ -150,7 +146,7 @@ impl Reader {
         if is_long(name) {
             return fault(BenchCause::NameLong, line);
         }
-        let id = number(alloc, &mut self.names, name)?;
+        let id = self.names.number(alloc, name)?;
         add_rows(&mut self.rows, &self.names, line)?;
         if self.is_crowded() {
             return fault(BenchCause::TooMany, line);
@@ -172,22 +168,23 @@ impl Reader {
         requires few { length pins.now ≤ 64 }
         requires counted { netlists.miscounts kind (length pins.now) ≡ false }
         ensures sound { OnOk result (IsSoundReading self.new) }
-        ensures steps { (word : List ℕ) → CountsPins name.now word kind (each_now pins.now) → Takes self.old (Gate name.now word (each_now pins.now)) line self.new result }
+        ensures steps { (word : List ℕ) → CountsPins name.now word kind (each_now pins.now)
+            → Takes self.old (Gate name.now word (each_now pins.now)) line self.new result }
     {
-        let id = number(alloc, &mut self.names, name)?;
+        let id = self.names.number(alloc, name)?;
         if is_defined(&self.rows, id) {
             return fault(BenchCause::Twice, line);
         }
         let start = self.pins.len() as u32;
-        number_all(alloc, &mut self.names, &mut self.pins, pins)?;
+        self.names.number_all(alloc, &mut self.pins, pins)?;
         add_rows(&mut self.rows, &self.names, line)?;
         if self.is_crowded() {
             return fault(BenchCause::TooMany, line);
         }
         self.rows[id as usize] = Definition::Gate {
             kind,
+            count: pins.len() as u8,
             start,
-            count: pins.len() as u32,
         };
         Ok(())
     }
@@ -202,7 +199,8 @@ impl Reader {
     ) -> Result<(), BenchFault>
         requires sound { IsSoundReading self.old }
         ensures sound { OnOk result (IsSoundReading self.new) }
-        ensures steps { Takes self.old (Gate name.now word.now (each_now pins.now)) line self.new result }
+        ensures steps { Takes self.old (Gate name.now word.now (each_now pins.now)) line self.new
+            result }
     {
         let kind = match Kind::from_word(word) {
             None => return fault(BenchCause::UnknownKind, line),
@@ -228,7 +226,9 @@ impl Reader {
             Form::Malformed => fault(BenchCause::Syntax, line),
             Form::Input(name) => self.take_input(alloc, line, name),
             Form::Output(name) => self.take_output(alloc, line, name),
-            Form::Gate { name, kind, pins } => self.take_gate(alloc, line, name, kind, &pins),
+            Form::Gate { name, kind, pins } => {
+                self.take_gate(alloc, line, name, kind, pins.as_slice())
+            }
         }
     }
 }

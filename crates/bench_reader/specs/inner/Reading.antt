@@ -11,20 +11,20 @@ use Rattle.bench_reader.specs.declared.reader.Reader.{Reader}
 use Rattle.bench_lines.specs.Lines.{Line}
 use Rattle.bench_lines.specs.Lines as line
 use Rattle.bench_reader.specs.Netlists.{names, pins_in, outputs_in, gates_in, defined_in, drives, is_among, is_long, place, miscounts, cause_of, first_fault, out_of_memory}
-use Rattle.bench_reader.specs.inner.KeptNetlists.{IsKeptNetlist, texts}
+use Rattle.bench_reader.specs.inner.KeptNetlists.{IsKeptNetlist}
 
 abbrev pub IsSoundReading : Reader → Type 0
-IsSoundReading r = IsKeptNetlist r.names.keys r.rows.items r.pins.items
+IsSoundReading r = IsKeptNetlist r.names r.rows.items r.pins.items
 
 abbrev pub is_gate : Definition → Bool
 is_gate (Missing line) = false
 is_gate Input = false
-is_gate (Gate kind start count) = true
+is_gate (Gate kind count start) = true
 
 abbrev pub is_defined : Definition → Bool
 is_defined (Missing line) = false
 is_defined Input = true
-is_defined (Gate kind start count) = true
+is_defined (Gate kind count start) = true
 
 -- where there is no definition yet, it is missing
 abbrev pub is_gate_at : List Definition → ℕ → Bool
@@ -42,7 +42,7 @@ abbrev pub first_missing : List Definition → Option ℕ
 first_missing [] = None
 first_missing (Missing line ∷ rows) = Some line
 first_missing (Input ∷ rows) = first_missing rows
-first_missing (Gate kind start count ∷ rows) = first_missing rows
+first_missing (Gate kind count start ∷ rows) = first_missing rows
 
 -- these names have these numbers
 pub record Numbered (ks : List (List ℕ)) (ids : List ℕ) (named : List (List ℕ)) : Type 0 where
@@ -82,7 +82,7 @@ pub record IsGate (before : List Line) (kind : Kind) (start count : ℕ) (name :
 abbrev pub Tells : List Line → ℕ → Definition → List ℕ → Type 0
 Tells before i (Missing number) name = IsMissing before i number name
 Tells before i Input name = IsInput before name
-Tells before i (Gate kind start count) name = IsGate before kind start count name
+Tells before i (Gate kind count start) name = IsGate before kind start count name
 
 -- the reader's lists are what these lines say
 pub record Knows (before : List Line) (ks : List (List ℕ)) (rows : List Definition) (pins outputs : List ℕ) : Type 0 where
@@ -95,7 +95,7 @@ pub record Knows (before : List Line) (ks : List (List ℕ)) (rows : List Defini
 
 -- the reader has read these lines, none of which is at fault
 abbrev pub HasRead : List Line → Reader → Type 0
-HasRead before r = Knows before (texts r.names.keys) r.rows.items r.pins.items r.outputs.keys
+HasRead before r = Knows before r.names r.rows.items r.pins.items r.outputs.keys
 
 -- what the reader answers to a line
 abbrev pub ReadsStep : List Line → Line → ℕ → Reader → Result (Unit {0}) BenchFault → Type 0

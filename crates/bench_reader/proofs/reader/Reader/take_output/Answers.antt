@@ -1,9 +1,8 @@
 use Rattle.std.proofs.Common.{◌≡◌, ◌++◌, ◌∷◌, [], length, true, false, inr, refl, sym, ◌∙◌}
 use Rattle.bench_lines.specs.Lines.{Output}
 use Rattle.bench_reader.specs.Netlists.{is_long, is_crowded}
-use Rattle.bench_reader.specs.inner.KeptNetlists.{texts}
 use Rattle.bench_reader.proofs.Rows.{all_names}
-use Rattle.bench_reader.proofs.Steps.{rows_len, rows_are, crowd, pins_none, output_crowds, knows_output}
+use Rattle.bench_reader.proofs.Steps.{crowd, pins_none, output_crowds, knows_output}
 use Rattle.bench_reader.proofs.reader.Reader.take_output.Goals as goal
 
 pub returns-then-is_crowded-clause-steps : goal.returns-then-is_crowded-clause-steps
@@ -11,7 +10,7 @@ returns-then-is_crowded-clause-steps c before read line-is =
     let old = c.args.self.now in
     let short : is_long c.args.name.now ≡ false = sym c.is_long.ensures ∙ c.if-is_long.false in
     let l = Output c.args.name.now in
-    let many : is_crowded (before ++ l ∷ []) ≡ true = crowd (before ++ l ∷ []) c.number.new.names.keys (length old.pins.items) true (all_names before l (texts old.names.keys) (texts c.number.new.names.keys) read.names_are c.in_ok-id.ensures.keys) (pins_none before l (texts old.names.keys) old.pins.items read.pins_are refl)
+    let many : is_crowded (before ++ l ∷ []) ≡ true = crowd (before ++ l ∷ []) c.number.new.self (length old.pins.items) true (all_names before l old.names c.number.new.self read.names_are c.in_ok-id.ensures.keys) (pins_none before l old.names old.pins.items read.pins_are refl)
     (sym c.is_crowded.ensures ∙ c.if-is_crowded.true) in
     rw c.fault-then-is_crowded.ensures (inr (output_crowds before c.args.name.now true short many, refl))
 
@@ -20,9 +19,9 @@ returns-clause-steps c before read line-is =
     let old = c.args.self.now in
     let short : is_long c.args.name.now ≡ false = sym c.is_long.ensures ∙ c.if-is_long.false in
     let l = Output c.args.name.now in
-    let few : is_crowded (before ++ l ∷ []) ≡ false = crowd (before ++ l ∷ []) c.number.new.names.keys (length old.pins.items) false (all_names before l (texts old.names.keys) (texts c.number.new.names.keys) read.names_are c.in_ok-id.ensures.keys) (pins_none before l (texts old.names.keys) old.pins.items read.pins_are refl)
+    let few : is_crowded (before ++ l ∷ []) ≡ false = crowd (before ++ l ∷ []) c.number.new.self (length old.pins.items) false (all_names before l old.names c.number.new.self read.names_are c.in_ok-id.ensures.keys) (pins_none before l old.names old.pins.items read.pins_are refl)
     (sym c.is_crowded.ensures ∙ c.if-is_crowded.false) in (
       output_crowds before c.args.name.now false short few,
-      knows_output before (texts old.names.keys) (texts c.number.new.names.keys) old.rows.items c.add_rows.new.rows.items old.pins.items old.outputs.keys c.insert.new.self.keys c.args.name.now c.args.line c.in_ok-id.id read (rows_len old.names.keys old.rows.items c.requires.sound.rows_len) c.in_ok-id.ensures.keys
-          (rows_are c.number.new.names.keys old.rows.items c.add_rows.new.rows.items c.args.line c.in_ok-add_rows.ensures.rows) line-is c.in_ok-id.ensures.place c.in_ok-insert.ensures.keys,
+      knows_output before old.names c.number.new.self old.rows.items c.add_rows.new.rows.items old.pins.items old.outputs.keys c.insert.new.self.keys c.args.name.now c.args.line c.in_ok-id.id read c.requires.sound.rows_len c.in_ok-id.ensures.keys
+          c.in_ok-add_rows.ensures.rows line-is c.in_ok-id.ensures.place c.in_ok-insert.ensures.keys,
     )

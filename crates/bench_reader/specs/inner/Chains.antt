@@ -1,0 +1,52 @@
+-- Names in buckets, by a hash, and in chains through each bucket.
+use Rattle.std.specs.Prelude.{◌≡◌, ℕ, zero, suc, ◌*◌, ◌/◌, ◌%◌, ◌^◌, ◌<◌, ◌≤◌, ◌==◌, List, [], length, get_or, fold, bit_xor, if◌then◌else◌}
+use Rattle.bench_reader.specs.Netlists.{place}
+
+-- the hash with one more byte
+abbrev pub mixed : ℕ → ℕ → ℕ
+mixed hash byte = (bit_xor hash byte * 11400714819323198485) % 2 ^ 64
+
+-- the bucket of a name, of so many
+unfoldable pub bucket_of : ℕ → List ℕ → ℕ
+bucket_of count name = (fold mixed 0 name / 4294967296 * count) / 4294967296
+
+-- the bucket of the name with this number
+abbrev pub bucket_at : List (List ℕ) → ℕ → ℕ → ℕ
+bucket_at names count number = bucket_of count (get_or names number [])
+
+-- of the first n names the last that lies in this bucket, numbered from 1; 0 where none does
+abbrev pub last_in : (ℕ → ℕ) → ℕ → ℕ → ℕ
+last_in bucket b zero = 0
+last_in bucket b (suc n) = if bucket n == b then suc n else last_in bucket b n
+
+-- for each bucket its last name, and for each name the one before it there, of the first n
+pub record IsChained (bucket : ℕ → ℕ) (n : ℕ) (latest earlier : List ℕ) : Type 0 where
+  pub heads : (b : ℕ) → b < length latest → get_or latest b 0 ≡ last_in bucket b n
+  pub links : (i : ℕ) → i < n → get_or earlier i 0 ≡ last_in bucket (bucket i) i
+
+-- all these names are in chains
+pub record AreChained (names : List (List ℕ)) (latest earlier : List ℕ) : Type 0 where
+  pub chained : IsChained (bucket_at names (length latest)) (length names) latest earlier
+  pub room : length names ≤ length latest
+  pub same : length earlier ≡ length latest
+  pub few : length latest < 4294967296
+
+-- the chain of a name's bucket begins here
+pub record BeginsChain (names : List (List ℕ)) (earlier : List ℕ) (name : List ℕ) (last : ℕ) : Type 0 where
+  pub begins : last ≡ last_in (bucket_at names (length earlier)) (bucket_of (length earlier) name) (length names)
+  pub links : (i : ℕ) → i < length names → get_or earlier i 0 ≡ last_in (bucket_at names (length earlier)) (bucket_at names (length earlier) i) i
+  pub room : length names ≤ length earlier
+
+-- no name has this number and these bytes
+abbrev pub IsNowhere : List (List ℕ) → List ℕ → Type 0
+IsNowhere names name = (i : ℕ) → i < length names → get_or names i [] ≡ name → ⊥
+
+-- the name has this number
+pub record HasNumber (names : List (List ℕ)) (name : List ℕ) (number : ℕ) : Type 0 where
+  pub within : number < length names
+  pub there : get_or names number [] ≡ name
+
+-- no name stands twice, and all are in chains
+pub record AreNumbered (names : List (List ℕ)) (latest earlier : List ℕ) : Type 0 where
+  pub chains : AreChained names latest earlier
+  pub distinct : (i : ℕ) → i < length names → place names (get_or names i []) ≡ i

@@ -1,0 +1,130 @@
+//! Names in chains, by a hash.
+
+ghost use Rattle.std.specs.Prelude.{◌≡◌, ◌+◌, ◌<◌, ◌≤◌, ◌^◌, [], length, set, slice_index, fold, MatchOption, IfOk, OnOk};
+ghost use Rattle.bench_reader.specs.inner.Chains.{mixed, bucket_at, IsChained, AreChained, BeginsChain, IsNowhere, HasNumber};
+ghost use Rattle.bench_reader.specs.inner.Chains as chains;
+
+use crate::texts::TextList;
+use std::alloc::{AllocError, Global};
+
+/// Names by the buckets of their hashes. A name's entry here is its number, from 1 on; 0 is none.
+#[derive(Drop)]
+pub struct Chains {
+    /// The last name of each bucket.
+    pub latest: Vec<u32>,
+    /// For each name the one before it in its bucket.
+    pub earlier: Vec<u32>,
+}
+
+/// The fewest buckets, once there are names.
+const FEWEST: usize = 16;
+
+/// 2 to the 64, divided by the golden ratio.
+const MIXER: u64 = 11_400_714_819_323_198_485;
+
+const HALF_WORD: u64 = 4_294_967_296;
+
+fn hash_of(name: &[u8]) -> u64
+    ensures { result ≡ fold mixed 0 name.now }
+{
+    let mut hash: u64 = 0;
+    for byte in name {
+        hash = (hash ^ *byte as u64).wrapping_mul(MIXER);
+    }
+    hash
+}
+
+/// The bucket of a name, of so many, by the upper half of its hash.
+pub fn bucket_of(name: &[u8], count: usize) -> usize
+    requires some { 0 < count }
+    requires few { count < 4294967296 }
+    ensures bucket { result ≡ chains.bucket_of count name.now }
+    ensures within { result < count }
+{
+    let upper = hash_of(name) / HALF_WORD;
+    (upper * count as u64 / HALF_WORD) as usize
+}
+
+impl Chains {
+    pub fn new(alloc: Global) -> Chains
+        ensures latest { result.latest.items ≡ [] }
+        ensures earlier { result.earlier.items ≡ [] }
+    {
+        Chains {
+            latest: Vec::new(alloc),
+            earlier: Vec::new(alloc),
+        }
+    }
+
+    /// Puts the name with the next number into its bucket.
+    pub fn link(&mut self, number: usize, bucket: usize)
+        requires number { number < length self.old.earlier.items }
+        requires bucket { bucket < length self.old.latest.items }
+        requires few { number + 1 < 4294967296 }
+        ensures latest { self.new.latest.items ≡ set self.old.latest.items bucket (number + 1) }
+        ensures earlier { self.new.earlier.items ≡ set self.old.earlier.items number
+            (slice_index self.old.latest.items bucket) }
+    {
+        self.earlier[number] = self.latest[bucket];
+        self.latest[bucket] = number as u32 + 1;
+    }
+
+    /// The same chains once more, in memory of their own.
+    pub fn copy(&self, alloc: Global) -> Result<Chains, AllocError>
+        ensures latest { IfOk result (λ copy. copy.latest.items ≡ self.now.latest.items) }
+        ensures earlier { IfOk result (λ copy. copy.earlier.items ≡ self.now.earlier.items) }
+    {
+        Ok(Chains {
+            latest: Vec::from_slice(alloc, &self.latest)?,
+            earlier: Vec::from_slice(alloc, &self.earlier)?,
+        })
+    }
+
+    /// All these names in chains, by so many buckets.
+    fn of_names(alloc: Global, names: &TextList, count: usize) -> Result<Chains, AllocError>
+        requires room { length names.now < count }
+        requires few { count < 4294967296 }
+        ensures chained { IfOk result (λ all. AreChained names.now all.latest.items
+            all.earlier.items) }
+        ensures buckets { IfOk result (λ all. length all.latest.items ≡ count) }
+    {
+        let mut all = Chains {
+            latest: vec![in alloc; 0; count]?,
+            earlier: vec![in alloc; 0; count]?,
+        };
+        for number in 0..names.len() {
+            all.link(number, bucket_of(names.get(number), count));
+        }
+        Ok(all)
+    }
+
+    /// Makes room for one more name, where there is none, by twice as many buckets.
+    pub fn make_room(&mut self, alloc: Global, names: &TextList) -> Result<(), AllocError>
+        requires chained { AreChained names.now self.old.latest.items self.old.earlier.items }
+        requires few { length names.now < 2147483648 }
+        ensures chained { AreChained names.now self.new.latest.items self.new.earlier.items }
+        ensures room { OnOk result (length names.now < length self.new.latest.items) }
+    {
+        let count = names.len();
+        if count == self.latest.len() {
+            *self = Chains::of_names(alloc, names, (2 * count).max(FEWEST))?;
+        }
+        Ok(())
+    }
+}
+
+/// The number of the name, in the chain that begins with this entry.
+pub fn seek(names: &TextList, earlier: &[u32], last: u32, name: &[u8]) -> Option<u32>
+    requires { BeginsChain names.now earlier.now name.now last }
+    ensures { MatchOption result (IsNowhere names.now name.now) (HasNumber names.now name.now) }
+{
+    let mut last = last;
+    while last > 0 {
+        let number = last - 1;
+        if names.get(number as usize) == name {
+            return Some(number);
+        }
+        last = earlier[number as usize];
+    }
+    None
+}
