@@ -1,10 +1,10 @@
 -- What the accessors answer, by the driver of the signal.
-use Rattle.std.proofs.Common.{◌≡◌, ℕ, zero, suc, ◌+◌, ◌<◌, ◌≤◌, min, true, List, [], ◌∷◌, map, fold, length, get_or, Option, Some, None, IsSome, refl, sym, ap, ap₂, ◌∙◌, subst, arith}
+use Rattle.std.proofs.Common.{◌≡◌, ℕ, zero, suc, ◌+◌, ◌<◌, ◌≤◌, min, true, List, [], ◌∷◌, map, fold, length, get_or, All, Option, Some, None, IsSome, refl, sym, ap, ap₂, ◌∙◌, subst, arith}
 use Rattle.std.specs.Prelude.{IfSome}
 use Rattle.std.specs.Borrow.{Bor}
 use Rattle.std.specs.List.{AllByRecursion}
 use Rattle.std.proofs.Math.ListN.{length-map}
-use Rattle.std.proofs.lemmas.List.{get_or_default}
+use Rattle.std.proofs.lemmas.List.Elements.{recursion_from_All, All-from_recursion}
 use Rattle.gate_values.specs.declared.Value.{Value}
 use Rattle.gate_values.specs.declared.Value.TheVariants.{X}
 use Rattle.gate_values.specs.declared.Kind.{Kind}
@@ -16,14 +16,15 @@ use Rattle.flip_flops.specs.Edges.{shown_edge, flop_span}
 use Rattle.circuit_meaning.specs.declared.FlipFlop.{FlipFlop}
 use Rattle.circuit_meaning.specs.declared.Setting.{Setting}
 use Rattle.circuit_meaning.specs.declared.Pin.{Pin}
-use Rattle.circuit_meaning.specs.Circuit.{Input, Circuit, driver, IsCircuit, read_by}
+use Rattle.circuit_meaning.specs.Circuit.{Driver, Input, Gate, Flop, Circuit, driver, IsDriver, IsCircuit, read_by}
 use Rattle.circuit_meaning.specs.Forward.{value, value_from, seen, flop_value, input_value, last_setting}
 use Rattle.circuit_meaning.specs.Cells.{span, span_from, least_delay, input_start, next_setting, looked, pin_span, cell_at, point_at}
 use Rattle.circuit_meaning.specs.Need.{IsEvaluable, HasChildren}
 use Rattle.circuit_meaning.proofs.Equations.{value_is, span_is, all_imply}
 use Rattle.circuit_meaning.proofs.Steady.{seen-early, map_all, gate_span-early}
+use Rattle.design.specs.declared.rows.SignalView.{SignalView as View}
 use Rattle.design.specs.declared.rows.SignalView.TheVariants as row
-use Rattle.design.specs.inner.KeptDesigns.{IsViewOf}
+use Rattle.design.specs.inner.KeptDesigns.{IsViewOf, driver_seen}
 use Rattle.design.specs.KeptDesigns.{pins_with}
 
 -- the pins as a whole
@@ -118,10 +119,15 @@ pub if_some : {A : Type 0} (P Q : A → Type 0) → ((x : A) → P x → Q x) �
 if_some P Q f None h = h
 if_some P Q f (Some x) h = f x h
 
--- the signals of the pins are those of the circuit
-pub gate-signals : (c : Circuit) → IsCircuit c → (s : ℕ) (kind : Kind) (signals delays : Bor (List ℕ)) (m : ℕ) → IsViewOf c s (row.Gate kind signals delays m) → (k d : ℕ) → k < length signals.now → get_or signals.now k d < length c.drivers
-gate-signals c ok s kind signals delays m src k d l =
-    let pins = pins_with signals.now delays.now in
-    let p : Pin = record { signal = 0; delay = 0 } in
-    let below = src.sound.signal k p (let h = length-pins_with signals.now delays.now src.fits.0 in omega (arith, h, l)) in
-    subst (λ n. n < length c.drivers) (ap (λ (q : Pin). q.signal) (get_or-pins_with signals.now delays.now k p src.fits.0 l) ∙ get_or_default signals.now k 0 d l) below
+-- the signals of pins are those of the circuit
+signals-within : (n : ℕ) (pins : List Pin) → AllByRecursion (λ p. p.signal < n) pins → AllByRecursion (λ x. x < n) (map (λ (p : Pin). p.signal) pins)
+signals-within n [] h = tt
+signals-within n (p ∷ pins) h = (h.0, signals-within n pins h.1)
+
+driver-reads : (n horizon : ℕ) (d : Driver) → IsDriver n horizon d → AllByRecursion (λ x. x < n) (read_by d)
+driver-reads n horizon (Input settings) h = tt
+driver-reads n horizon (Gate kind pins) h = signals-within n pins (recursion_from_All (λ p. p.signal < n) pins h.signal)
+driver-reads n horizon (Flop f) h = (h.pin, tt)
+
+pub reads-within : (c : Circuit) (s : ℕ) (reads : List ℕ) (r : View) → IsViewOf c s r → reads ≡ read_by (driver_seen r) → All (λ x. x < length c.drivers) reads
+reads-within c s reads r src e = subst (All (λ x. x < length c.drivers)) (sym e) (All-from_recursion (λ x. x < length c.drivers) (read_by (driver_seen r)) (driver-reads (length c.drivers) c.horizon (driver_seen r) src.sound))

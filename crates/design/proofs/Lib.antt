@@ -4,6 +4,9 @@ pub mod Answered
 pub mod Pinned
 pub mod Overlap
 pub mod Walked
+pub mod Links
+pub mod Reading
+pub mod Holding
 pub mod Listed
 pub mod Rereads
 pub mod SortedSettings
@@ -11,6 +14,4 @@ pub mod Joining
 pub mod Rowed
 pub mod Bucketed
 pub mod Finished
-pub mod Held
-pub mod Readers
 pub mod SettingOrder

@@ -1,8 +1,8 @@
 -- Lists kept one after another.
-use Rattle.std.proofs.Common.{◌≡◌, ℕ, ◌≤◌, List, [], ◌∷◌, ◌++◌, length, take, drop, set, refl, ap, ap₂, ◌∙◌, arith}
+use Rattle.std.proofs.Common.{◌≡◌, ℕ, ◌≤◌, List, [], ◌∷◌, ◌++◌, length, take, drop, refl, ap, ap₂, ◌∙◌, arith}
 use Rattle.std.specs.List.{AllByRecursion}
 use Rattle.std.proofs.lemmas.List.Elements.{recursion_from_All, All-from_recursion}
-use Rattle.std.proofs.lemmas.List.{map-append, map-set, length-append, drop_at, take_all, drop-append-le, take-append-le, length-drop}
+use Rattle.std.proofs.lemmas.List.{map-append, length-append, drop_at, take_all, drop-append-le, take-append-le, length-drop}
 use Rattle.design.specs.declared.lists.Range.{Range}
 use Rattle.design.specs.inner.Lists.{piece, pieces, IsPiece, ArePieces}
 
@@ -43,11 +43,3 @@ module _ {T : Type 0} where
     pieces-pushed =
         map-append (piece all) ranges (range ∷ []) ∙ ap₂ (λ (x : List (List T)) (y : List T). x ++ y ∷ []) (pieces-longer ranges items more all h e)
         (ap (λ xs. piece xs range) e ∙ ap₂ (λ (n : ℕ) (m : ℕ). take n (drop m (items ++ more))) long start ∙ ap (take (length more)) (drop_at items more (length items) refl) ∙ take_all (length more) more (omega arith))
-
-  -- a piece of one item in the place of another
-  pub pieces-put : (ranges : List Range) (items all : List T) (item : T) (range : Range) (place : ℕ) → ArePieces ranges items → all ≡ items ++ item ∷ [] → range.start ≡ length items → range.length ≡ 1
-      → pieces (set ranges place range) all ≡ set (pieces ranges items) place (item ∷ [])
-  pieces-put ranges items all item range place h e start long =
-      map-set (piece all) ranges place range
-      ∙ ap₂ (λ (xs : List (List T)) (x : List T). set xs place x) (pieces-longer ranges items (item ∷ []) all h e)
-      (ap (λ xs. piece xs range) e ∙ ap₂ (λ (n : ℕ) (m : ℕ). take n (drop m (items ++ item ∷ []))) long start ∙ ap (take 1) (drop_at items (item ∷ []) (length items) refl))

@@ -5,27 +5,26 @@ use Rattle.std.proofs.lemmas.Cmp.{nat_eq_equiv}
 use Rattle.std.proofs.lemmas.List.{get_or_past, get_or_read, length-replicate}
 use Rattle.std.proofs.lemmas.List.Folds.{list_any-append}
 use Rattle.std.proofs.lemmas.Map.Views.{list_any-from_Contains, Contains-from_any}
-use Rattle.std.specs.Global.{Vec}
 use Rattle.circuit_meaning.specs.Circuit.{Circuit, driver, read_by}
 use Rattle.circuit_meaning.specs.Need.{IsInCone, Itself, Reads}
 use Rattle.circuit_meaning.proofs.Alike.{cone-step}
-use Rattle.design.specs.inner.Walk.{has, is_marked, Marks, list_at, AreReaders}
+use Rattle.design.specs.inner.Walk.{has, is_marked, Marks}
 
 -- What a walk along these edges keeps, among n signals, from a first one, within a set.
-pub record Walked (n : ℕ) (edges : ℕ → List ℕ) (Inside : ℕ → Type 0) (first : ℕ) (marks : List Bool) (ahead : List ℕ) : Type 0 where
+pub record Walked (n : ℕ) (edges : ℕ → ℕ → Bool) (Inside : ℕ → Type 0) (first : ℕ) (marks : List Bool) (ahead : List ℕ) : Type 0 where
   pub long : length marks ≡ n
   pub begun : is_marked marks first ≡ true
   pub sound : (x : ℕ) → is_marked marks x ≡ true → Inside x
   pub waits : (x : ℕ) → has ahead x ≡ true → is_marked marks x ≡ true
-  pub whole : (x u : ℕ) → is_marked marks x ≡ true → has ahead x ≡ false → has (edges x) u ≡ true → is_marked marks u ≡ true
+  pub whole : (x u : ℕ) → is_marked marks x ≡ true → has ahead x ≡ false → edges x u ≡ true → is_marked marks u ≡ true
 
 -- from the root back through the pins
 abbrev pub WalkedBack : Circuit → ℕ → List Bool → List ℕ → Type 0
-WalkedBack c root marks ahead = Walked (length c.drivers) (λ x. read_by (driver c x)) (IsInCone c root) root marks ahead
+WalkedBack c root marks ahead = Walked (length c.drivers) (λ x u. has (read_by (driver c x)) u) (IsInCone c root) root marks ahead
 
 -- from the site on to the readers
-abbrev pub WalkedOn : Circuit → ℕ → List (Vec ℕ) → List Bool → List ℕ → Type 0
-WalkedOn c site readers marks ahead = Walked (length c.drivers) (list_at readers) (λ x. IsInCone c x site) site marks ahead
+abbrev pub WalkedOn : Circuit → ℕ → List Bool → List ℕ → Type 0
+WalkedOn c site marks ahead = Walked (length c.drivers) (λ x u. has (read_by (driver c u)) x) (λ x. IsInCone c x site) site marks ahead
 
 pub marked-within : (marks : List Bool) (x : ℕ) → is_marked marks x ≡ true → x < length marks
 marked-within marks x h = elim (either x (length marks)) [
@@ -64,7 +63,7 @@ known true = inl refl
 known false = inr refl
 
 -- the first alone is marked and lies ahead
-pub walked-start : (edges : ℕ → List ℕ) (Inside : ℕ → Type 0) (n first m : ℕ) (marks marks' : List Bool) (ahead ahead' : List ℕ) → Inside first → first < m → n ≡ m → marks ≡ replicate m false → ahead ≡ []
+pub walked-start : (edges : ℕ → ℕ → Bool) (Inside : ℕ → Type 0) (n first m : ℕ) (marks marks' : List Bool) (ahead ahead' : List ℕ) → Inside first → first < m → n ≡ m → marks ≡ replicate m false → ahead ≡ []
     → Marks (first ∷ []) marks marks' ahead ahead' → Walked n edges Inside first marks' ahead'
 walked-start edges Inside n first m marks marks' ahead ahead' inside l long none empty mark =
     let unmarked : (x : ℕ) → is_marked marks x ≡ false = λ x. ap (λ ms. is_marked ms x) none ∙ clear m x in
@@ -92,7 +91,7 @@ walked-start edges Inside n first m marks marks' ahead ahead' inside l long none
     same true = refl
     same false = refl
 
-module _ (n : ℕ) (edges : ℕ → List ℕ) (Inside : ℕ → Type 0) (first : ℕ) (marks : List Bool) (ahead rest : List ℕ) (next : ℕ) (w : Walked n edges Inside first marks ahead) (split : ahead ≡ rest ++ next ∷ []) where
+module _ (n : ℕ) (edges : ℕ → ℕ → Bool) (Inside : ℕ → Type 0) (first : ℕ) (marks : List Bool) (ahead rest : List ℕ) (next : ℕ) (w : Walked n edges Inside first marks ahead) (split : ahead ≡ rest ++ next ∷ []) where
   has-split : (x : ℕ) → has ahead x ≡ (has rest x || (nat_eq x next || false))
   has-split x = ap (λ xs. has xs x) split ∙ list_any-append (nat_eq x) rest (next ∷ [])
 
@@ -106,7 +105,7 @@ module _ (n : ℕ) (edges : ℕ → List ℕ) (Inside : ℕ → Type 0) (first :
   pub next-inside : Inside next
   next-inside = w.sound next next-marked
 
-  module _ (marks' : List Bool) (ahead' signals : List ℕ) (reads : signals ≡ edges next) (inside : (x : ℕ) → has (edges next) x ≡ true → Inside x) (m : Marks signals marks marks' rest ahead') where
+  module _ (marks' : List Bool) (ahead' signals : List ℕ) (reads : (x : ℕ) → has signals x ≡ edges next x) (inside : (x : ℕ) → edges next x ≡ true → Inside x) (m : Marks signals marks marks' rest ahead') where
     kept : (x : ℕ) → is_marked marks x ≡ true → is_marked marks' x ≡ true
     kept x h = m.marked x ∙ or-left (is_marked marks x) (has signals x) h
 
@@ -114,12 +113,12 @@ module _ (n : ℕ) (edges : ℕ → List ℕ) (Inside : ℕ → Type 0) (first :
     added x h = m.marked x ∙ or-right (is_marked marks x) (has signals x) h
 
     reached : (x : ℕ) → has signals x ≡ true → Inside x
-    reached x h = inside x (ap (λ xs. has xs x) (sym reads) ∙ h)
+    reached x h = inside x (sym (reads x) ∙ h)
 
     -- a marked signal that was marked before, and is not the one just looked at
-    old-whole : (x u : ℕ) → is_marked marks x ≡ true → has rest x ≡ false → has (edges x) u ≡ true → is_marked marks' u ≡ true
+    old-whole : (x u : ℕ) → is_marked marks x ≡ true → has rest x ≡ false → edges x u ≡ true → is_marked marks' u ≡ true
     old-whole x u h k r = elim (known (nat_eq x next)) [
-      | inl e ↦ added u (ap (λ xs. has xs u) (reads ∙ ap edges (sym (nat_eq-true x next e))) ∙ r)
+      | inl e ↦ added u (reads u ∙ ap (λ y. edges y u) (sym (nat_eq-true x next e)) ∙ r)
       | inr e ↦ kept u (w.whole x u h (has-split x ∙ ap₂ (λ (a : Bool) (b : Bool). a || (b || false)) k e) r)
     ]
 
@@ -151,8 +150,8 @@ pub back-inside : (c : Circuit) (root next : ℕ) → IsInCone c root next → (
 back-inside c root next inside x h = Reads inside (Contains-from_any nat_eq-true x (read_by (driver c next)) h)
 
 -- the site lies in the cone of what reads a signal with the site in its cone
-pub on-inside : (c : Circuit) (site : ℕ) (readers : List (Vec ℕ)) (next : ℕ) → AreReaders c readers → next < length c.drivers → IsInCone c next site → (x : ℕ) → has (list_at readers next) x ≡ true → IsInCone c x site
-on-inside c site readers next r l inside x h = cone-step c x next site (Contains-from_any nat_eq-true next (read_by (driver c x)) (sym (r.each next x l) ∙ h)) inside
+pub on-inside : (c : Circuit) (site next : ℕ) → IsInCone c next site → (x : ℕ) → has (read_by (driver c x)) next ≡ true → IsInCone c x site
+on-inside c site next inside x h = cone-step c x next site (Contains-from_any nat_eq-true next (read_by (driver c x)) h) inside
 
 -- with nothing ahead each signal of the cone is marked
 pub walked-end : (c : Circuit) (root : ℕ) (marks : List Bool) (ahead : List ℕ) → WalkedBack c root marks ahead → ahead ≡ [] → (x : ℕ) → IsInCone c root x → is_marked marks x ≡ true
@@ -167,22 +166,19 @@ pub walked-missed : (c : Circuit) (root : ℕ) (marks : List Bool) (ahead : List
 walked-missed c root marks ahead w empty x h = (λ t. absurd (cc t), λ inside. absurd (cc (h, walked-end c root marks ahead w empty x inside)))
 
 -- with nothing ahead each signal that has a marked one in its cone is marked
-on-end : (c : Circuit) (site : ℕ) (readers : List (Vec ℕ)) (marks : List Bool) (ahead : List ℕ) → AreReaders c readers → WalkedOn c site readers marks ahead → ahead ≡ []
+on-end : (c : Circuit) (site : ℕ) (marks : List Bool) (ahead : List ℕ) → WalkedOn c site marks ahead → ahead ≡ []
     → (x u : ℕ) → IsInCone c x u → is_marked marks u ≡ true → is_marked marks x ≡ true
-on-end c site readers marks ahead r w empty x _ Itself h = h
-on-end c site readers marks ahead r w empty x u (Reads {s} inside read) h =
-    on-end c site readers marks ahead r w empty x s inside
-    (w.whole u s h (ap (λ xs. has xs u) empty)
-    (r.each u s (subst (λ m. u < m) w.long (marked-within marks u h)) ∙ list_any-from_Contains nat_eq_equiv u (read_by (driver c s)) read))
+on-end c site marks ahead w empty x _ Itself h = h
+on-end c site marks ahead w empty x u (Reads {s} inside read) h =
+    on-end c site marks ahead w empty x s inside (w.whole u s h (ap (λ xs. has xs u) empty) (list_any-from_Contains nat_eq_equiv u (read_by (driver c s)) read))
 
-pub walked-on : (c : Circuit) (site : ℕ) (readers : List (Vec ℕ)) (marks : List Bool) (ahead : List ℕ) → AreReaders c readers → WalkedOn c site readers marks ahead → ahead ≡ []
-    → (x : ℕ) → IsTrue (is_marked marks x) ↔ IsInCone c x site
-walked-on c site readers marks ahead r w empty x = (λ h. w.sound x h, λ inside. on-end c site readers marks ahead r w empty x site inside w.begun)
+pub walked-on : (c : Circuit) (site : ℕ) (marks : List Bool) (ahead : List ℕ) → WalkedOn c site marks ahead → ahead ≡ [] → (x : ℕ) → IsTrue (is_marked marks x) ↔ IsInCone c x site
+walked-on c site marks ahead w empty x = (λ h. w.sound x h, λ inside. on-end c site marks ahead w empty x site inside w.begun)
 
 pub empty-list : (xs : List ℕ) → (0 < length xs → ⊥) → xs ≡ []
 empty-list [] h = refl
 empty-list (x ∷ xs) h = absurd (h (omega arith))
 
 -- a mark that is read is the one at its place
-pub unmarked-read : (n : ℕ) (edges : ℕ → List ℕ) (Inside : ℕ → Type 0) (first : ℕ) (marks : List Bool) (ahead : List ℕ) → Walked n edges Inside first marks ahead → (x : ℕ) → x < n → (b : Bool) → b ≡ get_or marks x b → b ≡ false → is_marked marks x ≡ false
+pub unmarked-read : (n : ℕ) (edges : ℕ → ℕ → Bool) (Inside : ℕ → Type 0) (first : ℕ) (marks : List Bool) (ahead : List ℕ) → Walked n edges Inside first marks ahead → (x : ℕ) → x < n → (b : Bool) → b ≡ get_or marks x b → b ≡ false → is_marked marks x ≡ false
 unmarked-read n edges Inside first marks ahead w x l b read e = sym (get_or_read marks x b (let k = w.long in omega (arith, k, l)) read false) ∙ e

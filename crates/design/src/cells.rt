@@ -63,7 +63,8 @@ pub fn input_cell(settings: &[Setting], time: u32, limit: u32) -> Cell
     requires settings { All (λ s. s.time < limit) settings.now }
     requires time { time < limit }
     requires limit { limit ≤ 1000001 }
-    ensures span { result.span ≡ from_to (input_start (forward.last_setting settings.now time)) (next_setting settings.now time limit) }
+    ensures span { result.span ≡ from_to (input_start (forward.last_setting settings.now time))
+        (next_setting settings.now time limit) }
     ensures value { result.value ≡ input_value (forward.last_setting settings.now time) }
 {
     let passed = passed_by(settings, time);
@@ -84,7 +85,8 @@ pub fn input_cell(settings: &[Setting], time: u32, limit: u32) -> Cell
 pub fn early_gate(least: u32, time: u32, limit: u32) -> Option<Cell>
     requires time { time < limit }
     requires limit { limit ≤ 1000001 }
-    ensures some { IfSome result (λ cell. (time < least) × (cell ≡ record { span = from_to 0 (min least limit); value = X })) }
+    ensures some { IfSome result (λ cell. (time < least) ×
+        (cell ≡ record { span = from_to 0 (min least limit); value = X })) }
     ensures none { IfNone result (least ≤ time) }
 {
     if time < least {
@@ -116,7 +118,8 @@ pub fn flop_span(flop: &FlipFlop, time: u32, limit: u32) -> Span
     requires limits { AreFlopLimits flop.now }
     requires time { time < limit }
     requires limit { limit ≤ 1000001 }
-    ensures { result ≡ edges.flop_span limit flop.now.delay flop.now.clock (edges.shown_edge flop.now.clock flop.now.delay time) }
+    ensures { result ≡ edges.flop_span limit flop.now.delay flop.now.clock
+        (edges.shown_edge flop.now.clock flop.now.delay time) }
 {
     match flop.clock {
         None => span_of(0, limit),
@@ -130,7 +133,12 @@ pub fn idle_flop(flop: &FlipFlop, time: u32, limit: u32) -> Option<Cell>
     requires limits { AreFlopLimits flop.now }
     requires time { time < limit }
     requires limit { limit ≤ 1000001 }
-    ensures some { IfSome result (λ cell. (edges.shown_edge flop.now.clock flop.now.delay time ≡ None) × (cell ≡ record { span = edges.flop_span limit flop.now.delay flop.now.clock None; value = flop.now.initial })) }
+    ensures some { IfSome result (λ cell. (edges.shown_edge flop.now.clock flop.now.delay
+        time ≡ None) × (cell ≡ record {
+          span = edges.flop_span limit flop.now.delay flop.now.clock
+              None;
+          value = flop.now.initial;
+        })) }
     ensures none { IfNone result (IsSome (edges.shown_edge flop.now.clock flop.now.delay time)) }
 {
     match shown_edge(flop, time) {

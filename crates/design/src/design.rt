@@ -1,6 +1,6 @@
 //! A design and what it says of its points.
 
-ghost use Rattle.std.specs.Prelude.{◌≡◌, ◌+◌, ◌<◌, ◌≤◌, length, All, slice_get, Some, IfSome, OnSome, IfNone, IfOk, option_map};
+ghost use Rattle.std.specs.Prelude.{◌≡◌, ◌+◌, ◌<◌, ◌≤◌, length, All, slice_get, Some, IfSome, OnSome, IfNone, IfOk, OnOk, option_map};
 ghost use Rattle.circuit_meaning.specs.Circuit.{driver, read_by};
 ghost use Rattle.circuit_meaning.specs.Cells.{span};
 ghost use Rattle.circuit_meaning.specs.Need.{IsEvaluable};
@@ -11,31 +11,39 @@ ghost use Rattle.design.specs.Joined.{IsDesign};
 ghost use Rattle.circuit_meaning.specs.Cells.{cell_at, point_at};
 ghost use Rattle.design.specs.Pins.{pin_at, heard_of};
 ghost use Rattle.design.specs.inner.KeptDesigns.{IsViewOf};
+ghost use Rattle.design.specs.inner.Walk.{ReadIt};
 
 use crate::cells::{early_gate, flop_span, idle_flop, input_cell, later_span, shown_edge, span_of};
 use crate::fault::JoinFault;
-use crate::lists::Lists;
-use crate::rows::{Row, SignalView, signals_of};
+use crate::held::{HeldSignal, drop_held, held_settings, value_of, with_first};
+use crate::origin::{Origin, reads_of};
+use crate::readers::{Readers, readers_in};
+use crate::rows::SignalView;
 use crate::settings;
 use crate::stated::{Rows, Stated};
 use bench_reader::Netlist;
-use circuit_meaning::Setting;
 use gate_values::{Kind, Value};
 use owned_text::OutOfMemory;
-use std::alloc::Global;
+use std::alloc::{AllocError, Global};
 use std::marker::Model;
+use std::sync::Arc;
 use stimulus_file::Stimulus;
 use timing_file::Timing;
 use valid_intervals::{Cell, Span};
 
+/// What a design has in common with those in which signals of it are held.
+#[derive(Drop)]
+struct Common {
+    origin: Origin,
+    readers: Readers,
+}
+
 /// A netlist joined with delays, clocks and settings.
 #[derive(Drop)]
 pub struct Design {
-    netlist: Netlist,
-    horizon: u32,
-    rows: Vec<Row>,
-    delays: Lists<u32>,
-    settings: Lists<Setting>,
+    common: Arc<Common>,
+    /// The signals that are held, the last one first.
+    held: Vec<HeldSignal>,
 }
 
 impl Model for Design {
@@ -43,11 +51,13 @@ impl Model for Design {
 
     ghost Value = { Joined };
 
-    ghost use Rattle.design.specs.inner.KeptDesigns.{joined_of, IsKeptDesign};
+    ghost use Rattle.std.specs.Arc.{arc_value};
+    ghost use Rattle.design.specs.inner.HeldSignals.{held_design, IsHeldDesign};
 
-    ghost view = { λ d. joined_of (record { horizon = d.horizon; netlist = d.netlist; rows = d.rows.items; delays = d.delays; settings = d.settings }) };
+    ghost view = { λ d. held_design (arc_value d.common).origin d.held.items };
 
-    ghost invariant = { λ d. IsKeptDesign (record { horizon = d.horizon; netlist = d.netlist; rows = d.rows.items; delays = d.delays; settings = d.settings }) };
+    ghost invariant = { λ d. IsHeldDesign (arc_value d.common).origin (arc_value d.common).readers
+        d.held.items };
 }
 
 impl Design {
@@ -68,34 +78,40 @@ impl Design {
         let settings = settings::read(alloc, &netlist, stimulus.horizon(), stimulus.sets())?;
         let settings = settings::in_order(alloc, settings)?;
         let Rows { rows, delays } = stated.rows(alloc, &netlist, timing)?;
-        Ok(Design {
+        let origin = Origin {
             netlist,
             horizon: stimulus.horizon(),
             rows,
             delays,
             settings,
+        };
+        Ok(Design::of(alloc, origin)?)
+    }
+
+    /// The design in which no signal is held.
+    fn of(alloc: Global, origin: Origin) -> Result<Design, OutOfMemory>
+        ensures { IfOk result (λ design. design ≡ origin) }
+    {
+        origin.facts();
+        let readers = readers_in(alloc, &origin)?;
+        Ok(Design {
+            common: Arc::new(alloc, Common { origin, readers })?,
+            held: Vec::new(alloc),
         })
     }
 
     /// The design with one signal forced: the signal is an input with this value from time 0 on, whatever drove it, and all else
     /// is unchanged. The netlist stays as it is, with the names of the signals and what it says of the forced one.
     ///
-    /// It copies the design, in time and memory in proportion to the design.
+    /// Nothing is copied but the list of the signals that are held already: both designs have the rest in common.
     pub fn hold(&self, alloc: Global, site: u32, value: Value) -> Result<Design, OutOfMemory>
         requires { site < length self.now.circuit.drivers }
         ensures circuit { IfOk result (λ held. held.circuit ≡ forced self.now.circuit site value) }
         ensures netlist { IfOk result (λ held. held.netlist ≡ self.now.netlist) }
     {
-        let mut rows = Vec::from_slice(alloc, &self.rows)?;
-        rows[site as usize] = Row::Input;
-        let mut settings = self.settings.copy(alloc)?;
-        settings.set_one(site, Setting { time: 0, value })?;
         Ok(Design {
-            netlist: self.netlist.copy(alloc)?,
-            horizon: self.horizon,
-            rows,
-            delays: self.delays.copy(alloc)?,
-            settings,
+            common: Arc::try_clone(&self.common)?,
+            held: with_first(alloc, HeldSignal { site, value }, &self.held)?,
         })
     }
 
@@ -103,14 +119,14 @@ impl Design {
     pub fn facts(&self)
         ensures { IsDesign self.now }
     {
-        let _horizon = self.horizon;
+        let _ = &self.held;
     }
 
     /// The netlist, with the names of the signals.
     pub fn netlist(&self) -> &Netlist
         ensures { result.now ≡ self.now.netlist }
     {
-        &self.netlist
+        self.common.origin.netlist()
     }
 
     /// The last time.
@@ -118,7 +134,7 @@ impl Design {
         ensures horizon { result ≡ self.now.circuit.horizon }
         ensures limit { result ≤ 1000000 }
     {
-        self.horizon
+        self.common.origin.horizon()
     }
 
     /// The first time after the last.
@@ -126,7 +142,7 @@ impl Design {
         ensures limit { result ≡ self.now.circuit.horizon + 1 }
         ensures small { result ≤ 1000001 }
     {
-        self.horizon + 1
+        self.horizon() + 1
     }
 
     /// What is kept of a signal.
@@ -135,18 +151,9 @@ impl Design {
         ensures view { IsViewOf self.now.circuit signal result }
         ensures design { IsDesign self.now }
     {
-        match self.rows[signal as usize] {
-            Row::Input => SignalView::Input(self.settings.list(signal)),
-            Row::Gate { kind, least } => SignalView::Gate {
-                kind,
-                signals: signals_of(&self.netlist, signal),
-                delays: self.delays.list(signal),
-                least,
-            },
-            Row::Flop(flop) => SignalView::Flop {
-                flop,
-                signals: signals_of(&self.netlist, signal),
-            },
+        match value_of(&self.held, signal) {
+            None => self.common.origin.view(signal),
+            Some(value) => SignalView::Input(held_settings(value)),
         }
     }
 
@@ -154,7 +161,7 @@ impl Design {
     pub(crate) fn signals(&self) -> u32
         ensures { result ≡ length self.now.circuit.drivers }
     {
-        self.rows.len() as u32
+        self.common.origin.signals()
     }
 
     /// The signals that a signal reads.
@@ -163,18 +170,25 @@ impl Design {
         ensures reads { result.now ≡ read_by (driver self.now.circuit signal) }
         ensures signals { All (λ read. read < length self.now.circuit.drivers) result.now }
     {
-        match self.view(signal) {
-            SignalView::Input(_) => &[],
-            SignalView::Gate { signals, .. } => signals,
-            SignalView::Flop { signals, .. } => signals,
-        }
+        reads_of(self.view(signal))
+    }
+
+    /// Puts the signals that read a signal into `found`, in place of what it has.
+    pub(crate) fn find_readers(&self, signal: u32, found: &mut Vec<u32>) -> Result<(), AllocError>
+        requires { signal < length self.now.circuit.drivers }
+        ensures { OnOk result (ReadIt self.now.circuit signal found.new.items) }
+    {
+        self.common.readers.find(signal, found)?;
+        drop_held(&self.held, found);
+        Ok(())
     }
 
     /// The cell at a point, where it needs no evaluation.
     pub fn base(&self, signal: u32, time: u32) -> Option<Cell>
         requires signal { signal < length self.now.circuit.drivers }
         requires time { time ≤ self.now.circuit.horizon }
-        ensures cell { IfSome result (λ cell. cell ≡ cell_at self.now.circuit (point_at signal time)) }
+        ensures cell { IfSome result (λ cell. cell ≡ cell_at self.now.circuit
+            (point_at signal time)) }
         ensures some { OnSome result (IsEvaluable self.now.circuit signal time → ⊥) }
         ensures none { IfNone result (IsEvaluable self.now.circuit signal time) }
     {
@@ -206,7 +220,8 @@ impl Design {
         requires time { time ≤ self.now.circuit.horizon }
         requires evaluable { IsEvaluable self.now.circuit signal time }
         requires pin { pin < length (read_by (driver self.now.circuit signal)) }
-        ensures source { slice_get (pin_points self.now.circuit signal time) pin ≡ Some (option_map (pin_at self.now.circuit signal pin) result) }
+        ensures source { slice_get (pin_points self.now.circuit signal time) pin ≡ Some
+            (option_map (pin_at self.now.circuit signal pin) result) }
         ensures earlier { IfSome result (λ child. child < time) }
     {
         match self.view(signal) {
@@ -239,7 +254,8 @@ impl Design {
         requires signal { signal < length self.now.circuit.drivers }
         requires time { time ≤ self.now.circuit.horizon }
         requires evaluable { IsEvaluable self.now.circuit signal time }
-        requires looked { looked ≡ met_interval self.now.circuit signal time (length (looked_points self.now.circuit signal time)) }
+        requires looked { looked ≡ met_interval self.now.circuit signal time
+            (length (looked_points self.now.circuit signal time)) }
         ensures { result ≡ span self.now.circuit signal time }
     {
         let limit = self.limit();

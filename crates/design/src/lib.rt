@@ -11,9 +11,11 @@
 //! What a call costs: `base` finds an input's setting by binary search, in O(log n) for its n settings, and takes constant time for
 //! a gate or a flip-flop; `gate_of`, `child_time`, `pin_span`, `span_over`, `netlist` and `horizon` take constant time; none of
 //! these takes memory. `in_cone` walks the cone once, and takes a flag for each signal and a place for each that it comes to;
-//! `reached` takes time and memory in proportion to the signals and their pins, and `hold` copies the design. `join` takes the time
-//! of its rows and pins, with a look-up by hashing for each name, and sorts the settings. A design holds the netlist and, in flat
-//! lists, a row for each signal, a delay for each pin and the settings of all inputs.
+//! `reached` takes a flag for each signal, and the time to look at the pins that read a signal of its answer. `hold` takes constant
+//! time, and a place for each signal that is held: the design that it makes has all else in common with the one that it is made of.
+//! `join` takes the time of its rows and pins, with a look-up by hashing for each name, and sorts the settings. A design holds the
+//! netlist and, in flat lists, a row for each signal, a delay for each pin, the settings of all inputs, and a link for each pin, which
+//! leads from a signal to those that read it.
 //!
 //! ```
 //! let design = Design::join(alloc, netlist, &timing, &stimulus)?;
@@ -27,8 +29,11 @@ mod cone;
 mod design;
 mod fault;
 mod flags;
+mod held;
 mod laws;
 mod lists;
+mod origin;
+mod readers;
 mod rows;
 mod settings;
 mod stated;

@@ -1,6 +1,6 @@
 //! Many short lists in one array.
 
-ghost use Rattle.std.specs.Prelude.{◌≡◌, ◌<◌, ◌++◌, [], ◌∷◌, length, slice_get, slice_set, Some, OnOk, IfOk, map, replicate};
+ghost use Rattle.std.specs.Prelude.{◌≡◌, ◌<◌, ◌++◌, [], ◌∷◌, length, slice_get, Some, OnOk, IfOk, map, replicate};
 
 use std::alloc::{AllocError, Global};
 use std::marker::Model;
@@ -73,29 +73,5 @@ impl<T: Copy> Lists<T> {
         }
         self.ranges.push(range)?;
         Ok(())
-    }
-
-    /// Puts a list of one item in the place of a list. The old list keeps its memory.
-    pub fn set_one(&mut self, place: u32, item: T) -> Result<(), AllocError>
-        requires { place < length self.old }
-        ensures { OnOk result (self.new ≡ slice_set self.old place (item ∷ [])) }
-    {
-        let range = Range {
-            start: self.items.len(),
-            length: 1,
-        };
-        self.items.push(item)?;
-        self.ranges[place as usize] = range;
-        Ok(())
-    }
-
-    /// The same lists once more, in memory of their own.
-    pub fn copy(&self, alloc: Global) -> Result<Lists<T>, AllocError>
-        ensures { IfOk result (λ copy. copy ≡ self.now) }
-    {
-        Ok(Lists {
-            ranges: Vec::from_slice(alloc, &self.ranges)?,
-            items: Vec::from_slice(alloc, &self.items)?,
-        })
     }
 }

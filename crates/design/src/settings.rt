@@ -32,7 +32,8 @@ fn take(
     row: &SetRow,
 ) -> Result<(), JoinFault>
     requires { vec_len settings.old ≡ length netlist.now.names }
-    ensures { (before : List RowOf) → HasSets netlist.now before settings.old.items → TakesSet netlist.now horizon before row.now settings.new.items result }
+    ensures { (before : List RowOf) → HasSets netlist.now before settings.old.items
+        → TakesSet netlist.now horizon before row.now settings.new.items result }
 {
     let signal = match netlist.id_of(row.name.bytes()) {
         None => return Err(refused(JoinCause::UnknownName, row)),
@@ -78,7 +79,8 @@ fn scheduled(mut settings: Vec<Setting>) -> Result<Vec<Setting>, AllocError>
 
 /// The settings of each signal, in the order of time.
 pub fn in_order(alloc: Global, settings: Vec<Vec<Setting>>) -> Result<Lists<Setting>, AllocError>
-    ensures { IfOk result (λ lists. lists ≡ map (λ list. join.scheduled list.items) settings.items) }
+    ensures { IfOk result (λ lists. lists ≡ map (λ list. join.scheduled list.items)
+        settings.items) }
 {
     let mut lists = Lists::new(alloc);
     for list in settings {

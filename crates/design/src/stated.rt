@@ -53,7 +53,8 @@ impl NamedClocks {
     }
 
     fn named(&self, name: &[u8]) -> Option<Clock>
-        ensures { (timing : timings.Content) → KnowsClocks timing.clocks self.now.clocks.entries → result ≡ clock_named timing name.now }
+        ensures { (timing : timings.Content) → KnowsClocks timing.clocks self.now.clocks.entries
+            → result ≡ clock_named timing name.now }
     {
         self.clocks.get(name).copied()
     }
@@ -126,7 +127,8 @@ fn cause_of(
     what: &TimingWhat,
 ) -> Option<JoinCause>
     requires { signal < length netlist.now.names }
-    ensures { (timing : timings.Content) → KnowsClocks timing.clocks clocks.now.clocks.entries → result ≡ cause_of_what timing (join.driver_at netlist.now signal) what.now }
+    ensures { (timing : timings.Content) → KnowsClocks timing.clocks clocks.now.clocks.entries
+        → result ≡ cause_of_what timing (join.driver_at netlist.now signal) what.now }
 {
     match what {
         TimingWhat::Delay(_) => {
@@ -164,7 +166,8 @@ fn cause_of(
 
 impl Stated {
     fn new(alloc: Global) -> Stated
-        ensures { (netlist : netlists.Content) (timing : timings.Content) → HasStated netlist timing [] result }
+        ensures { (netlist : netlists.Content) (timing : timings.Content)
+            → HasStated netlist timing [] result }
     {
         Stated {
             delays: HashMap::new(alloc),
@@ -181,9 +184,12 @@ impl Stated {
         signal: u32,
         what: &TimingWhat,
     ) -> Result<(), JoinFault>
-        ensures ok { OnOk result ((netlist : netlists.Content) (timing : timings.Content) (before : List RowOf) (row : RowOf)
-            → KnowsClocks timing.clocks clocks.now.clocks.entries → number netlist row.name ≡ Some signal → row.what ≡ what.now
-            → HasStated netlist timing before self.old → HasStated netlist timing (before ++ row ∷ []) self.new) }
+        ensures ok { OnOk result ((netlist : netlists.Content) (timing : timings.Content)
+            (before : List RowOf) (row : RowOf)
+            → KnowsClocks timing.clocks clocks.now.clocks.entries
+            → number netlist row.name ≡ Some signal → row.what ≡ what.now
+            → HasStated netlist timing before self.old
+            → HasStated netlist timing (before ++ row ∷ []) self.new) }
         ensures err { IfErr result (λ fault. fault ≡ out_of_memory) }
     {
         match what {
@@ -212,8 +218,10 @@ impl Stated {
         clocks: &NamedClocks,
         row: &TimingRow,
     ) -> Result<(), JoinFault>
-        ensures { (timing : timings.Content) (before : List RowOf) → KnowsClocks timing.clocks clocks.now.clocks.entries
-            → HasStated netlist.now timing before self.old → TakesRow netlist.now timing before row.now self.new result }
+        ensures { (timing : timings.Content) (before : List RowOf)
+            → KnowsClocks timing.clocks clocks.now.clocks.entries
+            → HasStated netlist.now timing before self.old
+            → TakesRow netlist.now timing before row.now self.new result }
     {
         let signal = match netlist.id_of(row.name.bytes()) {
             None => return Err(refused(JoinCause::UnknownName, row)),
@@ -240,7 +248,9 @@ impl Stated {
 
     /// The delay of a gate or flip-flop.
     fn delay_of(&self, timing: &Timing, signal: u32, kind: Kind) -> u32
-        ensures { (netlist : netlists.Content) → HasStated netlist timing.now timing.now.rows self.now → result ≡ join.delay_of netlist timing.now signal kind }
+        ensures { (netlist : netlists.Content)
+            → HasStated netlist timing.now timing.now.rows self.now
+            → result ≡ join.delay_of netlist timing.now signal kind }
     {
         self.delays
             .get(&signal)
@@ -250,7 +260,9 @@ impl Stated {
 
     /// The delay of a pin.
     fn pin_delay(&self, timing: &Timing, signal: u32, kind: Kind, place: u32) -> u32
-        ensures { (netlist : netlists.Content) → HasStated netlist timing.now timing.now.rows self.now → result ≡ join.pin_delay netlist timing.now signal kind place }
+        ensures { (netlist : netlists.Content)
+            → HasStated netlist timing.now timing.now.rows self.now
+            → result ≡ join.pin_delay netlist timing.now signal kind place }
     {
         self.pins
             .get(&(signal, place))
@@ -260,7 +272,9 @@ impl Stated {
 
     fn flop_of(&self, timing: &Timing, signal: u32, pins: &[u32]) -> FlipFlop
         requires { length pins.now ≡ 1 }
-        ensures { (netlist : netlists.Content) → HasStated netlist timing.now timing.now.rows self.now → result ≡ flop_of netlist timing.now signal pins.now }
+        ensures { (netlist : netlists.Content)
+            → HasStated netlist timing.now timing.now.rows self.now
+            → result ≡ flop_of netlist timing.now signal pins.now }
     {
         FlipFlop {
             pin: pins[0],
@@ -279,8 +293,10 @@ impl Stated {
         kind: Kind,
         count: u32,
     ) -> Result<Vec<u32>, AllocError>
-        ensures { IfOk result (λ delays. (netlist : netlists.Content) → HasStated netlist timing.now timing.now.rows self.now
-            → delays.items ≡ map (join.pin_delay netlist timing.now signal kind) (range_with_len 0 count)) }
+        ensures { IfOk result (λ delays. (netlist : netlists.Content)
+            → HasStated netlist timing.now timing.now.rows self.now
+            → delays.items ≡ map (join.pin_delay netlist timing.now signal kind)
+            (range_with_len 0 count)) }
     {
         let mut delays = Vec::with_capacity(alloc, count as usize)?;
         for place in 0..count {
@@ -298,7 +314,9 @@ impl Stated {
         signal: u32,
     ) -> Result<Vec<u32>, AllocError>
         requires { signal < length netlist.now.names }
-        ensures { IfOk result (λ delays. HasStated netlist.now timing.now timing.now.rows self.now → delays.items ≡ delays_of netlist.now timing.now signal (join.driver_at netlist.now signal)) }
+        ensures { IfOk result (λ delays. HasStated netlist.now timing.now timing.now.rows self.now
+            → delays.items ≡ delays_of netlist.now timing.now signal
+            (join.driver_at netlist.now signal)) }
     {
         match row_at(netlist, signal) {
             NetlistRow::Input => Ok(Vec::new(alloc)),
@@ -315,7 +333,9 @@ impl Stated {
     /// What a signal is, where the pins of a gate have these delays.
     fn row_of(&self, netlist: &Netlist, timing: &Timing, signal: u32, delays: &[u32]) -> Row
         requires { signal < length netlist.now.names }
-        ensures { HasStated netlist.now timing.now timing.now.rows self.now → result ≡ row_of netlist.now timing.now signal (join.driver_at netlist.now signal) delays.now }
+        ensures { HasStated netlist.now timing.now timing.now.rows self.now
+            → result ≡ row_of netlist.now timing.now signal (join.driver_at netlist.now signal)
+            delays.now }
     {
         match row_at(netlist, signal) {
             NetlistRow::Input => Row::Input,
@@ -339,7 +359,8 @@ impl Stated {
         netlist: &Netlist,
         timing: &Timing,
     ) -> Result<Rows, AllocError>
-        ensures { IfOk result (λ kept. HasStated netlist.now timing.now timing.now.rows self.now → KeepsRows netlist.now timing.now (length netlist.now.names) kept) }
+        ensures { IfOk result (λ kept. HasStated netlist.now timing.now timing.now.rows self.now
+            → KeepsRows netlist.now timing.now (length netlist.now.names) kept) }
     {
         let mut rows = Vec::new(alloc);
         let mut delays = Lists::new(alloc);

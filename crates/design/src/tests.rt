@@ -573,3 +573,107 @@ fn signals_that_are_reached(rt: HostRuntime) -> Result<(), Fail> {
     }
     Ok(())
 }
+
+/// The flag of a signal where one signal is held.
+fn flag_where_held(
+    alloc: Global,
+    design: &Design,
+    held: &str,
+    site: &str,
+    name: &str,
+) -> Result<Option<bool>, Fail> {
+    design.facts();
+    let Some(held) = design.netlist().id_of(held.as_bytes()) else {
+        return Ok(None);
+    };
+    let design = design.hold(alloc, held, Value::One)?;
+    flag_of(alloc, &design, site, name)
+}
+
+/// The same in the design of a netlist.
+fn flag_held_in(
+    alloc: Global,
+    netlist: &'static str,
+    held: &str,
+    site: &str,
+    name: &str,
+) -> Result<Option<bool>, Fail> {
+    let design = unset(alloc, netlist)??;
+    flag_where_held(alloc, &design, held, site, name)
+}
+
+#[test]
+fn signals_that_are_reached_where_one_is_held(rt: HostRuntime) -> Result<(), Fail> {
+    let rows = [
+        // what is held reads nothing
+        (C17, "16", "11", "11 19 23", "1 2 3 6 7 10 16 22"),
+        (C17, "16", "16", "16 22 23", "1 2 3 6 7 10 11 19"),
+        (
+            S27,
+            "G11",
+            "G0",
+            "G0 G5 G8 G9 G10 G14 G15 G16",
+            "G6 G11 G17",
+        ),
+        (RING.netlist, "y", "en", "en", "y"),
+    ];
+    for (netlist, held, site, reached, free) in rows {
+        for name in reached.split_whitespace() {
+            let flag = flag_held_in(rt.alloc(), netlist, held, site, name)?;
+            assert_eq!(rt; flag, Some(true), "{site} and {name}, with {held} held");
+        }
+        for name in free.split_whitespace() {
+            let flag = flag_held_in(rt.alloc(), netlist, held, site, name)?;
+            assert_eq!(rt; flag, Some(false), "{site} and {name}, with {held} held");
+        }
+    }
+    Ok(())
+}
+
+/// The cell that a point has at once where a signal of the inverter with a pulse is held, and then another or the same one.
+fn base_held_twice(
+    alloc: Global,
+    first: &str,
+    second: &str,
+    value: Value,
+    name: &str,
+) -> Result<Option<(u32, u32, Value)>, Fail> {
+    let design = joined(alloc, &INVERTED_PULSE)??;
+    base_where_held_first(alloc, &design, first, second, value, name)
+}
+
+/// The same where the first is held at 1.
+fn base_where_held_first(
+    alloc: Global,
+    design: &Design,
+    first: &str,
+    second: &str,
+    value: Value,
+    name: &str,
+) -> Result<Option<(u32, u32, Value)>, Fail> {
+    design.facts();
+    let Some(first) = design.netlist().id_of(first.as_bytes()) else {
+        return Ok(None);
+    };
+    let held = design.hold(alloc, first, Value::One)?;
+    base_where_held(alloc, &held, second, value, name, 7)
+}
+
+#[test]
+fn signals_that_are_held_one_after_another(rt: HostRuntime) -> Result<(), Fail> {
+    let rows = [
+        // the last value counts
+        ("a", "a", Value::Zero, "a", Some((0, 11, Value::Zero))),
+        ("y", "y", Value::Z, "y", Some((0, 11, Value::Z))),
+        // the one held first stays so
+        ("a", "y", Value::Zero, "a", Some((0, 11, Value::One))),
+        ("a", "y", Value::Zero, "y", Some((0, 11, Value::Zero))),
+        ("y", "a", Value::X, "y", Some((0, 11, Value::One))),
+        ("y", "a", Value::X, "a", Some((0, 11, Value::X))),
+    ];
+    for (first, second, value, name, cell) in rows {
+        let found = base_held_twice(rt.alloc(), first, second, value, name)?;
+        assert_eq!(rt; found, cell, "{name}, with {first} and {second} held");
+    }
+    Ok(())
+}

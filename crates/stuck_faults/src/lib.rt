@@ -8,8 +8,9 @@
 //! The budget holds for each of the two memos by itself. Where one of them would take more evaluations, the query is refused, and that
 //! memo's entries hold the cause.
 //!
-//! A question copies the design (`Design::hold`) and looks at each pin once (`Design::reached`). Each point that it evaluates costs what it
-//! costs elsewhere: O(log n) steps with n stored cells and entries.
+//! The design in which the site is stuck has all but that in common with the session's (`Design::hold`), so no line copies the circuit. A
+//! question takes a flag for each signal, looks once at each pin that reads what the site reaches (`Design::reached`), and makes the store
+//! of its own memo. Each point that it evaluates costs what it costs elsewhere: O(log n) steps with n stored cells and entries.
 #![tactic(auto)]
 
 mod both;

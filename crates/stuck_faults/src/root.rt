@@ -26,7 +26,8 @@ fn drop_all<B: BatchName, H: BatchName>(
     question: Question,
     time: u32,
 )
-    requires asked { IsAsked B.batch H.batch question design.now.circuit held.now.design.circuit held.now.reached }
+    requires asked { IsAsked B.batch H.batch question design.now.circuit held.now.design.circuit
+        held.now.reached }
     requires gives_up { GivesUp B.batch question time memos.old.session memos.old.own strand }
     ensures refused { IsRefused B.batch question memos.new.session memos.new.own }
     ensures kept { AreKept memos.old.own.shard.journal memos.new.own.shard.journal }
@@ -57,18 +58,29 @@ pub fn hear_root<B: BatchName, H: BatchName>(
     question: Question,
     time: u32,
 ) -> Result<Option<Cell>, OutOfMemory>
-    requires asked { IsAsked B.batch H.batch question design.now.circuit held.now.design.circuit held.now.reached }
-    requires session { IsChargedMemo B.batch B.opening memos.old.session question.query memos.old.charge }
-    requires rests { Rests B.batch B.opening question memos.old.session memos.old.own memos.old.filled }
+    requires asked { IsAsked B.batch H.batch question design.now.circuit held.now.design.circuit
+        held.now.reached }
+    requires session { IsChargedMemo B.batch B.opening memos.old.session question.query
+        memos.old.charge }
+    requires rests { Rests B.batch B.opening question memos.old.session memos.old.own
+        memos.old.filled }
     requires root { IsRoot (circuit_of B.batch question) (window_of question.query) time }
     requires within { time < question.query.to }
-    ensures session { OnOk result (IsChargedMemo B.batch B.opening memos.new.session question.query memos.new.charge) }
-    ensures kept_session { OnOk result (AreKept (entries_of memos.old.session) (entries_of memos.new.session)) }
-    ensures kept_own { OnOk result (AreKept memos.old.own.shard.journal memos.new.own.shard.journal) }
-    ensures cell { IfOk result (λ r. IfSome r (λ cell. cell ≡ cell_at (circuit_of B.batch question) (at_time question.query time))) }
-    ensures rests { IfOk result (λ r. OnSome r (Rests B.batch B.opening question memos.new.session memos.new.own memos.new.filled)) }
-    ensures covered { IfOk result (λ r. OnSome r (IsCoveredBy B.batch.circuit (site_in question) (entries_of memos.new.session) memos.new.own.shard.journal (at_time question.query time))) }
-    ensures refused { IfOk result (λ r. IfNone r (IsRefused B.batch question memos.new.session memos.new.own)) }
+    ensures session { OnOk result (IsChargedMemo B.batch B.opening memos.new.session question.query
+        memos.new.charge) }
+    ensures kept_session { OnOk result (AreKept (entries_of memos.old.session)
+        (entries_of memos.new.session)) }
+    ensures kept_own { OnOk result (AreKept memos.old.own.shard.journal
+        memos.new.own.shard.journal) }
+    ensures cell { IfOk result (λ r. IfSome r
+        (λ cell. cell ≡ cell_at (circuit_of B.batch question) (at_time question.query time))) }
+    ensures rests { IfOk result (λ r. OnSome r
+        (Rests B.batch B.opening question memos.new.session memos.new.own memos.new.filled)) }
+    ensures covered { IfOk result (λ r. OnSome r
+        (IsCoveredBy B.batch.circuit (site_in question) (entries_of memos.new.session)
+        memos.new.own.shard.journal (at_time question.query time))) }
+    ensures refused { IfOk result (λ r. IfNone r
+        (IsRefused B.batch question memos.new.session memos.new.own)) }
 {
     let query = question.query;
     if let Some(cell) = held.design.base(query.signal, time) {

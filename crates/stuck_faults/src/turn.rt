@@ -39,11 +39,14 @@ fn fill<B: BatchName, H: BatchName>(
     time: u32,
     p: Point,
 ) -> Result<Turn<H>, OutOfMemory>
-    requires asked { IsAsked B.batch H.batch question design.now.circuit held.now.design.circuit held.now.reached }
+    requires asked { IsAsked B.batch H.batch question design.now.circuit held.now.design.circuit
+        held.now.reached }
     requires asks { Asks B.batch B.opening question time memos.old.session memos.old.own strand }
     requires fills { next_of strand.strand ≡ FillNext p }
-    ensures turn { IfOk result (OfTurn B.batch B.opening H.batch question time memos.new.session memos.new.own strand) }
-    ensures kept_own { OnOk result (AreKept memos.old.own.shard.journal memos.new.own.shard.journal) }
+    ensures turn { IfOk result (OfTurn B.batch B.opening H.batch question time memos.new.session
+        memos.new.own strand) }
+    ensures kept_own { OnOk result (AreKept memos.old.own.shard.journal
+        memos.new.own.shard.journal) }
     ensures session { memos.new.session ≡ memos.old.session }
     ensures charge { memos.new.charge ≡ memos.old.charge }
 {
@@ -65,12 +68,15 @@ fn ask_own<B: BatchName, H: BatchName>(
     time: u32,
     p: Point,
 ) -> Result<Turn<H>, OutOfMemory>
-    requires asked { IsAsked B.batch H.batch question design.now.circuit held.now.design.circuit held.now.reached }
+    requires asked { IsAsked B.batch H.batch question design.now.circuit held.now.design.circuit
+        held.now.reached }
     requires asks { Asks B.batch B.opening question time memos.old.session memos.old.own strand }
     requires next { next_of strand.strand ≡ AskNext p }
     requires reached { IsNotFree B.batch question p }
-    ensures turn { IfOk result (OfTurn B.batch B.opening H.batch question time memos.new.session memos.new.own strand) }
-    ensures kept_own { OnOk result (AreKept memos.old.own.shard.journal memos.new.own.shard.journal) }
+    ensures turn { IfOk result (OfTurn B.batch B.opening H.batch question time memos.new.session
+        memos.new.own strand) }
+    ensures kept_own { OnOk result (AreKept memos.old.own.shard.journal
+        memos.new.own.shard.journal) }
     ensures session { memos.new.session ≡ memos.old.session }
     ensures charge { memos.new.charge ≡ memos.old.charge }
 {
@@ -98,14 +104,19 @@ fn ask_session<B: BatchName, H: BatchName>(
     time: u32,
     p: Point,
 ) -> Result<Turn<H>, OutOfMemory>
-    requires asked { IsAsked B.batch H.batch question design.now.circuit held.now.design.circuit held.now.reached }
-    requires session { IsChargedMemo B.batch B.opening memos.old.session question.query memos.old.charge }
+    requires asked { IsAsked B.batch H.batch question design.now.circuit held.now.design.circuit
+        held.now.reached }
+    requires session { IsChargedMemo B.batch B.opening memos.old.session question.query
+        memos.old.charge }
     requires asks { Asks B.batch B.opening question time memos.old.session memos.old.own strand }
     requires next { next_of strand.strand ≡ AskNext p }
     requires free { IsFree B.batch.circuit question.site p.signal }
-    ensures session { OnOk result (IsChargedMemo B.batch B.opening memos.new.session question.query memos.new.charge) }
-    ensures turn { IfOk result (OfTurn B.batch B.opening H.batch question time memos.new.session memos.new.own strand) }
-    ensures kept_session { OnOk result (AreKept (entries_of memos.old.session) (entries_of memos.new.session)) }
+    ensures session { OnOk result (IsChargedMemo B.batch B.opening memos.new.session question.query
+        memos.new.charge) }
+    ensures turn { IfOk result (OfTurn B.batch B.opening H.batch question time memos.new.session
+        memos.new.own strand) }
+    ensures kept_session { OnOk result (AreKept (entries_of memos.old.session)
+        (entries_of memos.new.session)) }
     ensures own { memos.new.own ≡ memos.old.own }
 {
     let mut strand = strand;
@@ -139,13 +150,19 @@ pub fn take_turn<B: BatchName, H: BatchName>(
     question: Question,
     time: u32,
 ) -> Result<Turn<H>, OutOfMemory>
-    requires asked { IsAsked B.batch H.batch question design.now.circuit held.now.design.circuit held.now.reached }
-    requires session { IsChargedMemo B.batch B.opening memos.old.session question.query memos.old.charge }
+    requires asked { IsAsked B.batch H.batch question design.now.circuit held.now.design.circuit
+        held.now.reached }
+    requires session { IsChargedMemo B.batch B.opening memos.old.session question.query
+        memos.old.charge }
     requires asks { Asks B.batch B.opening question time memos.old.session memos.old.own strand }
-    ensures session { OnOk result (IsChargedMemo B.batch B.opening memos.new.session question.query memos.new.charge) }
-    ensures turn { IfOk result (OfTurn B.batch B.opening H.batch question time memos.new.session memos.new.own strand) }
-    ensures kept_session { OnOk result (AreKept (entries_of memos.old.session) (entries_of memos.new.session)) }
-    ensures kept_own { OnOk result (AreKept memos.old.own.shard.journal memos.new.own.shard.journal) }
+    ensures session { OnOk result (IsChargedMemo B.batch B.opening memos.new.session question.query
+        memos.new.charge) }
+    ensures turn { IfOk result (OfTurn B.batch B.opening H.batch question time memos.new.session
+        memos.new.own strand) }
+    ensures kept_session { OnOk result (AreKept (entries_of memos.old.session)
+        (entries_of memos.new.session)) }
+    ensures kept_own { OnOk result (AreKept memos.old.own.shard.journal
+        memos.new.own.shard.journal) }
 {
     let mut strand = strand;
     match strand.next_step(&held.design) {

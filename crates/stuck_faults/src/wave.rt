@@ -45,14 +45,19 @@ fn walk<B: BatchName, H: BatchName>(
     held: &Held,
     question: Question,
 ) -> Result<StuckAnswer, OutOfMemory>
-    requires asked { IsAsked B.batch H.batch question design.now.circuit held.now.design.circuit held.now.reached }
-    requires session { IsChargedMemo B.batch B.opening memos.old.session question.query memos.old.charge }
-    requires rests { Rests B.batch B.opening question memos.old.session memos.old.own memos.old.filled }
+    requires asked { IsAsked B.batch H.batch question design.now.circuit held.now.design.circuit
+        held.now.reached }
+    requires session { IsChargedMemo B.batch B.opening memos.old.session question.query
+        memos.old.charge }
+    requires rests { Rests B.batch B.opening question memos.old.session memos.old.own
+        memos.old.filled }
     ensures session { OnOk result (AreFreeShards B.batch B.opening memos.new.session) }
     ensures number { OnOk result (memos.new.own.number ≡ 0) }
     ensures idle { OnOk result (memos.new.own.shard.state.claims ≡ []) }
-    ensures reached { OnOk result (NoneIsFree B.batch.circuit (site_in question) memos.new.own.shard.journal) }
-    ensures answer { IfOk result (IsStuckAnswer B.batch.circuit (site_in question) (entries_of memos.new.session) memos.new.own.shard.journal question.query) }
+    ensures reached { OnOk result (NoneIsFree B.batch.circuit (site_in question)
+        memos.new.own.shard.journal) }
+    ensures answer { IfOk result (IsStuckAnswer B.batch.circuit (site_in question)
+        (entries_of memos.new.session) memos.new.own.shard.journal question.query) }
 {
     let query = question.query;
     let mut walk = WindowWalk::new(alloc, query.from, query.to);
@@ -75,14 +80,17 @@ fn answer<B: BatchName, H: BatchName>(
     question: Question,
     session: Memo<B>,
 ) -> Result<StuckWave<B>, OutOfMemory>
-    requires asked { IsAsked B.batch H.batch question design.now.circuit held.now.design.circuit held.now.reached }
+    requires asked { IsAsked B.batch H.batch question design.now.circuit held.now.design.circuit
+        held.now.reached }
     requires opening { H.opening 0 ≡ [] }
     requires session { AreFreeShards B.batch B.opening session }
     requires unused { entries_of session ≡ [] }
     ensures numbers { IfOk result (λ done. AreNumbered done.shards.items) }
     ensures fresh { IfOk result (λ done. IsFresh B.batch B.opening (shards_in done.shards.items)) }
-    ensures held { IfOk result (λ done. IsHeldJournal B.batch.circuit (site_in question) question.query done.held.items) }
-    ensures answer { IfOk result (λ done. IsStuckAnswer B.batch.circuit (site_in question) (entries_in (shards_in done.shards.items)) done.held.items question.query done.answer) }
+    ensures held { IfOk result (λ done. IsHeldJournal B.batch.circuit (site_in question)
+        question.query done.held.items) }
+    ensures answer { IfOk result (λ done. IsStuckAnswer B.batch.circuit (site_in question)
+        (entries_in (shards_in done.shards.items)) done.held.items question.query done.answer) }
 {
     let store = CellStore::new(alloc, OWN_CELLS)?;
     let mut memos = Memos::<B, H> {
@@ -122,8 +130,11 @@ pub fn stuck_wave<B: BatchName>(
     requires unused { AreUnused shards.items }
     ensures numbers { IfOk result (λ done. AreNumbered done.shards.items) }
     ensures fresh { IfOk result (λ done. IsFresh B.batch B.opening (shards_in done.shards.items)) }
-    ensures held { IfOk result (λ done. IsHeldJournal B.batch.circuit (record { signal = site; value = value }) query done.held.items) }
-    ensures answer { IfOk result (λ done. IsStuckAnswer B.batch.circuit (record { signal = site; value = value }) (entries_in (shards_in done.shards.items)) done.held.items query done.answer) }
+    ensures held { IfOk result (λ done. IsHeldJournal B.batch.circuit
+        (record { signal = site; value = value }) query done.held.items) }
+    ensures answer { IfOk result (λ done. IsStuckAnswer B.batch.circuit
+        (record { signal = site; value = value }) (entries_in (shards_in done.shards.items))
+        done.held.items query done.answer) }
 {
     let held = Held {
         design: design.hold(alloc, site, value)?,

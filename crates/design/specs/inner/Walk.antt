@@ -1,7 +1,6 @@
 -- A walk from signal to signal: which signals are marked, which of them lie ahead, and which signals read which.
-use Rattle.std.specs.Prelude.{◌≡◌, ℕ, ◌+◌, ◌<◌, Bool, false, not, ◌&&◌, ◌||◌, nat_eq, nat_lt, List, [], length, map, get_or, count_by}
+use Rattle.std.specs.Prelude.{◌≡◌, ℕ, ◌+◌, ◌<◌, Bool, false, not, ◌&&◌, ◌||◌, nat_eq, nat_lt, List, [], length, get_or, count_by, All}
 use Rattle.std.specs.List.{list_any}
-use Rattle.std.specs.Global.{Vec}
 use Rattle.circuit_meaning.specs.Circuit.{Circuit, driver, read_by}
 
 abbrev pub has : List ℕ → ℕ → Bool
@@ -18,20 +17,25 @@ pub record Marks (signals : List ℕ) (marks marks' : List Bool) (ahead ahead' :
   pub fewer : count_by not marks' + length ahead' ≡ count_by not marks + length ahead
 
 -- the list that stands at a place
-abbrev pub list_at : List (Vec ℕ) → ℕ → List ℕ
-list_at lists u = get_or (map (λ list. list.items) lists) u []
+abbrev pub list_at : List (List ℕ) → ℕ → List ℕ
+list_at lists u = get_or lists u []
 
 -- The reader stands also in the lists of these signals.
-pub record AddsReader (reader : ℕ) (reads : List ℕ) (lists lists' : List (Vec ℕ)) : Type 0 where
+pub record AddsReader (reader : ℕ) (reads : List ℕ) (lists lists' : List (List ℕ)) : Type 0 where
   pub long : length lists' ≡ length lists
   pub each : (u x : ℕ) → u < length lists → has (list_at lists' u) x ≡ (has (list_at lists u) x || nat_eq x reader && has reads u)
 
 -- Each signal has a list of those of the first n signals that read it.
-pub record HaveReaders (c : Circuit) (n : ℕ) (lists : List (Vec ℕ)) : Type 0 where
+pub record HaveReaders (c : Circuit) (n : ℕ) (lists : List (List ℕ)) : Type 0 where
   pub long : length lists ≡ length c.drivers
   pub each : (u x : ℕ) → u < length c.drivers → has (list_at lists u) x ≡ (nat_lt x n && has (read_by (driver c x)) u)
 
 -- and of all signals
-pub record AreReaders (c : Circuit) (lists : List (Vec ℕ)) : Type 0 where
+pub record AreReaders (c : Circuit) (lists : List (List ℕ)) : Type 0 where
   pub long : length lists ≡ length c.drivers
   pub each : (u x : ℕ) → u < length c.drivers → has (list_at lists u) x ≡ has (read_by (driver c x)) u
+
+-- These are the readers of the signal u.
+pub record ReadIt (c : Circuit) (u : ℕ) (readers : List ℕ) : Type 0 where
+  pub each : (x : ℕ) → has readers x ≡ has (read_by (driver c x)) u
+  pub within : All (λ x. x < length c.drivers) readers

@@ -1,23 +1,21 @@
-use Rattle.std.proofs.Common.{◌∙◌, ap, List}
-use Rattle.std.specs.Prelude.{slice_set}
-use Rattle.circuit_meaning.specs.declared.Setting.{Setting}
-use Rattle.design.specs.declared.rows.Row.{Row}
-use Rattle.design.specs.declared.rows.Row.TheVariants as row
-use Rattle.design.proofs.Kept.{in_range}
-use Rattle.design.proofs.Held.{kept-again, circuit-again, held_settings}
+use Rattle.std.proofs.Common.{ap, ap₂, sym, subst, ◌∙◌, List, ◌∷◌}
+use Rattle.std.specs.Arc.{arc_value}
+use Rattle.design.specs.declared.design.Common.{Common}
+use Rattle.design.specs.declared.held.HeldSignal.{HeldSignal}
+use Rattle.design.specs.inner.HeldSignals.{held_circuit, IsHeldDesign}
+use Rattle.design.proofs.Holding.{held-more, circuit-more, netlist-is}
 use Rattle.design.proofs.design.Design.hold.Goals as goal
 
 pub invariant_of-result : goal.invariant_of-result
 invariant_of-result c =
-    kept-again _ c.self.invariant c.args.site c.args.value (slice_set c.in_ok-rows.rows.items c.args.site row.Input) c.in_ok-copy-2.field-0 c.set_one.new.self (in_range _ _ c.self.view_is c.args.site c.requires)
-    (ap (λ (rows : List Row). slice_set rows c.args.site row.Input) (c.in_ok-rows.ensures.items ∙ c.deref.ensures.value)) c.in_ok-copy-2.ensures
-    (c.in_ok-set_one.ensures ∙ ap (λ (lists : List (List Setting)). slice_set lists c.args.site (held_settings c.args.value)) c.in_ok-settings.ensures)
-    c.in_ok-copy.field-0 c.in_ok-copy.ensures
+    let list = c.in_ok-with_first.ensures ∙ ap (λ (xs : List HeldSignal). record { site = c.args.site; value = c.args.value } ∷ xs) c.deref.ensures.value in
+    subst (λ (k : Common). IsHeldDesign k.origin k.readers c.in_ok-with_first.field-0.items) (sym c.in_ok-try_clone.ensures)
+    (subst (λ (xs : List HeldSignal). IsHeldDesign (arc_value c.self.inside.common).origin (arc_value c.self.inside.common).readers xs) (sym list) (held-more _ _ _ c.self.invariant c.args.self.now c.self.view_is c.args.site c.args.value c.requires))
 
-pub returns-clause-circuit : goal.returns-clause-circuit
-returns-clause-circuit c =
-    circuit-again _ c.self.invariant c.args.site c.args.value (slice_set c.in_ok-rows.rows.items c.args.site row.Input) c.in_ok-copy-2.field-0 c.set_one.new.self (in_range _ _ c.self.view_is c.args.site c.requires)
-    (ap (λ (rows : List Row). slice_set rows c.args.site row.Input) (c.in_ok-rows.ensures.items ∙ c.deref.ensures.value)) c.in_ok-copy-2.ensures
-    (c.in_ok-set_one.ensures ∙ ap (λ (lists : List (List Setting)). slice_set lists c.args.site (held_settings c.args.value)) c.in_ok-settings.ensures)
-    c.in_ok-copy.field-0 c.in_ok-copy.ensures
-    c.args.self.now c.self.view_is
+pub returns : goal.returns
+returns c =
+    let list = c.in_ok-with_first.ensures ∙ ap (λ (xs : List HeldSignal). record { site = c.args.site; value = c.args.value } ∷ xs) c.deref.ensures.value in
+    record {
+      circuit = ap₂ (λ (k : Common) (xs : List HeldSignal). held_circuit k.origin.circuit xs) c.in_ok-try_clone.ensures list ∙ circuit-more _ _ _ c.self.invariant c.args.self.now c.self.view_is c.args.site c.args.value c.requires;
+      netlist = ap (λ (k : Common). k.origin.netlist) c.in_ok-try_clone.ensures ∙ netlist-is _ _ _ c.self.invariant c.args.self.now c.self.view_is;
+    }

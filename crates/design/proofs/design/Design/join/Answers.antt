@@ -23,8 +23,8 @@ returns-in_err-rows c =
     let p = err_from_is_err_and c.from_residual-in_err-rows.result c.from_residual-in_err-rows.ensures.1 in
     subst (λ r. AnswersDesign r (design_of c.args.netlist c.args.timing.now c.args.stimulus.now)) (sym p.1) (inl p.2)
 
-pub invariant_of-result : goal.invariant_of-result
-invariant_of-result c =
+pub invariant_of-origin : goal.invariant_of-origin
+invariant_of-origin c =
     let netlist = c.args.netlist in
     let timing = c.args.timing.now in
     let stimulus = c.args.stimulus.now in
@@ -42,6 +42,6 @@ returns c =
     let none = none-at netlist timing stimulus c.horizon.result c.sets.result.now c.horizon.ensures c.sets.ensures c.in_ok-settings.ensures.0 in
     let kept = c.in_ok-rows.ensures c.in_ok-stated.ensures.1 in
     let has = subst (λ sets. HasSets netlist sets c.in_ok-settings.settings.items) c.sets.ensures c.in_ok-settings.ensures.1 in
-    accepted netlist timing stimulus _ c.in_ok-stated.ensures.0 none
-    (joined-is netlist timing stimulus c.facts.ensures c.facts-2.ensures c.facts-3.ensures none c.horizon-2.result c.in_ok-rows.field-0.rows.items c.in_ok-rows.field-0.delays c.in_ok-settings-2.settings
+    accepted netlist timing stimulus c.in_ok-of.field-0 c.in_ok-stated.ensures.0 none
+    (c.in_ok-of.ensures ∙ joined-is netlist timing stimulus c.facts.ensures c.facts-2.ensures c.facts-3.ensures none c.horizon-2.result c.in_ok-rows.field-0.rows.items c.in_ok-rows.field-0.delays c.in_ok-settings-2.settings
     c.horizon-2.ensures kept.rows kept.delays (ordered-are netlist stimulus.sets c.in_ok-settings.settings.items c.in_ok-settings-2.settings has c.in_ok-settings-2.ensures))

@@ -1,11 +1,10 @@
-use Rattle.std.proofs.Common.{sym, refl}
-use Rattle.design.proofs.Answered.{gate-reads, gate-signals}
+use Rattle.std.proofs.Common.{ap, sym, ◌∙◌}
+use Rattle.circuit_meaning.specs.Circuit.{read_by}
+use Rattle.design.proofs.Answered.{reads-within}
 use Rattle.design.proofs.design.Design.reads.Goals as goal
 
-pub returns-in-Gate-clause-reads : goal.returns-in-Gate-clause-reads
-returns-in-Gate-clause-reads c =
-    sym (gate-reads c.args.self.now.circuit c.view.ensures.design.circuit c.args.signal 0 _ refl c.in-Gate.kind c.in-Gate.signals c.in-Gate.delays c.in-Gate.least c.in-Gate.ensures.view)
+pub returns-clause-reads : goal.returns-clause-reads
+returns-clause-reads c = c.reads_of.ensures ∙ sym (ap read_by c.view.ensures.view.driver)
 
-pub returns-in-Gate-clause-signals : goal.returns-in-Gate-clause-signals
-returns-in-Gate-clause-signals c =
-    gate-signals c.args.self.now.circuit c.view.ensures.design.circuit c.args.signal c.in-Gate.kind c.in-Gate.signals c.in-Gate.delays c.in-Gate.least c.in-Gate.ensures.view
+pub returns-clause-signals : goal.returns-clause-signals
+returns-clause-signals c = reads-within _ _ c.reads_of.result.now c.view.result c.view.ensures.view c.reads_of.ensures

@@ -1,15 +1,26 @@
-use Rattle.design.proofs.Kept.{input-view, gate-view, flop-view}
+use Rattle.std.proofs.Common.{ap, sym, subst, ◌∙◌, ◌<◌, length}
+use Rattle.design.specs.declared.design.Common.{Common}
+use Rattle.design.specs.inner.HeldSignals.{value_of}
+use Rattle.design.specs.inner.KeptDesigns.{IsViewOf}
+use Rattle.design.proofs.Holding.{below, held-view, open-view, is-design}
 use Rattle.design.proofs.design.Design.view.Goals as goal
 
-pub returns-in-Input-clause-view : goal.returns-in-Input-clause-view
-returns-in-Input-clause-view c = input-view _ c.self.invariant _ c.self.view_is c.args.signal c.requires c.index.result.now c.index.ensures c.list.result c.in-Input.is c.list.ensures
+pub view-requires : goal.view-requires
+view-requires c = subst (λ (k : Common). c.args.signal < length k.origin.circuit.drivers) (sym c.deref-in-None.ensures) (below _ _ _ c.self.invariant c.args.self.now c.self.view_is c.args.signal c.requires)
 
-pub returns-in-Gate-clause-view : goal.returns-in-Gate-clause-view
-returns-in-Gate-clause-view c =
-    gate-view _ c.self.invariant _ c.self.view_is c.args.signal c.requires c.index.result.now c.index.ensures
-    c.in-Gate.kind c.in-Gate.least c.signals_of.result c.list-in-Gate.result c.in-Gate.is c.signals_of.ensures c.list-in-Gate.ensures
+pub returns-in-None : goal.returns-in-None
+returns-in-None c =
+    let open' = ap (λ xs. value_of xs c.args.signal) (sym c.deref.ensures.value) ∙ sym c.value_of.ensures ∙ c.in-None.is in
+    record {
+      view = open-view _ _ _ c.self.invariant c.args.self.now c.self.view_is c.args.signal c.requires c.view.result open'
+          (subst (λ (k : Common). IsViewOf k.origin.circuit c.args.signal c.view.result) c.deref-in-None.ensures c.view.ensures);
+      design = is-design _ _ _ c.self.invariant c.args.self.now c.self.view_is;
+    }
 
-pub returns-in-Flop-clause-view : goal.returns-in-Flop-clause-view
-returns-in-Flop-clause-view c =
-    flop-view _ c.self.invariant _ c.self.view_is c.args.signal c.requires c.index.result.now c.index.ensures
-    c.in-Flop.flop c.signals_of-in-Flop.result c.in-Flop.is c.signals_of-in-Flop.ensures
+pub returns-in-Some : goal.returns-in-Some
+returns-in-Some c =
+    let held = ap (λ xs. value_of xs c.args.signal) (sym c.deref.ensures.value) ∙ sym c.value_of.ensures ∙ c.in-Some.is in
+    record {
+      view = held-view _ _ _ c.self.invariant c.args.self.now c.self.view_is c.args.signal c.requires c.in-Some.value c.held_settings.result held c.held_settings.ensures;
+      design = is-design _ _ _ c.self.invariant c.args.self.now c.self.view_is;
+    }

@@ -1,0 +1,5 @@
+use Rattle.design.proofs.Links.{none-linked}
+use Rattle.design.proofs.readers.Readers.none.Goals as goal
+
+pub returns : goal.returns
+returns c = none-linked _ _ c.args.signals c.new.ensures.items (c.in_ok-vec.ensures.items_if_clones_equal (λ y e. e))

@@ -1,0 +1,104 @@
+//! What is kept of a netlist and of the rows that it was joined with.
+
+ghost use Rattle.std.specs.Prelude.{◌≡◌, ◌<◌, length, All};
+ghost use Rattle.circuit_meaning.specs.Circuit.{driver, read_by};
+ghost use Rattle.design.specs.Joined.{IsDesign};
+ghost use Rattle.design.specs.inner.KeptDesigns.{IsViewOf, FitsFrom, driver_seen};
+
+use crate::lists::Lists;
+use crate::rows::{Row, SignalView, signals_of};
+use bench_reader::Netlist;
+use circuit_meaning::Setting;
+use std::marker::Model;
+
+/// A design as it was joined, with no signal held.
+#[derive(Drop)]
+pub struct Origin {
+    pub netlist: Netlist,
+    pub horizon: u32,
+    pub rows: Vec<Row>,
+    pub delays: Lists<u32>,
+    pub settings: Lists<Setting>,
+}
+
+impl Model for Origin {
+    ghost use Rattle.design.specs.Joined.{Joined};
+
+    ghost Value = { Joined };
+
+    ghost use Rattle.design.specs.inner.KeptDesigns.{joined_of, IsKeptDesign};
+
+    ghost view = { λ d. joined_of (record { horizon = d.horizon; netlist = d.netlist; rows = d.rows.items; delays = d.delays; settings = d.settings }) };
+
+    ghost invariant = { λ d. IsKeptDesign (record { horizon = d.horizon; netlist = d.netlist; rows = d.rows.items; delays = d.delays; settings = d.settings }) };
+}
+
+/// The signals that a signal with this view reads.
+pub fn reads_of(view: SignalView<'_>) -> &[u32]
+    requires { FitsFrom view }
+    ensures { result.now ≡ read_by (driver_seen view.entry) }
+{
+    match view {
+        SignalView::Input(_) => &[],
+        SignalView::Gate { signals, .. } => signals,
+        SignalView::Flop { signals, .. } => signals,
+    }
+}
+
+impl Origin {
+    /// What holds of it.
+    pub fn facts(&self)
+        ensures { IsDesign self.now }
+    {
+        let _horizon = self.horizon;
+    }
+
+    pub fn netlist(&self) -> &Netlist
+        ensures { result.now ≡ self.now.netlist }
+    {
+        &self.netlist
+    }
+
+    /// The last time.
+    pub fn horizon(&self) -> u32
+        ensures { result ≡ self.now.circuit.horizon }
+    {
+        self.horizon
+    }
+
+    /// How many signals there are.
+    pub fn signals(&self) -> u32
+        ensures { result ≡ length self.now.circuit.drivers }
+    {
+        self.rows.len() as u32
+    }
+
+    /// What is kept of a signal.
+    pub fn view(&self, signal: u32) -> SignalView<'_>
+        requires { signal < length self.now.circuit.drivers }
+        ensures { IsViewOf self.now.circuit signal result }
+    {
+        match self.rows[signal as usize] {
+            Row::Input => SignalView::Input(self.settings.list(signal)),
+            Row::Gate { kind, least } => SignalView::Gate {
+                kind,
+                signals: signals_of(&self.netlist, signal),
+                delays: self.delays.list(signal),
+                least,
+            },
+            Row::Flop(flop) => SignalView::Flop {
+                flop,
+                signals: signals_of(&self.netlist, signal),
+            },
+        }
+    }
+
+    /// The signals that a signal reads.
+    pub fn reads(&self, signal: u32) -> &[u32]
+        requires { signal < length self.now.circuit.drivers }
+        ensures reads { result.now ≡ read_by (driver self.now.circuit signal) }
+        ensures signals { All (λ read. read < length self.now.circuit.drivers) result.now }
+    {
+        reads_of(self.view(signal))
+    }
+}

@@ -1,0 +1,100 @@
+//! Which signals read a signal.
+
+ghost use Rattle.std.specs.Prelude.{◌≡◌, ◌∷◌, ◌<◌, [], length, slice_set, All, OnOk, IfOk, replicate};
+ghost use Rattle.design.specs.inner.Walk.{list_at, AddsReader, AreReaders};
+
+use crate::origin::Origin;
+use std::alloc::{AllocError, Global};
+use std::marker::Model;
+
+/// A reader of a signal, and the number of the link with the one before it; 0 where there is none.
+#[derive(Clone, Copy)]
+pub struct Link {
+    pub reader: u32,
+    pub before: u32,
+}
+
+/// For each signal those that read it, the last one first. The links of all signals stand in one array, numbered from 1 on.
+#[derive(Drop)]
+pub struct Readers {
+    /// For each signal the number of its last link; 0 where nothing reads it.
+    last: Vec<u32>,
+    links: Vec<Link>,
+}
+
+impl Model for Readers {
+    ghost use Rattle.std.specs.Prelude.{ℕ, List};
+
+    ghost Value = { List (List ℕ) };
+
+    ghost use Rattle.design.specs.inner.Links.{lists_of, AreLinks};
+
+    ghost view = { λ r. lists_of r.links.items r.last.items };
+
+    ghost invariant = { λ r. AreLinks r.links.items r.last.items };
+}
+
+impl Readers {
+    /// So many signals that nothing reads.
+    pub fn none(alloc: Global, signals: u32) -> Result<Readers, AllocError>
+        ensures { IfOk result (λ readers. readers ≡ replicate signals []) }
+    {
+        Ok(Readers {
+            last: vec![in alloc; 0; signals as usize]?,
+            links: Vec::new(alloc),
+        })
+    }
+
+    /// Adds a reader of a signal.
+    fn add(&mut self, signal: u32, reader: u32) -> Result<(), AllocError>
+        requires { signal < length self.old }
+        ensures { OnOk result (self.new ≡ slice_set self.old signal
+            (reader ∷ list_at self.old signal)) }
+    {
+        let before = self.last[signal as usize];
+        let Ok(number) = u32::try_from(self.links.len() + 1) else {
+            return Err(AllocError);
+        };
+        self.links.push(Link { reader, before })?;
+        self.last[signal as usize] = number;
+        Ok(())
+    }
+
+    /// Adds a reader of these signals.
+    pub fn add_to_all(&mut self, signals: &[u32], reader: u32) -> Result<(), AllocError>
+        requires { All (λ x. x < length self.old) signals.now }
+        ensures { OnOk result (AddsReader reader signals.now self.old self.new) }
+    {
+        for signal in signals {
+            self.add(*signal, reader)?;
+        }
+        Ok(())
+    }
+
+    /// Puts those that read a signal into `found`, in place of what it has.
+    pub fn find(&self, signal: u32, found: &mut Vec<u32>) -> Result<(), AllocError>
+        requires { signal < length self.now }
+        ensures { OnOk result (found.new.items ≡ list_at self.now signal) }
+    {
+        found.clear();
+        let mut number = self.last[signal as usize];
+        while number != 0 {
+            let link = self.links[number as usize - 1];
+            found.push(link.reader)?;
+            number = link.before;
+        }
+        Ok(())
+    }
+}
+
+/// The readers of each signal.
+pub fn readers_in(alloc: Global, origin: &Origin) -> Result<Readers, AllocError>
+    ensures { IfOk result (λ readers. AreReaders origin.now.circuit readers) }
+{
+    let signals = origin.signals();
+    let mut readers = Readers::none(alloc, signals)?;
+    for signal in 0..signals {
+        readers.add_to_all(origin.reads(signal), signal)?;
+    }
+    Ok(readers)
+}
