@@ -6,5 +6,6 @@ pub mod Kept
 pub mod Calls
 pub mod Puts
 pub mod Trims
+pub mod Front
 pub mod Plain
 pub mod Beside

@@ -8,11 +8,12 @@
 //! Contracts see a store as its capacity and the list of its cells (`specs/Recency.antt`), and each call says exactly
 //! which list it leaves. They do not say how a cell is found: inside, the kit's `lru` cache keeps the cells by their
 //! [`Key`], and an ordered index beside it has the end of each cell, so that the only cell that can cover a point is the
-//! last of its signal that begins no later. A call that is refused memory leaves the store as it was; `find` and `covers`
-//! take none.
+//! last of its signal that begins no later. The cell in front is tried before the index is. A call that is refused memory
+//! leaves the store as it was; `find` and `covers` take none.
 //!
-//! With n cells, `find`, `covers` and `put` take O(log n) steps, `trim` O(log n) for each cell that it removes, and `len`
-//! and `capacity` a constant number. Memory is taken as cells come, about 100 bytes a cell.
+//! With n cells, `find`, `covers` and `put` take O(log n) steps, but a `find` of the most recently used cell a constant
+//! number, as `len` and `capacity` do. `trim` takes O(log n) for each cell that it removes. Memory is taken as cells come,
+//! about 100 bytes a cell.
 //!
 //! ```text
 //! let mut store = CellStore::new(alloc, 3)?;

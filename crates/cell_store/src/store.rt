@@ -6,7 +6,7 @@ ghost use Rattle.valid_intervals.specs.Cells as cells;
 ghost use Rattle.valid_intervals.specs.Cells.{cell_for, to_front};
 ghost use Rattle.cell_store.specs.Recency.{contents, with_cells, key_of, last_key, pushes_out, after_put, FitsStore, AreApart};
 ghost use Rattle.valid_intervals.specs.Cells.{stored_at, is_stored};
-ghost use Rattle.cell_store.specs.inner.Index.{key_cmp, key_eq, IsStoreIndex};
+ghost use Rattle.cell_store.specs.inner.Index.{key_cmp, key_eq, IsInFront, IsStoreIndex};
 ghost use Rattle.lru.specs.LruCache.{lru_cache, promoted};
 
 use crate::{Key, Put};
@@ -16,7 +16,7 @@ use std::alloc::Global;
 use std::collections::BTreeMap;
 use std::marker::Model;
 use std::num::NonZeroUsize;
-use valid_intervals::{Cell, Point};
+use valid_intervals::{Cell, Point, SignalCell};
 
 /// The greatest capacity of a store.
 pub const MOST_CELLS: u32 = 65_536;
@@ -82,9 +82,13 @@ impl CellStore {
     /// The stored cell that covers the point, which becomes the most recently used.
     pub fn find(&mut self, p: Point) -> Option<Cell>
         ensures found { result ≡ option_map (λ x. x.cell) (stored_at self.old.cells p) }
-        ensures used { IfSome result (λ cell. self.new ≡ with_cells self.old (to_front (cell_for p cell) self.old.cells)) }
+        ensures used { IfSome result (λ cell. self.new ≡ with_cells self.old
+            (to_front (cell_for p cell) self.old.cells)) }
         ensures unchanged { IfNone result (self.new ≡ self.old) }
     {
+        if let Some(cell) = front_covering(&self.cache, p) {
+            return Some(cell);
+        }
         let key = covering_key(&self.index, p)?;
         use_cell(&mut self.cache, key)
     }
@@ -100,10 +104,13 @@ impl CellStore {
     /// least recently used cell where the store is full.
     pub fn put(&mut self, signal: u32, cell: Cell) -> Result<Put, OutOfMemory>
         requires { FitsStore (record { signal = signal; cell = cell }) self.old.cells }
-        ensures cells { let x : SignalCell = record { signal = signal; cell = cell } in OnOk result (self.new ≡ after_put self.old x) }
-        ensures fresh { let x : SignalCell = record { signal = signal; cell = cell } in IfOk result (λ put. put.fresh ≡ not (is_stored x self.old.cells)) }
+        ensures cells { let x : SignalCell = record { signal = signal; cell = cell } in
+            OnOk result (self.new ≡ after_put self.old x) }
+        ensures fresh { let x : SignalCell = record { signal = signal; cell = cell } in
+            IfOk result (λ put. put.fresh ≡ not (is_stored x self.old.cells)) }
         ensures evicted { let x : SignalCell = record { signal = signal; cell = cell } in
-            IfOk result (λ put. put.evicted ≡ (if pushes_out x self.old then last_key self.old.cells else None)) }
+            IfOk result (λ put. put.evicted ≡ (if pushes_out x self.old then last_key self.old.cells
+            else None)) }
         ensures err { OnErr result (self.new ≡ self.old) }
     {
         let key = Key {
@@ -141,7 +148,8 @@ impl CellStore {
     /// Removes the least recently used cells until at most `n` are left. Answers their keys, the least recently used first.
     pub fn trim(&mut self, n: u32) -> Result<Vec<Key>, OutOfMemory>
         ensures cells { OnOk result (self.new ≡ with_cells self.old (take n self.old.cells)) }
-        ensures keys { IfOk result (λ keys. keys.items ≡ reverse (map key_of (drop n self.old.cells))) }
+        ensures keys { IfOk result (λ keys. keys.items ≡ reverse
+            (map key_of (drop n self.old.cells))) }
         ensures err { OnErr result (self.new ≡ self.old) }
     {
         let left = n as usize;
@@ -160,9 +168,26 @@ impl CellStore {
     }
 }
 
+// The most recently used cell, where it covers the point. To use it changes nothing.
+fn front_covering(cache: &LruCache<Key, Cell>, p: Point) -> Option<Cell>
+    ensures { IfSome result (IsInFront cache.now.entries p) }
+{
+    match cache.peek_mru() {
+        None => None,
+        Some((key, cell)) => {
+            let x = SignalCell {
+                signal: key.signal,
+                cell: *cell,
+            };
+            if x.covers(p) { Some(x.cell) } else { None }
+        }
+    }
+}
+
 // The key of the cell that covers the point: of the cells of its signal that begin no later, the last is the only one that can.
 fn covering_key(index: &BTreeMap<Key, u32>, p: Point) -> Option<Key>
-    ensures { (cells : List SignalCell) → IsStoreIndex (get key_cmp index.now) cells → result ≡ option_map key_of (stored_at cells p) }
+    ensures { (cells : List SignalCell) → IsStoreIndex (get key_cmp index.now) cells
+        → result ≡ option_map key_of (stored_at cells p) }
 {
     let at = Key {
         signal: p.signal,

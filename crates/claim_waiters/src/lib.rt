@@ -7,8 +7,9 @@
 //! [`ClaimTable::first`] and [`ClaimTable::len`] only ask. No call drops, copies or reorders a waiter; one that can't be taken
 //! in is handed back.
 //!
-//! The table is generic in what waits, a [`Waiter`], which says by its [`Waiter::Room`] how a claim keeps its waiters: a small
-//! vector with room for two serves. A claim has a room only once somebody waits, and most never have one.
+//! The table is generic in what waits, a [`Waiter`], which says by its [`Waiter::Room`] how a claim keeps its waiters: a vector
+//! serves, since `take` hands out a room also where nobody waited. A claim has a room only once somebody waits, and most never
+//! have one.
 //!
 //! With n claims each call takes O(log n) steps; `wait` also puts one waiter into a room, and `take` moves the room out.
 //! `claim` and `wait` may want memory and leave the table as it was where there is none; `take`, `holder` and `first`

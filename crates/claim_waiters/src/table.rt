@@ -22,7 +22,8 @@ fn wait_in<W: Waiter>(
     room: &mut Option<Box<W::Room>>,
     waiter: W,
 ) -> Result<(), (W, OutOfMemory)>
-    ensures ok { OnOk result (those_in W.items room.new ≡ those_in W.items room.old ++ waiter ∷ []) }
+    ensures ok { OnOk result (those_in W.items room.new ≡ those_in W.items
+        room.old ++ waiter ∷ []) }
     ensures err { OnErr result (those_in W.items room.new ≡ those_in W.items room.old) }
     ensures back { IfErr result (λ refused. refused.0 ≡ waiter) }
 {
@@ -142,7 +143,8 @@ impl<W: Waiter> ClaimTable<W> {
     /// The first claimed point, with its query.
     pub fn first(&self) -> Option<(u32, Point)>
         ensures first { result ≡ first_of self.now }
-        ensures least { IfSome result (λ first. All (λ claimed. IsAtMost first.1 claimed.0) self.now) }
+        ensures least { IfSome result (λ first. All (λ claimed. IsAtMost first.1 claimed.0)
+            self.now) }
     {
         let (p, claim) = self.map.first_key_value()?;
         Some((claim.q, *p))

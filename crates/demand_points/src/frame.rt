@@ -87,7 +87,8 @@ impl Frame {
     /// Whether the look is over: one pin has decided, or none is left.
     pub fn is_done(&self, design: &Design) -> bool
         requires { IsFrame design.now.circuit self.now }
-        ensures { result ≡ nat_eq self.now.looked (length (looked_at design.now.circuit self.now.point)) }
+        ensures { result ≡ nat_eq self.now.looked
+            (length (looked_at design.now.circuit self.now.point)) }
     {
         design.facts();
         let (_, pins) = design.gate_of(self.point.signal);
@@ -114,7 +115,8 @@ impl Frame {
     pub fn see(&self, design: &Design, heard: Option<Cell>) -> Frame
         requires frame { IsFrame design.now.circuit self.now }
         requires looking { IsLooking design.now.circuit self.now }
-        requires heard { heard ≡ cell_there design.now.circuit (next_point design.now.circuit self.now) }
+        requires heard { heard ≡ cell_there design.now.circuit
+            (next_point design.now.circuit self.now) }
         ensures { LooksOn design.now.circuit self.now result }
     {
         design.facts();
@@ -137,7 +139,8 @@ impl Frame {
     /// The frame after it has looked at the next pin, where that has a base answer or reads before time 0.
     fn skip(&self, design: &Design) -> Option<Frame>
         requires { IsFrame design.now.circuit self.now }
-        ensures { MatchOption result (IsReady design.now.circuit self.now) (SkipsOn design.now.circuit self.now) }
+        ensures { MatchOption result (IsReady design.now.circuit self.now)
+            (SkipsOn design.now.circuit self.now) }
     {
         if self.is_done(design) {
             return None;

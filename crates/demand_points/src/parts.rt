@@ -46,7 +46,8 @@ impl Parts {
     /// The base answer at the next root, where the window has one and it has one.
     fn known_root(&self, design: &Design) -> Option<Cell>
         requires { IsRunning design.now.circuit self.now }
-        ensures { MatchOption result (IsRootReady design.now.circuit self.now) (IsRootKnown design.now.circuit self.now) }
+        ensures { MatchOption result (IsRootReady design.now.circuit self.now)
+            (IsRootKnown design.now.circuit self.now) }
     {
         if self.root >= self.to {
             return None;
@@ -139,7 +140,8 @@ impl Parts {
     pub fn hear(&mut self, design: &Design, cell: &Cell)
         requires running { IsRunning design.now.circuit self.old }
         requires ready { IsReadyAt design.now.circuit self.old }
-        requires answer { IsAskedCell design.now.circuit (strand_of design.now.circuit self.old) cell.now }
+        requires answer { IsAskedCell design.now.circuit (strand_of design.now.circuit self.old)
+            cell.now }
         ensures { TakesStepTo design.now.circuit heard self.old self.new }
     {
         design.facts();
@@ -158,7 +160,8 @@ impl Parts {
         requires ready { IsReadyAt design.now.circuit self.old }
         requires asks { next (strand_of design.now.circuit self.old) ≡ Ask p }
         requires room { self.old.charged < self.old.budget }
-        ensures ok { OnOk result (TakesStepTo design.now.circuit (λ s. claimed design.now.circuit s p) self.old self.new) }
+        ensures ok { OnOk result (TakesStepTo design.now.circuit
+            (λ s. claimed design.now.circuit s p) self.old self.new) }
         ensures err { OnErr result (self.new ≡ self.old) }
     {
         design.facts();
@@ -172,7 +175,8 @@ impl Parts {
         requires running { IsRunning design.now.circuit self.old }
         requires asks { next (strand_of design.now.circuit self.old) ≡ Ask p }
         requires room { self.old.charged < self.old.budget }
-        ensures ok { OnOk result (TakesStepTo design.now.circuit (λ s. claimed design.now.circuit s p) self.old self.new) }
+        ensures ok { OnOk result (TakesStepTo design.now.circuit
+            (λ s. claimed design.now.circuit s p) self.old self.new) }
         ensures err { OnErr result (self.new ≡ self.old) }
     {
         let root = self.root;
@@ -201,7 +205,8 @@ impl Parts {
         requires settled { settled ≡ true → IsReadyAt design.now.circuit self.old }
         requires asks { next (strand_of design.now.circuit self.old) ≡ Ask p }
         requires room { self.old.charged < self.old.budget }
-        ensures ok { OnOk result (TakesStepTo design.now.circuit (λ s. claimed design.now.circuit s p) self.old self.new) }
+        ensures ok { OnOk result (TakesStepTo design.now.circuit
+            (λ s. claimed design.now.circuit s p) self.old self.new) }
         ensures err { OnErr result (self.new ≡ self.old) }
     {
         if settled {
@@ -215,7 +220,8 @@ impl Parts {
     pub fn top_cell(&self, design: &Design) -> Cell
         requires running { IsRunning design.now.circuit self.now }
         requires fills { IsFilling (strand_of design.now.circuit self.now) }
-        ensures { (p : Point) → next (strand_of design.now.circuit self.now) ≡ Fill p → result ≡ cell_at design.now.circuit p }
+        ensures { (p : Point) → next (strand_of design.now.circuit self.now) ≡ Fill p
+            → result ≡ cell_at design.now.circuit p }
     {
         design.facts();
         match self.stack.top() {
@@ -225,18 +231,17 @@ impl Parts {
     }
 
     /// Ends the claim of the point on top with its cell, which what lies under it hears.
-    pub fn finish(&mut self, design: &Design) -> Cell
+    pub fn finish(&mut self, design: &Design, cell: &Cell)
         requires running { IsRunning design.now.circuit self.old }
         requires fills { IsFilling (strand_of design.now.circuit self.old) }
         requires room { self.old.filled + 1 < 2 ^ 32 }
-        ensures cell { (p : Point) → next (strand_of design.now.circuit self.old) ≡ Fill p → result ≡ cell_at design.now.circuit p }
-        ensures steps { TakesStepTo design.now.circuit finished self.old self.new }
+        requires cell { (p : Point) → next (strand_of design.now.circuit self.old) ≡ Fill p
+            → cell.now ≡ cell_at design.now.circuit p }
+        ensures { TakesStepTo design.now.circuit finished self.old self.new }
     {
-        let cell = self.top_cell(design);
         design.facts();
         let _ = self.stack.pop();
         self.filled += 1;
-        self.hear(design, &cell);
-        cell
+        self.hear(design, cell);
     }
 }

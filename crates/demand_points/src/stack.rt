@@ -52,7 +52,8 @@ impl Stack {
     }
 
     pub fn pop(&mut self) -> Option<Frame>
-        ensures { MatchOption result ((self.old ≡ []) × (self.new ≡ [])) (λ f. self.old ≡ f ∷ self.new) }
+        ensures { MatchOption result ((self.old ≡ []) × (self.new ≡ []))
+            (λ f. self.old ≡ f ∷ self.new) }
     {
         self.items.pop()
     }

@@ -18,9 +18,7 @@ use batch_meaning::Query;
 use claim_waiters::Waiter;
 use design::Design;
 use owned_text::OutOfMemory;
-use smallvec::SmallVec;
 use std::alloc::Global;
-use std::default::MadeWith;
 use std::marker::{Model, PhantomData};
 use strand_meaning::Next;
 use valid_intervals::{Cell, Point};
@@ -75,7 +73,15 @@ impl<B: BatchName> Strand<B> {
         ensures number { result.number ≡ number }
         ensures from { result.from ≡ from }
         ensures to { result.to ≡ to }
-        ensures strand { result.strand ≡ started B.batch.circuit (record { query = query; start = from; stop = to; budget = budget; charged = charged }) }
+        ensures strand { result.strand ≡ started B.batch.circuit
+            (record {
+              query = query;
+              start = from;
+              stop = to;
+              budget = budget;
+              charged =
+                  charged;
+            }) }
         ensures last { result.last ≡ None }
     {
         Strand {
@@ -106,7 +112,13 @@ impl<B: BatchName> Strand<B> {
 
     /// The query, window and budget that it was started with.
     pub fn task(&self) -> Task
-        ensures { result ≡ record { query = self.now.strand.query; from = self.now.from; to = self.now.to; budget = self.now.strand.budget } }
+        ensures { result ≡ record {
+          query = self.now.strand.query;
+          from = self.now.from;
+          to =
+              self.now.to;
+          budget = self.now.strand.budget;
+        } }
     {
         Task {
             query: self.parts.query,
@@ -196,7 +208,8 @@ impl<B: BatchName> Strand<B> {
         requires design { design.now.circuit ≡ B.batch.circuit }
         requires asks { next self.old.strand ≡ Ask p }
         requires room { self.old.strand.charged < self.old.strand.budget }
-        ensures ok { OnOk result (TakesStep (λ s. strands.claimed B.batch.circuit s p) self.old self.new) }
+        ensures ok { OnOk result (TakesStep (λ s. strands.claimed B.batch.circuit s p) self.old
+            self.new) }
         ensures err { OnErr result (self.new ≡ self.old) }
     {
         self.parts.claim(self.settled, design, p)?;
@@ -226,12 +239,26 @@ impl<B: BatchName> Strand<B> {
     pub fn finish_top(&mut self, design: &Design) -> Cell
         requires design { design.now.circuit ≡ B.batch.circuit }
         requires fills { IsFilling self.old.strand }
-        ensures cell { (p : Point) → next self.old.strand ≡ Fill p → result ≡ cell_at B.batch.circuit p }
+        ensures cell { (p : Point) → next self.old.strand ≡ Fill p
+            → result ≡ cell_at B.batch.circuit p }
         ensures steps { TakesStep strands.finished self.old self.new }
+    {
+        let cell = self.top_cell(design);
+        self.finish_with(design, &cell);
+        cell
+    }
+
+    /// The same, where the cell of that point is known.
+    pub fn finish_with(&mut self, design: &Design, cell: &Cell)
+        requires design { design.now.circuit ≡ B.batch.circuit }
+        requires fills { IsFilling self.old.strand }
+        requires cell { (p : Point) → next self.old.strand ≡ Fill p
+            → cell.now ≡ cell_at B.batch.circuit p }
+        ensures { TakesStep strands.finished self.old self.new }
     {
         let _budget = self.parts.budget;
         self.settled = false;
-        self.parts.finish(design)
+        self.parts.finish(design, cell);
     }
 
     /// Ends the claim of the point on top of its stack without a cell, and answers the point.
@@ -248,54 +275,20 @@ impl<B: BatchName> Strand<B> {
     }
 }
 
-/// Strands wait for a point in a small vector with room for two.
+/// Strands wait for a point in a vector.
 impl<B: BatchName> Waiter for Strand<B> {
-    type Room = SmallVec<Strand<B>, 2>;
+    type Room = Vec<Strand<B>>;
 
     ghost items = { λ room. room.items };
 
-    fn none(alloc: Global) -> SmallVec<Strand<B>, 2> {
-        SmallVec::new(alloc)
+    fn none(alloc: Global) -> Vec<Strand<B>> {
+        Vec::new(alloc)
     }
 
-    fn wait(
-        room: &mut SmallVec<Strand<B>, 2>,
-        waiter: Strand<B>,
-    ) -> Result<(), (Strand<B>, OutOfMemory)> {
+    fn wait(room: &mut Vec<Strand<B>>, waiter: Strand<B>) -> Result<(), (Strand<B>, OutOfMemory)> {
         match room.push(waiter) {
             Ok(()) => Ok(()),
             Err(refused) => Err((refused.value, OutOfMemory)),
-        }
-    }
-}
-
-/// A strand that has ended and holds nothing, for the unused places of a small vector.
-impl<B: BatchName> MadeWith<Global> for Strand<B> {
-    ghost is_made_with = { λ s. (next s.strand ≡ Done) × (s.strand.stack ≡ []) };
-
-    fn made_with(alloc: Global) -> Strand<B> {
-        Strand {
-            parts: Parts {
-                number: 0,
-                query: Query {
-                    number: 0,
-                    signal: 0,
-                    from: 0,
-                    to: 0,
-                    budget: 0,
-                },
-                from: 0,
-                to: 0,
-                budget: 0,
-                root: 0,
-                stack: Stack::new(alloc),
-                charged: 0,
-                filled: 0,
-                spent: false,
-                last: None,
-            },
-            settled: false,
-            of: PhantomData,
         }
     }
 }

@@ -326,7 +326,9 @@ fn tell<B: BatchName>(
     requires circuit { design.now.circuit ≡ B.batch.circuit }
     requires lawful { IsLawful B.batch }
     requires known { IsQueryOf B.batch query }
-    requires last { query.to ≡ query.from + 1 → IfSome last (λ cell. cell ≡ cell_at B.batch.circuit (record { signal = query.signal; time = query.from })) }
+    requires last { query.to ≡ query.from + 1
+        → IfSome last (λ cell. cell ≡ cell_at B.batch.circuit
+        (record { signal = query.signal; time = query.from })) }
 {
     let Some(cell) = last else {
         return Ok(None);

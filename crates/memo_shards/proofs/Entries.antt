@@ -29,8 +29,7 @@ use Rattle.demand_points.specs.Demands.{Demand, TakesStep}
 use Rattle.memo_shards.specs.KeptShards.{KeptShard, shard_at, IsWaiting, IsKnownShard}
 use Rattle.memo_shards.specs.inner.KeptShards.{waits_in, waits_for}
 use Rattle.memo_shards.specs.inner.View.{AsksThere, Agrees}
-use Rattle.memo_shards.specs.Asks.{Tells, ClaimsIt}
-use Rattle.memo_shards.specs.inner.Asks.{OfPark}
+use Rattle.memo_shards.specs.Asks.{Tells, ClaimsIt, OfPark}
 use Rattle.memo_shards.proofs.Asking.{asked}
 use Rattle.memo_shards.proofs.Waits.{waits-at, waits-claimed, each-claimed, each-waits}
 

@@ -10,6 +10,8 @@ use Rattle.batch_meaning.specs.Batches.{Batch}
 use Rattle.strand_meaning.specs.Strands.{heard, claimed, given_up}
 use Rattle.plan_machine.specs.Shards.{recorded}
 use Rattle.demand_points.specs.Demands.{Demand, TakesStep}
+use Rattle.memo_shards.specs.declared.asked.Answer.{Answer}
+use Rattle.memo_shards.specs.declared.asked.Answer.TheVariants.{Heard, Holds, Taken, Refused}
 use Rattle.memo_shards.specs.declared.asked.Asked.{Asked}
 use Rattle.memo_shards.specs.declared.asked.Asked.TheVariants.{Told, Claimed, Waits, Spent}
 use Rattle.memo_shards.specs.KeptShards.{KeptShard, waiting_at}
@@ -51,6 +53,26 @@ pub record Refuses (old new : KeptShard) (p : Point) (w s : Demand) : Type 0 whe
   pub spent : w.strand.charged ≡ w.strand.budget
   pub strand : TakesStep given_up w s
   pub shard : new ≡ old
+
+-- the point is claimed, and nothing has changed
+pub record IsTaken (old new : KeptShard) (p : Point) (w s : Demand) : Type 0 where
+  pub missed : stored_at old.shard.state.cells p ≡ None
+  pub claimed : IsSome (holder old.shard.state.claims p)
+  pub strand : s ≡ w
+  pub shard : new ≡ old
+
+-- what came of an ask for the point in which the strand stays in hand
+abbrev pub OfAnswer : Batch → KeptShard → KeptShard → Point → Demand → Demand → Result Answer OutOfMemory → Type 0
+OfAnswer b old new p w s (Ok Heard) = Tells old new p w s
+OfAnswer b old new p w s (Ok Holds) = ClaimsIt b old new p w s
+OfAnswer b old new p w s (Ok Taken) = IsTaken old new p w s
+OfAnswer b old new p w s (Ok Refused) = Refuses old new p w s
+OfAnswer b old new p w s (Err e) = (s ≡ w) × (new ≡ old)
+
+-- what came of it that a strand was to wait
+abbrev pub OfPark : KeptShard → KeptShard → Point → Demand → Result Unit (Demand × OutOfMemory) → Type 0
+OfPark old new p w (Ok u) = WaitsThere old new p w
+OfPark old new p w (Err e) = (e.0 ≡ w) × (new ≡ old)
 
 -- what came of an ask for the point
 abbrev pub OfAsk : {X : Type 0} → Batch → KeptShard → KeptShard → Point → Demand → Result (Asked X) (Demand × OutOfMemory) → Type 0

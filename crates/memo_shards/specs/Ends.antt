@@ -1,8 +1,8 @@
 -- How claims end.
 use Rattle.std.specs.Prelude.{◌≡◌, if◌then◌else◌, List, [], ◌∷◌, ◌++◌, map, Result, Ok, Err}
+use Rattle.std.specs.Global.{Vec}
 use Rattle.std.specs.List.{AllZip}
 use Rattle.std.specs.List.Sorted.{IsStrictlySortedBy}
-use Rattle.smallvec.specs.SmallVec.{SmallVec}
 use Rattle.owned_text.specs.declared.OutOfMemory.{OutOfMemory}
 use Rattle.valid_intervals.specs.declared.Point.{Point}
 use Rattle.valid_intervals.specs.Cells.{same_point, point_cmp}
@@ -33,7 +33,12 @@ pub record FillsIt (b : Batch) (old new : KeptShard) (p : Point) (w s : Demand) 
   pub shard : new.shard ≡ filled_shard b.capacity w.strand.query.number p (cell_at b.circuit p) old.shard
   pub waiting : LeavesNone old new p
 
-abbrev pub OfFill : Batch → KeptShard → KeptShard → Point → Demand → Result (Demand × SmallVec Demand) (Demand × OutOfMemory) → Type 0
+-- what came of a fill in which the strand stays in hand
+abbrev pub OfFillTop : Batch → KeptShard → KeptShard → Point → Demand → Demand → Result (Vec Demand) OutOfMemory → Type 0
+OfFillTop b old new p w s (Ok woken) = FillsIt b old new p w s woken.items
+OfFillTop b old new p w s (Err e) = (s ≡ w) × (new ≡ old)
+
+abbrev pub OfFill : Batch → KeptShard → KeptShard → Point → Demand → Result (Demand × Vec Demand) (Demand × OutOfMemory) → Type 0
 OfFill b old new p w (Ok (s, woken)) = FillsIt b old new p w s woken.items
 OfFill b old new p w (Err e) = (e.0 ≡ w) × (new ≡ old)
 

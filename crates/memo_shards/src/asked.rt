@@ -14,3 +14,16 @@ pub enum Asked<B: BatchName> {
     /// It was refused the point, since its budget is spent.
     Spent(Strand<B>),
 }
+
+/// What came of an ask in which the strand stays in hand.
+#[derive(Clone, Copy, Debug, PartialEq, Eq)]
+pub enum Answer {
+    /// It heard the stored cell.
+    Heard,
+    /// It holds the claim of the point.
+    Holds,
+    /// The point is claimed, and nothing has changed.
+    Taken,
+    /// It was refused the point, since its budget is spent.
+    Refused,
+}

@@ -4,6 +4,8 @@
 //! the strands that wait for them, and the journal of what it did in the batch. A strand asks for the point that it needs next
 //! ([`Shard::ask`]). The answer is an [`Asked`]: it was told the stored cell, it has claimed the point, it waits, or its budget is
 //! spent. A point that it claimed it fills ([`Shard::fill`]) or drops ([`Shard::drop_top`]), and those that waited for it come back.
+//! `ask` and `fill` are handed the strand. [`Shard::answer`], with [`Shard::park`] where the point is claimed, and
+//! [`Shard::fill_top`] do the same to a strand that stays where it is, which takes less time.
 //!
 //! The strands are those of `demand_points`. Who calls is a worker (`worker_gate`), under the shard's lock, or a plan (`plan_core`).
 //!
@@ -13,7 +15,7 @@
 //! of the journal, each stored cell is right, and each strand that waits asks for a claimed point of the shard. [`Shard::facts`]
 //! hands this out.
 //!
-//! A call that is refused memory leaves the shard as it was and hands the strand back. `ask`, `fill` and `spend` may be refused; `drop_top`
+//! A call that is refused memory leaves the shard and the strand as they were. `ask`, `fill` and `spend` may be refused; `drop_top`
 //! and `free_claims` take none, since a claim takes the room in the journal that its end needs. With n cells and claims an ask takes
 //! O(log n) steps; a fill takes as many, and one for each strand that waited.
 //!
@@ -39,5 +41,5 @@ mod shard;
 mod tests;
 mod wake;
 
-pub use asked::Asked;
+pub use asked::{Answer, Asked};
 pub use shard::Shard;

@@ -16,7 +16,8 @@ pub fn make_room(journal: &mut Vec<Entry>, claims: usize, entries: usize) -> Res
     requires { vec_len journal.old + 2 * claims ≤ vec_capacity journal.old }
     ensures items { journal.new.items ≡ journal.old.items }
     ensures len { vec_len journal.new ≡ vec_len journal.old }
-    ensures room { OnOk result (vec_len journal.new + 2 * claims + entries ≤ vec_capacity journal.new) }
+    ensures room { OnOk result (vec_len journal.new + 2 * claims + entries ≤ vec_capacity
+        journal.new) }
     ensures kept { vec_len journal.new + 2 * claims ≤ vec_capacity journal.new }
 {
     // it says how large a capacity can be
@@ -61,7 +62,9 @@ pub fn record_fill(
     requires fits { FitsStore (cell_for p cell.now) store.old.cells }
     requires room { vec_len journal.old + 2 ≤ vec_capacity journal.old }
     ensures store { OnOk result (store.new ≡ after_put store.old (cell_for p cell.now)) }
-    ensures items { OnOk result (journal.new.items ≡ after_eviction (if pushes_out (cell_for p cell.now) store.old then last_key store.old.cells else None) journal.old.items ++ (entry.Filled q p cell.now) ∷ []) }
+    ensures items { OnOk result (journal.new.items ≡ after_eviction
+        (if pushes_out (cell_for p cell.now) store.old then last_key store.old.cells else None)
+        journal.old.items ++ (entry.Filled q p cell.now) ∷ []) }
     ensures len { vec_len journal.new ≤ vec_len journal.old + 2 }
     ensures capacity { vec_capacity journal.new ≡ vec_capacity journal.old }
     ensures err { OnErr result (store.new ≡ store.old) }

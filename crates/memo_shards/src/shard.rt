@@ -13,12 +13,12 @@ ghost use Rattle.strand_meaning.specs.declared.Next.TheVariants.{Ask, Fill, Drop
 ghost use Rattle.valid_intervals.specs.Cells.{stored_at};
 ghost use Rattle.plan_machine.specs.Shards.{recorded};
 ghost use Rattle.memo_shards.specs.KeptShards.{shard_at, IsKnownShard};
-ghost use Rattle.memo_shards.specs.Asks.{IsHere, IsUnfound, OfAsk};
-ghost use Rattle.memo_shards.specs.inner.Asks.{OfTell, OfClaim, OfPark};
-ghost use Rattle.memo_shards.specs.Ends.{OfFill, DropsIt, FreesAll, with_shard};
+ghost use Rattle.memo_shards.specs.Asks.{IsHere, IsUnfound, OfAnswer, OfAsk, OfPark};
+ghost use Rattle.memo_shards.specs.inner.Asks.{OfTell, OfClaim};
+ghost use Rattle.memo_shards.specs.Ends.{OfFill, OfFillTop, DropsIt, FreesAll, with_shard};
 ghost use Rattle.memo_shards.specs.inner.Ends.{drop_of};
 
-use crate::asked::Asked;
+use crate::asked::{Answer, Asked};
 use crate::room::{make_room, record_fill, told};
 use crate::wake::hear_all;
 use cell_store::CellStore;
@@ -27,7 +27,6 @@ use demand_points::{BatchName, Strand};
 use design::Design;
 use journal_meaning::Entry;
 use owned_text::OutOfMemory;
-use smallvec::SmallVec;
 use std::alloc::Global;
 use std::marker::Model;
 use valid_intervals::Point;
@@ -60,7 +59,12 @@ impl<B: BatchName> Shard<B> {
         requires number { number < B.batch.shards }
         requires opening { store ≡ contents B.batch.capacity (B.opening number) }
         requires right { AllByRecursion (IsRight B.batch.circuit) (B.opening number) }
-        ensures { result ≡ record { number = number; shard = shard_at (B.opening number) []; waiting = [] } }
+        ensures { result ≡ record {
+          number = number;
+          shard = shard_at (B.opening number) [];
+          waiting
+              = [];
+        } }
     {
         // it says that the cells are apart and within the capacity
         let _len = store.len();
@@ -164,8 +168,8 @@ impl<B: BatchName> Shard<B> {
         }
     }
 
-    // Lets the strand wait at the claimed point.
-    fn park(&mut self, strand: Strand<B>, p: Point) -> Result<(), (Strand<B>, OutOfMemory)>
+    /// Lets the strand wait at the claimed point. Where memory runs out, the strand comes back.
+    pub fn park(&mut self, strand: Strand<B>, p: Point) -> Result<(), (Strand<B>, OutOfMemory)>
         requires asks { next strand.strand ≡ Ask p }
         requires missed { stored_at self.old.shard.state.cells p ≡ None }
         requires claimed { IsSome (holder self.old.shard.state.claims p) }
@@ -175,6 +179,40 @@ impl<B: BatchName> Shard<B> {
         let parked = self.claims.wait(p, strand);
         self.claims.facts();
         parked
+    }
+
+    /// Asks for the point that the strand needs next. It is told the stored cell that covers it, claims it where it is neither stored
+    /// nor claimed, or is refused it where its budget is spent. Where the point is claimed, or memory runs out, nothing changes.
+    pub fn answer(
+        &mut self,
+        strand: &mut Strand<B>,
+        design: &Design,
+        p: Point,
+    ) -> Result<Answer, OutOfMemory>
+        requires design { design.now.circuit ≡ B.batch.circuit }
+        requires asks { next strand.old.strand ≡ Ask p }
+        requires here { IsHere B.batch self.old p }
+        ensures { OfAnswer B.batch self.old self.new p strand.old strand.new result }
+    {
+        match self.tell(strand, design, p) {
+            Err(error) => return Err(error),
+            Ok(told) => {
+                if told {
+                    return Ok(Answer::Heard);
+                }
+            }
+        }
+        if self.claims.holder(p).is_some() {
+            return Ok(Answer::Taken);
+        }
+        if strand.charged() < strand.task().budget {
+            return match self.claim(strand, design, p) {
+                Ok(()) => Ok(Answer::Holds),
+                Err(error) => Err(error),
+            };
+        }
+        strand.give_up();
+        Ok(Answer::Refused)
     }
 
     /// Asks for the point that the strand needs next. It is told the stored cell that covers it, waits where the point is claimed,
@@ -190,64 +228,66 @@ impl<B: BatchName> Shard<B> {
         requires here { IsHere B.batch self.old p }
         ensures { OfAsk B.batch self.old self.new p strand result }
     {
-        match self.tell(&mut strand, design, p) {
-            Err(error) => return Err((strand, error)),
-            Ok(told) => {
-                if told {
-                    return Ok(Asked::Told(strand));
-                }
-            }
-        }
-        if self.claims.holder(p).is_some() {
-            return match self.park(strand, p) {
+        match self.answer(&mut strand, design, p) {
+            Err(error) => Err((strand, error)),
+            Ok(Answer::Heard) => Ok(Asked::Told(strand)),
+            Ok(Answer::Holds) => Ok(Asked::Claimed(strand)),
+            Ok(Answer::Refused) => Ok(Asked::Spent(strand)),
+            Ok(Answer::Taken) => match self.park(strand, p) {
                 Ok(()) => Ok(Asked::Waits),
                 Err(back) => Err(back),
-            };
+            },
         }
-        if strand.charged() < strand.task().budget {
-            return match self.claim(&mut strand, design, p) {
-                Ok(()) => Ok(Asked::Claimed(strand)),
-                Err(error) => Err((strand, error)),
-            };
-        }
-        strand.give_up();
-        Ok(Asked::Spent(strand))
     }
 }
 
 impl<B: BatchName> Shard<B> {
     /// Fills the claimed point on top of the strand's stack. Those that wait for it come back in their order, and have heard the cell.
-    /// Where memory runs out, the strand comes back.
-    pub fn fill(
+    /// Where memory runs out, nothing changes.
+    pub fn fill_top(
         &mut self,
-        mut strand: Strand<B>,
+        strand: &mut Strand<B>,
         design: &Design,
         p: Point,
-    ) -> Result<(Strand<B>, SmallVec<Strand<B>, 2>), (Strand<B>, OutOfMemory)>
+    ) -> Result<Vec<Strand<B>>, OutOfMemory>
         requires design { design.now.circuit ≡ B.batch.circuit }
-        requires fills { next strand.strand ≡ Fill p }
-        requires held { holder self.old.shard.state.claims p ≡ Some strand.strand.query.number }
-        ensures { OfFill B.batch self.old self.new p strand result }
+        requires fills { next strand.old.strand ≡ Fill p }
+        requires held { holder self.old.shard.state.claims p ≡ Some strand.old.strand.query.number }
+        ensures { OfFillTop B.batch self.old self.new p strand.old strand.new result }
     {
         self.claims.facts();
         let q = strand.query().number;
         let cell = strand.top_cell(design);
         let Ok(()) = record_fill(&mut self.store, &mut self.journal, q, p, &cell) else {
-            return Err((strand, OutOfMemory));
+            return Err(OutOfMemory);
         };
         let mut woken = self.claims.take(p);
         self.claims.facts();
         hear_all(&mut woken, design, &cell);
-        let _ = strand.finish_top(design);
-        Ok((strand, woken))
+        strand.finish_with(design, &cell);
+        Ok(woken)
+    }
+
+    /// The same for a strand that is handed over, and comes back.
+    pub fn fill(
+        &mut self,
+        mut strand: Strand<B>,
+        design: &Design,
+        p: Point,
+    ) -> Result<(Strand<B>, Vec<Strand<B>>), (Strand<B>, OutOfMemory)>
+        requires design { design.now.circuit ≡ B.batch.circuit }
+        requires fills { next strand.strand ≡ Fill p }
+        requires held { holder self.old.shard.state.claims p ≡ Some strand.strand.query.number }
+        ensures { OfFill B.batch self.old self.new p strand result }
+    {
+        match self.fill_top(&mut strand, design, p) {
+            Ok(woken) => Ok((strand, woken)),
+            Err(error) => Err((strand, error)),
+        }
     }
 
     /// Gives up the claimed point on top of the stack of a spent strand. Those that wait for it come back in their order.
-    pub fn drop_top(
-        &mut self,
-        mut strand: Strand<B>,
-        p: Point,
-    ) -> (Strand<B>, SmallVec<Strand<B>, 2>)
+    pub fn drop_top(&mut self, mut strand: Strand<B>, p: Point) -> (Strand<B>, Vec<Strand<B>>)
         requires drops { next strand.strand ≡ Drop p }
         requires held { holder self.old.shard.state.claims p ≡ Some strand.strand.query.number }
         ensures { DropsIt self.old self.new p strand result.0 result.1.items }
@@ -267,7 +307,9 @@ impl<B: BatchName> Shard<B> {
         requires refused { next_in false strand.now.strand.roots strand.now.strand.stack ≡ Ask p }
         requires here { IsHere B.batch self.old p }
         requires unfound { IsUnfound self.old p }
-        ensures ok { OnOk result (self.new ≡ with_shard self.old (recorded (entry.Spent strand.now.strand.query.number p (length strand.now.strand.stack)) self.old.shard)) }
+        ensures ok { OnOk result (self.new ≡ with_shard self.old
+            (recorded (entry.Spent strand.now.strand.query.number p
+            (length strand.now.strand.stack)) self.old.shard)) }
         ensures err { OnErr result (self.new ≡ self.old) }
     {
         strand.facts();

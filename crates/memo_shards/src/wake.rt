@@ -7,13 +7,13 @@ ghost use Rattle.strand_meaning.specs.Strands.{heard};
 
 use demand_points::{BatchName, Strand};
 use design::Design;
-use smallvec::SmallVec;
 use valid_intervals::Cell;
 
 /// Each of these strands hears the cell that it asked for.
-pub fn hear_all<B: BatchName>(list: &mut SmallVec<Strand<B>, 2>, design: &Design, cell: &Cell)
+pub fn hear_all<B: BatchName>(list: &mut Vec<Strand<B>>, design: &Design, cell: &Cell)
     requires design { design.now.circuit ≡ B.batch.circuit }
-    requires answer { AllByRecursion (λ s. IsAskedCell B.batch.circuit s.strand cell.now) list.old.items }
+    requires answer { AllByRecursion (λ s. IsAskedCell B.batch.circuit s.strand cell.now)
+        list.old.items }
     ensures { AllZip (TakesStep heard) list.old.items list.new.items }
 {
     for s in list.as_mut_slice().iter_mut() {

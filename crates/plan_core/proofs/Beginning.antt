@@ -25,7 +25,7 @@ use Rattle.memo_shards.specs.inner.Seen.{numbered_strand, waited_shard, parked_o
 use Rattle.plan_core.specs.inner.Places.{seats, tag, tags, tag_of}
 use Rattle.plan_core.specs.inner.Parts.{blank, waited_shards, plan_at, IsPlan}
 use Rattle.plan_core.specs.Parts.{IsFreshStrand, AreFreshStrands, AreFree, shards_in, strands_in, plan_of_new}
-use Rattle.plan_core.proofs.Lists.{get-or-at}
+use Rattle.plan_core.proofs.Lists.{get-or-at, none-left}
 
 pub shards-same : (shards : List KeptShard) → shards_of (waited_shards shards) ≡ shards_in shards
 shards-same [] = refl
@@ -61,10 +61,6 @@ pause-one strands now after old new many fewer s r pausing e less step push =
           ∙ ap (λ w. tags now ++ Some w ∷ map tag_of new) same ∙ ap (λ l. tags now ++ map tag_of l) (sym e) ∙ pausing.same;
       count = let k : many ≡ length (s ∷ new) = pausing.count ∙ ap (λ (l : List Demand). length l) e in omega arith;
     }
-
-none-left : (left : List Demand) → length left ≡ 0 → left ≡ []
-none-left [] e = refl
-none-left (x ∷ xs) e = absurd (omega arith)
 
 pub pause-last : (strands : List Demand) (now : List (Option Demand)) (left : List Demand) (many : ℕ) → IsPausing strands now left many → many ≡ 0 → tags now ≡ map tag_of strands
 pause-last strands now left many pausing e =

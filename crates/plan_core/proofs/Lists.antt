@@ -1,6 +1,5 @@
 -- Lists of places, and strands that go back to them.
-use Rattle.std.proofs.Common.{◌≡◌, ℕ, zero, suc, ◌<◌, ◌-◌, List, [], ◌∷◌, length, map, take, get_or, slice_get, slice_set, refl, ap, sym, ◌∙◌, subst, arith, inl, inr, Option, Some, None}
-use Rattle.std.specs.List.{slice_range}
+use Rattle.std.proofs.Common.{◌≡◌, ℕ, zero, suc, ◌+◌, ◌<◌, List, [], ◌∷◌, length, map, take, get_or, slice_get, slice_set, refl, ap, sym, ◌∙◌, subst, arith, inl, inr, Option, Some, None}
 use Rattle.std.proofs.Math.ListN.{length-set}
 use Rattle.std.proofs.lemmas.List.{map-set}
 use Rattle.std.proofs.lemmas.Bool.{cases_eq}
@@ -96,19 +95,24 @@ set-numbers places numbers n s e low i r h = elim (cases_eq i n) [
   | inr k ↦ numbers i r (sym (set-other places n i (Some s) k) ∙ h)
 ]
 
--- strands go back one after another: these are left of the list, and the places are now so
-pub record IsPutting (places : List (Option Demand)) (list : List Demand) (now : List (Option Demand)) (left : List Demand) : Type 0 where
+pub none-left : (left : List Demand) → length left ≡ 0 → left ≡ []
+none-left [] e = refl
+none-left (x ∷ xs) e = absurd (omega arith)
+
+-- strands go back one after another: these are left of the list, so many, and the places are now so
+pub record IsPutting (places : List (Option Demand)) (list : List Demand) (now : List (Option Demand)) (left : List Demand) (many : ℕ) : Type 0 where
   pub same : put_back itself (seats now) (map numbered_strand left) ≡ put_back itself (seats places) (map numbered_strand list)
   pub low : HaveNumbers (length now) left
   pub long : length now ≡ length places
   pub numbered : AreNumbered now
+  pub count : many ≡ length left
 
-pub put-first : (places : List (Option Demand)) (list : List Demand) (now : List (Option Demand)) (old new : List Demand) (s : Demand) → IsPutting places list now old → old ≡ s ∷ new → s.number < length now
-put-first places list now old new s putting e = let k : HaveNumbers (length now) (s ∷ new) = subst (HaveNumbers (length now)) e putting.low in k.0
+pub put-first : (places : List (Option Demand)) (list : List Demand) (now : List (Option Demand)) (old new : List Demand) (many : ℕ) (s : Demand) → IsPutting places list now old many → old ≡ s ∷ new → s.number < length now
+put-first places list now old new many s putting e = let k : HaveNumbers (length now) (s ∷ new) = subst (HaveNumbers (length now)) e putting.low in k.0
 
-pub put-one : (places : List (Option Demand)) (list : List Demand) (now : List (Option Demand)) (old new : List Demand) (s r : Demand) → IsPutting places list now old → old ≡ s ∷ new → TakesStep itself s r
-    → (n : ℕ) → n ≡ s.number → (after : List (Option Demand)) → after ≡ slice_set now n (Some r) → IsPutting places list after new
-put-one places list now old new s r putting e step n is after set =
+pub put-one : (places : List (Option Demand)) (list : List Demand) (now : List (Option Demand)) (old new : List Demand) (many fewer : ℕ) (s r : Demand) → IsPutting places list now old many → old ≡ s ∷ new → fewer + 1 ≡ many → TakesStep itself s r
+    → (n : ℕ) → n ≡ s.number → (after : List (Option Demand)) → after ≡ slice_set now n (Some r) → IsPutting places list after new fewer
+put-one places list now old new many fewer s r putting e less step n is after set =
     let low : HaveNumbers (length now) (s ∷ new) = subst (HaveNumbers (length now)) e putting.low in
     let after_is : after ≡ slice_set now s.number (Some r) = set ∙ ap (λ k. slice_set now k (Some r)) is in
     let long : length after ≡ length now = ap length after_is ∙ length-set now s.number (Some r) in
@@ -118,14 +122,8 @@ put-one places list now old new s r putting e step n is after set =
       low = subst (λ m. HaveNumbers m new) (sym long) low.1;
       long = long ∙ putting.long;
       numbered = subst AreNumbered (sym after_is) (set-numbers now putting.numbered s.number r step.number low.0);
+      count = let k : many ≡ length (s ∷ new) = putting.count ∙ ap (λ (l : List Demand). length l) e in omega arith;
     }
 
-pub put-last : (places : List (Option Demand)) (list : List Demand) (now : List (Option Demand)) (left : List Demand) → IsPutting places list now left → left ≡ [] → seats now ≡ put_back itself (seats places) (map numbered_strand list)
-put-last places list now left putting e = ap (λ l. put_back itself (seats now) (map numbered_strand l)) (sym e) ∙ putting.same
-
-take-all : {X : Type 0} (xs : List X) (n : ℕ) → n ≡ length xs → take n xs ≡ xs
-take-all {X} [] n e = subst (λ k. take {A = X} k [] ≡ []) (sym e) refl
-take-all (x ∷ xs) n e = subst (λ k. take k (x ∷ xs) ≡ x ∷ xs) (sym e) (ap (λ l. x ∷ l) (take-all xs (length xs) refl))
-
-pub whole : {X : Type 0} (xs : List X) (n : ℕ) → n ≡ length xs → slice_range xs 0 n ≡ xs
-whole xs n e = take-all xs (n - 0) (omega arith)
+pub put-last : (places : List (Option Demand)) (list : List Demand) (now : List (Option Demand)) (left : List Demand) (many : ℕ) → IsPutting places list now left many → many ≡ 0 → seats now ≡ put_back itself (seats places) (map numbered_strand list)
+put-last places list now left many putting e = ap (λ l. put_back itself (seats now) (map numbered_strand l)) (sym (none-left left (sym putting.count ∙ e))) ∙ putting.same

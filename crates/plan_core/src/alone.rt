@@ -35,8 +35,10 @@ pub enum Alone {
 /// The point that the strand in the place asks for, if it asks for one.
 pub fn asked_at<B: BatchName>(places: &[Option<Paused<B>>], number: usize) -> Option<Point>
     requires { number < length places.now }
-    ensures all { (s : Demand) (p : PointRecord) → slice_get places.now number ≡ Some (Some s) → next s.strand ≡ Ask p → result ≡ Some p }
-    ensures only { IfSome result (λ p. (s : Demand) × (slice_get places.now number ≡ Some (Some s)) × (next s.strand ≡ Ask p)) }
+    ensures all { (s : Demand) (p : PointRecord) → slice_get places.now number ≡ Some (Some s)
+        → next s.strand ≡ Ask p → result ≡ Some p }
+    ensures only { IfSome result (λ p. (s : Demand) ×
+        (slice_get places.now number ≡ Some (Some s)) × (next s.strand ≡ Ask p)) }
 {
     match next_at(places, number) {
         Some(Next::Ask(p)) => Some(p),
@@ -54,7 +56,9 @@ fn spend<B: BatchName>(
     requires refused { next_in false strand.now.strand.roots strand.now.strand.stack ≡ Ask p }
     requires here { IsHere B.batch shard.old p }
     requires unfound { IsUnfound shard.old p }
-    ensures ok { OnOk result (shard.new ≡ with_shard shard.old (recorded (entry.Spent strand.now.strand.query.number p (length strand.now.strand.stack)) shard.old.shard)) }
+    ensures ok { OnOk result (shard.new ≡ with_shard shard.old
+        (recorded (entry.Spent strand.now.strand.query.number p (length strand.now.strand.stack))
+        shard.old.shard)) }
     ensures err { OnErr result (shard.new ≡ shard.old) }
     ensures known { IsKnownShard B.batch B.opening shard.new }
 {
@@ -72,7 +76,8 @@ pub fn refuse<B: BatchName>(
 ) -> Result<(), OutOfMemory>
     requires parts { IsPlan B.batch B.opening places.now shards.old.items }
     requires refused { IsRefusedAt (plan_at places.now shards.old.items) number p }
-    ensures { OfRefusal B.batch B.opening (plan_at places.now shards.old.items) number p places.now shards.new.items result }
+    ensures { OfRefusal B.batch B.opening (plan_at places.now shards.old.items) number p places.now
+        shards.new.items result }
 {
     let home = p.signal as usize % shards.len();
     match strand_at(places, number) {

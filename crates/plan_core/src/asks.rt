@@ -20,7 +20,8 @@ use valid_intervals::Point;
 
 /// What is known of every shard of a list.
 pub fn know_all<B: BatchName>(shards: &[Shard<B>])
-    ensures { (i : ℕ) (m : KeptShard) → slice_get shards.now i ≡ Some m → IsKnownShard B.batch B.opening m }
+    ensures { (i : ℕ) (m : KeptShard) → slice_get shards.now i ≡ Some m
+        → IsKnownShard B.batch B.opening m }
 {
     for shard in shards {
         shard.facts();
@@ -61,8 +62,10 @@ pub fn ask_turn<B: BatchName>(
 ) -> Result<Turned, OutOfMemory>
     requires design { design.now.circuit ≡ B.batch.circuit }
     requires parts { IsPlan B.batch B.opening places.old.items shards.old.items }
-    requires asks { (s : Demand) × ((slice_get places.old.items number ≡ Some (Some s)) × (next s.strand ≡ Ask p)) }
-    ensures { OfTurn B.batch B.opening (plan_at places.old.items shards.old.items) number places.new.items shards.new.items result }
+    requires asks { (s : Demand) × ((slice_get places.old.items number ≡ Some (Some s)) ×
+        (next s.strand ≡ Ask p)) }
+    ensures { OfTurn B.batch B.opening (plan_at places.old.items shards.old.items) number
+        places.new.items shards.new.items result }
 {
     let home = p.signal as usize % shards.len();
     let paused = take_at(places, number);

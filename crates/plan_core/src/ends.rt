@@ -17,11 +17,10 @@ use design::Design;
 use memo_shards::Shard;
 use owned_text::OutOfMemory;
 use plan_machine::Turned;
-use smallvec::SmallVec;
 use valid_intervals::Point;
 
 /// A strand, and those that its step let out.
-type Ended<B> = (Strand<B>, SmallVec<Strand<B>, 2>);
+type Ended<B> = (Strand<B>, Vec<Strand<B>>);
 
 /// Fills the point in its shard.
 fn fill<B: BatchName>(
@@ -51,8 +50,10 @@ pub fn fill_turn<B: BatchName>(
 ) -> Result<Turned, OutOfMemory>
     requires design { design.now.circuit ≡ B.batch.circuit }
     requires parts { IsPlan B.batch B.opening places.old.items shards.old.items }
-    requires fills { (s : Demand) × ((slice_get places.old.items number ≡ Some (Some s)) × (next s.strand ≡ Fill p)) }
-    ensures { OfTurn B.batch B.opening (plan_at places.old.items shards.old.items) number places.new.items shards.new.items result }
+    requires fills { (s : Demand) × ((slice_get places.old.items number ≡ Some (Some s)) ×
+        (next s.strand ≡ Fill p)) }
+    ensures { OfTurn B.batch B.opening (plan_at places.old.items shards.old.items) number
+        places.new.items shards.new.items result }
 {
     let home = p.signal as usize % shards.len();
     let strand = take_at(places, number).into_strand();
@@ -91,8 +92,10 @@ pub fn drop_turn<B: BatchName>(
 ) -> Turned
     requires design { design.now.circuit ≡ B.batch.circuit }
     requires parts { IsPlan B.batch B.opening places.old.items shards.old.items }
-    requires drops { (s : Demand) × ((slice_get places.old.items number ≡ Some (Some s)) × (next s.strand ≡ Drop p)) }
-    ensures { OfTurn B.batch B.opening (plan_at places.old.items shards.old.items) number places.new.items shards.new.items (Ok result) }
+    requires drops { (s : Demand) × ((slice_get places.old.items number ≡ Some (Some s)) ×
+        (next s.strand ≡ Drop p)) }
+    ensures { OfTurn B.batch B.opening (plan_at places.old.items shards.old.items) number
+        places.new.items shards.new.items (Ok result) }
 {
     let home = p.signal as usize % shards.len();
     let strand = take_at(places, number).into_strand();

@@ -11,7 +11,6 @@ use crate::paused::Paused;
 use demand_points::{BatchName, Strand};
 use design::Design;
 use owned_text::OutOfMemory;
-use smallvec::SmallVec;
 use std::alloc::Global;
 use strand_meaning::Next;
 
@@ -67,17 +66,18 @@ pub fn put_at<B: BatchName>(
 /// Each strand goes to the place of its number.
 pub fn put_back<B: BatchName>(
     places: &mut Vec<Option<Paused<B>>>,
-    mut woken: SmallVec<Strand<B>, 2>,
+    woken: Vec<Strand<B>>,
     design: &Design,
 )
     requires design { design.now.circuit ≡ B.batch.circuit }
     requires numbers { HaveNumbers (length places.old.items) woken.items }
     requires numbered { AreNumbered places.old.items }
-    ensures seats { seats places.new.items ≡ put_all itself (seats places.old.items) (map numbered_strand woken.items) }
+    ensures seats { seats places.new.items ≡ put_all itself (seats places.old.items)
+        (map numbered_strand woken.items) }
     ensures length { length places.new.items ≡ length places.old.items }
     ensures numbered { AreNumbered places.new.items }
 {
-    for strand in woken.drain(..) {
+    for strand in woken {
         let number = strand.number() as usize;
         put_at(places, number, Some(Paused::new(strand, design)));
     }

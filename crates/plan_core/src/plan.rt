@@ -67,7 +67,9 @@ impl<B: BatchName> Plan<B> {
         requires strands { AreFreshStrands B.batch strands.items }
         requires shards { AreFree B.batch shards.items }
         ensures ok { IfOk result (λ plan. plan ≡ plan_of_new strands.items shards.items) }
-        ensures alone { (n : ℕ) (a : Start) (s : Demand) → slice_get strands.items n ≡ Some s → s.strand ≡ started B.batch.circuit a → IfOk result (BeginsAlone B.batch B.opening n a) }
+        ensures alone { (n : ℕ) (a : Start) (s : Demand) → slice_get strands.items n ≡ Some s
+            → s.strand ≡ started B.batch.circuit a
+            → IfOk result (BeginsAlone B.batch B.opening n a) }
     {
         know_all(&shards);
         let places = pause_all(alloc, strands, design)?;
@@ -103,8 +105,11 @@ impl<B: BatchName> Plan<B> {
         ensures count { length self.new.strands ≡ length self.old.strands }
         ensures turns { IfOk result (λ k. k ≡ turns B.batch self.old schedule.now) }
         ensures left { IfOk result (λ k. k ≤ all_left B.batch self.old) }
-        ensures bounded { (starts : List Start) (shards : List MachineShard) → self.old ≡ new_plan B.batch starts shards → IfOk result (λ k. k ≤ bound B.batch starts) }
-        ensures err { OnErr result ((k : ℕ) × ((k ≤ length schedule.now) × (self.new ≡ run B.batch self.old (take k schedule.now)))) }
+        ensures bounded { (starts : List Start) (shards : List MachineShard)
+            → self.old ≡ new_plan B.batch starts shards
+            → IfOk result (λ k. k ≤ bound B.batch starts) }
+        ensures err { OnErr result ((k : ℕ) ×
+            ((k ≤ length schedule.now) × (self.new ≡ run B.batch self.old (take k schedule.now)))) }
     {
         let mut turns = 0;
         for &number in schedule {
@@ -124,7 +129,9 @@ impl<B: BatchName> Plan<B> {
     // Records that the strand with this number was refused the point.
     fn refuse(&mut self, number: u32, p: Point) -> Result<(), OutOfMemory>
         requires { IsRefusedAt self.old number p }
-        ensures ok { OnOk result ((s : MachineStrand) × ((slice_get self.old.strands number ≡ Some s) × (self.new ≡ refused self.old s (Ask p)))) }
+        ensures ok { OnOk result ((s : MachineStrand) ×
+            ((slice_get self.old.strands number ≡ Some s) ×
+            (self.new ≡ refused self.old s (Ask p)))) }
         ensures err { OnErr result (self.new ≡ self.old) }
     {
         refuse(&self.places, &mut self.shards, number as usize, p)
@@ -141,12 +148,17 @@ impl<B: BatchName> Plan<B> {
         requires design { design.now.circuit ≡ B.batch.circuit }
         requires number { number < length self.old.strands }
         ensures count { length self.new.strands ≡ length self.old.strands }
-        ensures less { IfOk result (λ more. more ≡ true → all_left B.batch self.new < all_left B.batch self.old) }
-        ensures runs { (a : Start) (old : PlanRecord) → RunsAlone B.batch B.opening number a old self.old (point_of alone.old)
+        ensures less { IfOk result (λ more. more ≡ true
+            → all_left B.batch self.new < all_left B.batch self.old) }
+        ensures runs { (a : Start) (old : PlanRecord)
+            → RunsAlone B.batch B.opening number a old self.old (point_of alone.old)
             → OnOk result (RunsAlone B.batch B.opening number a old self.new (point_of alone.new)) }
-        ensures ended { (a : Start) (old : PlanRecord) → RunsAlone B.batch B.opening number a old self.old (point_of alone.old)
-            → IfOk result (λ more. more ≡ false → RanAlone B.batch B.opening number a old self.new (point_of alone.new)) }
-        ensures stops { (a : Start) (old : PlanRecord) → RunsAlone B.batch B.opening number a old self.old (point_of alone.old)
+        ensures ended { (a : Start) (old : PlanRecord)
+            → RunsAlone B.batch B.opening number a old self.old (point_of alone.old)
+            → IfOk result (λ more. more ≡ false
+            → RanAlone B.batch B.opening number a old self.new (point_of alone.new)) }
+        ensures stops { (a : Start) (old : PlanRecord)
+            → RunsAlone B.batch B.opening number a old self.old (point_of alone.old)
             → OnErr result (StopsAlone B.batch B.opening number a old self.new) }
     {
         let asked = self.asked(number);
@@ -168,7 +180,8 @@ impl<B: BatchName> Plan<B> {
         requires design { design.now.circuit ≡ B.batch.circuit }
         requires number { number < length self.old.strands }
         ensures ran { (a : Start) → BeginsAlone B.batch B.opening number a self.old
-            → IfOk result (λ alone. RanAlone B.batch B.opening number a self.old self.new (point_of alone)) }
+            → IfOk result (λ alone. RanAlone B.batch B.opening number a self.old self.new
+            (point_of alone)) }
         ensures stops { (a : Start) → BeginsAlone B.batch B.opening number a self.old
             → OnErr result (StopsAlone B.batch B.opening number a self.old self.new) }
     {
@@ -181,8 +194,10 @@ impl<B: BatchName> Plan<B> {
     /// The numbers of the ready strands, in ascending order.
     pub fn ready(&self, alloc: Global) -> Result<Vec<u32>, OutOfMemory>
         ensures numbers { IfOk result (λ v. v.items ≡ ready self.now) }
-        ensures none { IfOk result (λ v. v.items ≡ [] → (i : ℕ) (s : MachineStrand) → slice_get self.now.strands i ≡ Some s → HasEnded s) }
-        ensures all { IfOk result (λ v. ((i : ℕ) (s : MachineStrand) → slice_get self.now.strands i ≡ Some s → HasEnded s) → v.items ≡ []) }
+        ensures none { IfOk result (λ v. v.items ≡ [] → (i : ℕ) (s : MachineStrand)
+            → slice_get self.now.strands i ≡ Some s → HasEnded s) }
+        ensures all { IfOk result (λ v. ((i : ℕ) (s : MachineStrand)
+            → slice_get self.now.strands i ≡ Some s → HasEnded s) → v.items ≡ []) }
     {
         ready_in(alloc, &self.places)
     }
@@ -190,7 +205,8 @@ impl<B: BatchName> Plan<B> {
     /// The strand with this number. There is none where the number is none of the plan's, or the strand waits.
     pub fn strand(&self, number: u32) -> Option<&Strand<B>>
         ensures some { IfSome result (λ s. IsAwake self.now number s.now) }
-        ensures none { result ≡ None → (s : MachineStrand) → slice_get self.now.strands number ≡ Some s → s.waits ≡ true }
+        ensures none { result ≡ None → (s : MachineStrand)
+            → slice_get self.now.strands number ≡ Some s → s.waits ≡ true }
     {
         strand_at(&self.places, number as usize)
     }

@@ -25,7 +25,8 @@ pub fn turn<B: BatchName>(
     requires design { design.now.circuit ≡ B.batch.circuit }
     requires parts { IsPlan B.batch B.opening places.old.items shards.old.items }
     requires number { number < length places.old.items }
-    ensures { OfTurn B.batch B.opening (plan_at places.old.items shards.old.items) number places.new.items shards.new.items result }
+    ensures { OfTurn B.batch B.opening (plan_at places.old.items shards.old.items) number
+        places.new.items shards.new.items result }
 {
     match next_at(places, number) {
         None => Ok(Turned::NotReady),

@@ -26,7 +26,8 @@ pub struct Board<B: BatchName> {
 impl<B: BatchName> Board<B> {
     // Whether the task of the strand's number is that of the strand.
     fn has_task_of(&self, strand: &Strand<B>) -> bool
-        ensures { result ≡ true → slice_get self.now.tasks.items strand.now.number ≡ Some (task_of strand.now) }
+        ensures { result ≡ true → slice_get self.now.tasks.items strand.now.number ≡ Some
+            (task_of strand.now) }
     {
         let n = strand.number() as usize;
         n < self.tasks.len() && self.tasks[n] == strand.task()
@@ -34,9 +35,12 @@ impl<B: BatchName> Board<B> {
 
     // Whether the strand may stand at its place.
     fn fits(&self, strand: &Strand<B>) -> bool
-        ensures task { result ≡ true → slice_get self.now.tasks.items strand.now.number ≡ Some (task_of strand.now) }
-        ensures spent { result ≡ true → strand.now.strand.spent ≡ true → strand.now.strand.charged ≡ strand.now.strand.budget }
-        ensures place { result ≡ true → slice_get self.now.places.items strand.now.number ≡ Some None }
+        ensures task { result ≡ true → slice_get self.now.tasks.items strand.now.number ≡ Some
+            (task_of strand.now) }
+        ensures spent { result ≡ true → strand.now.strand.spent ≡ true
+            → strand.now.strand.charged ≡ strand.now.strand.budget }
+        ensures place { result ≡ true → slice_get self.now.places.items strand.now.number ≡ Some
+            None }
     {
         if !self.has_task_of(strand) || gave_up_early(strand) {
             return false;
@@ -93,7 +97,8 @@ fn has_count<B: BatchName>(place: &Option<Strand<B>>, count: u64) -> bool
 
 // Whether the strand was refused a point below its budget.
 fn gave_up_early<B: BatchName>(strand: &Strand<B>) -> bool
-    ensures { result ≡ false → strand.now.strand.spent ≡ true → strand.now.strand.charged ≡ strand.now.strand.budget }
+    ensures { result ≡ false → strand.now.strand.spent ≡ true
+        → strand.now.strand.charged ≡ strand.now.strand.budget }
 {
     strand.is_spent() && strand.charged() != strand.task().budget
 }

@@ -1,10 +1,11 @@
 //! Workers that serve the strands of one batch together.
 //!
-//! [`run_workers`] starts 1 to 64 workers. Each takes a strand from the queue of those that are ready and makes its turns, until the
-//! strand waits in a shard or has ended; the strands that come out of a claim go into the queue. Each shard stands behind a lock of
-//! its own, with a count of the claims and fills of each strand: a claim or a fill takes no other lock. A strand that has ended goes to
-//! its place on the board, which is one lock more. No worker holds two locks, and each tries a lock for some microseconds before it
-//! sleeps for it. One that finds no strand ready sleeps at the board, and a push wakes one of those that sleep.
+//! [`run_workers`] starts 1 to 64 workers, and no more than there are strands; the first runs on the caller's thread. Each takes
+//! a strand from the queue of those that are ready and makes its turns, until the strand waits in a shard or has ended; the
+//! strands that come out of a claim go into the queue. Each shard stands behind a lock of its own, with a count of the claims and
+//! fills of each strand: a claim or a fill takes no other lock. A strand that has ended goes to its place on the board, which is
+//! one lock more. No worker holds two locks, and each tries a lock for some microseconds before it sleeps for it. One that finds
+//! no strand ready sleeps at the board, and a push wakes one of those that sleep.
 //!
 //! What a caller may rely on, under every schedule of the threads:
 //!

@@ -63,7 +63,8 @@ impl<B: BatchName> EndedList<B> {
     /// The strand as it ended; none exactly where its place is empty.
     pub fn strand(&self, number: u32) -> Option<&Strand<B>>
         requires { number < length self.now }
-        ensures { MatchOption result (slice_get self.now number ≡ Some None) (λ s. slice_get self.now number ≡ Some (Some s.now)) }
+        ensures { MatchOption result (slice_get self.now number ≡ Some None)
+            (λ s. slice_get self.now number ≡ Some (Some s.now)) }
     {
         self.places[number as usize].as_ref()
     }

@@ -217,7 +217,8 @@ fn all_run<B: BatchName + Send + Sync, G: Gate, R: Threads + Wait + Sync>(
     Ok(left.iter().any(|x| *x))
 }
 
-/// Serves the strands by so many workers at once, until each has ended, a worker is told to leave by the gate, or memory runs out.
+/// Serves the strands by so many workers at once, and by no more than there are strands, until each has ended, a worker is told to
+/// leave by the gate, or memory runs out.
 pub fn run_workers<B: BatchName + Send + Sync, G: Gate, R: Threads + Wait + Sync>(
     rt: &R,
     alloc: Global,
@@ -248,6 +249,7 @@ pub fn run_workers<B: BatchName + Send + Sync, G: Gate, R: Threads + Wait + Sync
     let count = shards.len() as u32;
     let slots = locked(alloc, shards, strands.len())?;
     let capacity = (strands.len() as u32).max(1);
+    let workers = workers.min(capacity);
     let (queue, mut passes) = ReadyQueue::new(alloc, capacity, workers + 1)?;
     let Some(mut mine) = passes.pop() else {
         unreachable!()

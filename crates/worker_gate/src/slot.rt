@@ -1,18 +1,18 @@
 //! What the lock of a shard keeps.
 
-ghost use Rattle.std.specs.Prelude.{◌≡◌, true, Some, IfSome, sum};
+ghost use Rattle.std.specs.Prelude.{◌≡◌, true, Some, None, IfSome, IsSome, sum};
 ghost use Rattle.journal_meaning.specs.States.{holder};
 ghost use Rattle.strand_meaning.specs.Strands.{next};
+ghost use Rattle.valid_intervals.specs.Cells.{stored_at};
 ghost use Rattle.strand_meaning.specs.declared.Next.TheVariants.{Ask, Fill, Drop};
-ghost use Rattle.memo_shards.specs.Asks.{IsHere, OfAsk};
-ghost use Rattle.memo_shards.specs.Ends.{OfFill, DropsIt};
+ghost use Rattle.memo_shards.specs.Asks.{IsHere, OfAnswer, OfPark};
+ghost use Rattle.memo_shards.specs.Ends.{OfFillTop, DropsIt};
 ghost use Rattle.worker_gate.specs.Ends.{booked_in, HasRoom};
 
 use demand_points::{BatchName, Point, Strand};
 use design::Design;
-use memo_shards::{Asked, Shard};
+use memo_shards::{Answer, Shard};
 use owned_text::OutOfMemory;
-use smallvec::SmallVec;
 
 /// A shard, and for each strand the number of claims and fills that the shard has recorded of it.
 #[derive(Drop)]
@@ -32,51 +32,63 @@ impl<B: BatchName> Held<B> {
     }
 
     /// Asks for the point, and books a claim.
-    pub fn ask(
+    pub fn answer(
         &mut self,
-        strand: Strand<B>,
+        strand: &mut Strand<B>,
         design: &Design,
         p: Point,
-    ) -> Result<Asked<B>, (Strand<B>, OutOfMemory)>
-        requires room { HasRoom self.old.counts.items strand.number }
+    ) -> Result<Answer, OutOfMemory>
+        requires room { HasRoom self.old.counts.items strand.old.number }
         requires design { design.now.circuit ≡ B.batch.circuit }
-        requires asks { next strand.strand ≡ Ask p }
+        requires asks { next strand.old.strand ≡ Ask p }
         requires here { IsHere B.batch self.old.shard p }
-        ensures { OfAsk B.batch self.old.shard self.new.shard p strand result }
+        ensures { OfAnswer B.batch self.old.shard self.new.shard p strand.old strand.new result }
     {
         let Held { shard, counts } = self;
         let n = strand.number() as usize;
-        let asked = shard.ask(strand, design, p);
-        if let Ok(Asked::Claimed(_)) = &asked {
+        let came = shard.answer(strand, design, p);
+        if let Ok(Answer::Holds) = &came {
             counts[n] += 1;
         }
-        asked
+        came
+    }
+
+    /// Lets the strand wait at the claimed point.
+    pub fn park(&mut self, strand: Strand<B>, p: Point) -> Result<(), (Strand<B>, OutOfMemory)>
+        requires asks { next strand.strand ≡ Ask p }
+        requires missed { stored_at self.old.shard.shard.state.cells p ≡ None }
+        requires claimed { IsSome (holder self.old.shard.shard.state.claims p) }
+        ensures { OfPark self.old.shard self.new.shard p strand result }
+    {
+        self.shard.park(strand, p)
     }
 
     /// Fills the claimed point on top of the strand's stack, and books it.
     pub fn fill(
         &mut self,
-        strand: Strand<B>,
+        strand: &mut Strand<B>,
         design: &Design,
         p: Point,
-    ) -> Result<(Strand<B>, SmallVec<Strand<B>, 2>), (Strand<B>, OutOfMemory)>
-        requires room { HasRoom self.old.counts.items strand.number }
+    ) -> Result<Vec<Strand<B>>, OutOfMemory>
+        requires room { HasRoom self.old.counts.items strand.old.number }
         requires design { design.now.circuit ≡ B.batch.circuit }
-        requires fills { next strand.strand ≡ Fill p }
-        requires held { holder self.old.shard.shard.state.claims p ≡ Some strand.strand.query.number }
-        ensures { OfFill B.batch self.old.shard self.new.shard p strand result }
+        requires fills { next strand.old.strand ≡ Fill p }
+        requires held { holder self.old.shard.shard.state.claims p ≡ Some
+            strand.old.strand.query.number }
+        ensures { OfFillTop B.batch self.old.shard self.new.shard p strand.old strand.new result }
     {
         let Held { shard, counts } = self;
         let n = strand.number() as usize;
-        let filled = shard.fill(strand, design, p)?;
+        let woken = shard.fill_top(strand, design, p)?;
         counts[n] += 1;
-        Ok(filled)
+        Ok(woken)
     }
 
     /// Gives up the claimed point on top of the stack of a spent strand.
-    pub fn drop_top(&mut self, strand: Strand<B>, p: Point) -> (Strand<B>, SmallVec<Strand<B>, 2>)
+    pub fn drop_top(&mut self, strand: Strand<B>, p: Point) -> (Strand<B>, Vec<Strand<B>>)
         requires drops { next strand.strand ≡ Drop p }
-        requires held { holder self.old.shard.shard.state.claims p ≡ Some strand.strand.query.number }
+        requires held { holder self.old.shard.shard.state.claims p ≡ Some
+            strand.strand.query.number }
         ensures { DropsIt self.old.shard self.new.shard p strand result.0 result.1.items }
     {
         self.shard.drop_top(strand, p)

@@ -176,7 +176,8 @@ fn serve<B: BatchName + Send + Sync, G: Gate, R: Threads + Wait + Sync>(
 
 /// The query with this number for one time of a signal, where the design has it.
 fn at(design: &Design, number: u32, name: &str, time: u32) -> Option<Query>
-    ensures { IfSome result (λ q. (q.number ≡ number) × (q.signal < length design.now.circuit.drivers) × (q.to ≤ design.now.circuit.horizon + 1)) }
+    ensures { IfSome result (λ q. (q.number ≡ number) ×
+        (q.signal < length design.now.circuit.drivers) × (q.to ≤ design.now.circuit.horizon + 1)) }
 {
     design.facts();
     let signal = design.netlist().id_of(name.as_bytes())?;
@@ -202,8 +203,10 @@ fn serve_two<G: Gate, R: Threads + Wait + Sync>(
     shards: u32,
     gate: &G,
 ) -> Result<Option<Served>, OutOfMemory>
-    requires first { IfSome first (λ q. (q.number ≡ 1) × (q.signal < length design.now.circuit.drivers) × (q.to ≤ design.now.circuit.horizon + 1)) }
-    requires second { IfSome second (λ q. (q.number ≡ 2) × (q.signal < length design.now.circuit.drivers) × (q.to ≤ design.now.circuit.horizon + 1)) }
+    requires first { IfSome first (λ q. (q.number ≡ 1) ×
+        (q.signal < length design.now.circuit.drivers) × (q.to ≤ design.now.circuit.horizon + 1)) }
+    requires second { IfSome second (λ q. (q.number ≡ 2) ×
+        (q.signal < length design.now.circuit.drivers) × (q.to ≤ design.now.circuit.horizon + 1)) }
     requires few { (0 < shards) × (shards ≤ 64) }
 {
     design.facts();

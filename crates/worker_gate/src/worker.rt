@@ -1,19 +1,20 @@
 //! What one worker does.
 
-ghost use Rattle.std.specs.Prelude.{◌≡◌, ◌<◌, ◌%◌, true, false};
+ghost use Rattle.std.specs.Prelude.{◌≡◌, ◌<◌, ◌%◌, true, false, Some};
+ghost use Rattle.journal_meaning.specs.States.{holder};
+ghost use Rattle.memo_shards.specs.Asks.{IsHere};
+ghost use Rattle.worker_gate.specs.Ends.{HasRoom};
 ghost use Rattle.ready_queue.specs.Queue.{IsPassOf};
 ghost use Rattle.strand_meaning.specs.Strands.{next};
 ghost use Rattle.strand_meaning.specs.declared.Next.TheVariants.{Ask, Fill, Drop, Done};
 
 use crate::board::Board;
 use crate::gate::{Gate, Pass};
-use crate::slot::Slot;
+use crate::slot::{Held, Slot};
 use demand_points::{BatchName, Next, Point, Strand};
 use design::Design;
-use memo_shards::Asked;
-use owned_text::OutOfMemory;
+use memo_shards::Answer;
 use ready_queue::{QueuePass, ReadyQueue};
-use smallvec::SmallVec;
 use std::hint::spin_loop;
 use std::sync::{Condvar, Mutex, MutexGuard, Wait};
 
@@ -64,14 +65,45 @@ fn take_lock<'a, T, R: Wait>(rt: &R, lock: &'a Mutex<T>) -> MutexGuard<'a, T> {
     lock.lock(rt)
 }
 
-// What becomes of a strand that has asked.
-fn after_ask<B: BatchName>(asked: Result<Asked<B>, (Strand<B>, OutOfMemory)>) -> Turn<B> {
-    match asked {
-        Ok(Asked::Told(s)) => Turn::Goes(s),
-        Ok(Asked::Claimed(s)) => Turn::Goes(s),
-        Ok(Asked::Spent(s)) => Turn::Goes(s),
-        Ok(Asked::Waits) => Turn::Rests,
+// Asks the shard for the point. The strand waits there where the point is claimed.
+fn ask_held<B: BatchName>(
+    held: &mut Held<B>,
+    mut strand: Strand<B>,
+    design: &Design,
+    p: Point,
+) -> Turn<B>
+    requires room { HasRoom held.old.counts.items strand.number }
+    requires design { design.now.circuit ≡ B.batch.circuit }
+    requires asks { next strand.strand ≡ Ask p }
+    requires here { IsHere B.batch held.old.shard p }
+{
+    match held.answer(&mut strand, design, p) {
+        Ok(Answer::Heard) => Turn::Goes(strand),
+        Ok(Answer::Holds) => Turn::Goes(strand),
+        Ok(Answer::Refused) => Turn::Goes(strand),
+        Ok(Answer::Taken) => match held.park(strand, p) {
+            Ok(()) => Turn::Rests,
+            Err(_) => Turn::NoMemory,
+        },
         Err(_) => Turn::NoMemory,
+    }
+}
+
+// Fills the point in the shard.
+fn fill_held<B: BatchName>(
+    held: &mut Held<B>,
+    mut strand: Strand<B>,
+    design: &Design,
+    p: Point,
+) -> Option<(Strand<B>, Vec<Strand<B>>)>
+    requires room { HasRoom held.old.counts.items strand.number }
+    requires design { design.now.circuit ≡ B.batch.circuit }
+    requires fills { next strand.strand ≡ Fill p }
+    requires held { holder held.old.shard.shard.state.claims p ≡ Some strand.strand.query.number }
+{
+    match held.fill(&mut strand, design, p) {
+        Ok(woken) => Some((strand, woken)),
+        Err(_) => None,
     }
 }
 
@@ -152,12 +184,7 @@ impl<B: BatchName> Shared<B> {
     }
 
     // Puts the strands that came out of a claim into the queue, in their order.
-    fn push_woken<R: Wait>(
-        &self,
-        rt: &R,
-        pass: &mut QueuePass<Strand<B>>,
-        woken: SmallVec<Strand<B>, 2>,
-    )
+    fn push_woken<R: Wait>(&self, rt: &R, pass: &mut QueuePass<Strand<B>>, woken: Vec<Strand<B>>)
         requires { IsPassOf self.now.queue pass.old }
         ensures { IsPassOf self.now.queue pass.new }
     {
@@ -212,7 +239,7 @@ impl<B: BatchName> Shared<B> {
                 continue;
             }
             gate.within(worker, number);
-            return after_ask(held.ask(strand, design, p));
+            return ask_held(held, strand, design, p);
         }
         unreachable!()
     }
@@ -226,7 +253,7 @@ impl<B: BatchName> Shared<B> {
         worker: u32,
         strand: Strand<B>,
         p: Point,
-    ) -> Option<(Strand<B>, SmallVec<Strand<B>, 2>)>
+    ) -> Option<(Strand<B>, Vec<Strand<B>>)>
         requires design { design.now.circuit ≡ B.batch.circuit }
         requires fills { next strand.strand ≡ Fill p }
     {
@@ -247,7 +274,7 @@ impl<B: BatchName> Shared<B> {
                 continue;
             }
             gate.within(worker, number);
-            return held.fill(strand, design, p).ok();
+            return fill_held(held, strand, design, p);
         }
         unreachable!()
     }
@@ -260,7 +287,7 @@ impl<B: BatchName> Shared<B> {
         worker: u32,
         strand: Strand<B>,
         p: Point,
-    ) -> (Strand<B>, SmallVec<Strand<B>, 2>)
+    ) -> (Strand<B>, Vec<Strand<B>>)
         requires { next strand.strand ≡ Drop p }
     {
         let number = p.signal % self.count;

@@ -1,10 +1,12 @@
 -- How a store finds a cell: the cache's pairs of keys and cells, and an index of the ends by their keys.
-use Rattle.std.specs.Prelude.{◌≡◌, ℕ, ◌<◌, ◌≤◌, Bool, ◌&&◌, nat_eq, List, length, map, find, All, Option, option_map}
+use Rattle.std.specs.Prelude.{◌≡◌, ℕ, ◌<◌, ◌≤◌, Bool, true, ◌&&◌, nat_eq, List, length, map, find, slice_get, All, Option, Some, option_map}
 use Rattle.std.specs.declared.cmp.Ordering.{Ordering}
 use Rattle.std.specs.Ordering.{ordering_then, nat_cmp}
 use Rattle.valid_intervals.specs.Spans.{IsSpan}
 use Rattle.valid_intervals.specs.declared.Cell.{Cell}
+use Rattle.valid_intervals.specs.declared.Point.{Point}
 use Rattle.valid_intervals.specs.declared.SignalCell.{SignalCell}
+use Rattle.valid_intervals.specs.Cells.{covers}
 use Rattle.cell_store.specs.declared.Key.{Key}
 use Rattle.cell_store.specs.Recency.{key_of, AreApart}
 
@@ -35,6 +37,12 @@ entries_of cells = map entry_of cells
 
 abbrev pub cells_of : List (Key × Cell) → List SignalCell
 cells_of entries = map cell_in entries
+
+-- the most recently used cell is this one, and covers the point
+pub record IsInFront (entries : List (Key × Cell)) (p : Point) (cell : Cell) : Type 0 where
+  pub key : Key
+  pub front : slice_get entries 0 ≡ Some (key, cell)
+  pub covering : covers p (cell_in (key, cell)) ≡ true
 
 -- the ends are those of the cells, which are apart
 pub record IsStoreIndex (end_of : Key → Option ℕ) (cells : List SignalCell) : Type 0 where

@@ -45,7 +45,8 @@ impl PlainStore {
 
     pub fn find(&mut self, p: Point) -> Option<Cell>
         ensures found { result ≡ option_map (λ x. x.cell) (stored_at self.old.cells p) }
-        ensures used { IfSome result (λ cell. self.new ≡ with_cells self.old (to_front (cell_for p cell) self.old.cells)) }
+        ensures used { IfSome result (λ cell. self.new ≡ with_cells self.old
+            (to_front (cell_for p cell) self.old.cells)) }
         ensures unchanged { IfNone result (self.new ≡ self.old) }
     {
         let cell = find_covering(&self.cells, p)?;
@@ -64,10 +65,13 @@ impl PlainStore {
     }
 
     pub fn put(&mut self, signal: u32, cell: Cell) -> Result<Put, OutOfMemory>
-        ensures cells { let x : SignalCell = record { signal = signal; cell = cell } in OnOk result (self.new ≡ after_put self.old x) }
-        ensures fresh { let x : SignalCell = record { signal = signal; cell = cell } in IfOk result (λ put. put.fresh ≡ not (is_stored x self.old.cells)) }
+        ensures cells { let x : SignalCell = record { signal = signal; cell = cell } in
+            OnOk result (self.new ≡ after_put self.old x) }
+        ensures fresh { let x : SignalCell = record { signal = signal; cell = cell } in
+            IfOk result (λ put. put.fresh ≡ not (is_stored x self.old.cells)) }
         ensures evicted { let x : SignalCell = record { signal = signal; cell = cell } in
-            IfOk result (λ put. put.evicted ≡ (if pushes_out x self.old then last_key self.old.cells else None)) }
+            IfOk result (λ put. put.evicted ≡ (if pushes_out x self.old then last_key self.old.cells
+            else None)) }
         ensures err { OnErr result (self.new ≡ self.old) }
     {
         let x = SignalCell { signal, cell };
@@ -91,7 +95,8 @@ impl PlainStore {
 
     pub fn trim(&mut self, n: u32) -> Result<Vec<Key>, OutOfMemory>
         ensures cells { OnOk result (self.new ≡ with_cells self.old (take n self.old.cells)) }
-        ensures keys { IfOk result (λ keys. keys.items ≡ reverse (map key_of (drop n self.old.cells))) }
+        ensures keys { IfOk result (λ keys. keys.items ≡ reverse
+            (map key_of (drop n self.old.cells))) }
         ensures err { OnErr result (self.new ≡ self.old) }
     {
         let left = (n as usize).min(self.cells.len());
@@ -148,8 +153,10 @@ fn find_covering(cells: &[SignalCell], p: Point) -> Option<Cell>
 
 // Takes out the last cell where there are so many.
 fn make_room(cells: &mut Vec<SignalCell>, many: u32) -> Option<Key>
-    ensures cells { cells.new.items ≡ (if length cells.old.items == many then all_but_last cells.old.items else cells.old.items) }
-    ensures key { result ≡ (if length cells.old.items == many then last_key cells.old.items else None) }
+    ensures cells { cells.new.items ≡ (if length cells.old.items == many then all_but_last
+        cells.old.items else cells.old.items) }
+    ensures key { result ≡ (if length cells.old.items == many then last_key cells.old.items else
+        None) }
     ensures room { vec_capacity cells.new ≡ vec_capacity cells.old }
     ensures shorter { vec_len cells.new ≤ vec_len cells.old }
 {

@@ -7,7 +7,7 @@ use Rattle.journal_meaning.specs.declared.Entry.TheVariants as entry
 use Rattle.batch_meaning.specs.Batches.{Batch}
 use Rattle.demand_points.specs.Demands.{Demand}
 use Rattle.memo_shards.specs.KeptShards.{KeptShard}
-use Rattle.memo_shards.specs.Asks.{ClaimsIt, Tells, WaitsThere}
+use Rattle.memo_shards.specs.Asks.{ClaimsIt, Tells}
 
 -- of its first step, which looks for a stored cell
 abbrev pub OfTell : KeptShard → KeptShard → Point → Demand → Demand → Result Bool OutOfMemory → Type 0
@@ -19,7 +19,3 @@ OfTell old new p w s (Err e) = (s ≡ w) × (new ≡ old)
 abbrev pub OfClaim : Batch → KeptShard → KeptShard → Point → Demand → Demand → Result Unit OutOfMemory → Type 0
 OfClaim b old new p w s (Ok u) = ClaimsIt b old new p w s
 OfClaim b old new p w s (Err e) = (s ≡ w) × (new ≡ old)
-
-abbrev pub OfPark : KeptShard → KeptShard → Point → Demand → Result Unit (Demand × OutOfMemory) → Type 0
-OfPark old new p w (Ok u) = WaitsThere old new p w
-OfPark old new p w (Err e) = (e.0 ≡ w) × (new ≡ old)

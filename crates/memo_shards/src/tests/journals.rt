@@ -143,7 +143,8 @@ fn serve(
     batch: &Batch,
 ) -> Result<Option<Left>, Fail>
     requires right { AllByRecursion (IsRight design.now.circuit) store.cells }
-    ensures { IfOk result (λ found. IfSome found (λ left. AllByRecursion (IsRight design.now.circuit) left.store.cells)) }
+    ensures { IfOk result (λ found. IfSome found
+        (λ left. AllByRecursion (IsRight design.now.circuit) left.store.cells)) }
 {
     design.facts();
     let _capacity = store.capacity();

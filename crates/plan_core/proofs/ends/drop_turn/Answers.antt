@@ -32,7 +32,10 @@ drop_top-strand-requires g c =
     let count : c.len.result ≡ length shards = c.len.ensures ∙ c.args.shards.now.ok.0 in
     let h0 = c.index_mut.result.now in
     let index = c.index_mut.ensures.value in
-    (omega arith, (step, holds-dropped b o places shards parts n s at p c.len.result count h0 index step))
+    record {
+      drops = step;
+      held = holds-dropped b o places shards parts n s at p c.len.result count h0 index step;
+    }
 
 pub put_back-requires : goal.put_back-requires
 put_back-requires g c =
@@ -47,16 +50,12 @@ put_back-requires g c =
     let at : slice_get places n ≡ Some (Some s) = c.take_at.ensures.taken ∙ ap (λ (z : Demand). Some (Some z)) (sym c.into_strand-strand.ensures) in
     let count : c.len.result ≡ length shards = c.len.ensures ∙ c.args.shards.now.ok.0 in
     let h0 = c.index_mut.result.now in
-    let index = c.index_mut.ensures.value in (
-      omega arith,
-      (
-        c.requires.design,
-        (
-          subst (λ (xs : List (Option Demand)). HaveNumbers (length xs) c.drop_top-strand.result.1.items) (sym c.take_at.ensures.rest) (dropped-numbers b o places shards parts n s at p c.len.result count h0 index c.drop_top-strand.result.0 c.drop_top-strand.new.shard c.drop_top-strand.result.1.items c.drop_top-strand.ensures.came),
-          subst AreNumbered (sym c.take_at.ensures.rest) (numbers-none places parts.numbers n (Some s) at),
-        ),
-      ),
-    )
+    let index = c.index_mut.ensures.value in
+    record {
+      design = c.requires.design;
+      numbers = subst (λ (xs : List (Option Demand)). HaveNumbers (length xs) c.drop_top-strand.result.1.items) (sym c.take_at.ensures.rest) (dropped-numbers b o places shards parts n s at p c.len.result count h0 index c.drop_top-strand.result.0 c.drop_top-strand.new.shard c.drop_top-strand.result.1.items c.drop_top-strand.ensures.came);
+      numbered = subst AreNumbered (sym c.take_at.ensures.rest) (numbers-none places parts.numbers n (Some s) at);
+    }
 
 pub put_at-requires : goal.put_at-requires
 put_at-requires g c =

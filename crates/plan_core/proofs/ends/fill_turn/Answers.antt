@@ -32,7 +32,11 @@ fill-requires g c =
     let count : c.len.result ≡ length shards = c.len.ensures ∙ c.args.shards.now.ok.0 in
     let h0 = c.index_mut.result.now in
     let index = c.index_mut.ensures.value in
-    (omega arith, (c.requires.design, (step, holds-filled b o places shards parts n s at p c.len.result count h0 index step)))
+    record {
+      design = c.requires.design;
+      fills = step;
+      held = holds-filled b o places shards parts n s at p c.len.result count h0 index step;
+    }
 
 pub put_back-requires : goal.put_back-requires
 put_back-requires g c =
@@ -47,16 +51,12 @@ put_back-requires g c =
     let at : slice_get places n ≡ Some (Some s) = c.take_at.ensures.taken ∙ ap (λ (z : Demand). Some (Some z)) (sym c.into_strand-strand.ensures) in
     let count : c.len.result ≡ length shards = c.len.ensures ∙ c.args.shards.now.ok.0 in
     let h0 = c.index_mut.result.now in
-    let index = c.index_mut.ensures.value in (
-      omega arith,
-      (
-        c.requires.design,
-        (
-          subst (λ (xs : List (Option Demand)). HaveNumbers (length xs) c.in-Ok.woken.items) (sym c.take_at.ensures.rest) (filled-numbers b o places shards parts n s at p c.len.result count h0 index c.in-Ok.strand c.fill.new.shard c.in-Ok.woken.items c.in-Ok.ensures.came),
-          subst AreNumbered (sym c.take_at.ensures.rest) (numbers-none places parts.numbers n (Some s) at),
-        ),
-      ),
-    )
+    let index = c.index_mut.ensures.value in
+    record {
+      design = c.requires.design;
+      numbers = subst (λ (xs : List (Option Demand)). HaveNumbers (length xs) c.in-Ok.woken.items) (sym c.take_at.ensures.rest) (filled-numbers b o places shards parts n s at p c.len.result count h0 index c.in-Ok.strand c.fill.new.shard c.in-Ok.woken.items c.in-Ok.ensures.came);
+      numbered = subst AreNumbered (sym c.take_at.ensures.rest) (numbers-none places parts.numbers n (Some s) at);
+    }
 
 pub put_at-requires : goal.put_at-requires
 put_at-requires g c =

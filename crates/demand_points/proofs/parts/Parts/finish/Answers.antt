@@ -21,10 +21,10 @@ hear-requires-clause-answer c =
     let ok = c.facts.ensures.circuit in
     let p = c.requires.fills.0 in
     let t = filling-top d ok c.args.self.now c.requires.running c.pop.result c.pop.new.self c.pop.ensures p c.requires.fills.1 in
-    popped-answer d ok c.args.self.now c.requires.running p c.requires.fills.1 t.0 c.pop.new.self t.1 c.top_cell-cell.result (c.top_cell-cell.ensures p c.requires.fills.1)
+    popped-answer d ok c.args.self.now c.requires.running p c.requires.fills.1 t.0 c.pop.new.self t.1 c.args.cell.now (c.requires.cell p c.requires.fills.1)
 
-pub returns-clause-steps : goal.returns-clause-steps
-returns-clause-steps c =
+pub returns : goal.returns
+returns c =
     let d = c.args.design.now.circuit in
     let ok = c.facts.ensures.circuit in
     let t = filling-top d ok c.args.self.now c.requires.running c.pop.result c.pop.new.self c.pop.ensures c.requires.fills.0 c.requires.fills.1 in

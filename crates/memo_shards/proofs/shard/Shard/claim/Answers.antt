@@ -26,7 +26,7 @@ end_claim-requires g c =
     let un : IsUnfound (record { number = s.number; shard = shard_at o es; waiting = waits_in s.claims }) p = subst (λ (v : KeptShard). IsUnfound v p) (sym c.self.view_is) c.requires.unfound in
     let none = unclaimed b o s.number s.store s.claims es a p un.unclaimed in
     let made : c.claim.new.self ≡ with_claim s.claims q p = c.in_ok-claim.ensures.ok ∙ ap (λ (x : Query). with_claim s.claims x.number p) c.query-q.ensures in
-    (omega arith, subst (λ (l : Claims Demand). IsSome (claim_at l p)) (sym made) (stands-claimed s.claims p q none))
+    subst (λ (l : Claims Demand). IsSome (claim_at l p)) (sym made) (stands-claimed s.claims p q none)
 
 pub invariant_of-self-in-Ok : goal.invariant_of-self-in-Ok
 invariant_of-self-in-Ok g c =

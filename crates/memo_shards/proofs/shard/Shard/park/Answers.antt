@@ -8,7 +8,7 @@ use Rattle.demand_points.specs.Demands.{Demand}
 use Rattle.memo_shards.specs.KeptShards.{KeptShard, shard_at}
 use Rattle.memo_shards.specs.inner.KeptShards.{waits_in}
 use Rattle.memo_shards.specs.inner.View.{IsMemo}
-use Rattle.memo_shards.specs.inner.Asks.{OfPark}
+use Rattle.memo_shards.specs.Asks.{OfPark}
 use Rattle.memo_shards.proofs.Entries.{by_case, waited-agrees, parked}
 use Rattle.memo_shards.proofs.shard.Shard.park.Goals as goal
 

@@ -16,5 +16,5 @@ invariant_of-self-2 g c =
     let within : n < length xs = search rules in
     let old : sum xs ≡ booked_in c.args.self.now.shard = search rules in
     let more = sum-one_more xs n v within c.index_mut.ensures.value in
-    let booked_now : booked_in c.fill.new.self ≡ booked_in c.args.self.now.shard + 1 = ap (λ (h : Shard). booked h.journal) c.in_ok-filled.ensures.shard ∙ booked-fill b.capacity c.args.strand.strand.query.number c.args.p (cell_at b.circuit c.args.p) c.args.self.now.shard.shard in
+    let booked_now : booked_in c.fill_top.new.self ≡ booked_in c.args.self.now.shard + 1 = ap (λ (h : Shard). booked h.journal) c.in_ok-woken.ensures.shard ∙ booked-fill b.capacity c.args.strand.now.strand.query.number c.args.p (cell_at b.circuit c.args.p) c.args.self.now.shard.shard in
     record { amount = omega (arith, old, more, booked_now) }

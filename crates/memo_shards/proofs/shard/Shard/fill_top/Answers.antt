@@ -19,7 +19,7 @@ use Rattle.memo_shards.specs.Ends.{FillsIt}
 use Rattle.memo_shards.specs.inner.Ends.{after_eviction}
 use Rattle.memo_shards.proofs.Entries.{some-held}
 use Rattle.memo_shards.proofs.Endings.{filled-fits, waiters-ask, answers-all, filled-items, filled-agrees, filled-shown}
-use Rattle.memo_shards.proofs.shard.Shard.fill.Goals as goal
+use Rattle.memo_shards.proofs.shard.Shard.fill_top.Goals as goal
 
 pub record_fill-requires-clause-fits : goal.record_fill-requires-clause-fits
 record_fill-requires-clause-fits g c =
@@ -29,7 +29,7 @@ record_fill-requires-clause-fits g c =
     let es = s.journal.items in
     let a = c.self.invariant.agrees in
     let p = c.args.p in
-    let w = c.args.strand in
+    let w = c.args.strand.now in
     let q = w.strand.query.number in
     let held : holder (shard_at o es).state.claims p ≡ Some q = subst (λ (v : KeptShard). holder v.shard.state.claims p ≡ Some q) (sym c.self.view_is) c.requires.held in
     let right : c.top_cell-cell.result ≡ cell_at b.circuit p = c.top_cell-cell.ensures p c.requires.fills in
@@ -43,11 +43,14 @@ hear_all-requires g c =
     let es = s.journal.items in
     let a = c.self.invariant.agrees in
     let p = c.args.p in
-    let w = c.args.strand in
+    let w = c.args.strand.now in
     let q = w.strand.query.number in
     let held : holder (shard_at o es).state.claims p ≡ Some q = subst (λ (v : KeptShard). holder v.shard.state.claims p ≡ Some q) (sym c.self.view_is) c.requires.held in
     let right : c.top_cell-cell.result ≡ cell_at b.circuit p = c.top_cell-cell.ensures p c.requires.fills in
-    (omega arith, (c.requires.design, answers-all b.circuit p c.top_cell-cell.result right c.take-woken.result.items (waiters-ask s.claims a.asks p (claim_at s.claims p) refl c.take-woken.result.items c.take-woken.ensures.waiters)))
+    record {
+      design = c.requires.design;
+      answer = answers-all b.circuit p c.top_cell-cell.result right c.take-woken.result.items (waiters-ask s.claims a.asks p (claim_at s.claims p) refl c.take-woken.result.items c.take-woken.ensures.waiters);
+    }
 
 pub invariant_of-self-2 : goal.invariant_of-self-2
 invariant_of-self-2 g c =
@@ -57,7 +60,7 @@ invariant_of-self-2 g c =
     let es = s.journal.items in
     let a = c.self.invariant.agrees in
     let p = c.args.p in
-    let w = c.args.strand in
+    let w = c.args.strand.now in
     let q = w.strand.query.number in
     let held : holder (shard_at o es).state.claims p ≡ Some q = subst (λ (v : KeptShard). holder v.shard.state.claims p ≡ Some q) (sym c.self.view_is) c.requires.held in
     let right : c.top_cell-cell.result ≡ cell_at b.circuit p = c.top_cell-cell.ensures p c.requires.fills in
@@ -82,7 +85,7 @@ returns g c =
     let es = s.journal.items in
     let a = c.self.invariant.agrees in
     let p = c.args.p in
-    let w = c.args.strand in
+    let w = c.args.strand.now in
     let q = w.strand.query.number in
     let held : holder (shard_at o es).state.claims p ≡ Some q = subst (λ (v : KeptShard). holder v.shard.state.claims p ≡ Some q) (sym c.self.view_is) c.requires.held in
     let right : c.top_cell-cell.result ≡ cell_at b.circuit p = c.top_cell-cell.ensures p c.requires.fills in
@@ -90,5 +93,5 @@ returns g c =
     filled-items b o s.number s.store s.claims es a q p held c.facts.ensures c.record_fill.new.journal.items
     (subst (λ (z : Cell). c.record_fill.new.journal.items ≡ after_eviction (cond (pushes_out (cell_for p z) s.store) (last_key s.store.cells) None) es ++ entry.Filled q p z ∷ []) right
     (c.in-Ok.ensures.items ∙ ap (λ (x : Query). after_eviction (cond (pushes_out (cell_for p c.top_cell-cell.result) s.store) (last_key s.store.cells) None) es ++ entry.Filled x.number p c.top_cell-cell.result ∷ []) c.query-q.ensures)) in
-    subst (λ (v : KeptShard). FillsIt b v (record { number = s.number; shard = shard_at o c.record_fill.new.journal.items; waiting = waits_in c.take-woken.new.self }) p w c.finish_top.new.self c.hear_all.new.list.items) c.self.view_is
-    (filled-shown b o s.number s.store s.claims es a q p held c.facts.ensures w c.finish_top.new.self refl c.finish_top.ensures.steps c.take-woken.result.items c.hear_all.new.list.items c.take-woken.ensures.waiters c.hear_all.ensures c.take-woken.new.self c.take-woken.ensures.rest c.facts-2.ensures c.record_fill.new.journal.items items)
+    subst (λ (v : KeptShard). FillsIt b v (record { number = s.number; shard = shard_at o c.record_fill.new.journal.items; waiting = waits_in c.take-woken.new.self }) p w c.finish_with.new.self c.hear_all.new.list.items) c.self.view_is
+    (filled-shown b o s.number s.store s.claims es a q p held c.facts.ensures w c.finish_with.new.self refl c.finish_with.ensures c.take-woken.result.items c.hear_all.new.list.items c.take-woken.ensures.waiters c.hear_all.ensures c.take-woken.new.self c.take-woken.ensures.rest c.facts-2.ensures c.record_fill.new.journal.items items)

@@ -2,7 +2,7 @@ use Rattle.std.proofs.Common.{◌≡◌, sym, subst}
 use Rattle.strand_meaning.specs.Strands.{next}
 use Rattle.strand_meaning.specs.declared.Next.TheVariants.{Ask}
 use Rattle.demand_points.specs.Demands.{Demand}
-use Rattle.memo_shards.proofs.shard.Shard.ask.Goals as goal
+use Rattle.memo_shards.proofs.shard.Shard.answer.Goals as goal
 
 pub give_up-requires : goal.give_up-requires
 give_up-requires g c =

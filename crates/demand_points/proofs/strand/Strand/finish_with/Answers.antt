@@ -5,7 +5,7 @@ use Rattle.strand_meaning.specs.Strands.{next}
 use Rattle.demand_points.specs.Demands.{Demand}
 use Rattle.demand_points.specs.inner.Demands.{strand_of}
 use Rattle.demand_points.proofs.Keeps.{fill-room, finished-demand}
-use Rattle.demand_points.proofs.strand.Strand.finish_top.Goals as goal
+use Rattle.demand_points.proofs.strand.Strand.finish_with.Goals as goal
 
 pub finish-requires-clause-room : goal.finish-requires-clause-room
 finish-requires-clause-room g c =
@@ -21,4 +21,4 @@ invariant_of-self g c =
     let s = c.self.inside.parts in
     let p = c.requires.fills.0 in
     let fills : next (strand_of b.circuit s) ≡ Fill p = subst (λ (v : Demand). next v.strand ≡ Fill p) (sym c.self.view_is) c.requires.fills.1 in
-    (finished-demand b c.args.design.now.circuit c.requires.design s c.finish.new.self c.self.invariant.0 p fills c.finish.ensures.steps, λ h. absurd (false≢true h))
+    (finished-demand b c.args.design.now.circuit c.requires.design s c.finish.new.self c.self.invariant.0 p fills c.finish.ensures, λ h. absurd (false≢true h))
