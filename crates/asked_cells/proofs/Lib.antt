@@ -7,3 +7,5 @@ pub mod Freeing
 pub mod Unused
 pub mod One
 pub mod Exact
+pub mod Chains
+pub mod Asking

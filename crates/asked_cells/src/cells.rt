@@ -35,9 +35,14 @@ impl SaidCells {
 
     /// The cell that covers the point.
     pub fn find(&self, p: Point) -> Option<Cell>
-        ensures cell { (c : Circuit) (cells : List SaidCell) → IsCircuit c → IsCellIndex c cells (get point_cmp self.now.cells) → IfSome result (λ cell. cell ≡ cell_at c p) }
-        ensures some { (c : Circuit) (cells : List SaidCell) → IsCircuit c → IsCellIndex c cells (get point_cmp self.now.cells) → OnSome result (IsFound cells p) }
-        ensures none { (c : Circuit) (cells : List SaidCell) → IsCircuit c → IsCellIndex c cells (get point_cmp self.now.cells) → IfNone result (IsFound cells p → ⊥) }
+        ensures cell { (c : Circuit) (cells : List SaidCell) → IsCircuit c
+            → IsCellIndex c cells (get point_cmp self.now.cells)
+            → IfSome result (λ cell. cell ≡ cell_at c p) }
+        ensures some { (c : Circuit) (cells : List SaidCell) → IsCircuit c
+            → IsCellIndex c cells (get point_cmp self.now.cells) → OnSome result (IsFound cells p) }
+        ensures none { (c : Circuit) (cells : List SaidCell) → IsCircuit c
+            → IsCellIndex c cells (get point_cmp self.now.cells)
+            → IfNone result (IsFound cells p → ⊥) }
     {
         let (first, cell) = self.cells.range(..=p).next_back()?;
         if first.signal == p.signal && cell.covers(p.time) {
@@ -49,8 +54,11 @@ impl SaidCells {
 
     /// Adds the cell of a point.
     fn insert(&mut self, point: Point, cell: Cell) -> Result<(), OutOfMemory>
-        ensures { (c : Circuit) (cells : List SaidCell) → IsCircuit c → IsCellIndex c cells (get point_cmp self.old.cells) → cell ≡ cell_at c point → point.time ≤ c.horizon
-            → let one : SaidCell = record { point = point; cell = cell } in OnOk result (IsCellIndex c (cells ++ one ∷ []) (get point_cmp self.new.cells)) }
+        ensures { (c : Circuit) (cells : List SaidCell) → IsCircuit c
+            → IsCellIndex c cells (get point_cmp self.old.cells) → cell ≡ cell_at c point
+            → point.time ≤ c.horizon
+            → let one : SaidCell = record { point = point; cell = cell } in
+            OnOk result (IsCellIndex c (cells ++ one ∷ []) (get point_cmp self.new.cells)) }
     {
         let first = Point {
             signal: point.signal,
@@ -62,8 +70,11 @@ impl SaidCells {
 
     /// Adds what an entry says.
     fn note(&mut self, entry: &Entry) -> Result<(), OutOfMemory>
-        ensures { (c : Circuit) (es : List EntryRecord) → IsCircuit c → IsCellIndex c (cells_said es) (get point_cmp self.old.cells) → IsRightEntry c entry.now
-            → OnOk result (IsCellIndex c (cells_said (es ++ entry.now ∷ [])) (get point_cmp self.new.cells)) }
+        ensures { (c : Circuit) (es : List EntryRecord) → IsCircuit c
+            → IsCellIndex c (cells_said es) (get point_cmp self.old.cells)
+            → IsRightEntry c entry.now
+            → OnOk result (IsCellIndex c (cells_said (es ++ entry.now ∷ []))
+            (get point_cmp self.new.cells)) }
     {
         match entry {
             Entry::Told { p, cell, .. } => self.insert(*p, *cell),
@@ -77,8 +88,11 @@ impl SaidCells {
 
     /// Adds what entries say.
     pub fn note_all(&mut self, entries: &[Entry]) -> Result<(), OutOfMemory>
-        ensures { (c : Circuit) (es : List EntryRecord) → IsCircuit c → IsCellIndex c (cells_said es) (get point_cmp self.old.cells) → AllByRecursion (IsRightEntry c) entries.now
-            → OnOk result (IsCellIndex c (cells_said (es ++ entries.now)) (get point_cmp self.new.cells)) }
+        ensures { (c : Circuit) (es : List EntryRecord) → IsCircuit c
+            → IsCellIndex c (cells_said es) (get point_cmp self.old.cells)
+            → AllByRecursion (IsRightEntry c) entries.now
+            → OnOk result (IsCellIndex c (cells_said (es ++ entries.now))
+            (get point_cmp self.new.cells)) }
     {
         for entry in entries {
             self.note(entry)?;

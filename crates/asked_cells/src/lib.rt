@@ -8,10 +8,11 @@
 //! Whoever asks keeps what the query is charged, since each fill for the query counts (`IsChargedMemo`). What a call leaves is told by
 //! `HasAsked`, in the words of `plan_machine`: entries for the query alone were added, the children of what was filled are covered, and so
 //! is the time that was asked for, or else the refusal has its cause. So whoever asks for all times of a window knows that the query is
-//! closed, and `window_answers` settles batches in this way.
+//! closed, and `window_answers` settles batches in this way. Several calls for one query are told together by `AsksOn`.
 //!
 //! `begin` reads each entry once, and notes where the entry stands that was recorded for a point (`src/places.rt`). A strand that came
-//! to its end left an entry for each point that it heard, so whoever asks for the points that it asked for finds all of them there.
+//! to its end left an entry for each point that it heard, so whoever asks for the points that it asked for finds all of them there: each
+//! stands in its chain, and a look-up goes along the first 32 places of one.
 //! Only when a point is asked for which no entry was recorded, a memo makes an index of the cells that the entries of the batch say, by
 //! signal and first time. By its type such an index has these cells and no others. With n entries in the end:
 //! - an entry takes a few steps to be read by `begin`, and a look-up of the point for which one was recorded takes as many, whatever n;

@@ -105,7 +105,8 @@ impl<B: BatchName> Memo<B> {
         ensures kept { self.new ≡ self.old }
         ensures cell { IfOk result (λ r. IfSome r (λ cell. cell ≡ cell_at B.batch.circuit p)) }
         ensures some { IfOk result (λ r. OnSome r (IsFound (cells_said (entries_of self.old)) p)) }
-        ensures none { IfOk result (λ r. IfNone r (IsFound (cells_said (entries_of self.old)) p → ⊥)) }
+        ensures none { IfOk result (λ r. IfNone r
+            (IsFound (cells_said (entries_of self.old)) p → ⊥)) }
     {
         if let Some(cell) = said_for(&self.shards, &self.places, p) {
             return Ok(Some(cell));
@@ -200,10 +201,13 @@ fn read_tail<B: BatchName>(
 ) -> Result<(), OutOfMemory>
     requires from { from ≤ length shard.now.shard.journal }
     requires charge { charge.old ≤ query.budget }
-    ensures indexed { (c : Circuit) (es : List EntryRecord) → IsCircuit c → IsCellIndex c (cells_said es) (get point_cmp cells.old.cells)
+    ensures indexed { (c : Circuit) (es : List EntryRecord) → IsCircuit c
+        → IsCellIndex c (cells_said es) (get point_cmp cells.old.cells)
         → AllByRecursion (IsRightEntry c) (drop from shard.now.shard.journal)
-        → OnOk result (IsCellIndex c (cells_said (es ++ drop from shard.now.shard.journal)) (get point_cmp cells.new.cells)) }
-    ensures charge { OnOk result (charge.new ≡ min (charge.old + filled (drop from shard.now.shard.journal) query.number) query.budget) }
+        → OnOk result (IsCellIndex c (cells_said (es ++ drop from shard.now.shard.journal))
+        (get point_cmp cells.new.cells)) }
+    ensures charge { OnOk result (charge.new ≡ min
+        (charge.old + filled (drop from shard.now.shard.journal) query.number) query.budget) }
 {
     let new = &shard.journal()[from..];
     cells.note_all(new)?;
@@ -220,12 +224,16 @@ fn read_new<B: BatchName>(
     charge: &mut u32,
 ) -> Result<(), OutOfMemory>
     requires count { length read.now ≡ length shards.now }
-    requires read { (i d : ℕ) (e : KeptShard) → i < length read.now → get_or read.now i d ≤ length (get_or shards.now i e).shard.journal }
+    requires read { (i d : ℕ) (e : KeptShard) → i < length read.now
+        → get_or read.now i d ≤ length (get_or shards.now i e).shard.journal }
     requires charge { charge.old ≤ query.budget }
-    ensures indexed { (c : Circuit) (es : List EntryRecord) → IsCircuit c → IsCellIndex c (cells_said es) (get point_cmp cells.old.cells)
+    ensures indexed { (c : Circuit) (es : List EntryRecord) → IsCircuit c
+        → IsCellIndex c (cells_said es) (get point_cmp cells.old.cells)
         → AllByRecursion (IsRightEntry c) (tails read.now shards.now)
-        → OnOk result (IsCellIndex c (cells_said (es ++ tails read.now shards.now)) (get point_cmp cells.new.cells)) }
-    ensures charge { OnOk result (charge.new ≡ min (charge.old + filled (tails read.now shards.now) query.number) query.budget) }
+        → OnOk result (IsCellIndex c (cells_said (es ++ tails read.now shards.now))
+        (get point_cmp cells.new.cells)) }
+    ensures charge { OnOk result (charge.new ≡ min
+        (charge.old + filled (tails read.now shards.now) query.number) query.budget) }
 {
     for k in 0..read.len() {
         read_tail(cells, &shards[k], read[k], query, charge)?;
@@ -248,7 +256,8 @@ fn run_one<B: BatchName>(
     requires fresh { IsFresh B.batch B.opening (shards_in shards.items) }
     requires start { IsStart B.batch (asked_at query time charge) }
     ensures numbers { IfOk result (λ r. AreNumbered r.0.items) }
-    ensures asked { IfOk result (λ r. HasAsked B.batch B.opening (asked_at query time charge) (shards_in shards.items) (shards_in r.0.items) r.1) }
+    ensures asked { IfOk result (λ r. HasAsked B.batch B.opening (asked_at query time charge)
+        (shards_in shards.items) (shards_in r.0.items) r.1) }
 {
     let strand = Strand::<B>::start(alloc, 0, query, time, time + 1, query.budget, charge);
     let mut strands = Vec::new(alloc);
@@ -272,7 +281,8 @@ fn ask<B: BatchName>(
     requires asking { IsChargedMemo B.batch B.opening memo.old query charge.old }
     requires start { IsStart B.batch (asked_at query time charge.old) }
     ensures asking { OnOk result (IsChargedMemo B.batch B.opening memo.new query charge.new) }
-    ensures asked { IfOk result (HasAsked B.batch B.opening (asked_at query time charge.old) (shards_in memo.old) (shards_in memo.new)) }
+    ensures asked { IfOk result (HasAsked B.batch B.opening (asked_at query time charge.old)
+        (shards_in memo.old) (shards_in memo.new)) }
 {
     let alloc = memo.alloc;
     let Memo {
@@ -307,10 +317,13 @@ pub fn reach<B: BatchName>(
     requires signal { query.signal < length B.batch.circuit.drivers }
     requires time { time ≤ B.batch.circuit.horizon }
     requires asking { IsChargedMemo B.batch B.opening memo.old query charge.old }
-    requires start { IsEvaluable B.batch.circuit query.signal time → IsStart B.batch (asked_at query time charge.old) }
+    requires start { IsEvaluable B.batch.circuit query.signal time
+        → IsStart B.batch (asked_at query time charge.old) }
     ensures asking { OnOk result (IsChargedMemo B.batch B.opening memo.new query charge.new) }
-    ensures cell { IfOk result (λ r. IfSome r (λ cell. cell ≡ cell_at B.batch.circuit (at_time query time))) }
-    ensures asked { IfOk result (λ r. HasAsked B.batch B.opening (asked_at query time charge.old) (shards_in memo.old) (shards_in memo.new) (is_missing r)) }
+    ensures cell { IfOk result (λ r. IfSome r
+        (λ cell. cell ≡ cell_at B.batch.circuit (at_time query time))) }
+    ensures asked { IfOk result (λ r. HasAsked B.batch B.opening (asked_at query time charge.old)
+        (shards_in memo.old) (shards_in memo.new) (is_missing r)) }
 {
     if let Some(cell) = design.base(query.signal, time) {
         return Ok(Some(cell));

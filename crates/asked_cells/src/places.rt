@@ -1,8 +1,9 @@
 //! Where the entry stands that was recorded for a point.
 
-ghost use Rattle.std.specs.Prelude.{◌≡◌, Some, IfSome};
+ghost use Rattle.std.specs.Prelude.{◌≡◌, ◌≢◌, ℕ, ◌+◌, ◌<◌, ◌≤◌, List, length, set, slice_index, Some, None, IfSome, IfNone, OnSome, IfOk};
 ghost use Rattle.journal_meaning.specs.inner.Index.{cell_said};
 ghost use Rattle.asked_cells.specs.inner.Exact.{IsSaidFor};
+ghost use Rattle.asked_cells.specs.inner.Places.{point_at, chain_of, IsChain, HasPoint, LacksPoint, IsChainFor, IsUnsaid, AreNoted, AreEnough, ArePlaces};
 
 use journal_meaning::Entry;
 use owned_text::OutOfMemory;
@@ -15,7 +16,8 @@ const LONGEST: u32 = 32;
 /// The entries of a journal that say cells, in chains, by a hash of the points for which they were recorded. An entry's number is its
 /// place in the journal, from 1 on; 0 is none. Of the entries for one point only the first stands in its chain.
 ///
-/// What is kept here are places to look at, and nothing is known of them: the entry itself says what it was recorded for.
+/// What is kept here are places to look at: the entry itself says what it was recorded for. `read` leaves chains that have each point
+/// (`ArePlaces`), so `seek` finds what was recorded for a point where its chain is no longer than `LONGEST`.
 #[derive(Drop)]
 pub struct Places {
     /// The last entry of each chain.
@@ -25,7 +27,9 @@ pub struct Places {
 }
 
 /// The number in a place, 0 past the end.
-fn number_at(numbers: &[u32], place: usize) -> u32 {
+fn number_at(numbers: &[u32], place: usize) -> u32
+    ensures { result ≡ slice_index numbers.now place }
+{
     match numbers.get(place) {
         Some(number) => *number,
         None => 0,
@@ -33,32 +37,40 @@ fn number_at(numbers: &[u32], place: usize) -> u32 {
 }
 
 /// Writes a number, unless the place is past the end.
-fn write_at(numbers: &mut Vec<u32>, place: usize, number: u32) {
+fn write_at(numbers: &mut Vec<u32>, place: usize, number: u32)
+    ensures { numbers.new.items ≡ set numbers.old.items place number }
+{
     if place < numbers.len() {
         numbers[place] = number;
     }
 }
 
 /// A power of two that is at least half of the number of entries.
-fn chains_for(entries: usize) -> usize {
+fn chains_for(entries: usize) -> usize
+    ensures { AreEnough entries result }
+{
     let mut chains = 1usize;
-    for _ in 0..31 {
+    for _step in 0..31u32 {
         if chains < entries / 2 {
-            chains = chains.wrapping_mul(2);
+            chains *= 2;
         }
     }
     chains
 }
 
 /// The chain of a point, of so many, a power of two. Times after one another have chains after one another.
-fn chain_of(p: Point, chains: usize) -> usize {
+fn chain_of(p: Point, chains: usize) -> usize
+    ensures { 0 < chains → result ≡ chain_of p chains }
+{
     let mixed = (p.signal as usize).wrapping_mul(0x9E37_79B1) >> 16;
     mixed.wrapping_add(p.time as usize) & chains.wrapping_sub(1)
 }
 
 /// The point for which the entry says a cell, and that cell.
 fn said_by(entry: &Entry) -> Option<(Point, Cell)>
-    ensures { IfSome result (λ r. cell_said entry.now ≡ Some (record { point = r.0; cell = r.1 })) }
+    ensures some { IfSome result (λ r. cell_said entry.now ≡ Some
+        (record { point = r.0; cell = r.1 })) }
+    ensures none { IfNone result (cell_said entry.now ≡ None) }
 {
     match entry {
         Entry::Told { p, cell, .. } => Some((*p, *cell)),
@@ -72,7 +84,9 @@ fn said_by(entry: &Entry) -> Option<(Point, Cell)>
 
 /// The cell that the entry in this place says, where it was recorded for this very point.
 fn said_at(journal: &[Entry], place: usize, p: Point) -> Option<Cell>
-    ensures { IfSome result (IsSaidFor journal.now p) }
+    ensures said { IfSome result (IsSaidFor journal.now p) }
+    ensures some { OnSome result (point_at journal.now place ≡ Some p) }
+    ensures none { IfNone result (point_at journal.now place ≢ Some p) }
 {
     if place >= journal.len() {
         return None;
@@ -84,10 +98,14 @@ fn said_at(journal: &[Entry], place: usize, p: Point) -> Option<Cell>
 /// What an entry of a chain says that was recorded for this very point, among the last of it. The chain ends with the entry of this
 /// number.
 fn seek(before: &[u32], journal: &[Entry], last: u32, p: Point) -> Option<Cell>
-    ensures { IfSome result (IsSaidFor journal.now p) }
+    ensures said { IfSome result (IsSaidFor journal.now p) }
+    ensures some { (places : List ℕ) → IsChain before.now last places
+        → OnSome result (HasPoint journal.now p places) }
+    ensures none { (places : List ℕ) → IsChain before.now last places
+        → IfNone result (LacksPoint journal.now p places) }
 {
     let mut number = last;
-    for _ in 0..LONGEST {
+    for _step in 0..LONGEST {
         if number == 0 {
             return None;
         }
@@ -102,7 +120,10 @@ fn seek(before: &[u32], journal: &[Entry], last: u32, p: Point) -> Option<Cell>
 
 impl Places {
     /// Reads a journal.
-    pub fn read(alloc: Global, journal: &[Entry]) -> Result<Places, OutOfMemory> {
+    pub fn read(alloc: Global, journal: &[Entry]) -> Result<Places, OutOfMemory>
+        ensures { IfOk result (λ places. ArePlaces journal.now places.last.items
+            places.before.items) }
+    {
         if journal.is_empty() {
             return Ok(Places {
                 last: Vec::new(alloc),
@@ -120,7 +141,14 @@ impl Places {
     }
 
     /// Puts the entry in this place into its chain, if it says a cell, and the chain has none that was recorded for its point.
-    fn note(&mut self, journal: &[Entry], place: usize) {
+    fn note(&mut self, journal: &[Entry], place: usize)
+        requires count { length self.old.before.items ≡ length journal.now }
+        requires some { 0 < length self.old.last.items }
+        requires noted { AreNoted journal.now place self.old.last.items self.old.before.items }
+        ensures count { length self.new.before.items ≡ length self.old.before.items }
+        ensures chains { length self.new.last.items ≡ length self.old.last.items }
+        ensures noted { AreNoted journal.now (place + 1) self.new.last.items self.new.before.items }
+    {
         if place >= journal.len() {
             return;
         }
@@ -139,9 +167,13 @@ impl Places {
         write_at(&mut self.last, chain, number);
     }
 
-    /// What an entry of this journal says that was recorded for this very point.
+    /// What an entry of this journal says that was recorded for this very point. Where the point's chain has at most 32 places, this is
+    /// none only if no entry that was noted was recorded for the point.
     pub fn seek(&self, journal: &[Entry], p: Point) -> Option<Cell>
-        ensures { IfSome result (IsSaidFor journal.now p) }
+        ensures said { IfSome result (IsSaidFor journal.now p) }
+        ensures none { (noted : ℕ) → 0 < length self.now.last.items
+            → (chain : IsChainFor journal.now noted self.now.last.items self.now.before.items p)
+            → length chain.places ≤ 32 → IfNone result (IsUnsaid journal.now noted p) }
     {
         let last = number_at(&self.last, chain_of(p, self.last.len()));
         seek(&self.before, journal, last, p)

@@ -10,7 +10,9 @@ ghost use Rattle.valid_intervals.specs.Cells.{point_cmp};
 ghost use Rattle.memo_shards.specs.KeptShards.{KeptShard, IsKnownShard};
 ghost use Rattle.memo_shards.specs.Ends.{FreesAll};
 ghost use Rattle.asked_cells.specs.Memos.{entries_of};
+ghost use Rattle.asked_cells.specs.declared.places.Places.{Places as PlacesRecord};
 ghost use Rattle.asked_cells.specs.inner.Exact.{IsSaidFor};
+ghost use Rattle.asked_cells.specs.inner.Places.{ArePlaces};
 
 use crate::cells::SaidCells;
 use crate::places::Places;
@@ -32,7 +34,8 @@ pub fn know_all<B: BatchName>(shards: &[Shard<B>])
 /// Frees the claims of each shard.
 pub fn free_all<B: BatchName>(shards: &mut Vec<Shard<B>>)
     ensures count { length shards.new.items ≡ length shards.old.items }
-    ensures freed { (n : ℕ) (d : KeptShard) → n < length shards.old.items → FreesAll (get_or shards.old.items n d) (get_or shards.new.items n d) }
+    ensures freed { (n : ℕ) (d : KeptShard) → n < length shards.old.items
+        → FreesAll (get_or shards.old.items n d) (get_or shards.new.items n d) }
 {
     for k in 0..shards.len() {
         shards[k].free_claims();
@@ -42,7 +45,8 @@ pub fn free_all<B: BatchName>(shards: &mut Vec<Shard<B>>)
 /// The cells that the entries of shards say.
 pub fn read_all<B: BatchName>(alloc: Global, shards: &[Shard<B>]) -> Result<SaidCells, OutOfMemory>
     ensures { (c : Circuit) → IsCircuit c → AllByRecursion (IsRightEntry c) (entries_of shards.now)
-        → IfOk result (λ cells. IsCellIndex c (cells_said (entries_of shards.now)) (get point_cmp cells.cells)) }
+        → IfOk result (λ cells. IsCellIndex c (cells_said (entries_of shards.now))
+        (get point_cmp cells.cells)) }
 {
     let mut cells = SaidCells::new(alloc);
     for shard in shards {
@@ -58,8 +62,10 @@ pub fn index_of<B: BatchName>(
     shards: &[Shard<B>],
 ) -> Result<SaidCells, OutOfMemory>
     ensures { (c : Circuit) → IsCircuit c → AllByRecursion (IsRightEntry c) (entries_of shards.now)
-        → IfSome index (λ cells. IsCellIndex c (cells_said (entries_of shards.now)) (get point_cmp cells.cells))
-        → IfOk result (λ cells. IsCellIndex c (cells_said (entries_of shards.now)) (get point_cmp cells.cells)) }
+        → IfSome index (λ cells. IsCellIndex c (cells_said (entries_of shards.now))
+        (get point_cmp cells.cells))
+        → IfOk result (λ cells. IsCellIndex c (cells_said (entries_of shards.now))
+        (get point_cmp cells.cells)) }
 {
     match index {
         Some(cells) => Ok(cells),
@@ -71,7 +77,13 @@ pub fn index_of<B: BatchName>(
 pub fn places_in<B: BatchName>(
     alloc: Global,
     shards: &[Shard<B>],
-) -> Result<Vec<Places>, OutOfMemory> {
+) -> Result<Vec<Places>, OutOfMemory>
+    ensures count { IfOk result (λ places. length places.items ≡ length shards.now) }
+    ensures each { IfOk result (λ places. (n : ℕ) (d : KeptShard) (e : PlacesRecord)
+        → n < length shards.now
+        → ArePlaces (get_or shards.now n d).shard.journal (get_or places.items n e).last.items
+        (get_or places.items n e).before.items) }
+{
     let mut places = Vec::new(alloc);
     for shard in shards {
         places.push(Places::read(alloc, shard.journal())?)?;

@@ -95,7 +95,8 @@ pub fn serve_workload<F: Files, S: Sink, G: Gate, R: Threads + Wait + Sync>(
 
 /// Writes the line that counts the replies.
 fn tell<S: Sink>(alloc: Global, number: u32, replies: &[Reply], out: &mut S) -> Status
-    ensures told { IsLineTold (work_line number replies.now) (S.written out.old) (S.written out.new) result }
+    ensures told { IsLineTold (work_line number replies.now) (S.written out.old) (S.written out.new)
+        result }
     ensures cause { LineExplains (S.faults out.old) (S.faults out.new) result }
 {
     let Some(runs) = all_runs(replies) else {

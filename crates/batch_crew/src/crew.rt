@@ -1,7 +1,7 @@
 //! What a crew is.
 
-ghost use Rattle.std.specs.Prelude.{◌≡◌, ◌<◌, ◌≤◌, [], All, IfOk, vec_len};
-ghost use Rattle.batch_crew.specs.Crews.{AreInOrder, AreNew};
+ghost use Rattle.std.specs.Prelude.{◌≡◌, ◌<◌, ◌≤◌, Bool, true, [], length, map, sum, sum_by, All, IfOk, vec_len};
+ghost use Rattle.batch_crew.specs.Crews.{AreInOrder, AreNew, task_of, booked_in, AreEnds, AreFilled};
 
 use demand_points::{BatchName, Strand};
 use design::Design;
@@ -10,7 +10,7 @@ use owned_text::OutOfMemory;
 use std::alloc::Global;
 use std::sync::Wait;
 use std::thread::Threads;
-use worker_gate::{Gate, run_workers};
+use worker_gate::{Gate, Ran, run_workers};
 
 /// Those who run the strands of a batch.
 pub trait Crew {
@@ -18,8 +18,12 @@ pub trait Crew {
 
     type Runtime: Threads + Wait + Sync;
 
+    /// Whether its gate lets every worker go on.
+    ghost is_open: { Self → Bool };
+
     /// The gate that each worker passes before each turn.
-    fn gate(&self) -> &Self::Gate;
+    fn gate(&self) -> &Self::Gate
+        ensures open { is_open self.now ≡ true → Self.Gate.is_open result.now ≡ true };
 
     /// Where the workers are started.
     fn runtime(&self) -> &Self::Runtime;
@@ -29,14 +33,15 @@ pub trait Crew {
         ensures some { 0 < result }
         ensures most { result ≤ 64 };
 
-    /// Runs the strands over the shards, and hands the shards back in their order. Where memory runs out, the shards are given up.
+    /// Runs the strands over the shards. Handed back are the shards in their order, the strands that ended, and how many claims and fills
+    /// each strand made. Where memory runs out, the shards are given up.
     final fn run<B: BatchName + Send + Sync>(
         &self,
         alloc: Global,
         design: &Design,
         shards: Vec<Shard<B>>,
         strands: Vec<Strand<B>>,
-    ) -> Result<Vec<Shard<B>>, OutOfMemory>
+    ) -> Result<Ran<B>, OutOfMemory>
         requires design { design.now.circuit ≡ B.batch.circuit }
         requires named { vec_len shards ≡ B.batch.shards }
         requires some { 0 < vec_len shards }
@@ -45,10 +50,16 @@ pub trait Crew {
         requires empty { All (λ m. m.shard.journal ≡ []) shards.items }
         requires strands { vec_len strands ≤ 256 }
         requires new { AreNew strands.items }
-        ensures count { IfOk result (λ back. vec_len back ≡ vec_len shards) }
-        ensures order { IfOk result (λ back. AreInOrder back.items) }
+        ensures counted { IfOk result (λ ran. sum ran.counts ≡ sum_by booked_in ran.shards) }
+        ensures ended { IfOk result (λ ran. AreEnds ran.strands (map task_of strands.items)
+            ran.counts) }
+        ensures filled { is_open self.now ≡ true → IfOk result (λ ran. AreFilled ran.strands) }
+        ensures places { IfOk result (λ ran. length ran.strands ≡ vec_len strands) }
+        ensures counts { IfOk result (λ ran. length ran.counts ≡ vec_len strands) }
+        ensures shards { IfOk result (λ ran. length ran.shards ≡ vec_len shards) }
+        ensures order { IfOk result (λ ran. AreInOrder ran.shards) }
     {
-        let ran = run_workers(
+        run_workers(
             self.runtime(),
             alloc,
             design,
@@ -56,7 +67,6 @@ pub trait Crew {
             strands,
             self.workers(),
             self.gate(),
-        )?;
-        Ok(ran.shards.into_vec())
+        )
     }
 }

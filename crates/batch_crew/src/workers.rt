@@ -34,6 +34,8 @@ impl<G: Gate, R: Threads + Wait + Sync> Crew for Workers<'_, G, R> {
 
     type Runtime = R;
 
+    ghost is_open = { λ workers. G.is_open workers.gate.now };
+
     fn gate(&self) -> &G {
         self.gate
     }

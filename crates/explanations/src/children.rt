@@ -39,9 +39,13 @@ pub fn hear<B: BatchName>(
     requires asking { IsChargedMemo B.batch B.opening memo.old query charge.old }
     ensures asking { OnOk result (IsChargedMemo B.batch B.opening memo.new query charge.new) }
     ensures cell { IfOk result (λ r. IfSome r (λ cell. cell ≡ cell_at B.batch.circuit p)) }
-    ensures reaches { (first : List ShardRecord) → IsStanding B.batch B.opening query [] first (live memo.old)
-        → IfOk result (λ r. Reaches B.batch B.opening query [] first (live memo.old) p (standing memo.new (is_missing r))) }
-    ensures looks { IfOk result (λ r. IfSome r (λ cell. Looks B.batch.circuit (entries_of memo.old) (entries_of memo.new) (get place_cmp waiting.old.cells) (get place_cmp waiting.new.cells) (Some p ∷ []))) }
+    ensures reaches { (first : List ShardRecord)
+        → IsStanding B.batch B.opening query [] first (live memo.old)
+        → IfOk result (λ r. Reaches B.batch B.opening query [] first (live memo.old) p
+        (standing memo.new (is_missing r))) }
+    ensures looks { IfOk result (λ r. IfSome r
+        (λ cell. Looks B.batch.circuit (entries_of memo.old) (entries_of memo.new)
+        (get place_cmp waiting.old.cells) (get place_cmp waiting.new.cells) (Some p ∷ []))) }
 {
     if let Some(cell) = design.base(p.signal, p.time) {
         return Ok(Some(cell));
@@ -83,9 +87,14 @@ fn look<B: BatchName>(
     requires asking { IsChargedMemo B.batch B.opening memo.old query charge.old }
     ensures asking { OnOk result (IsChargedMemo B.batch B.opening memo.new query charge.new) }
     ensures frame { IfOk result (λ r. IfSome r (LooksOn design.now.circuit frame.now)) }
-    ensures advances { (first : List ShardRecord) → IsStanding B.batch B.opening query [] first (live memo.old)
-        → IfOk result (λ r. Advances B.batch B.opening query [] first (live memo.old) (standing memo.new (is_missing r))) }
-    ensures looks { IfOk result (λ r. IfSome r (λ next. Looks B.batch.circuit (entries_of memo.old) (entries_of memo.new) (get place_cmp waiting.old.cells) (get place_cmp waiting.new.cells) (next_point design.now.circuit frame.now ∷ []))) }
+    ensures advances { (first : List ShardRecord)
+        → IsStanding B.batch B.opening query [] first (live memo.old)
+        → IfOk result (λ r. Advances B.batch B.opening query [] first (live memo.old)
+        (standing memo.new (is_missing r))) }
+    ensures looks { IfOk result (λ r. IfSome r
+        (λ next. Looks B.batch.circuit (entries_of memo.old) (entries_of memo.new)
+        (get place_cmp waiting.old.cells) (get place_cmp waiting.new.cells)
+        (next_point design.now.circuit frame.now ∷ []))) }
 {
     let Some(p) = frame.next_source(design) else {
         return Ok(Some(frame.see(design, None)));
@@ -113,9 +122,14 @@ pub fn ask_children<B: BatchName>(
     requires needed { IsNeededBy B.batch query p }
     requires asking { IsChargedMemo B.batch B.opening memo.old query charge.old }
     ensures asking { OnOk result (IsChargedMemo B.batch B.opening memo.new query charge.new) }
-    ensures advances { (first : List ShardRecord) → IsStanding B.batch B.opening query [] first (live memo.old)
-        → IfOk result (λ r. Advances B.batch B.opening query [] first (live memo.old) (standing memo.new r)) }
-    ensures looks { IfOk result (λ r. r ≡ false → Looks B.batch.circuit (entries_of memo.old) (entries_of memo.new) (get place_cmp waiting.old.cells) (get place_cmp waiting.new.cells) (looked_at B.batch.circuit p)) }
+    ensures advances { (first : List ShardRecord)
+        → IsStanding B.batch B.opening query [] first (live memo.old)
+        → IfOk result (λ r. Advances B.batch B.opening query [] first (live memo.old)
+        (standing memo.new r)) }
+    ensures looks { IfOk result (λ r. r ≡ false
+        → Looks B.batch.circuit (entries_of memo.old) (entries_of memo.new)
+        (get place_cmp waiting.old.cells) (get place_cmp waiting.new.cells)
+        (looked_at B.batch.circuit p)) }
 {
     let mut frame = Frame::new(design, p);
     'pins: while !frame.is_done(design) {

@@ -47,7 +47,8 @@ fn gather_answer<B: BatchName>(
     requires kept { AreFreeShards B.batch B.opening memo.old }
     requires unused { entries_of memo.old ≡ [] }
     ensures kept { OnOk result (AreFreeShards B.batch B.opening memo.new) }
-    ensures journals { OnOk result ((added : List EntryRecord) × AreAdded (journals_of (shards_in memo.old)) added (journals_of (shards_in memo.new))) }
+    ensures journals { OnOk result ((added : List EntryRecord) ×
+        AreAdded (journals_of (shards_in memo.old)) added (journals_of (shards_in memo.new))) }
     ensures answer { IfOk result (IsWhyAnswer B.batch.circuit (entries_of memo.new) query) }
 {
     let mut waiting = Waiting::new(alloc);
@@ -86,8 +87,11 @@ pub fn explain<B: BatchName>(
     requires unused { AreUnused shards.items }
     ensures numbers { IfOk result (λ done. AreNumbered done.shards.items) }
     ensures fresh { IfOk result (λ done. IsFresh B.batch B.opening (shards_in done.shards.items)) }
-    ensures journals { IfOk result (λ done. (added : List EntryRecord) × AreAdded (journals_of (shards_in shards.items)) added (journals_of (shards_in done.shards.items))) }
-    ensures answer { IfOk result (λ done. IsWhyAnswer B.batch.circuit (entries_in (shards_in done.shards.items)) query done.answer) }
+    ensures journals { IfOk result (λ done. (added : List EntryRecord) ×
+        AreAdded (journals_of (shards_in shards.items)) added
+        (journals_of (shards_in done.shards.items))) }
+    ensures answer { IfOk result (λ done. IsWhyAnswer B.batch.circuit
+        (entries_in (shards_in done.shards.items)) query done.answer) }
 {
     let mut memo = begin(alloc, shards)?;
     let answer = gather_answer(alloc, &mut memo, design, query)?;

@@ -33,11 +33,15 @@ pub fn gather<B: BatchName>(
     requires design { design.now.circuit ≡ B.batch.circuit }
     requires known { Contains B.batch.queries query }
     requires asking { IsChargedMemo B.batch B.opening memo.old query charge }
-    requires gathered { AreGathered B.batch query (entries_of memo.old) [] (get place_cmp waiting.cells) }
+    requires gathered { AreGathered B.batch query (entries_of memo.old) []
+        (get place_cmp waiting.cells) }
     ensures kept { OnOk result (AreFreeShards B.batch B.opening memo.new) }
-    ensures advances { (first : List ShardRecord) → IsStanding B.batch B.opening query [] first (live memo.old)
-        → IfOk result (λ r. Advances B.batch B.opening query [] first (live memo.old) (standing memo.new (is_missing r))) }
-    ensures lines { IfOk result (λ r. IfSome r (λ lines. AreExplained B.batch.circuit (entries_of memo.new) query lines.items)) }
+    ensures advances { (first : List ShardRecord)
+        → IsStanding B.batch B.opening query [] first (live memo.old)
+        → IfOk result (λ r. Advances B.batch B.opening query [] first (live memo.old)
+        (standing memo.new (is_missing r))) }
+    ensures lines { IfOk result (λ r. IfSome r
+        (λ lines. AreExplained B.batch.circuit (entries_of memo.new) query lines.items)) }
 {
     design.facts();
     let mut waiting = waiting;

@@ -97,7 +97,8 @@ fn explained<B: BatchName>(
     requires store { store.capacity ≡ 4 }
     requires right { AllByRecursion (IsRight design.now.circuit) store.cells }
     ensures store { IfOk result (λ r. IfSome r (λ seen. seen.store.capacity ≡ 4)) }
-    ensures right { IfOk result (λ r. IfSome r (λ seen. AllByRecursion (IsRight design.now.circuit) seen.store.cells)) }
+    ensures right { IfOk result (λ r. IfSome r
+        (λ seen. AllByRecursion (IsRight design.now.circuit) seen.store.cells)) }
 {
     let shard = Shard::<B>::begin(alloc, 0, store);
     let mut shards = Vec::new(alloc);
@@ -129,7 +130,8 @@ fn why(
     requires store { store.capacity ≡ 4 }
     requires right { AllByRecursion (IsRight design.now.circuit) store.cells }
     ensures store { IfOk result (λ r. IfSome r (λ seen. seen.store.capacity ≡ 4)) }
-    ensures right { IfOk result (λ r. IfSome r (λ seen. AllByRecursion (IsRight design.now.circuit) seen.store.cells)) }
+    ensures right { IfOk result (λ r. IfSome r
+        (λ seen. AllByRecursion (IsRight design.now.circuit) seen.store.cells)) }
 {
     design.facts();
     let Some(signal) = design.netlist().id_of(name) else {
@@ -157,7 +159,8 @@ fn first_why(
     budget: u32,
 ) -> Result<Option<Seen>, OutOfMemory>
     ensures store { IfOk result (λ r. IfSome r (λ seen. seen.store.capacity ≡ 4)) }
-    ensures right { IfOk result (λ r. IfSome r (λ seen. AllByRecursion (IsRight design.now.circuit) seen.store.cells)) }
+    ensures right { IfOk result (λ r. IfSome r
+        (λ seen. AllByRecursion (IsRight design.now.circuit) seen.store.cells)) }
 {
     let store = CellStore::new(alloc, 4)?;
     why(alloc, design, store, 1, name, time, budget)

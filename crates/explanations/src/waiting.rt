@@ -75,7 +75,8 @@ impl Waiting {
 
     /// Adds a cell, unless one stands in its place.
     pub fn add(&mut self, asked: &Asked) -> Result<(), OutOfMemory>
-        ensures { OnOk result (Adds (get place_cmp self.old.cells) asked.now (get place_cmp self.new.cells)) }
+        ensures { OnOk result (Adds (get place_cmp self.old.cells) asked.now
+            (get place_cmp self.new.cells)) }
     {
         let place = asked.place();
         if self.cells.contains_key(&place) {
@@ -87,7 +88,8 @@ impl Waiting {
 
     /// Takes the last cell.
     pub fn take_last(&mut self) -> Option<Asked>
-        ensures some { IfSome result (λ asked. TakesLast (get place_cmp self.old.cells) asked (get place_cmp self.new.cells)) }
+        ensures some { IfSome result (λ asked. TakesLast (get place_cmp self.old.cells) asked
+            (get place_cmp self.new.cells)) }
         ensures none { IfNone result ((k : PlaceRecord) → get place_cmp self.old.cells k ≡ None) }
         ensures stays { IfNone result ((k : PlaceRecord) → get place_cmp self.new.cells k ≡ None) }
     {

@@ -33,9 +33,10 @@ use Rattle.plan_machine.proofs.Underway.{contains-none}
 use Rattle.memo_shards.specs.KeptShards.{KeptShard}
 use Rattle.plan_core.specs.Parts.{shards_in}
 use Rattle.asked_cells.specs.Memos.{IsChargedMemo, AreFreeShards, entries_of, asked_at, at_time}
-use Rattle.asked_cells.specs.Asked.{HasAsked}
+use Rattle.asked_cells.specs.Asked.{HasAsked, AsksOn}
 use Rattle.asked_cells.specs.inner.Standings.{live, standing}
 use Rattle.asked_cells.proofs.Asked.{reaches}
+use Rattle.asked_cells.proofs.Asking.{asks-then, asks-point}
 use Rattle.first_times.proofs.Finding.{has, NoneBefore, first-here, first-none, goes-on}
 
 module _ (b : Batch) (opening : ℕ → List SignalCell) (q : Query) (w : Value) where
@@ -94,6 +95,14 @@ module _ (b : Batch) (lawful : IsLawful b) (opening : ℕ → List SignalCell) (
     }));
     covered = λ z u low high. absurd (omega arith);
   }
+
+  -- one time more is asked for
+  pub asks-more : b.site ≡ None → (first old new : List KeptShard) (t charge : ℕ) (r : Bool) → IsRoot b.circuit (window_of until) t → charge ≡ charge_of (entries_of old) q → AsksOn b opening until (shards_in first) false (shards_in old) false
+      → HasAsked b opening (asked_at (instant t) t charge) (shards_in old) (shards_in new) r → AsksOn b opening until (shards_in first) false (shards_in new) r
+  asks-more site first old new t charge r root counts before h =
+      let x : Point = record { signal = q.signal; time = t } in
+      let need : IsEvaluable b.circuit q.signal t → IsNeededBy b until x = λ evaluable. subst (λ (s : Option Site). NeedOf b.circuit s until x) (sym site) (Root root evaluable) in
+      asks-then b opening until (shards_in first) false (shards_in old) (shards_in new) r before (asks-point b opening until old new charge counts r x need h)
 
   module _ (first old new : List KeptShard) (t charge : ℕ) (k : Walking first old t) (before : t < q.to) (counts : charge ≡ charge_of (entries_of old) q) where
     abbrev x : Point

@@ -1,6 +1,6 @@
 //! The walk of a window up to the first time.
 
-ghost use Rattle.std.specs.Prelude.{◌≡◌, ◌∷◌, [], List, None, length, IfOk, OnOk};
+ghost use Rattle.std.specs.Prelude.{◌≡◌, ◌∷◌, [], List, None, false, length, IfOk, OnOk};
 ghost use Rattle.gate_values.specs.Gates.{same_value};
 ghost use Rattle.batch_meaning.specs.Lawful.{IsLawful};
 ghost use Rattle.journal_meaning.specs.declared.Entry.{Entry as EntryRecord};
@@ -9,8 +9,10 @@ ghost use Rattle.session_meaning.specs.FirstTimes.{IsFirstAnswer, up_to_first};
 ghost use Rattle.plan_machine.specs.Sound.{IsFresh};
 ghost use Rattle.plan_machine.specs.Settle.{entries_in, journals_of};
 ghost use Rattle.plan_core.specs.Parts.{shards_in};
+ghost use Rattle.asked_cells.specs.Asked.{AsksOn};
 ghost use Rattle.asked_cells.specs.Shards.{AreNumbered, AreUnused};
 ghost use Rattle.asked_cells.specs.Memos.{AreFreeShards, entries_of};
+ghost use Rattle.first_times.specs.Asks.{AsksUpToFirst, is_budget};
 
 use asked_cells::{Memo, begin, reach};
 use batch_meaning::Query;
@@ -50,8 +52,12 @@ fn walk<B: BatchName>(
     requires kept { AreFreeShards B.batch B.opening memo.old }
     requires unused { entries_of memo.old ≡ [] }
     ensures kept { OnOk result (AreFreeShards B.batch B.opening memo.new) }
-    ensures journals { OnOk result ((added : List EntryRecord) × AreAdded (journals_of (shards_in memo.old)) added (journals_of (shards_in memo.new))) }
+    ensures journals { OnOk result ((added : List EntryRecord) ×
+        AreAdded (journals_of (shards_in memo.old)) added (journals_of (shards_in memo.new))) }
     ensures answer { IfOk result (IsFirstAnswer B.batch.circuit (entries_of memo.new) query value) }
+    ensures asks { let until = up_to_first B.batch.circuit query value in
+        IfOk result (λ answer. AsksOn B.batch B.opening until (shards_in memo.old) false
+        (shards_in memo.new) (is_budget answer)) }
 {
     let mut time = query.from;
     let mut charge = 0;
@@ -92,8 +98,13 @@ pub fn first_time<B: BatchName>(
     requires unused { AreUnused shards.items }
     ensures numbers { IfOk result (λ done. AreNumbered done.shards.items) }
     ensures fresh { IfOk result (λ done. IsFresh B.batch B.opening (shards_in done.shards.items)) }
-    ensures journals { IfOk result (λ done. (added : List EntryRecord) × AreAdded (journals_of (shards_in shards.items)) added (journals_of (shards_in done.shards.items))) }
-    ensures answer { IfOk result (λ done. IsFirstAnswer B.batch.circuit (entries_in (shards_in done.shards.items)) query value done.answer) }
+    ensures journals { IfOk result (λ done. (added : List EntryRecord) ×
+        AreAdded (journals_of (shards_in shards.items)) added
+        (journals_of (shards_in done.shards.items))) }
+    ensures answer { IfOk result (λ done. IsFirstAnswer B.batch.circuit
+        (entries_in (shards_in done.shards.items)) query value done.answer) }
+    ensures asks { IfOk result (λ done. AsksUpToFirst B.batch B.opening query value
+        (shards_in shards.items) (shards_in done.shards.items) done.answer) }
 {
     let mut memo = begin(alloc, shards)?;
     let answer = walk(&mut memo, design, query, value)?;

@@ -4,7 +4,8 @@
 //! yet. It asks for one cell after another, each by its first time, from where the window begins (`reach` of `asked_cells`). It stops
 //! at the first cell that has the value, and asks for nothing behind it: the entries that are left close the query up to the time that
 //! is answered, and no more (`IsFirstAnswer` of `session_meaning`). Where the window has no such time, the whole window is closed. Where
-//! the answer would take more evaluations than the query's budget, the answer is the budget, and the entries hold the cause.
+//! the answer would take more evaluations than the query's budget, the answer is the budget, and the entries hold the cause. Each time is
+//! asked for under the query's number, charged with what was filled so far, and none after a refusal (`specs/Asks`).
 //!
 //! The batch that B names has one query: that of the caller, with its window cut off behind the first time (`up_to_first`). The one who
 //! calls does not know that time; it stands in the name alone, which exists in proofs and not when the program runs.

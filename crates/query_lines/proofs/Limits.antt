@@ -15,6 +15,7 @@ use Rattle.query_lines.specs.declared.line.Line.TheVariants.{Blank, Ask, Go, Bad
 use Rattle.query_lines.specs.declared.line.Line.TheVariants as lines
 use Rattle.query_lines.specs.declared.line.What.{What}
 use Rattle.query_lines.specs.declared.line.What.TheVariants as whats
+use Rattle.query_lines.specs.declared.unit.Asks.TheVariants as kinds
 use Rattle.query_lines.specs.declared.unit.Item.{Item}
 use Rattle.query_lines.specs.declared.unit.Unit.{Unit as ScriptUnit}
 use Rattle.query_lines.specs.declared.unit.Unit.TheVariants as units
@@ -233,10 +234,10 @@ step-sound horizon pending number Bad bound modest p = with_item-sound horizon p
 step-sound horizon pending number Go bound modest p = record { given = closed-sound horizon pending p; pending = no_items horizon }
 step-sound horizon pending number (lines.Trim cells) bound modest p = with_unit-sound horizon pending (units.Trim cells) p modest
 step-sound horizon pending number Stats bound modest p = with_unit-sound horizon pending units.Stats p tt
-step-sound horizon pending number (lines.First first) bound modest p = with_unit-sound horizon pending (units.First (record { line = number; first = first })) p modest
-step-sound horizon pending number (lines.Why why) bound modest p = with_unit-sound horizon pending (units.Why (record { line = number; why = why })) p modest
+step-sound horizon pending number (lines.First first) bound modest p = with_unit-sound horizon pending (units.Question (record { line = number; asks = kinds.First first })) p modest
+step-sound horizon pending number (lines.Why why) bound modest p = with_unit-sound horizon pending (units.Question (record { line = number; asks = kinds.Why why })) p modest
 step-sound horizon pending number (lines.Vcd file) bound modest p = with_unit-sound horizon pending (units.Vcd file) p tt
-step-sound horizon pending number (lines.Stuck stuck) bound modest p = with_unit-sound horizon pending (units.Stuck (record { line = number; stuck = stuck })) p modest
+step-sound horizon pending number (lines.Stuck stuck) bound modest p = with_unit-sound horizon pending (units.Question (record { line = number; asks = kinds.Stuck stuck })) p modest
 
 units_from-within : (horizon : ℕ) (pending : List Item) (first : ℕ) (texts : List (List ℕ)) → horizon ≤ 1000000 → IsPending horizon pending → All (IsWithinLimits horizon) (units_from horizon pending (enumerate_from first (map line_of texts)))
 units_from-within horizon pending first [] bound p = closed-sound horizon pending p

@@ -11,6 +11,7 @@ use Rattle.query_lines.specs.declared.line.Line.{Line}
 use Rattle.query_lines.specs.declared.line.Line.TheVariants.{Blank, Ask, Go, Bad, Stats}
 use Rattle.query_lines.specs.declared.line.Line.TheVariants as lines
 use Rattle.query_lines.specs.declared.line.What.TheVariants as whats
+use Rattle.query_lines.specs.declared.unit.Asks.TheVariants as kinds
 use Rattle.query_lines.specs.declared.unit.Item.{Item}
 use Rattle.query_lines.specs.declared.unit.Unit.{Unit as ScriptUnit}
 use Rattle.query_lines.specs.declared.unit.Unit.TheVariants as units
@@ -195,10 +196,10 @@ step-named horizon number pending Bad named p = with_item-named horizon pending 
 step-named horizon number pending Go named p = record { given = closed-named pending p; pending = none-named }
 step-named horizon number pending (lines.Trim cells) named p = with_unit-named pending (units.Trim cells) tt p
 step-named horizon number pending Stats named p = with_unit-named pending units.Stats tt p
-step-named horizon number pending (lines.First first) named p = with_unit-named pending (units.First (record { line = number; first = first })) named p
-step-named horizon number pending (lines.Why why) named p = with_unit-named pending (units.Why (record { line = number; why = why })) named p
+step-named horizon number pending (lines.First first) named p = with_unit-named pending (units.Question (record { line = number; asks = kinds.First first })) named p
+step-named horizon number pending (lines.Why why) named p = with_unit-named pending (units.Question (record { line = number; asks = kinds.Why why })) named p
 step-named horizon number pending (lines.Vcd file) named p = with_unit-named pending (units.Vcd file) named p
-step-named horizon number pending (lines.Stuck stuck) named p = with_unit-named pending (units.Stuck (record { line = number; stuck = stuck })) named p
+step-named horizon number pending (lines.Stuck stuck) named p = with_unit-named pending (units.Question (record { line = number; asks = kinds.Stuck stuck })) named p
 
 units_from-named : (horizon first : ℕ) (pending : List Item) (texts : List (List ℕ)) → AskByName pending → All HasNames (units_from horizon pending (enumerate_from first (map line_of texts)))
 units_from-named horizon first pending [] p = closed-named pending p

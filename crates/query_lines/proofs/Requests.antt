@@ -7,9 +7,10 @@ use Rattle.query_lines.specs.declared.line.Line.{Line}
 use Rattle.query_lines.specs.declared.line.Line.TheVariants.{Blank, Ask, Go, Bad}
 use Rattle.query_lines.specs.declared.line.Line.TheVariants as lines
 use Rattle.query_lines.specs.declared.line.What.TheVariants as whats
+use Rattle.query_lines.specs.declared.unit.Asks.TheVariants as kinds
 use Rattle.query_lines.specs.declared.unit.Item.{Item}
 use Rattle.query_lines.specs.declared.unit.Unit.{Unit as ScriptUnit}
-use Rattle.query_lines.specs.declared.unit.Unit.TheVariants.{Trim, Stats, First, Why, Vcd, Stuck}
+use Rattle.query_lines.specs.declared.unit.Unit.TheVariants.{Trim, Stats, Question, Vcd}
 use Rattle.query_lines.specs.Units.{LineStep, closed, is_over, pending_up_to_64, with_item, line_step, units_from}
 use Rattle.query_lines.specs.Laws.{Request, Answer, requests_in, requests_on}
 
@@ -57,10 +58,10 @@ kept-step horizon pending number Bad = kept-item horizon pending (record { line 
 kept-step horizon pending number Go = kept-whole pending ∙ sym (append-nil (map Answer pending))
 kept-step horizon pending number (lines.Trim cells) = kept-after pending (Trim cells)
 kept-step horizon pending number lines.Stats = kept-after pending Stats
-kept-step horizon pending number (lines.First first) = kept-after pending (First (record { line = number; first = first }))
-kept-step horizon pending number (lines.Why why) = kept-after pending (Why (record { line = number; why = why }))
+kept-step horizon pending number (lines.First first) = kept-after pending (Question (record { line = number; asks = kinds.First first }))
+kept-step horizon pending number (lines.Why why) = kept-after pending (Question (record { line = number; asks = kinds.Why why }))
 kept-step horizon pending number (lines.Vcd file) = kept-after pending (Vcd file)
-kept-step horizon pending number (lines.Stuck stuck) = kept-after pending (Stuck (record { line = number; stuck = stuck }))
+kept-step horizon pending number (lines.Stuck stuck) = kept-after pending (Question (record { line = number; asks = kinds.Stuck stuck }))
 
 pub told-units : (horizon : ℕ) (pending : List Item) (numbered : List (ℕ × Line)) → told (units_from horizon pending numbered) ≡ map Answer pending ++ flat_map (λ line. requests_on line.0 line.1) numbered
 told-units horizon pending [] = told-closed pending ∙ sym (append-nil (map Answer pending))

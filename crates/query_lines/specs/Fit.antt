@@ -3,9 +3,11 @@ use Rattle.std.specs.Prelude.{◌≡◌, ◌≢◌, ⊤, ℕ, ◌≤◌, IsTrue,
 use Rattle.text_rules.specs.Text.{is_name}
 use Rattle.query_lines.specs.declared.line.What.{What}
 use Rattle.query_lines.specs.declared.line.What.TheVariants as whats
+use Rattle.query_lines.specs.declared.unit.Asks.{Asks}
+use Rattle.query_lines.specs.declared.unit.Asks.TheVariants.{First, Why, Stuck}
 use Rattle.query_lines.specs.declared.unit.Item.{Item}
 use Rattle.query_lines.specs.declared.unit.Unit.{Unit as ScriptUnit}
-use Rattle.query_lines.specs.declared.unit.Unit.TheVariants.{Batch, Trim, Stats, First, Why, Vcd, Stuck}
+use Rattle.query_lines.specs.declared.unit.Unit.TheVariants.{Batch, Trim, Stats, Question, Vcd}
 use Rattle.query_lines.specs.Reading.{script_units, completed_units}
 use Rattle.query_lines.specs.Readers.{Reader, HasRead}
 use Rattle.query_lines.specs.Laws.{IsWithinLimits}
@@ -19,10 +21,8 @@ abbrev pub HasOwnLines : ScriptUnit → Type 0
 HasOwnLines (Batch items) = HaveOwnLines items
 HasOwnLines (Trim cells) = ⊤
 HasOwnLines Stats = ⊤
-HasOwnLines (First item) = ⊤
-HasOwnLines (Why item) = ⊤
+HasOwnLines (Question question) = ⊤
 HasOwnLines (Vcd file) = ⊤
-HasOwnLines (Stuck item) = ⊤
 
 -- No two items of a unit have one line.
 abbrev pub UnitsHaveOwnLines : Type 0
@@ -34,15 +34,19 @@ AsksByName (whats.Wave name from to budget) = IsTrue (is_name name)
 AsksByName (whats.At name time budget) = IsTrue (is_name name)
 AsksByName whats.Bad = ⊤
 
+-- whatever a question names has a name by the rules
+abbrev pub NamesByRules : Asks → Type 0
+NamesByRules (First first) = IsTrue (is_name first.name)
+NamesByRules (Why why) = IsTrue (is_name why.name)
+NamesByRules (Stuck stuck) = IsTrue (is_name stuck.site) × IsTrue (is_name stuck.name)
+
 -- Whatever a unit names has a name by the rules.
 abbrev pub HasNames : ScriptUnit → Type 0
 HasNames (Batch items) = All (λ item. AsksByName item.what) items
 HasNames (Trim cells) = ⊤
 HasNames Stats = ⊤
-HasNames (First item) = IsTrue (is_name item.first.name)
-HasNames (Why item) = IsTrue (is_name item.why.name)
+HasNames (Question question) = NamesByRules question.asks
 HasNames (Vcd file) = IsTrue (is_name file)
-HasNames (Stuck item) = IsTrue (is_name item.stuck.site) × IsTrue (is_name item.stuck.name)
 
 -- a unit within its limits, whose items have lines of their own, and whose names are names
 pub record IsFit (horizon : ℕ) (unit : ScriptUnit) : Type 0 where

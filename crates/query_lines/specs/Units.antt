@@ -1,14 +1,15 @@
--- The units of a script: batches of items, trims, requests for the counts, questions for first times, for explanations and for waves where
--- a signal is stuck, and dumps.
+-- The units of a script: batches of items, trims, requests for the counts, questions that are batches of their own, and dumps.
 use Rattle.std.specs.Prelude.{ℕ, ◌+◌, ◌-◌, Bool, false, ◌&&◌, ◌||◌, nat_lt, nat_le, List, [], ◌∷◌, ◌++◌, length, sum_by, if◌then◌else◌}
 use Rattle.query_lines.specs.declared.line.Line.{Line}
 use Rattle.query_lines.specs.declared.line.Line.TheVariants.{Blank, Ask, Go}
 use Rattle.query_lines.specs.declared.line.Line.TheVariants as lines
 use Rattle.query_lines.specs.declared.line.What.{What}
 use Rattle.query_lines.specs.declared.line.What.TheVariants.{Wave, At, Bad}
+use Rattle.query_lines.specs.declared.unit.Asks.{Asks}
+use Rattle.query_lines.specs.declared.unit.Asks.TheVariants.{First, Why, Stuck}
 use Rattle.query_lines.specs.declared.unit.Item.{Item}
 use Rattle.query_lines.specs.declared.unit.Unit.{Unit as ScriptUnit}
-use Rattle.query_lines.specs.declared.unit.Unit.TheVariants.{Batch, Trim, Stats, First, Why, Vcd, Stuck}
+use Rattle.query_lines.specs.declared.unit.Unit.TheVariants.{Batch, Trim, Stats, Question, Vcd}
 
 -- what an item counts toward the budgets of its batch
 abbrev pub budget_weight : What → ℕ
@@ -63,6 +64,11 @@ with_item horizon pending item =
     then record { units = closed pending; pending = item ∷ [] }
     else pending_up_to_64 (pending ++ item ∷ [])
 
+-- the question of this line is a unit of its own, behind the pending items
+abbrev pub with_question : List Item → ℕ → Asks → LineStep
+with_question pending number asks =
+    record { units = closed pending ++ Question (record { line = number; asks = asks }) ∷ []; pending = [] }
+
 -- the line of this number, after these pending items
 abbrev pub line_step : ℕ → List Item → ℕ → Line → LineStep
 line_step horizon pending number Blank = record { units = []; pending = pending }
@@ -72,14 +78,11 @@ line_step horizon pending number Go = record { units = closed pending; pending =
 line_step horizon pending number (lines.Trim cells) =
     record { units = closed pending ++ Trim cells ∷ []; pending = [] }
 line_step horizon pending number lines.Stats = record { units = closed pending ++ Stats ∷ []; pending = [] }
-line_step horizon pending number (lines.First first) =
-    record { units = closed pending ++ First (record { line = number; first = first }) ∷ []; pending = [] }
-line_step horizon pending number (lines.Why why) =
-    record { units = closed pending ++ Why (record { line = number; why = why }) ∷ []; pending = [] }
+line_step horizon pending number (lines.First first) = with_question pending number (First first)
+line_step horizon pending number (lines.Why why) = with_question pending number (Why why)
 line_step horizon pending number (lines.Vcd file) =
     record { units = closed pending ++ Vcd file ∷ []; pending = [] }
-line_step horizon pending number (lines.Stuck stuck) =
-    record { units = closed pending ++ Stuck (record { line = number; stuck = stuck }) ∷ []; pending = [] }
+line_step horizon pending number (lines.Stuck stuck) = with_question pending number (Stuck stuck)
 
 -- what a batcher shows: the horizon, and the pending items
 pub record Pending : Type 0 where

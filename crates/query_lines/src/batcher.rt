@@ -1,11 +1,12 @@
 //! Items gathered into batches.
 
 ghost use Rattle.std.specs.Prelude.{◌≡◌, ◌<◌, ◌^◌, ◌++◌, [], ◌∷◌, false, length, OnOk, OnErr, IfOk, IsNone, ◌↔◌, option_to_list};
+ghost use Rattle.query_lines.specs.declared.unit.Unit.TheVariants.{Question as QuestionUnit};
 ghost use Rattle.query_lines.specs.Units as units;
 ghost use Rattle.query_lines.specs.Units.{closed, given_by, left_by, with_item};
 
 use crate::line::{Line, What};
-use crate::unit::{FirstItem, Item, ItemList, StuckItem, Unit, UnitList, WhyItem};
+use crate::unit::{Asks, Item, ItemList, Question, Unit, UnitList};
 use owned_text::OutOfMemory;
 use std::alloc::Global;
 use std::marker::Model;
@@ -110,16 +111,10 @@ impl Batcher {
             Line::Go => self.close(None),
             Line::Trim(cells) => self.close(Some(Unit::Trim(cells))),
             Line::Stats => self.close(Some(Unit::Stats)),
-            Line::First(first) => self.close(Some(Unit::First(FirstItem {
-                line: number,
-                first,
-            }))),
-            Line::Why(why) => self.close(Some(Unit::Why(WhyItem { line: number, why }))),
+            Line::First(first) => self.ask(number, Asks::First(first)),
+            Line::Why(why) => self.ask(number, Asks::Why(why)),
             Line::Vcd(file) => self.close(Some(Unit::Vcd(file))),
-            Line::Stuck(stuck) => self.close(Some(Unit::Stuck(StuckItem {
-                line: number,
-                stuck,
-            }))),
+            Line::Stuck(stuck) => self.ask(number, Asks::Stuck(stuck)),
         }
     }
 
@@ -140,7 +135,8 @@ impl Batcher {
 
     // Closes the pending batch, and gives this unit behind it.
     fn close(&mut self, last: Option<Unit>) -> Result<UnitList, OutOfMemory>
-        ensures units { IfOk result (λ units. units ≡ closed self.old.items ++ option_to_list last) }
+        ensures units { IfOk result (λ units. units ≡ closed self.old.items ++ option_to_list
+            last) }
         ensures pending { OnOk result (self.new ≡ record self.old { items = [] }) }
         ensures err { OnErr result (self.new ≡ self.old) }
     {
@@ -152,6 +148,16 @@ impl Batcher {
             units.push_reserved(unit);
         }
         Ok(UnitList::from_vec(units))
+    }
+
+    // Closes the pending batch, and gives the question of this line behind it.
+    fn ask(&mut self, line: u32, asks: Asks) -> Result<UnitList, OutOfMemory>
+        ensures units { IfOk result (λ units. units ≡ closed self.old.items
+            ++ QuestionUnit (record { line = line; asks = asks }) ∷ []) }
+        ensures pending { OnOk result (self.new ≡ record self.old { items = [] }) }
+        ensures err { OnErr result (self.new ≡ self.old) }
+    {
+        self.close(Some(Unit::Question(Question { line, asks })))
     }
 
     // Whether this item would take the pending batch over a limit.

@@ -69,7 +69,8 @@ impl LineCutter {
 
     fn put(&mut self, byte: u8)
         ensures no_text { self.new.ended ≡ [] }
-        ensures holds { (line : List ℕ) → IsUnderWay line self.old → IsUnderWay (line ++ byte ∷ []) self.new }
+        ensures holds { (line : List ℕ) → IsUnderWay line self.old
+            → IsUnderWay (line ++ byte ∷ []) self.new }
     {
         self.ended = 0;
         if self.len < LONGEST_LINE {

@@ -2,8 +2,9 @@
 //!
 //! A script is a text of lines. `wave` and `at` lines ask for the values of a
 //! signal, and are the **items** of batches, as is a line of no known form,
-//! which gets a reply too. `go` runs the pending batch; `trim`, `stats`, `first`,
-//! `why`, `vcd` and `stuck` are served by themselves. So a script is a list of **units**, each of which is
+//! which gets a reply too. `go` runs the pending batch; `trim`, `stats` and `vcd` are
+//! served by themselves, and so are the **questions** `first`, `why` and `stuck`, each of which
+//! is a batch of its own ([`Question`]). So a script is a list of **units**, each of which is
 //! served as a whole: `specs/Lines` says what a line means, `specs/Units` where
 //! a batch ends, and `specs/Laws` what holds of all units: they are the lines'
 //! requests in their order, and each batch is within its limits. `specs/Fit` is
@@ -51,7 +52,7 @@ pub use laws::{
 };
 pub use line::{First, Line, Stuck, What, Why, read_line};
 pub use script::{ScriptReader, read_script};
-pub use unit::{FirstItem, Item, ItemList, StuckItem, Unit, UnitList, WhyItem};
+pub use unit::{Asks, Item, ItemList, Question, Unit, UnitList};
 
 #[cfg(test)]
 mod tests;

@@ -315,7 +315,8 @@ fn stuck_of_parts(
     to: Option<u32>,
     budget: Option<u32>,
 ) -> Result<Line, OutOfMemory>
-    ensures { IfOk result (λ line. line ≡ lines.stuck_of_parts site.now value name.now from to budget) }
+    ensures { IfOk result (λ line. line ≡ lines.stuck_of_parts site.now value name.now from to
+        budget) }
 {
     match (value, from, to, budget) {
         (Some(value), Some(from), Some(to), Some(budget)) if is_name(site) && is_name(name) => {

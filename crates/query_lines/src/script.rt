@@ -55,7 +55,8 @@ impl ScriptReader {
         requires { self.old.lines < 4294967295 }
         ensures read { (horizon : ℕ) (script : List ℕ) (given : List ScriptUnit)
             → HasRead horizon script given self.old
-            → IfOk result (λ units. HasRead horizon (script ++ byte ∷ []) (given ++ units) self.new) }
+            → IfOk result (λ units. HasRead horizon (script ++ byte ∷ []) (given ++ units)
+            self.new) }
         ensures within { (horizon : ℕ) (script : List ℕ) (given : List ScriptUnit)
             → HasRead horizon script given self.old
             → horizon ≤ 1000000 → IfOk result (All (IsWithinLimits horizon)) }

@@ -143,9 +143,11 @@ fn shape_of(unit: &Unit) -> Shape {
         Unit::Batch(items) => Shape::Items(items.as_slice().len()),
         Unit::Trim(cells) => Shape::Trim(*cells),
         Unit::Stats => Shape::Stats,
-        Unit::First(item) => Shape::First(item.line),
-        Unit::Why(item) => Shape::Why(item.line),
-        Unit::Stuck(item) => Shape::Stuck(item.line),
+        Unit::Question(question) => match &question.asks {
+            Asks::First(_) => Shape::First(question.line),
+            Asks::Why(_) => Shape::Why(question.line),
+            Asks::Stuck(_) => Shape::Stuck(question.line),
+        },
         Unit::Vcd(file) => Shape::Vcd(file.bytes().len()),
     }
 }

@@ -52,26 +52,22 @@ impl ItemList {
     }
 }
 
-/// A question that is a unit of its own: the number of its line, counted from 1, and what the line asks.
+/// What a question asks that is a batch of its own.
 #[derive(Drop)]
-pub struct FirstItem {
-    pub line: u32,
-    pub first: First,
+pub enum Asks {
+    /// When a signal first has a value.
+    First(First),
+    /// Why a signal has the value that it has at a time.
+    Why(Why),
+    /// The waveform of a signal where another is stuck.
+    Stuck(Stuck),
 }
 
-/// A question for an explanation, which is a unit of its own: the number of its line, counted from 1, and what the line asks.
+/// Such a question, and the number of its line, counted from 1.
 #[derive(Drop)]
-pub struct WhyItem {
+pub struct Question {
     pub line: u32,
-    pub why: Why,
-}
-
-/// A question for a wave where a signal is stuck, which is a unit of its own: the number of its line, counted from 1, and what the line
-/// asks.
-#[derive(Drop)]
-pub struct StuckItem {
-    pub line: u32,
-    pub stuck: Stuck,
+    pub asks: Asks,
 }
 
 /// What is served as a whole.
@@ -83,14 +79,10 @@ pub enum Unit {
     Trim(u32),
     /// Tell the session's counts.
     Stats,
-    /// Tell when a signal first has a value.
-    First(FirstItem),
-    /// Tell why a signal has the value that it has at a time.
-    Why(WhyItem),
+    /// Answer a question that is a batch of its own.
+    Question(Question),
     /// Write the waves of the last batch to this file.
     Vcd(Text),
-    /// Tell the waveform of a signal where another is stuck.
-    Stuck(StuckItem),
 }
 
 /// A list of units.

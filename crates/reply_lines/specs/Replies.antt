@@ -6,6 +6,8 @@ use Rattle.circuit_meaning.specs.declared.Run.{Run}
 use Rattle.query_lines.specs.declared.line.What.{What}
 use Rattle.query_lines.specs.declared.line.What.TheVariants as whats
 use Rattle.query_lines.specs.declared.line.First.{First}
+use Rattle.query_lines.specs.declared.unit.Asks.{Asks}
+use Rattle.query_lines.specs.declared.unit.Asks.TheVariants as kinds
 use Rattle.query_lines.specs.declared.unit.Item.{Item}
 use Rattle.reply_lines.specs.declared.reply.Reply.{Reply}
 use Rattle.reply_lines.specs.declared.reply.Reply.TheVariants.{Wave, Unknown, Past, Budget, BadLine}
@@ -20,6 +22,8 @@ use Rattle.query_lines.specs.declared.line.Stuck.{Stuck}
 use Rattle.reply_lines.specs.declared.reply.StuckAnswer.TheVariants as waves
 use Rattle.reply_lines.specs.declared.reply.StuckReply.{StuckReply}
 use Rattle.reply_lines.specs.declared.reply.StuckReply.TheVariants as stucks
+use Rattle.reply_lines.specs.declared.reply.QuestionReply.{QuestionReply}
+use Rattle.reply_lines.specs.declared.reply.QuestionReply.TheVariants as told
 use Rattle.reply_lines.specs.declared.reply.VcdReply.{VcdReply}
 use Rattle.reply_lines.specs.declared.reply.VcdReply.TheVariants as dumps
 use Rattle.why_proofs.specs.Spelling.{proof_lines}
@@ -115,6 +119,13 @@ stuck_lines stuck stucks.Unknown = text_line (codes "unknown" ∷ stuck.name ∷
 stuck_lines stuck stucks.Past = text_line (codes "past" ∷ stuck.name ∷ decimal stuck.from ∷ decimal stuck.to ∷ [])
 stuck_lines stuck (stucks.Answer (waves.Wave runs)) = stuck_head stuck ++ flat_map run_line runs ++ text_line (codes "end" ∷ [])
 stuck_lines stuck (stucks.Answer (waves.Budget budget)) = text_line (codes "budget" ∷ stuck.name ∷ decimal budget ∷ [])
+
+-- the text of the reply to a question, by its kind
+abbrev pub question_lines : Asks → QuestionReply → List ℕ
+question_lines (kinds.First first) (told.First reply) = first_line first reply
+question_lines (kinds.Why why) (told.Why reply) = why_lines why reply
+question_lines (kinds.Stuck stuck) (told.Stuck reply) = stuck_lines stuck reply
+question_lines asks reply = []
 
 -- the text of the reply to a line that asks for a dump under this name
 abbrev pub vcd_line : List ℕ → VcdReply → List ℕ

@@ -1,9 +1,10 @@
 //! The replies to the items of a script, and their texts.
 //!
 //! A [`Reply`] is a waveform, as its maximal runs, or says why there is none. [`reply_text`] writes it as its format says
-//! (`specs/Replies`); [`trimmed_text`] and [`stats_text`] write the replies to a trim and to a request for the counts, [`first_text`]
-//! that to a question for a first time ([`FirstReply`]), [`why_text`] that to a question for an explanation ([`WhyReply`]), whose
-//! proof `why_proofs` writes and checks, and [`dump_text`] that to a line that asks for a dump ([`VcdReply`]).
+//! (`specs/Replies`); [`trimmed_text`] and [`stats_text`] write the replies to a trim and to a request for the counts,
+//! [`question_text`] that to a question which is a batch of its own ([`QuestionReply`]: a first time, an explanation, whose proof
+//! `why_proofs` writes and checks, or a wave where a signal is stuck), and [`dump_text`] that to a line that asks for a dump
+//! ([`VcdReply`]).
 //!
 //! ```text
 //! let text = reply_text(alloc, &item, &reply)?;
@@ -16,9 +17,10 @@ mod reply;
 mod text;
 
 pub use reply::{
-    FirstAnswer, FirstReply, Reply, StuckAnswer, StuckReply, VcdReply, WhyAnswer, WhyReply,
+    FirstAnswer, FirstReply, QuestionReply, Reply, StuckAnswer, StuckReply, VcdReply, WhyAnswer,
+    WhyReply,
 };
-pub use text::{dump_text, first_text, reply_text, stats_text, stuck_text, trimmed_text, why_text};
+pub use text::{dump_text, question_text, reply_text, stats_text, trimmed_text};
 
 #[cfg(test)]
 mod tests;

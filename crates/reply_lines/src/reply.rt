@@ -95,3 +95,14 @@ pub enum WhyReply {
     /// The question was answered.
     Answer(WhyAnswer),
 }
+
+/// What is replied to a question that is a batch of its own.
+#[derive(Drop)]
+pub enum QuestionReply {
+    /// To the question for a first time.
+    First(FirstReply),
+    /// To the question for an explanation.
+    Why(WhyReply),
+    /// To the question for a waveform where a signal is stuck.
+    Stuck(StuckReply),
+}

@@ -3,7 +3,7 @@
 use super::*;
 use gate_values::Value;
 use owned_text::Text;
-use query_lines::{First, Item, Stuck, What, Why};
+use query_lines::{Asks, First, Item, Stuck, What, Why};
 use std::test::Fail;
 use why_proofs::CellList;
 use window_walks::{Run, Runs};
@@ -91,13 +91,13 @@ fn other_replies_have_their_texts(rt: HostRuntime) -> Result<(), Fail> {
 #[test]
 fn first_times_have_their_texts(rt: HostRuntime) -> Result<(), Fail> {
     let alloc = rt.alloc();
-    let first = First {
+    let asks = Asks::First(First {
         name: Text::from_bytes(alloc, b"n3")?,
         value: Value::X,
         from: 4,
         to: 1_000_001,
         budget: 50_000,
-    };
+    });
     let rows: [(FirstReply, &[u8]); 5] = [
         (FirstReply::Unknown, b"unknown n3\n"),
         (FirstReply::Past, b"past n3 4 1000001\n"),
@@ -115,7 +115,7 @@ fn first_times_have_their_texts(rt: HostRuntime) -> Result<(), Fail> {
         ),
     ];
     for (reply, want) in rows {
-        let text = first_text(alloc, &first, reply)?;
+        let text = question_text(alloc, &asks, &QuestionReply::First(reply))?;
         assert_eq!(rt; text.as_slice(), want);
     }
     Ok(())
@@ -124,27 +124,25 @@ fn first_times_have_their_texts(rt: HostRuntime) -> Result<(), Fail> {
 #[test]
 fn explanations_have_their_texts(rt: HostRuntime) -> Result<(), Fail> {
     let alloc = rt.alloc();
-    let why = Why {
+    let asks = Asks::Why(Why {
         name: Text::from_bytes(alloc, b"n3")?,
         time: 4_294_967_294,
         budget: 7,
-    };
-    let text = why_text(alloc, &why, &WhyReply::Unknown)?;
-    assert_eq!(rt; text.as_slice(), b"unknown n3\n".as_slice());
-    let text = why_text(alloc, &why, &WhyReply::Past)?;
-    assert_eq!(rt;
-        text.as_slice(),
-        b"past n3 4294967294 4294967295\n".as_slice()
-    );
-    let text = why_text(alloc, &why, &WhyReply::Answer(WhyAnswer::Budget(7)))?;
-    assert_eq!(rt; text.as_slice(), b"budget n3 7\n".as_slice());
-    let cells = CellList::from_vec(Vec::new(alloc));
-    let reply = WhyReply::Answer(WhyAnswer::Proof {
-        cells,
-        value: Value::Zero,
     });
-    let text = why_text(alloc, &why, &reply)?;
-    assert_eq!(rt; text.as_slice(), b"why n3 4294967294 0\nend\n".as_slice());
+    let proof = WhyAnswer::Proof {
+        cells: CellList::from_vec(Vec::new(alloc)),
+        value: Value::Zero,
+    };
+    let rows: [(WhyReply, &[u8]); 4] = [
+        (WhyReply::Unknown, b"unknown n3\n"),
+        (WhyReply::Past, b"past n3 4294967294 4294967295\n"),
+        (WhyReply::Answer(WhyAnswer::Budget(7)), b"budget n3 7\n"),
+        (WhyReply::Answer(proof), b"why n3 4294967294 0\nend\n"),
+    ];
+    for (reply, want) in rows {
+        let text = question_text(alloc, &asks, &QuestionReply::Why(reply))?;
+        assert_eq!(rt; text.as_slice(), want);
+    }
     Ok(())
 }
 
@@ -168,14 +166,14 @@ fn dumps_have_their_texts(rt: HostRuntime) -> Result<(), Fail> {
 #[test]
 fn waves_of_stuck_circuits_have_their_texts(rt: HostRuntime) -> Result<(), Fail> {
     let alloc = rt.alloc();
-    let stuck = Stuck {
+    let asks = Asks::Stuck(Stuck {
         site: Text::from_bytes(alloc, b"n1")?,
         value: Value::Zero,
         name: Text::from_bytes(alloc, b"n3")?,
         from: 0,
         to: 11,
         budget: 7,
-    };
+    });
     let mut runs = Runs::new(alloc);
     runs.push(0, Value::X)?;
     runs.push(2, Value::Zero)?;
@@ -190,7 +188,7 @@ fn waves_of_stuck_circuits_have_their_texts(rt: HostRuntime) -> Result<(), Fail>
         ),
     ];
     for (reply, want) in rows {
-        let text = stuck_text(alloc, &stuck, &reply)?;
+        let text = question_text(alloc, &asks, &QuestionReply::Stuck(reply))?;
         assert_eq!(rt; text.as_slice(), want);
     }
     Ok(())

@@ -4,16 +4,17 @@ ghost use Rattle.std.specs.Prelude.{◌≡◌, ◌++◌, ◌∷◌, [], flat_map
 ghost use Rattle.std.specs.Fmt.{decimal};
 ghost use Rattle.gate_values.specs.Spelling.{byte_of_value};
 ghost use Rattle.reply_lines.specs.Replies as replies;
-ghost use Rattle.reply_lines.specs.Replies.{Suits, text_of, text_line, run_line, first_line, first_found, why_lines, stuck_head, stuck_lines, vcd_line, trimmed_line, stats_line};
+ghost use Rattle.reply_lines.specs.Replies.{Suits, text_of, text_line, run_line, first_line, first_found, why_lines, stuck_head, stuck_lines, question_lines, vcd_line, trimmed_line, stats_line};
 
 use crate::reply::{
-    FirstAnswer, FirstReply, Reply, StuckAnswer, StuckReply, VcdReply, WhyAnswer, WhyReply,
+    FirstAnswer, FirstReply, QuestionReply, Reply, StuckAnswer, StuckReply, VcdReply, WhyAnswer,
+    WhyReply,
 };
 use circuit_meaning::Run;
 use gate_values::Value;
 use itoa::Buffer;
 use owned_text::{OutOfMemory, Text};
-use query_lines::{First, Item, Stuck, What, Why};
+use query_lines::{Asks, First, Item, Stuck, What, Why};
 use std::alloc::Global;
 use why_proofs::proof_text;
 
@@ -67,7 +68,8 @@ fn put_window(
 }
 
 fn put_times(text: &mut Vec<u8>, start: u64, stop: u64) -> Result<(), OutOfMemory>
-    ensures { OnOk result (text.new.items ≡ text.old.items ++ text_line (decimal start ∷ decimal stop ∷ [])) }
+    ensures { OnOk result (text.new.items ≡ text.old.items ++ text_line
+        (decimal start ∷ decimal stop ∷ [])) }
 {
     put_number(text, start, b' ')?;
     put_number(text, stop, b'\n')
@@ -99,7 +101,8 @@ fn put_value(text: &mut Vec<u8>, name: &[u8], time: u32, value: Value) -> Result
 }
 
 fn put_unknown(text: &mut Vec<u8>, name: &[u8]) -> Result<(), OutOfMemory>
-    ensures { OnOk result (text.new.items ≡ text.old.items ++ text_line (codes "unknown" ∷ name.now ∷ [])) }
+    ensures { OnOk result (text.new.items ≡ text.old.items ++ text_line
+        (codes "unknown" ∷ name.now ∷ [])) }
 {
     put(text, b"unknown", b' ')?;
     put(text, name, b'\n')
@@ -164,7 +167,8 @@ pub fn reply_text(alloc: Global, item: &Item, reply: &Reply) -> Result<Vec<u8>, 
 
 // Appends where the window ends, and what was found in it.
 fn put_end(text: &mut Vec<u8>, to: u32, found: &[u8]) -> Result<(), OutOfMemory>
-    ensures { OnOk result (text.new.items ≡ text.old.items ++ text_line (decimal to ∷ found.now ∷ [])) }
+    ensures { OnOk result (text.new.items ≡ text.old.items ++ text_line
+        (decimal to ∷ found.now ∷ [])) }
 {
     put_number(text, to as u64, b' ')?;
     put(text, found, b'\n')
@@ -173,7 +177,8 @@ fn put_end(text: &mut Vec<u8>, to: u32, found: &[u8]) -> Result<(), OutOfMemory>
 // Appends the value that is looked for, the window, and what was found in it.
 fn put_sought(text: &mut Vec<u8>, first: &First, found: &[u8]) -> Result<(), OutOfMemory>
     ensures { OnOk result (text.new.items ≡ text.old.items
-        ++ text_line ((byte_of_value first.now.value ∷ []) ∷ decimal first.now.from ∷ decimal first.now.to ∷ found.now ∷ [])) }
+        ++ text_line ((byte_of_value first.now.value ∷ []) ∷ decimal first.now.from ∷ decimal
+        first.now.to ∷ found.now ∷ [])) }
 {
     put(text, &[first.value.byte()], b' ')?;
     put_number(text, first.from as u64, b' ')?;
@@ -212,8 +217,8 @@ fn put_first(text: &mut Vec<u8>, first: &First, reply: FirstReply) -> Result<(),
     }
 }
 
-/// The text of the reply to a question for a first time: one line.
-pub fn first_text(alloc: Global, first: &First, reply: FirstReply) -> Result<Vec<u8>, OutOfMemory>
+// The text of the reply to a question for a first time: one line.
+fn first_text(alloc: Global, first: &First, reply: FirstReply) -> Result<Vec<u8>, OutOfMemory>
     ensures { IfOk result (λ text. text.items ≡ first_line first.now reply) }
 {
     let mut text = Vec::new(alloc);
@@ -221,8 +226,8 @@ pub fn first_text(alloc: Global, first: &First, reply: FirstReply) -> Result<Vec
     Ok(text)
 }
 
-/// The text of the reply to a question for an explanation: a proof, or one line that says why there is none.
-pub fn why_text(alloc: Global, why: &Why, reply: &WhyReply) -> Result<Vec<u8>, OutOfMemory>
+// The text of the reply to a question for an explanation: a proof, or one line that says why there is none.
+fn why_text(alloc: Global, why: &Why, reply: &WhyReply) -> Result<Vec<u8>, OutOfMemory>
     ensures { IfOk result (λ text. text.items ≡ why_lines why.now reply.now) }
 {
     let name = why.name.bytes();
@@ -252,9 +257,9 @@ fn put_stuck(text: &mut Vec<u8>, stuck: &Stuck) -> Result<(), OutOfMemory>
     put_times(text, stuck.from as u64, stuck.to as u64)
 }
 
-/// The text of the reply to a question for a wave where a signal is stuck: a line that repeats the question, a line for each run, and
-/// `end`; or one line that says why there is none.
-pub fn stuck_text(alloc: Global, stuck: &Stuck, reply: &StuckReply) -> Result<Vec<u8>, OutOfMemory>
+// The text of the reply to a question for a wave where a signal is stuck: a line that repeats the question, a line for each run, and
+// `end`; or one line that says why there is none.
+fn stuck_text(alloc: Global, stuck: &Stuck, reply: &StuckReply) -> Result<Vec<u8>, OutOfMemory>
     ensures { IfOk result (λ text. text.items ≡ stuck_lines stuck.now reply.now) }
 {
     let name = stuck.name.bytes();
@@ -273,6 +278,24 @@ pub fn stuck_text(alloc: Global, stuck: &Stuck, reply: &StuckReply) -> Result<Ve
         }
     }
     Ok(text)
+}
+
+/// The text of the reply to a question that is a batch of its own. That for a first time is one line, that for an explanation a proof,
+/// and that for a wave where a signal is stuck a line that repeats the question, a line for each run, and `end`; or one line says why
+/// there is none. A reply to a question of another kind has no text.
+pub fn question_text(
+    alloc: Global,
+    asks: &Asks,
+    reply: &QuestionReply,
+) -> Result<Vec<u8>, OutOfMemory>
+    ensures { IfOk result (λ text. text.items ≡ question_lines asks.now reply.now) }
+{
+    match (asks, reply) {
+        (Asks::First(first), QuestionReply::First(reply)) => first_text(alloc, first, *reply),
+        (Asks::Why(why), QuestionReply::Why(reply)) => why_text(alloc, why, reply),
+        (Asks::Stuck(stuck), QuestionReply::Stuck(reply)) => stuck_text(alloc, stuck, reply),
+        _ => Ok(Vec::new(alloc)),
+    }
 }
 
 /// The text of the reply to a line that asks for a dump under this name: one line.
@@ -309,7 +332,8 @@ pub fn trimmed_text(alloc: Global, cells: u64) -> Result<Vec<u8>, OutOfMemory>
 
 // Appends a count behind its name.
 fn put_count(text: &mut Vec<u8>, name: &[u8], count: u64, behind: u8) -> Result<(), OutOfMemory>
-    ensures { OnOk result (text.new.items ≡ text.old.items ++ (name.now ++ 32 ∷ (decimal count ++ behind ∷ []))) }
+    ensures { OnOk result (text.new.items ≡ text.old.items
+        ++ (name.now ++ 32 ∷ (decimal count ++ behind ∷ []))) }
 {
     put(text, name, b' ')?;
     put_number(text, count, behind)

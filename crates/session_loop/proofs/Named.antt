@@ -3,21 +3,18 @@ use Rattle.std.proofs.Common.{◌≡◌, ℕ, List, subst}
 use Rattle.std.specs.Prelude.{All}
 use Rattle.std.specs.List.{AllZip}
 use Rattle.cell_store.specs.Recency.{Contents}
-use Rattle.batch_meaning.specs.Batches.{Batch}
 use Rattle.journal_meaning.specs.declared.Entry.{Entry}
-use Rattle.journal_meaning.specs.Sections.{of_batch}
+use Rattle.query_lines.specs.declared.unit.Asks.{Asks}
 use Rattle.query_lines.specs.declared.unit.Item.{Item}
-use Rattle.query_lines.specs.declared.unit.StuckItem.{StuckItem}
 use Rattle.reply_lines.specs.declared.reply.Reply.{Reply}
-use Rattle.reply_lines.specs.declared.reply.StuckReply.{StuckReply}
-use Rattle.session_meaning.specs.Session.{Setup, stuck_batch}
+use Rattle.reply_lines.specs.declared.reply.QuestionReply.{QuestionReply}
+use Rattle.session_meaning.specs.Session.{Setup}
 use Rattle.query_lines.specs.Fit.{AsksByName}
 use Rattle.query_lines.specs.Laws.{IsWithin}
-use Rattle.session_meaning.specs.StuckSignals.{IsStuckReply}
-use Rattle.session_meaning.specs.Verdicts.{verdict_of, site_of, stuck_verdict}
+use Rattle.session_meaning.specs.Verdicts.{verdict_of}
 use Rattle.unit_answers.specs.Dumps.{IsOwnWave, AreReplied}
 use Rattle.unit_answers.specs.Stores.{AreStores}
-use Rattle.unit_answers.specs.Done.{IsBatchDone, IsQuestionDone, IsStuckDone, IsTrimDone}
+use Rattle.unit_answers.specs.Done.{IsBatchDone, IsQuestionDone, IsTrimDone}
 use Rattle.unit_answers.proofs.Dumping.{done-waves}
 
 module _ (setup : Setup) (names : List (List ℕ)) where
@@ -42,24 +39,16 @@ module _ (setup : Setup) (names : List (List ℕ)) where
         leaves = done.leaves;
       })
 
-  -- a question with a batch of its own
-  pub question-named : (batch : Batch) (such : List Entry → Type 0) (opening : List Contents) (lists : List (List Entry)) (left : List Contents)
-      → IsQuestionDone setup batch such opening lists left → IsQuestionDone named batch such opening lists left
-  question-named batch such opening lists left done = record {
+  -- a question that is a batch of its own
+  pub question-named : (line : ℕ) (asks : Asks) (opening : List Contents) (reply : QuestionReply) (lists held : List (List Entry)) (left : List Contents)
+      → IsQuestionDone setup line asks opening reply lists held left → IsQuestionDone named line asks opening reply lists held left
+  question-named line asks opening reply lists held left done = record {
     count = done.count;
     legal = done.legal;
+    memo = done.memo;
     right = done.right;
     stores = stores-named left done.stores;
     leaves = done.leaves;
-  }
-
-  -- a question for a wave where a signal is stuck
-  pub stuck-named : (item : StuckItem) (opening : List Contents) (reply : StuckReply) (lists held : List (List Entry)) (left : List Contents)
-      → IsStuckDone setup item opening reply lists held left → IsStuckDone named item opening reply lists held left
-  stuck-named item opening reply lists held left stuck = record {
-    done = question-named (stuck_batch setup item)
-        (λ es. IsStuckReply setup.design.circuit (site_of setup.design item) (stuck_verdict setup.design item) es (of_batch held) reply) opening lists left stuck.done;
-    memo = stuck.memo;
   }
 
   -- a trim

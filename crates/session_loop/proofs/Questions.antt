@@ -12,19 +12,20 @@ use Rattle.journal_meaning.specs.Replay.{IsLegalBatch}
 use Rattle.journal_meaning.specs.Sections.{Asks, Forces, SectionEntries, cells_left, cells_after}
 use Rattle.journal_text.specs.Spelling.{section_lines}
 use Rattle.journal_text.specs.declared.sections.SectionKind.TheVariants.{Batch, Held}
-use Rattle.query_lines.specs.declared.unit.FirstItem.{FirstItem}
-use Rattle.query_lines.specs.declared.unit.WhyItem.{WhyItem}
-use Rattle.query_lines.specs.declared.unit.StuckItem.{StuckItem}
+use Rattle.query_lines.specs.declared.line.Stuck.{Stuck}
+use Rattle.query_lines.specs.declared.unit.Asks.{Asks as QuestionAsks}
+use Rattle.query_lines.specs.declared.unit.Asks.TheVariants as kinds
+use Rattle.query_lines.specs.declared.unit.Question.{Question}
 use Rattle.query_lines.specs.declared.unit.Unit.{Unit as ScriptUnit}
 use Rattle.query_lines.specs.declared.unit.Unit.TheVariants as units
-use Rattle.reply_lines.specs.declared.reply.FirstReply.{FirstReply}
-use Rattle.reply_lines.specs.declared.reply.WhyReply.{WhyReply}
-use Rattle.reply_lines.specs.declared.reply.StuckReply.{StuckReply}
-use Rattle.reply_lines.specs.Replies.{first_line, why_lines, stuck_lines}
+use Rattle.reply_lines.specs.declared.reply.QuestionReply.{QuestionReply}
+use Rattle.reply_lines.specs.Replies.{question_lines}
+use Rattle.design.specs.Joined.{Joined}
 use Rattle.session_meaning.specs.declared.Verdict.{Verdict}
 use Rattle.session_meaning.specs.declared.Verdict.TheVariants.{Ask, Unknown, Past, Bad}
 use Rattle.session_meaning.specs.Verdicts.{site_of, stuck_verdict}
-use Rattle.session_meaning.specs.Session.{Setup, Course, first_batch, why_batch, stuck_batch, held_sections, with_section, with_sections}
+use Rattle.session_meaning.specs.Session.{Setup, Course, question_batch, held_sections, own_sections, with_section, with_sections}
+use Rattle.session_meaning.specs.Questions.{IsOwnMemo}
 use Rattle.session_meaning.specs.StuckSignals.{held_batch, IsHeldMemo}
 use Rattle.session_meaning.specs.Broken.{journal_of}
 use Rattle.session_meaning.proofs.Journals.{journal-more}
@@ -32,9 +33,9 @@ use Rattle.session_loop.specs.declared.desk.Counts.{Counts}
 use Rattle.session_loop.specs.declared.desk.Desk.{Desk}
 use Rattle.session_loop.specs.declared.stop.Stop.{Stop}
 use Rattle.unit_answers.specs.Stores.{cells_of}
-use Rattle.unit_answers.specs.Done.{IsFirstDone, IsWhyDone, IsStuckDone}
+use Rattle.unit_answers.specs.Done.{IsQuestionDone}
 use Rattle.session_loop.specs.inner.Desks.{IsCount, IsCounted, IsHeldCounted, Keeps}
-use Rattle.session_loop.specs.inner.Serving.{Serves, Stops, IsAnswered, own_sections, held_text}
+use Rattle.session_loop.specs.inner.Serving.{Serves, Stops, IsAnswered, forced_sections, held_text}
 use Rattle.session_loop.proofs.Growing.{file-none}
 use Rattle.session_loop.proofs.Served.{IsOfUnit, WritesPart, counts-more, cells-more, kept-dumps, sections-served, sections-stopped}
 
@@ -43,9 +44,6 @@ use Rattle.session_loop.proofs.Served.{IsOfUnit, WritesPart, counts-more, cells-
 -- where there is none, nothing is added
 sections-none : (now : Course) → with_sections now [] ≡ now
 sections-none now = ap (λ l. record now { sections = l }) (append-nil now.sections)
-
-sections-unheld : (now : Course) (own : BatchRecord) (held : List (List Entry)) → held ≡ [] → with_sections now (own_sections own held) ≡ now
-sections-unheld now own held none = ap (λ l. with_sections now (own_sections own l)) none ∙ sections-none now
 
 -- and nothing is written
 pub held-unwritten : (made : List Made → Type 0) (number : ℕ) (held : List (List Entry)) → length held ≡ 0 → FileGrows made made 0 (held_text number held)
@@ -58,20 +56,20 @@ held-text number [] some = absurd (omega (arith, some))
 held-text number (es ∷ lists) some = refl
 
 -- the cells of the session's memo stay
-held-cells : (shard : ℕ) (sections : List SectionEntries) (own : BatchRecord) (held : List (List Entry)) → cells_after shard (sections ++ own_sections own held) ≡ cells_after shard sections
+held-cells : (shard : ℕ) (sections : List SectionEntries) (own : BatchRecord) (held : List (List Entry)) → cells_after shard (sections ++ forced_sections own held) ≡ cells_after shard sections
 held-cells shard sections own [] = ap (cells_after shard) (append-nil sections)
-held-cells shard sections own (es ∷ lists) = fold-append (cells_left shard) [] sections (own_sections own (es ∷ lists))
+held-cells shard sections own (es ∷ lists) = fold-append (cells_left shard) [] sections (forced_sections own (es ∷ lists))
 
 -- the counts are those of one section more
 held-counts : (counts later : Counts) (sections : List SectionEntries) (own : BatchRecord) (held : List (List Entry)) → IsCount counts sections → IsHeldCounted counts held later
-    → IsCount later (sections ++ own_sections own held)
+    → IsCount later (sections ++ forced_sections own held)
 held-counts counts later sections own [] c same = subst (IsCount later) (sym (append-nil sections)) (subst (λ k. IsCount k sections) (sym same) c)
 held-counts counts later sections own (es ∷ lists) c more = counts-more counts later sections (record { purpose = Forces own; lists = es ∷ lists }) c more
 
 module _ (setup : Setup) where
   -- the journal has its text more
   held-journal : (now : Course) (own : BatchRecord) (held : List (List Entry)) (number : ℕ) → number ≡ length now.sections + 1
-      → journal_of setup (with_sections now (own_sections own held)) ≡ journal_of setup now ++ held_text number held
+      → journal_of setup (with_sections now (forced_sections own held)) ≡ journal_of setup now ++ held_text number held
   held-journal now own [] number is = ap (journal_of setup) (sections-none now) ∙ sym (append-nil (journal_of setup now))
   held-journal now own (es ∷ lists) number is = journal-more setup now (Forces own) (es ∷ lists) [] number is
 
@@ -91,106 +89,87 @@ module _ (setup : Setup) where
       numbers : counts.sections ≡ length now.sections + 1
       numbers = counted.sections ∙ ap (λ n. n + 1) keeps.counts.sections_are
 
-      question-journal : journal_of setup (with_sections asks (own_sections own held)) ≡ journal_of setup now ++ question-text
+      question-journal : journal_of setup (with_sections asks (forced_sections own held)) ≡ journal_of setup now ++ question-text
       question-journal =
           held-journal asks own held (counts.sections + 1) (ap (λ n. n + 1) (numbers ∙ sym (length-append now.sections (section ∷ []))))
           ∙ ap (λ l. l ++ held_text (counts.sections + 1) held) (journal-more setup now (Asks b) lists text counts.sections numbers)
           ∙ append_assoc (journal_of setup now) (section_lines (record { kind = Batch; number = counts.sections; shards = lists })) (held_text (counts.sections + 1) held)
 
-      question-keeps : (later : Desk) → IsHeldCounted counts held later.counts → later.stores.items ≡ left → later.dumps ≡ desk.dumps → Keeps setup later (with_sections asks (own_sections own held))
+      question-keeps : (later : Desk) → IsHeldCounted counts held later.counts → later.stores.items ≡ left → later.dumps ≡ desk.dumps → Keeps setup later (with_sections asks (forced_sections own held))
       question-keeps later same stores dumps = record {
         cells = λ shard h.
             cells-more shard (cells_of desk.stores.items shard) (cells_of later.stores.items shard) now.sections section (keeps.cells shard h) (ap (λ l. cells_of l shard) stores ∙ done.leaves shard h)
             ∙ sym (held-cells shard asks.sections own held);
         counts = held-counts counts later.counts asks.sections own held (counts-more desk.counts counts now.sections section keeps.counts counted) same;
-        dumps = kept-dumps setup desk.dumps later.dumps now (with_sections asks (own_sections own held)) dumps refl refl keeps.dumps;
+        dumps = kept-dumps setup desk.dumps later.dumps now (with_sections asks (forced_sections own held)) dumps refl refl keeps.dumps;
       }
 
     -- all was written
     pub question-served : (later : Desk) → IsHeldCounted counts held later.counts → later.stores.items ≡ left → later.dumps ≡ desk.dumps → Grows out new_out text
         → FileGrows made new_made 0 question-text → Serves setup desk later (unit ∷ []) out new_out made new_made
     question-served later same stores dumps replied recorded us now session keeps =
-        sections-served setup us unit now desk session keeps out new_out made new_made ((now.sections ++ section ∷ []) ++ own_sections own held) text now.waves question-text
+        sections-served setup us unit now desk session keeps out new_out made new_made ((now.sections ++ section ∷ []) ++ forced_sections own held) text now.waves question-text
         (done.serves now keeps) (question-journal now keeps) later (question-keeps now keeps later same stores dumps) replied recorded
 
     -- a part of the reply and a part of the sections
     pub question-stopped : (files : ℕ) (stop : Stop) → files ≡ length desk.dumps.made.items + 1 → IsOfUnit stop
         → WritesPart out new_out made new_made text question-text → Stops setup desk (unit ∷ []) out new_out made new_made files stop
     question-stopped files stop many cause wrote us now session keeps =
-        sections-stopped setup us unit now desk session keeps out new_out made new_made ((now.sections ++ section ∷ []) ++ own_sections own held) text now.waves question-text
+        sections-stopped setup us unit now desk session keeps out new_out made new_made ((now.sections ++ section ∷ []) ++ forced_sections own held) text now.waves question-text
         (done.serves now keeps) (question-journal now keeps) files stop many cause wrote
 
-  -- A question for a first time.
-  pub first-answered : (item : FirstItem) (desk : Desk) (reply : FirstReply) (lists held : List (List Entry)) (left : List Contents) → held ≡ [] → IsFirstDone setup item desk.stores.items reply lists left
-      → IsAnswered setup desk (units.First item) (first_batch setup item) (first_batch setup item) (first_line item.first reply) lists held left
-  first-answered item desk reply lists held left none done = record {
-    serves = λ now keeps. record {
-      lists = lists;
-      reply = reply;
-      count = done.count;
-      legal = λ shard h. subst (λ cells. IsLegalBatch (first_batch setup item) shard cells (get_or lists shard [])) (keeps.cells shard h) (done.legal shard h);
-      right = done.right;
-      leads = sections-unheld (with_section now (Asks (first_batch setup item)) lists (first_line item.first reply)) (first_batch setup item) held none;
-    };
-    leaves = done.leaves;
-  }
+  module _ (line : ℕ) where
+    -- the batch of the memo of its own where a signal is stuck and a query is asked, and else any
+    abbrev asked-own : Stuck → Option Site → Verdict → BatchRecord
+    asked-own stuck (Some site) (Ask query) = held_batch setup.design.circuit site query
+    asked-own stuck site verdict = question_batch setup line (kinds.Stuck stuck)
 
-  -- A question for an explanation.
-  pub why-answered : (item : WhyItem) (desk : Desk) (reply : WhyReply) (lists held : List (List Entry)) (left : List Contents) → held ≡ [] → IsWhyDone setup item desk.stores.items reply lists left
-      → IsAnswered setup desk (units.Why item) (why_batch setup item) (why_batch setup item) (why_lines item.why reply) lists held left
-  why-answered item desk reply lists held left none done = record {
-    serves = λ now keeps. record {
-      lists = lists;
-      reply = reply;
-      count = done.count;
-      legal = λ shard h. subst (λ cells. IsLegalBatch (why_batch setup item) shard cells (get_or lists shard [])) (keeps.cells shard h) (done.legal shard h);
-      right = done.right;
-      leads = sections-unheld (with_section now (Asks (why_batch setup item)) lists (why_lines item.why reply)) (why_batch setup item) held none;
-    };
-    leaves = done.leaves;
-  }
+    abbrev pub own-batch : QuestionAsks → BatchRecord
+    own-batch (kinds.Stuck stuck) = asked-own stuck (site_of setup.design stuck) (stuck_verdict setup.design line stuck)
+    own-batch asks = question_batch setup line asks
 
-  -- A question for a wave where a signal is stuck.
-  module _ (item : StuckItem) where
-    -- the batch of the memo of its own, where a query is asked, and else any
-    abbrev asked-own : Option Site → Verdict → BatchRecord
-    asked-own (Some site) (Ask query) = held_batch setup.design.circuit site query
-    asked-own site verdict = stuck_batch setup item
-
-    abbrev pub own-batch : BatchRecord
-    own-batch = asked-own (site_of setup.design item) (stuck_verdict setup.design item)
-
-    own-section : (site : Option Site) (verdict : Verdict) (held : List (List Entry)) → IsHeldMemo setup.design.circuit site verdict held
-        → own_sections (asked-own site verdict) held ≡ held_sections setup site verdict held
-    own-section None verdict held memo = subst (λ l. own_sections (asked-own None verdict) l ≡ []) (sym memo) refl
-    own-section (Some site) (Ask query) held memo =
+    stuck-section : (stuck : Stuck) (site : Option Site) (verdict : Verdict) (held : List (List Entry)) → IsHeldMemo setup.design.circuit site verdict held
+        → forced_sections (asked-own stuck site verdict) held ≡ held_sections setup site verdict held
+    stuck-section stuck None verdict held memo = subst (λ l. forced_sections (asked-own stuck None verdict) l ≡ []) (sym memo) refl
+    stuck-section stuck (Some site) (Ask query) held memo =
         let own = held_batch setup.design.circuit site query in
-        subst (λ l. own_sections own l ≡ record { purpose = Forces own; lists = l } ∷ []) (sym memo.1) refl
-    own-section (Some site) Unknown held memo = subst (λ l. own_sections (stuck_batch setup item) l ≡ []) (sym memo) refl
-    own-section (Some site) Past held memo = subst (λ l. own_sections (stuck_batch setup item) l ≡ []) (sym memo) refl
-    own-section (Some site) Bad held memo = subst (λ l. own_sections (stuck_batch setup item) l ≡ []) (sym memo) refl
+        subst (λ l. forced_sections own l ≡ record { purpose = Forces own; lists = l } ∷ []) (sym memo.1) refl
+    stuck-section stuck (Some site) Unknown held memo = subst (λ l. forced_sections (asked-own stuck (Some site) Unknown) l ≡ []) (sym memo) refl
+    stuck-section stuck (Some site) Past held memo = subst (λ l. forced_sections (asked-own stuck (Some site) Past) l ≡ []) (sym memo) refl
+    stuck-section stuck (Some site) Bad held memo = subst (λ l. forced_sections (asked-own stuck (Some site) Bad) l ≡ []) (sym memo) refl
 
-    pub stuck-answered : (desk : Desk) (reply : StuckReply) (lists held : List (List Entry)) (left : List Contents) → IsStuckDone setup item desk.stores.items reply lists held left
-        → IsAnswered setup desk (units.Stuck item) (stuck_batch setup item) own-batch (stuck_lines item.stuck reply) lists held left
-    stuck-answered desk reply lists held left stuck = record {
-      serves = λ now keeps. record {
-        lists = lists;
-        held = held;
-        reply = reply;
-        count = stuck.done.count;
-        legal = λ shard h. subst (λ cells. IsLegalBatch (stuck_batch setup item) shard cells (get_or lists shard [])) (keeps.cells shard h) (stuck.done.legal shard h);
-        memo = stuck.memo;
-        right = stuck.done.right;
-        leads = ap (with_sections (with_section now (Asks (stuck_batch setup item)) lists (stuck_lines item.stuck reply)))
-            (own-section (site_of setup.design item) (stuck_verdict setup.design item) held stuck.memo);
-      };
-      leaves = stuck.done.leaves;
-    }
+    own-section : (asks : QuestionAsks) (held : List (List Entry)) → IsOwnMemo setup.design line asks held → forced_sections (own-batch asks) held ≡ own_sections setup line asks held
+    own-section (kinds.Stuck stuck) held memo = stuck-section stuck (site_of setup.design stuck) (stuck_verdict setup.design line stuck) held memo
+    own-section asks held memo = subst (λ l. forced_sections (own-batch asks) l ≡ []) (sym memo) refl
+
+  -- what answers the question is a unit of the session
+  pub question-answered : (question : Question) (desk : Desk) (reply : QuestionReply) (lists held : List (List Entry)) (left : List Contents)
+      → IsQuestionDone setup question.line question.asks desk.stores.items reply lists held left
+      → IsAnswered setup desk (units.Question question) (question_batch setup question.line question.asks) (own-batch question.line question.asks) (question_lines question.asks reply) lists held left
+  question-answered question desk reply lists held left done =
+      let batch : BatchRecord = question_batch setup question.line question.asks in
+      record {
+        serves = λ now keeps. record {
+          lists = lists;
+          held = held;
+          reply = reply;
+          count = done.count;
+          legal = λ shard h. subst (λ cells. IsLegalBatch batch shard cells (get_or lists shard [])) (keeps.cells shard h) (done.legal shard h);
+          memo = done.memo;
+          right = done.right;
+          leads = ap (with_sections (with_section now (Asks batch) lists (question_lines question.asks reply))) (own-section question.line question.asks held done.memo);
+        };
+        leaves = done.leaves;
+      }
 
 -- a memo of its own has one shard at most
-pub held-few : (c : Circuit) (site : Option Site) (verdict : Verdict) (held : List (List Entry)) → IsHeldMemo c site verdict held → length held ≤ 1
-held-few c None verdict held memo = subst (λ l. length l ≤ 1) (sym memo) (omega arith)
-held-few c (Some site) (Ask query) held memo = subst (λ l. length l ≤ 1) (sym memo.1) (omega arith)
-held-few c (Some site) Unknown held memo = subst (λ l. length l ≤ 1) (sym memo) (omega arith)
-held-few c (Some site) Past held memo = subst (λ l. length l ≤ 1) (sym memo) (omega arith)
-held-few c (Some site) Bad held memo = subst (λ l. length l ≤ 1) (sym memo) (omega arith)
+stuck-few : (c : Circuit) (site : Option Site) (verdict : Verdict) (held : List (List Entry)) → IsHeldMemo c site verdict held → length held ≤ 1
+stuck-few c None verdict held memo = subst (λ l. length l ≤ 1) (sym memo) (omega arith)
+stuck-few c (Some site) (Ask query) held memo = subst (λ l. length l ≤ 1) (sym memo.1) (omega arith)
+stuck-few c (Some site) Unknown held memo = subst (λ l. length l ≤ 1) (sym memo) (omega arith)
+stuck-few c (Some site) Past held memo = subst (λ l. length l ≤ 1) (sym memo) (omega arith)
+stuck-few c (Some site) Bad held memo = subst (λ l. length l ≤ 1) (sym memo) (omega arith)
+
+pub held-few : (d : Joined) (line : ℕ) (asks : QuestionAsks) (held : List (List Entry)) → IsOwnMemo d line asks held → length held ≤ 1
+held-few d line (kinds.Stuck stuck) held memo = stuck-few d.circuit (site_of d stuck) (stuck_verdict d line stuck) held memo
+held-few d line asks held memo = subst (λ l. length l ≤ 1) (sym memo) (omega arith)

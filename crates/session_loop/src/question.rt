@@ -1,4 +1,4 @@
-//! Questions that are batches of their own: for a first time, for an explanation, and for a wave where a signal is stuck.
+//! Questions that are batches of their own.
 
 ghost use Rattle.std.specs.Prelude.{◌≡◌, ◌+◌, ◌<◌, ◌≤◌, ◌∷◌, [], ℕ, List, length, Contains, IfErr, IfOk, OnErr, OnOk};
 ghost use Rattle.backsim_io.specs.Held.{FileGrows};
@@ -23,10 +23,10 @@ use backsim_io::{Files, Sink};
 use cell_store::CellStore;
 use design::Design;
 use journal_text::{EntryList, SectionKind};
-use query_lines::{FirstItem, StuckItem, WhyItem};
-use reply_lines::{first_text, stuck_text, why_text};
+use query_lines::Question;
+use reply_lines::question_text;
 use std::alloc::Global;
-use unit_answers::{Sizes, answer_first, answer_stuck, answer_why};
+use unit_answers::{Sizes, answer_question};
 
 /// The text of the reply to a question, the journal of each shard, that of a memo of its own if it had one, and the stores that are left.
 #[derive(Drop)]
@@ -124,11 +124,11 @@ fn write_answered<F: Files, S: Sink>(
     })
 }
 
-/// Serves a question for a first time: its reply, then its section, which is a batch's.
-pub fn serve_first<F: Files, S: Sink>(
+/// Serves a question: its reply, then its section, which is a batch's, and that of a memo of its own, if it has one.
+pub fn serve_question<F: Files, S: Sink>(
     alloc: Global,
     design: &Design,
-    item: &FirstItem,
+    question: &Question,
     sizes: Sizes,
     desk: Desk,
     files: &mut F,
@@ -142,11 +142,11 @@ pub fn serve_first<F: Files, S: Sink>(
     ensures count { IfOk result (λ later.
         (F.state files.new).created ≡ length later.dumps.made.items + 1) }
     ensures served { (names : List (List ℕ)) → let setup = session_of design.now sizes names in
-        IfOk result (λ later. Serves setup desk later (kinds.First item.now ∷ [])
+        IfOk result (λ later. Serves setup desk later (kinds.Question question.now ∷ [])
         (S.written out.old) (S.written out.new)
         (F.made files.old) (F.made files.new)) }
     ensures stopped { (names : List (List ℕ)) → let setup = session_of design.now sizes names in
-        IfErr result (Stops setup desk (kinds.First item.now ∷ [])
+        IfErr result (Stops setup desk (kinds.Question question.now ∷ [])
         (S.written out.old) (S.written out.new)
         (F.made files.old) (F.made files.new) (F.state files.new).created) }
     ensures state { UnitChanges
@@ -159,99 +159,9 @@ pub fn serve_first<F: Files, S: Sink>(
         counts,
         dumps,
     } = desk;
-    let done = answer_first(alloc, design, item, sizes, stores)?;
+    let done = answer_question(alloc, design, question, sizes, stores)?;
     let answered = Answered {
-        text: first_text(alloc, &item.first, done.reply)?,
-        lists: done.lists,
-        held: Vec::new(alloc),
-        stores: done.stores,
-    };
-    write_answered(alloc, answered, counts, dumps, files, out)
-}
-
-/// Serves a question for an explanation: its reply, then its section, which is a batch's.
-pub fn serve_why<F: Files, S: Sink>(
-    alloc: Global,
-    design: &Design,
-    item: &WhyItem,
-    sizes: Sizes,
-    desk: Desk,
-    files: &mut F,
-    out: &mut S,
-) -> Result<Desk, Stop>
-    requires shards { (0 < sizes.shards) × (sizes.shards ≤ 64) }
-    requires desk { IsDesk (setup_of design.now sizes) desk }
-    requires files { (F.state files.old).created ≡ length desk.dumps.made.items + 1 }
-    requires unfinished { Contains (F.state files.old).unfinished 0 }
-    ensures desk { IfOk result (λ later. IsDesk (setup_of design.now sizes) later) }
-    ensures count { IfOk result (λ later.
-        (F.state files.new).created ≡ length later.dumps.made.items + 1) }
-    ensures served { (names : List (List ℕ)) → let setup = session_of design.now sizes names in
-        IfOk result (λ later. Serves setup desk later (kinds.Why item.now ∷ [])
-        (S.written out.old) (S.written out.new)
-        (F.made files.old) (F.made files.new)) }
-    ensures stopped { (names : List (List ℕ)) → let setup = session_of design.now sizes names in
-        IfErr result (Stops setup desk (kinds.Why item.now ∷ [])
-        (S.written out.old) (S.written out.new)
-        (F.made files.old) (F.made files.new) (F.state files.new).created) }
-    ensures state { UnitChanges
-        (record { files = F.state files.old; replies = S.faults out.old })
-        (record { files = F.state files.new; replies = S.faults out.new })
-        result }
-{
-    let Desk {
-        stores,
-        counts,
-        dumps,
-    } = desk;
-    let done = answer_why(alloc, design, item, sizes, stores)?;
-    let answered = Answered {
-        text: why_text(alloc, &item.why, &done.reply)?,
-        lists: done.lists,
-        held: Vec::new(alloc),
-        stores: done.stores,
-    };
-    write_answered(alloc, answered, counts, dumps, files, out)
-}
-
-/// Serves a question for a wave where a signal is stuck: its reply, then its section, which is a batch's, and that of a memo of its own.
-pub fn serve_stuck<F: Files, S: Sink>(
-    alloc: Global,
-    design: &Design,
-    item: &StuckItem,
-    sizes: Sizes,
-    desk: Desk,
-    files: &mut F,
-    out: &mut S,
-) -> Result<Desk, Stop>
-    requires shards { (0 < sizes.shards) × (sizes.shards ≤ 64) }
-    requires desk { IsDesk (setup_of design.now sizes) desk }
-    requires files { (F.state files.old).created ≡ length desk.dumps.made.items + 1 }
-    requires unfinished { Contains (F.state files.old).unfinished 0 }
-    ensures desk { IfOk result (λ later. IsDesk (setup_of design.now sizes) later) }
-    ensures count { IfOk result (λ later.
-        (F.state files.new).created ≡ length later.dumps.made.items + 1) }
-    ensures served { (names : List (List ℕ)) → let setup = session_of design.now sizes names in
-        IfOk result (λ later. Serves setup desk later (kinds.Stuck item.now ∷ [])
-        (S.written out.old) (S.written out.new)
-        (F.made files.old) (F.made files.new)) }
-    ensures stopped { (names : List (List ℕ)) → let setup = session_of design.now sizes names in
-        IfErr result (Stops setup desk (kinds.Stuck item.now ∷ [])
-        (S.written out.old) (S.written out.new)
-        (F.made files.old) (F.made files.new) (F.state files.new).created) }
-    ensures state { UnitChanges
-        (record { files = F.state files.old; replies = S.faults out.old })
-        (record { files = F.state files.new; replies = S.faults out.new })
-        result }
-{
-    let Desk {
-        stores,
-        counts,
-        dumps,
-    } = desk;
-    let done = answer_stuck(alloc, design, item, sizes, stores)?;
-    let answered = Answered {
-        text: stuck_text(alloc, &item.stuck, &done.reply)?,
+        text: question_text(alloc, &question.asks, &done.reply)?,
         lists: done.lists,
         held: done.held,
         stores: done.stores,

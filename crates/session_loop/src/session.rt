@@ -20,7 +20,8 @@ use unit_answers::Sizes;
 
 /// The names of a session's own files: those of its inputs, and that of its journal.
 fn own_names(alloc: Global, inputs: &[&str], journal: &str) -> Result<Vec<Text>, OutOfMemory>
-    ensures { IfOk result (λ names. names.items ≡ map (λ name. name.now) inputs.now ++ journal.now ∷ []) }
+    ensures { IfOk result (λ names. names.items ≡ map (λ name. name.now)
+        inputs.now ++ journal.now ∷ []) }
 {
     let mut names = Vec::with_capacity(alloc, inputs.len() + 1)?;
     for name in inputs {

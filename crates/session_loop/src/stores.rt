@@ -11,7 +11,8 @@ use unit_answers::Sizes;
 /// An empty store for each shard.
 pub fn empty_stores(alloc: Global, sizes: Sizes) -> Result<Vec<CellStore>, OutOfMemory>
     requires { (0 < sizes.cells) × (sizes.cells ≤ 65536) }
-    ensures { IfOk result (λ stores. stores.items ≡ replicate sizes.shards (contents sizes.cells [])) }
+    ensures { IfOk result (λ stores. stores.items ≡ replicate sizes.shards
+        (contents sizes.cells [])) }
 {
     let mut stores = Vec::new(alloc);
     for _ in 0..sizes.shards {

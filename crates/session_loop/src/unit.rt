@@ -14,7 +14,7 @@ use crate::counting::{cells_in, counted, entries_in};
 use crate::desk::{Desk, LastBatch};
 use crate::dump::serve_vcd;
 use crate::journal::JOURNAL;
-use crate::question::{serve_first, serve_stuck, serve_why};
+use crate::question::serve_question;
 use crate::section::{write_replies, write_reply, write_section};
 use crate::stop::Stop;
 use backsim_io::{Files, Sink};
@@ -222,9 +222,9 @@ pub fn serve_unit<C: Crew, F: Files, S: Sink>(
         Unit::Batch(items) => { serve_batch(crew, alloc, design, items, sizes, desk, files, out) }
         Unit::Trim(most) => serve_trim(alloc, design, most, sizes, desk, files, out),
         Unit::Stats => serve_stats(alloc, design, sizes, desk, files, out),
-        Unit::First(item) => serve_first(alloc, design, &item, sizes, desk, files, out),
-        Unit::Why(item) => serve_why(alloc, design, &item, sizes, desk, files, out),
-        Unit::Stuck(item) => serve_stuck(alloc, design, &item, sizes, desk, files, out),
+        Unit::Question(question) => {
+            serve_question(alloc, design, &question, sizes, desk, files, out)
+        }
         Unit::Vcd(file) => serve_vcd(alloc, design, sizes, file, desk, files, out),
     }
 }

@@ -8,11 +8,15 @@ use Rattle.circuit_meaning.specs.Circuit.{Circuit, IsCircuit, AreLimits}
 use Rattle.circuit_meaning.proofs.Cover.{cell-covers}
 use Rattle.text_rules.specs.Text.{is_name}
 use Rattle.query_lines.specs.declared.line.Why.{Why}
+use Rattle.query_lines.specs.declared.unit.Asks.{Asks}
+use Rattle.query_lines.specs.declared.unit.Asks.TheVariants as kinds
 use Rattle.query_lines.specs.declared.unit.Unit.{Unit as ScriptUnit}
 use Rattle.query_lines.specs.declared.unit.Unit.TheVariants as units
-use Rattle.query_lines.specs.Fit.{IsFit}
+use Rattle.query_lines.specs.Fit.{NamesByRules, IsFit}
 use Rattle.query_lines.proofs.OwnLines.{first-part, later-part}
 use Rattle.design.specs.Joined.{Joined, IsDesign}
+use Rattle.reply_lines.specs.declared.reply.QuestionReply.{QuestionReply}
+use Rattle.reply_lines.specs.declared.reply.QuestionReply.TheVariants as told
 use Rattle.reply_lines.specs.declared.reply.WhyAnswer.TheVariants as explained
 use Rattle.reply_lines.specs.declared.reply.WhyReply.{WhyReply}
 use Rattle.reply_lines.specs.declared.reply.WhyReply.TheVariants as whys
@@ -29,8 +33,9 @@ use Rattle.session_meaning.specs.declared.Verdict.{Verdict}
 use Rattle.session_meaning.specs.declared.Verdict.TheVariants.{Ask, Unknown, Past, Bad as BadLine}
 use Rattle.session_meaning.specs.Verdicts.{why_verdict}
 use Rattle.session_meaning.specs.Explanations.{IsWhyReply}
+use Rattle.session_meaning.specs.Questions.{IsRightReply}
 use Rattle.session_meaning.specs.Session.{Setup, Course, IsServed, Opened, Served}
-use Rattle.session_meaning.specs.Accepted.{proof_of, IsAccepted, IsAcceptedReply, IsAcceptedUnit}
+use Rattle.session_meaning.specs.Accepted.{proof_of, IsAccepted, IsAcceptedReply, IsAcceptedQuestion, IsAcceptedUnit}
 use Rattle.session_meaning.specs.Laws.{ExplanationsAreAccepted}
 
 -- ---- the numbers of justified lines
@@ -91,15 +96,20 @@ module _ (d : Joined) (facts : IsDesign d) (es : List Entry) (why : Why) (named 
   reply-accepted Past (whys.Answer (explained.Proof cells v)) right = absurd right
   reply-accepted BadLine (whys.Answer (explained.Proof cells v)) right = absurd right
 
+question-accepted : (d : Joined) → IsDesign d → (line : ℕ) (asks : Asks) (es own : List Entry) (reply : QuestionReply) → NamesByRules asks → IsRightReply d line asks es own reply → IsAcceptedQuestion d asks reply
+question-accepted d facts line (kinds.First first) es own reply named right = tt
+question-accepted d facts line (kinds.Why why) es own (told.First reply) named right = tt
+question-accepted d facts line (kinds.Why why) es own (told.Why reply) named right = reply-accepted d facts es why named (why_verdict d line why) reply right
+question-accepted d facts line (kinds.Why why) es own (told.Stuck reply) named right = tt
+question-accepted d facts line (kinds.Stuck stuck) es own reply named right = tt
+
 unit-accepted : (setup : Setup) → IsDesign setup.design → (now next : Course) (unit : ScriptUnit) → IsFit setup.design.circuit.horizon unit → (served : IsServed setup now unit next) → IsAcceptedUnit setup now next unit served
 unit-accepted setup facts now next (units.Batch items) fit served = tt
 unit-accepted setup facts now next (units.Trim most) fit served = tt
 unit-accepted setup facts now next units.Stats fit served = tt
-unit-accepted setup facts now next (units.First item) fit served = tt
-unit-accepted setup facts now next (units.Why item) fit served =
-    reply-accepted setup.design facts (of_batch served.lists) item.why fit.named (why_verdict setup.design item) served.reply served.right
+unit-accepted setup facts now next (units.Question question) fit served =
+    question-accepted setup.design facts question.line question.asks (of_batch served.lists) (of_batch served.held) served.reply fit.named served.right
 unit-accepted setup facts now next (units.Vcd file) fit served = tt
-unit-accepted setup facts now next (units.Stuck item) fit served = tt
 
 pub explanations-accepted : ExplanationsAreAccepted
 explanations-accepted setup facts us fit course Opened = tt

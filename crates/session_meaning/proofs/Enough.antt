@@ -2,20 +2,24 @@
 use Rattle.std.proofs.Common.{◌≡◌, ◌≢◌, ℕ, zero, suc, ◌<◌, List, [], ◌∷◌, length, map, get_or, Contains, All, AllPairs, Option, Some, None, refl, sym, ap, subst, ◌∙◌, arith, ◌⊎◌, inl, inr}
 use Rattle.std.specs.List.{AllZip, slice_index_or}
 use Rattle.std.proofs.lemmas.List.Elements.{All-head}
+use Rattle.valid_intervals.specs.declared.SignalCell.{SignalCell}
 use Rattle.circuit_meaning.specs.Circuit.{Circuit, IsCircuit}
 use Rattle.circuit_meaning.specs.Forward.{wave}
 use Rattle.circuit_meaning.specs.declared.Run.{Run}
 use Rattle.circuit_meaning.proofs.Alike.{held-fits}
 use Rattle.batch_meaning.specs.declared.Query.{Query}
-use Rattle.batch_meaning.specs.Batches.{Site, NeedOf}
+use Rattle.batch_meaning.specs.Batches.{Batch, Site, NeedOf}
+use Rattle.journal_meaning.specs.declared.Entry.{Entry}
 use Rattle.journal_meaning.specs.Laws.{IsOwnQuery, IsRoomy, IsLegalFrom, NeedsAtMost}
 use Rattle.journal_meaning.specs.Replay.{IsLegalBatch}
 use Rattle.journal_meaning.specs.Sections.{of_batch, cells_after}
 use Rattle.journal_meaning.specs.Answers.{IsAnswer, IsSpent}
 use Rattle.journal_meaning.proofs.Budgets.{enough-budget}
-use Rattle.query_lines.specs.declared.unit.FirstItem.{FirstItem}
-use Rattle.query_lines.specs.declared.unit.WhyItem.{WhyItem}
-use Rattle.query_lines.specs.declared.unit.StuckItem.{StuckItem}
+use Rattle.query_lines.specs.declared.line.First.{First}
+use Rattle.query_lines.specs.declared.line.Why.{Why}
+use Rattle.query_lines.specs.declared.line.Stuck.{Stuck}
+use Rattle.query_lines.specs.declared.unit.Asks.{Asks}
+use Rattle.query_lines.specs.declared.unit.Asks.TheVariants as kinds
 use Rattle.query_lines.specs.declared.unit.Item.{Item}
 use Rattle.query_lines.specs.declared.unit.Unit.{Unit as ScriptUnit}
 use Rattle.query_lines.specs.declared.unit.Unit.TheVariants as units
@@ -24,6 +28,8 @@ use Rattle.query_lines.specs.Fit.{HasOwnLines, UnitsHaveOwnLines}
 use Rattle.reply_lines.specs.declared.reply.FirstAnswer.TheVariants as answers
 use Rattle.reply_lines.specs.declared.reply.FirstReply.{FirstReply}
 use Rattle.reply_lines.specs.declared.reply.FirstReply.TheVariants as firsts
+use Rattle.reply_lines.specs.declared.reply.QuestionReply.{QuestionReply}
+use Rattle.reply_lines.specs.declared.reply.QuestionReply.TheVariants as questions
 use Rattle.reply_lines.specs.declared.reply.Reply.{Reply}
 use Rattle.reply_lines.specs.declared.reply.Reply.TheVariants as replies
 use Rattle.reply_lines.specs.declared.reply.WhyAnswer.TheVariants as explained
@@ -38,11 +44,12 @@ use Rattle.session_meaning.specs.Verdicts.{verdict_of, first_verdict, why_verdic
 use Rattle.session_meaning.specs.FirstTimes.{first_time, up_to_first, IsFirstReply}
 use Rattle.session_meaning.specs.Explanations.{IsWhyReply}
 use Rattle.session_meaning.specs.StuckSignals.{stuck_circuit, held_batch, IsStuckReply, IsHeldMemo}
+use Rattle.session_meaning.specs.Questions.{IsRightReply, IsOwnMemo}
 use Rattle.query_lines.proofs.OwnLines.{first-part, later-part}
 use Rattle.session_meaning.proofs.Asked.{asks-line, asked-in, in-asked}
 use Rattle.session_meaning.specs.Replies.{IsReply}
-use Rattle.session_meaning.specs.Session.{Setup, Course, batch_of, first_batch, why_batch, stuck_batch, IsServed, IsFirstServed, IsWhyServed, IsStuckServed, Session, Opened, Served}
-use Rattle.session_meaning.specs.Ample.{answer_of, IsAmpleFirst, IsAmpleWhy, IsAmpleStuck, IsAmpleUnit, IsAmple}
+use Rattle.session_meaning.specs.Session.{Setup, Course, batch_of, question_batch, IsServed, Session, Opened, Served}
+use Rattle.session_meaning.specs.Ample.{answer_of, IsAmpleFirst, IsAmpleWhy, IsAmpleStuck, IsAmpleQuestion, IsAmpleUnit, IsAmple}
 use Rattle.session_meaning.specs.Laws.{EnoughBudgetIsServed, EnoughBudgetsAreServed}
 
 zip-at : {A B : Type 0} (P Q : A → B → Type 0) (xs : List A) (ys : List B)
@@ -108,132 +115,141 @@ enough setup circuit now next items apart served room =
     replied q replies.Past mine most h = absurd h
     replied q replies.BadLine mine most h = absurd h
 
--- Of a question for a first time.
-module _ (setup : Setup) (circuit : IsCircuit setup.design.circuit) (now next : Course) (item : FirstItem) (served : IsFirstServed setup now next item) (room : IsRoomy (first_batch setup item) served.lists) where
-  one-query : (query : Query) → first_verdict setup.design item ≡ Ask query
-      → (first_batch setup item).queries ≡ up_to_first setup.design.circuit query item.first.value ∷ []
-  one-query query is = ap (λ v. map (λ q. up_to_first setup.design.circuit q item.first.value) (asked v)) is
-
-  own-query : (query : Query) → first_verdict setup.design item ≡ Ask query → IsOwnQuery (first_batch setup item) (up_to_first setup.design.circuit query item.first.value)
-  own-query query is =
-      let q = up_to_first setup.design.circuit query item.first.value in
-      record {
-        known = subst (λ qs. Contains qs q) (sym (one-query query is)) (0, omega arith, refl);
-        single = λ r has same. only r (subst (λ qs. Contains qs r) (one-query query is) has);
-      }
-    where
-      only : (r : Query) → Contains (up_to_first setup.design.circuit query item.first.value ∷ []) r → r ≡ up_to_first setup.design.circuit query item.first.value
-      only r (zero, l, is) = sym is
-      only r (suc k, l, is) = absurd (omega (arith, l))
-
-  told : (query : Query) (verdict : Verdict) (reply : FirstReply) → first_verdict setup.design item ≡ Ask query → verdict ≡ Ask query
-      → NeedsAtMost (first_batch setup item) (up_to_first setup.design.circuit query item.first.value) query.budget
-      → IsFirstReply setup.design.circuit (of_batch served.lists) verdict item.first.value reply
-      → reply ≡ firsts.Answer (answer_of (first_time setup.design.circuit query.signal item.first.value query.from query.to))
-  told query (Ask q) (firsts.Answer (answers.At t)) is same most right = let e : q ≡ query = cc in cc
-  told query (Ask q) (firsts.Answer answers.Never) is same most right = let e : q ≡ query = cc in cc
-  told query (Ask q) (firsts.Answer (answers.Budget b)) is same most right = let e : q ≡ query = cc in
-      none-some None _ refl (enough-budget (first_batch setup item) circuit (λ shard. cells_after shard now.sections) served.lists (record { count = served.count; legal = served.legal }) room
-      (up_to_first setup.design.circuit query item.first.value) (own-query query is) most None (subst (λ x. IsSpent (of_batch served.lists) (up_to_first setup.design.circuit x item.first.value)) e right.1))
-  told query (Ask q) firsts.Unknown is same most right = absurd right
-  told query (Ask q) firsts.Past is same most right = absurd right
-  told query Unknown reply is same most right = absurd cc
-  told query Past reply is same most right = absurd cc
-  told query Bad reply is same most right = absurd cc
-
-enough-first : (setup : Setup) → IsCircuit setup.design.circuit → (now next : Course) (item : FirstItem) (served : IsFirstServed setup now next item) → IsAmpleFirst setup item served.lists served.reply
-enough-first setup circuit now next item served room query is most =
-    told setup circuit now next item served room query (first_verdict setup.design item) served.reply is is most served.right
-
--- Of a question for an explanation.
-module _ (setup : Setup) (circuit : IsCircuit setup.design.circuit) (now next : Course) (item : WhyItem) (served : IsWhyServed setup now next item) (room : IsRoomy (why_batch setup item) served.lists) where
-  asked-query : (query : Query) → why_verdict setup.design item ≡ Ask query → IsOwnQuery (why_batch setup item) query
-  asked-query query is = record {
-    known = subst (λ qs. Contains qs query) (sym (ap asked is)) (0, omega arith, refl);
-    single = λ r has same. only r (subst (λ qs. Contains qs r) (ap asked is) has);
-  }
-    where
-      only : (r : Query) → Contains (query ∷ []) r → r ≡ query
-      only r (zero, l, is) = sym is
-      only r (suc k, l, is) = absurd (omega (arith, l))
-
-  unspent : (query : Query) (verdict : Verdict) (reply : WhyReply) → why_verdict setup.design item ≡ Ask query → verdict ≡ Ask query
-      → NeedsAtMost (why_batch setup item) query query.budget
-      → IsWhyReply setup.design (of_batch served.lists) verdict item.why reply
-      → (budget : ℕ) → reply ≢ whys.Answer (explained.Budget budget)
-  unspent query (Ask q) (whys.Answer (explained.Proof cells v)) is same most right budget = λ e. cc
-  unspent query (Ask q) (whys.Answer (explained.Budget b)) is same most right budget = λ _. let e : q ≡ query = cc in
-      none-some None _ refl (enough-budget (why_batch setup item) circuit (λ shard. cells_after shard now.sections) served.lists (record { count = served.count; legal = served.legal }) room
-      query (asked-query query is) most None (subst (λ x. IsSpent (of_batch served.lists) x) e right.0.1))
-  unspent query (Ask q) whys.Unknown is same most right budget = absurd right
-  unspent query (Ask q) whys.Past is same most right budget = absurd right
-  unspent query Unknown reply is same most right budget = absurd cc
-  unspent query Past reply is same most right budget = absurd cc
-  unspent query Bad reply is same most right budget = absurd cc
-
-enough-why : (setup : Setup) → IsCircuit setup.design.circuit → (now next : Course) (item : WhyItem) (served : IsWhyServed setup now next item) → IsAmpleWhy setup item served.lists served.reply
-enough-why setup circuit now next item served room query is most =
-    unspent setup circuit now next item served room query (why_verdict setup.design item) served.reply is is most served.right
-
--- Of a question for a wave where a signal is stuck.
 only-one : (query r : Query) → Contains (query ∷ []) r → r ≡ query
 only-one query r (zero, l, is) = sym is
 only-one query r (suc k, l, is) = absurd (omega (arith, l))
 
-module _ (setup : Setup) (circuit : IsCircuit setup.design.circuit) (now next : Course) (item : StuckItem) (served : IsStuckServed setup now next item)
-    (site : Site) (query : Query) (known : site_of setup.design item ≡ Some site) (asks : stuck_verdict setup.design item ≡ Ask query) where
+-- the one query of a batch
+one-query : (b : Batch) (query : Query) → b.queries ≡ query ∷ [] → IsOwnQuery b query
+one-query b query are = record {
+  known = subst (λ qs. Contains qs query) (sym are) (0, omega arith, refl);
+  single = λ r has same. only-one query r (subst (λ qs. Contains qs r) are has);
+}
+
+-- Of a question for a first time.
+module _ (setup : Setup) (circuit : IsCircuit setup.design.circuit) (line : ℕ) (first : First) where
+  abbrev first-batch : Batch
+  first-batch = question_batch setup line (kinds.First first)
+
+  module _ (cells : ℕ → List SignalCell) (lists : List (List Entry)) (legal : IsLegalFrom first-batch cells lists) (room : IsRoomy first-batch lists) where
+    own-query : (query : Query) → first_verdict setup.design line first ≡ Ask query → IsOwnQuery first-batch (up_to_first setup.design.circuit query first.value)
+    own-query query is =
+        one-query first-batch (up_to_first setup.design.circuit query first.value) (ap (λ v. map (λ q. up_to_first setup.design.circuit q first.value) (asked v)) is)
+
+    told : (query : Query) (verdict : Verdict) (reply : FirstReply) → first_verdict setup.design line first ≡ Ask query → verdict ≡ Ask query
+        → NeedsAtMost first-batch (up_to_first setup.design.circuit query first.value) query.budget
+        → IsFirstReply setup.design.circuit (of_batch lists) verdict first.value reply
+        → reply ≡ firsts.Answer (answer_of (first_time setup.design.circuit query.signal first.value query.from query.to))
+    told query (Ask q) (firsts.Answer (answers.At t)) is same most right = let e : q ≡ query = cc in cc
+    told query (Ask q) (firsts.Answer answers.Never) is same most right = let e : q ≡ query = cc in cc
+    told query (Ask q) (firsts.Answer (answers.Budget b)) is same most right = let e : q ≡ query = cc in
+        none-some None _ refl (enough-budget first-batch circuit cells lists legal room
+        (up_to_first setup.design.circuit query first.value) (own-query query is) most None (subst (λ x. IsSpent (of_batch lists) (up_to_first setup.design.circuit x first.value)) e right.1))
+    told query (Ask q) firsts.Unknown is same most right = absurd right
+    told query (Ask q) firsts.Past is same most right = absurd right
+    told query Unknown reply is same most right = absurd cc
+    told query Past reply is same most right = absurd cc
+    told query Bad reply is same most right = absurd cc
+
+  enough-first : (cells : ℕ → List SignalCell) (lists : List (List Entry)) → IsLegalFrom first-batch cells lists → (reply : FirstReply)
+      → IsFirstReply setup.design.circuit (of_batch lists) (first_verdict setup.design line first) first.value reply → IsAmpleFirst setup line first lists reply
+  enough-first cells lists legal reply right room query is most = told cells lists legal room query (first_verdict setup.design line first) reply is is most right
+
+-- Of a question for an explanation.
+module _ (setup : Setup) (circuit : IsCircuit setup.design.circuit) (line : ℕ) (why : Why) where
+  abbrev why-batch : Batch
+  why-batch = question_batch setup line (kinds.Why why)
+
+  module _ (cells : ℕ → List SignalCell) (lists : List (List Entry)) (legal : IsLegalFrom why-batch cells lists) (room : IsRoomy why-batch lists) where
+    unspent : (query : Query) (verdict : Verdict) (reply : WhyReply) → why_verdict setup.design line why ≡ Ask query → verdict ≡ Ask query
+        → NeedsAtMost why-batch query query.budget
+        → IsWhyReply setup.design (of_batch lists) verdict why reply
+        → (budget : ℕ) → reply ≢ whys.Answer (explained.Budget budget)
+    unspent query (Ask q) (whys.Answer (explained.Proof cells v)) is same most right budget = λ e. cc
+    unspent query (Ask q) (whys.Answer (explained.Budget b)) is same most right budget = λ _. let e : q ≡ query = cc in
+        none-some None _ refl (enough-budget why-batch circuit cells lists legal room
+        query (one-query why-batch query (ap asked is)) most None (subst (λ x. IsSpent (of_batch lists) x) e right.0.1))
+    unspent query (Ask q) whys.Unknown is same most right budget = absurd right
+    unspent query (Ask q) whys.Past is same most right budget = absurd right
+    unspent query Unknown reply is same most right budget = absurd cc
+    unspent query Past reply is same most right budget = absurd cc
+    unspent query Bad reply is same most right budget = absurd cc
+
+  enough-why : (cells : ℕ → List SignalCell) (lists : List (List Entry)) → IsLegalFrom why-batch cells lists → (reply : WhyReply)
+      → IsWhyReply setup.design (of_batch lists) (why_verdict setup.design line why) why reply → IsAmpleWhy setup line why lists reply
+  enough-why cells lists legal reply right room query is most = unspent cells lists legal room query (why_verdict setup.design line why) reply is is most right
+
+-- Of a question for a wave where a signal is stuck.
+module _ (setup : Setup) (circuit : IsCircuit setup.design.circuit) (line : ℕ) (stuck : Stuck) where
   abbrev c : Circuit
   c = setup.design.circuit
 
-  stuck-queries : (stuck_batch setup item).queries ≡ query ∷ []
-  stuck-queries = ap (λ s. asked_at s (stuck_verdict setup.design item)) known ∙ ap asked asks
+  abbrev stuck-batch : Batch
+  stuck-batch = question_batch setup line (kinds.Stuck stuck)
 
-  -- what is free and needed is needed
-  fewer : NeedsAtMost (held_batch c site query) query query.budget → NeedsAtMost (stuck_batch setup item) query query.budget
-  fewer most points apart all = most points apart (λ k d l. (subst (λ (s : Option Site). NeedOf c s query (slice_index_or points k d)) known (all k d l)).0)
+  module _ (cells : ℕ → List SignalCell) (lists held : List (List Entry)) (legal : IsLegalFrom stuck-batch cells lists)
+      (own-memo : IsHeldMemo c (site_of setup.design stuck) (stuck_verdict setup.design line stuck) held)
+      (site : Site) (query : Query) (known : site_of setup.design stuck ≡ Some site) (asks : stuck_verdict setup.design line stuck ≡ Ask query) where
+    stuck-queries : stuck-batch.queries ≡ query ∷ []
+    stuck-queries = ap (λ s. asked_at s (stuck_verdict setup.design line stuck)) known ∙ ap asked asks
 
-  good-legal : IsLegalFrom (stuck_batch setup item) (λ shard. cells_after shard now.sections) served.lists
-  good-legal = record { count = served.count; legal = served.legal }
+    -- what is free and needed is needed
+    fewer : NeedsAtMost (held_batch c site query) query query.budget → NeedsAtMost stuck-batch query query.budget
+    fewer most points apart all = most points apart (λ k d l. (subst (λ (s : Option Site). NeedOf c s query (slice_index_or points k d)) known (all k d l)).0)
 
-  memo : IsHeldMemo c (Some site) (Ask query) served.held
-  memo = subst (λ s. IsHeldMemo c s (Ask query) served.held) known (subst (λ v. IsHeldMemo c (site_of setup.design item) v served.held) asks served.memo)
+    memo : IsHeldMemo c (Some site) (Ask query) held
+    memo = subst (λ s. IsHeldMemo c s (Ask query) held) known (subst (λ v. IsHeldMemo c (site_of setup.design stuck) v held) asks own-memo)
 
-  own-legal : IsLegalFrom (held_batch c site query) (λ shard. []) served.held
-  own-legal = subst (IsLegalFrom (held_batch c site query) (λ shard. [])) (sym memo.1) (record { count = refl; legal = λ shard l. one shard l })
-    where
-      one : (shard : ℕ) → shard < 1 → IsLegalBatch (held_batch c site query) shard [] (get_or (memo.0 ∷ []) shard [])
-      one zero l = memo.2.legal
-      one (suc n) l = absurd (omega (arith, l))
+    own-legal : IsLegalFrom (held_batch c site query) (λ shard. []) held
+    own-legal = subst (IsLegalFrom (held_batch c site query) (λ shard. [])) (sym memo.1) (record { count = refl; legal = λ shard l. one shard l })
+      where
+        one : (shard : ℕ) → shard < 1 → IsLegalBatch (held_batch c site query) shard [] (get_or (memo.0 ∷ []) shard [])
+        one zero l = memo.2.legal
+        one (suc n) l = absurd (omega (arith, l))
 
-  served-wave : IsRoomy (stuck_batch setup item) served.lists → IsRoomy (held_batch c site query) served.held → NeedsAtMost (held_batch c site query) query query.budget
-      → (reply : StuckReply) → IsStuckReply c (Some site) (Ask query) (of_batch served.lists) (of_batch served.held) reply
-      → reply ≡ stucks.Answer (waves.Wave (wave (stuck_circuit c site) query.signal query.from query.to))
-  served-wave room own_room most (stucks.Answer (waves.Wave runs)) right = ap (λ r. stucks.Answer (waves.Wave r)) right.0
-  served-wave room own_room most (stucks.Answer (waves.Budget budget)) right = elim right.1 [
-    | inl spent ↦ none-some None _ refl (enough-budget (stuck_batch setup item) circuit (λ shard. cells_after shard now.sections) served.lists good-legal room query
-        (record { known = subst (λ qs. Contains qs query) (sym stuck-queries) (0, omega arith, refl); single = λ r has same. only-one query r (subst (λ qs. Contains qs r) stuck-queries has) }) (fewer most) None spent)
-    | inr spent ↦ none-some None _ refl (enough-budget (held_batch c site query) (held-fits c site.signal site.value circuit) (λ shard. []) served.held own-legal own_room query
-        (record { known = (0, omega arith, refl); single = λ r has same. only-one query r has }) most None spent)
-  ]
-  served-wave room own_room most stucks.UnknownSite right = absurd right
-  served-wave room own_room most stucks.Unknown right = absurd right
-  served-wave room own_room most stucks.Past right = absurd right
+    served-wave : IsRoomy stuck-batch lists → IsRoomy (held_batch c site query) held → NeedsAtMost (held_batch c site query) query query.budget
+        → (reply : StuckReply) → IsStuckReply c (Some site) (Ask query) (of_batch lists) (of_batch held) reply
+        → reply ≡ stucks.Answer (waves.Wave (wave (stuck_circuit c site) query.signal query.from query.to))
+    served-wave room own_room most (stucks.Answer (waves.Wave runs)) right = ap (λ r. stucks.Answer (waves.Wave r)) right.0
+    served-wave room own_room most (stucks.Answer (waves.Budget budget)) right = elim right.1 [
+      | inl spent ↦ none-some None _ refl (enough-budget stuck-batch circuit cells lists legal room query (one-query stuck-batch query stuck-queries) (fewer most) None spent)
+      | inr spent ↦ none-some None _ refl (enough-budget (held_batch c site query) (held-fits c site.signal site.value circuit) (λ shard. []) held own-legal own_room query
+          (one-query (held_batch c site query) query refl) most None spent)
+    ]
+    served-wave room own_room most stucks.UnknownSite right = absurd right
+    served-wave room own_room most stucks.Unknown right = absurd right
+    served-wave room own_room most stucks.Past right = absurd right
 
-enough-stuck : (setup : Setup) → IsCircuit setup.design.circuit → (now next : Course) (item : StuckItem) (served : IsStuckServed setup now next item) → IsAmpleStuck setup item served.lists served.held served.reply
-enough-stuck setup circuit now next item served site query known asks room own_room most =
-    served-wave setup circuit now next item served site query known asks room own_room most served.reply
-    (subst (λ s. IsStuckReply setup.design.circuit s (Ask query) (of_batch served.lists) (of_batch served.held) served.reply) known
-    (subst (λ v. IsStuckReply setup.design.circuit (site_of setup.design item) v (of_batch served.lists) (of_batch served.held) served.reply) asks served.right))
+  enough-stuck : (cells : ℕ → List SignalCell) (lists held : List (List Entry)) → IsLegalFrom stuck-batch cells lists → IsHeldMemo c (site_of setup.design stuck) (stuck_verdict setup.design line stuck) held
+      → (reply : StuckReply) → IsStuckReply c (site_of setup.design stuck) (stuck_verdict setup.design line stuck) (of_batch lists) (of_batch held) reply → IsAmpleStuck setup line stuck lists held reply
+  enough-stuck cells lists held legal own-memo reply right site query known asks room own_room most =
+      served-wave cells lists held legal own-memo site query known asks room own_room most reply
+      (subst (λ s. IsStuckReply c s (Ask query) (of_batch lists) (of_batch held) reply) known
+      (subst (λ v. IsStuckReply c (site_of setup.design stuck) v (of_batch lists) (of_batch held) reply) asks right))
+
+-- Of a question of any kind.
+enough-question : (setup : Setup) → IsCircuit setup.design.circuit → (line : ℕ) (asks : Asks) (cells : ℕ → List SignalCell) (lists held : List (List Entry)) (reply : QuestionReply)
+    → IsLegalFrom (question_batch setup line asks) cells lists → IsOwnMemo setup.design line asks held → IsRightReply setup.design line asks (of_batch lists) (of_batch held) reply
+    → IsAmpleQuestion setup line asks lists held reply
+enough-question setup circuit line (kinds.First first) cells lists held (questions.First reply) legal kept right = enough-first setup circuit line first cells lists legal reply right
+enough-question setup circuit line (kinds.First first) cells lists held (questions.Why reply) legal kept right = right
+enough-question setup circuit line (kinds.First first) cells lists held (questions.Stuck reply) legal kept right = right
+enough-question setup circuit line (kinds.Why why) cells lists held (questions.First reply) legal kept right = right
+enough-question setup circuit line (kinds.Why why) cells lists held (questions.Why reply) legal kept right = enough-why setup circuit line why cells lists legal reply right
+enough-question setup circuit line (kinds.Why why) cells lists held (questions.Stuck reply) legal kept right = right
+enough-question setup circuit line (kinds.Stuck stuck) cells lists held (questions.First reply) legal kept right = right
+enough-question setup circuit line (kinds.Stuck stuck) cells lists held (questions.Why reply) legal kept right = right
+enough-question setup circuit line (kinds.Stuck stuck) cells lists held (questions.Stuck reply) legal kept right = enough-stuck setup circuit line stuck cells lists held legal kept reply right
 
 -- so it is in each unit of a session
 unit-ample : (setup : Setup) → IsCircuit setup.design.circuit → (now next : Course) (unit : ScriptUnit) (served : IsServed setup now unit next) → HasOwnLines unit → IsAmpleUnit setup now next unit served
 unit-ample setup circuit now next (units.Batch items) served own = enough setup circuit now next items own served
 unit-ample setup circuit now next (units.Trim most) served own = tt
 unit-ample setup circuit now next units.Stats served own = tt
-unit-ample setup circuit now next (units.First item) served own = enough-first setup circuit now next item served
-unit-ample setup circuit now next (units.Why item) served own = enough-why setup circuit now next item served
+unit-ample setup circuit now next (units.Question question) served own =
+    enough-question setup circuit question.line question.asks (λ shard. cells_after shard now.sections) served.lists served.held served.reply
+    (record { count = served.count; legal = served.legal }) served.memo served.right
 unit-ample setup circuit now next (units.Vcd file) served own = tt
-unit-ample setup circuit now next (units.Stuck item) served own = enough-stuck setup circuit now next item served
 
 pub session-ample : (setup : Setup) → IsCircuit setup.design.circuit → (us : List ScriptUnit) (course : Course) → All HasOwnLines us → (session : Session setup us course) → IsAmple setup us course session
 session-ample setup circuit us course own Opened = tt

@@ -124,9 +124,7 @@ module _ (setup : Setup) (short : setup.design.circuit.horizon ≤ 1000000) wher
       subst (λ c. IsHeld c) (sym served.leads) (record { waves = are-wires setup.design items served.replies short fit.within.most fit.named; dumps = held.dumps })
   unit-held now next (units.Trim most) served fit held = subst (λ c. IsHeld c) (sym served.leads) (record { waves = held.waves; dumps = held.dumps })
   unit-held now next units.Stats served fit held = subst (λ c. IsHeld c) (sym served) (record { waves = held.waves; dumps = held.dumps })
-  unit-held now next (units.First item) served fit held = subst (λ c. IsHeld c) (sym served.leads) (record { waves = held.waves; dumps = held.dumps })
-  unit-held now next (units.Why item) served fit held = subst (λ c. IsHeld c) (sym served.leads) (record { waves = held.waves; dumps = held.dumps })
-  unit-held now next (units.Stuck item) served fit held = subst (λ c. IsHeld c) (sym served.leads) (record { waves = held.waves; dumps = held.dumps })
+  unit-held now next (units.Question question) served fit held = subst (λ c. IsHeld c) (sym served.leads) (record { waves = held.waves; dumps = held.dumps })
   unit-held now next (units.Vcd file) served fit held = subst (λ c. IsHeld c) (sym served) (held-with-name now file held (is_taken setup now file))
 
   pub session-held : (us : List ScriptUnit) (course : Course) → All (IsFit setup.design.circuit.horizon) us → Session setup us course → IsHeld course

@@ -6,13 +6,16 @@ use Rattle.batch_meaning.specs.Batches.{Site}
 use Rattle.journal_meaning.specs.declared.Entry.{Entry}
 use Rattle.journal_meaning.specs.Replay.{IsLegalBatch}
 use Rattle.journal_meaning.specs.Sections.{SectionEntries, Asks, Trims, Forces, IsLegalIn, list_of, cells_left, AreLegal}
+use Rattle.query_lines.specs.declared.unit.Asks.{Asks as QuestionAsks}
+use Rattle.query_lines.specs.declared.unit.Asks.TheVariants as kinds
 use Rattle.query_lines.specs.declared.unit.Unit.{Unit as ScriptUnit}
 use Rattle.query_lines.specs.declared.unit.Unit.TheVariants as units
 use Rattle.session_meaning.specs.declared.Verdict.{Verdict}
 use Rattle.session_meaning.specs.declared.Verdict.TheVariants.{Ask, Unknown, Past, Bad}
 use Rattle.session_meaning.specs.StuckSignals.{held_batch, IsHeldMemo}
+use Rattle.session_meaning.specs.Questions.{IsOwnMemo}
 use Rattle.session_meaning.specs.Verdicts.{site_of, stuck_verdict}
-use Rattle.session_meaning.specs.Session.{Setup, Course, IsServed, Session, Opened, Served, batch_of, first_batch, why_batch, stuck_batch, held_sections}
+use Rattle.session_meaning.specs.Session.{Setup, Course, IsServed, Session, Opened, Served, batch_of, question_batch, held_sections, own_sections}
 use Rattle.session_meaning.proofs.Dumps.{vcd-sections}
 
 -- one section more
@@ -42,19 +45,22 @@ module _ (setup : Setup) (shard : ℕ) (sections : List SectionEntries) (legal :
   with-held None Past own memo = with-none
   with-held None Bad own memo = with-none
 
+  -- of a question of any kind
+  with-own : (line : ℕ) (asks : QuestionAsks) (own : List (List Entry)) → IsOwnMemo setup.design line asks own → AreLegal shard [] (sections ++ own_sections setup line asks own)
+  with-own line (kinds.First first) own memo = with-none
+  with-own line (kinds.Why why) own memo = with-none
+  with-own line (kinds.Stuck stuck) own memo = with-held (site_of setup.design stuck) (stuck_verdict setup.design line stuck) own memo
+
 unit-legal : (setup : Setup) (now next : Course) (unit : ScriptUnit) → IsServed setup now unit next → (shard : ℕ) → shard < setup.shards → AreLegal shard [] now.sections → AreLegal shard [] next.sections
 unit-legal setup now next (units.Batch items) served shard h legal =
     subst (λ (c : Course). AreLegal shard [] c.sections) (sym served.leads) (legal-more shard [] now.sections (record { purpose = Asks (batch_of setup items); lists = served.lists }) legal (served.legal shard h))
 unit-legal setup now next (units.Trim most) served shard h legal =
     subst (λ (c : Course). AreLegal shard [] c.sections) (sym served.leads) (legal-more shard [] now.sections (record { purpose = Trims; lists = served.lists }) legal (served.legal shard h))
-unit-legal setup now next (units.First item) served shard h legal =
-    subst (λ (c : Course). AreLegal shard [] c.sections) (sym served.leads) (legal-more shard [] now.sections (record { purpose = Asks (first_batch setup item); lists = served.lists }) legal (served.legal shard h))
-unit-legal setup now next (units.Why item) served shard h legal =
-    subst (λ (c : Course). AreLegal shard [] c.sections) (sym served.leads) (legal-more shard [] now.sections (record { purpose = Asks (why_batch setup item); lists = served.lists }) legal (served.legal shard h))
-unit-legal setup now next (units.Stuck item) served shard h legal =
+unit-legal setup now next (units.Question question) served shard h legal =
+    let batch = question_batch setup question.line question.asks in
     subst (λ (c : Course). AreLegal shard [] c.sections) (sym served.leads)
-    (with-held setup shard _ (legal-more shard [] now.sections (record { purpose = Asks (stuck_batch setup item); lists = served.lists }) legal (served.legal shard h))
-    (site_of setup.design item) (stuck_verdict setup.design item) served.held served.memo)
+    (with-own setup shard _ (legal-more shard [] now.sections (record { purpose = Asks batch; lists = served.lists }) legal (served.legal shard h))
+    question.line question.asks served.held served.memo)
 unit-legal setup now next units.Stats served shard h legal = subst (λ (c : Course). AreLegal shard [] c.sections) (sym served) legal
 unit-legal setup now next (units.Vcd file) served shard h legal =
     subst (λ s. AreLegal shard [] s) (sym (ap (λ (c : Course). c.sections) served ∙ vcd-sections setup now file)) legal

@@ -70,10 +70,8 @@ module _ (setup : Setup) where
   waves-left now next (units.Batch items) served before is = sym (ap waves_of served.leads)
   waves-left now next (units.Trim most) served before is = is ∙ sym (ap waves_of served.leads)
   waves-left now next units.Stats served before is = is ∙ sym (ap waves_of served)
-  waves-left now next (units.First item) served before is = is ∙ sym (ap waves_of served.leads)
-  waves-left now next (units.Why item) served before is = is ∙ sym (ap waves_of served.leads)
   waves-left now next (units.Vcd file) served before is = is ∙ sym (ap waves_of served ∙ vcd-waves setup now file)
-  waves-left now next (units.Stuck item) served before is = is ∙ sym (ap waves_of served.leads)
+  waves-left now next (units.Question question) served before is = is ∙ sym (ap waves_of served.leads)
 
   -- what a session has as its waves are those of its last batch
   last-waves : (us : List ScriptUnit) (course : Course) (session : Session setup us course) → last_waves setup us course session ≡ course.waves
@@ -85,9 +83,7 @@ module _ (setup : Setup) where
   unit-shown now next (units.Batch items) served waves is are = ap dumps_of served.leads
   unit-shown now next (units.Trim most) served waves is are = ap dumps_of served.leads
   unit-shown now next units.Stats served waves is are = ap dumps_of served
-  unit-shown now next (units.First item) served waves is are = ap dumps_of served.leads
-  unit-shown now next (units.Why item) served waves is are = ap dumps_of served.leads
-  unit-shown now next (units.Stuck item) served waves is are = ap dumps_of served.leads
+  unit-shown now next (units.Question question) served waves is are = ap dumps_of served.leads
   unit-shown now next (units.Vcd file) served waves is are =
       subst (λ (c : Course). OnlyShows waves (units.Vcd file) now.dumps c.dumps) (sym served) (shown-with-name now file waves (is_taken setup now file) are is)
 

@@ -4,9 +4,13 @@ use Rattle.gate_values.specs.declared.Value.{Value}
 use Rattle.valid_intervals.specs.declared.SignalCell.{SignalCell}
 use Rattle.design.specs.Joined.{Joined}
 use Rattle.query_lines.specs.declared.line.Why.{Why}
+use Rattle.query_lines.specs.declared.unit.Asks.{Asks}
+use Rattle.query_lines.specs.declared.unit.Asks.TheVariants as kinds
 use Rattle.query_lines.specs.declared.unit.Unit.{Unit as ScriptUnit}
 use Rattle.query_lines.specs.declared.unit.Unit.TheVariants as units
 use Rattle.reply_lines.specs.Replies.{why_lines}
+use Rattle.reply_lines.specs.declared.reply.QuestionReply.{QuestionReply}
+use Rattle.reply_lines.specs.declared.reply.QuestionReply.TheVariants as told
 use Rattle.reply_lines.specs.declared.reply.WhyAnswer.TheVariants as explained
 use Rattle.reply_lines.specs.declared.reply.WhyReply.{WhyReply}
 use Rattle.reply_lines.specs.declared.reply.WhyReply.TheVariants as whys
@@ -38,17 +42,20 @@ IsAcceptedReply d why (whys.Answer (explained.Budget budget)) = ⊤
 IsAcceptedReply d why (whys.Answer (explained.Proof cells v)) =
     IsAccepted d (why_lines why (whys.Answer (explained.Proof cells v))) (proof_of why cells v)
 
+-- so it is of a question, if it asks for one
+abbrev pub IsAcceptedQuestion : Joined → Asks → QuestionReply → Type 0
+IsAcceptedQuestion d (kinds.Why why) (told.Why reply) = IsAcceptedReply d why reply
+IsAcceptedQuestion d asks reply = ⊤
+
 -- so it is in a unit, if it asks for one
 abbrev pub IsAcceptedUnit : (setup : Setup) (now next : Course) (unit : ScriptUnit)
     → IsServed setup now unit next → Type 0
 IsAcceptedUnit setup now next (units.Batch items) served = ⊤
 IsAcceptedUnit setup now next (units.Trim most) served = ⊤
 IsAcceptedUnit setup now next units.Stats served = ⊤
-IsAcceptedUnit setup now next (units.First item) served = ⊤
-IsAcceptedUnit setup now next (units.Why item) served =
-    IsAcceptedReply setup.design item.why served.reply
+IsAcceptedUnit setup now next (units.Question question) served =
+    IsAcceptedQuestion setup.design question.asks served.reply
 IsAcceptedUnit setup now next (units.Vcd file) served = ⊤
-IsAcceptedUnit setup now next (units.Stuck item) served = ⊤
 
 -- and in every unit of a session
 abbrev pub AreAccepted : (setup : Setup) (all : List ScriptUnit) (course : Course)

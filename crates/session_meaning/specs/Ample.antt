@@ -6,9 +6,11 @@ use Rattle.circuit_meaning.specs.Forward.{wave}
 use Rattle.batch_meaning.specs.declared.Query.{Query}
 use Rattle.journal_meaning.specs.declared.Entry.{Entry}
 use Rattle.journal_meaning.specs.Laws.{IsRoomy, NeedsAtMost}
-use Rattle.query_lines.specs.declared.unit.FirstItem.{FirstItem}
-use Rattle.query_lines.specs.declared.unit.WhyItem.{WhyItem}
-use Rattle.query_lines.specs.declared.unit.StuckItem.{StuckItem}
+use Rattle.query_lines.specs.declared.line.First.{First}
+use Rattle.query_lines.specs.declared.line.Why.{Why}
+use Rattle.query_lines.specs.declared.line.Stuck.{Stuck}
+use Rattle.query_lines.specs.declared.unit.Asks.{Asks}
+use Rattle.query_lines.specs.declared.unit.Asks.TheVariants as kinds
 use Rattle.batch_meaning.specs.Batches.{Site}
 use Rattle.query_lines.specs.declared.unit.Item.{Item}
 use Rattle.query_lines.specs.declared.unit.Unit.{Unit as ScriptUnit}
@@ -18,6 +20,8 @@ use Rattle.reply_lines.specs.declared.reply.FirstAnswer.{FirstAnswer}
 use Rattle.reply_lines.specs.declared.reply.FirstAnswer.TheVariants as answers
 use Rattle.reply_lines.specs.declared.reply.FirstReply.{FirstReply}
 use Rattle.reply_lines.specs.declared.reply.FirstReply.TheVariants as firsts
+use Rattle.reply_lines.specs.declared.reply.QuestionReply.{QuestionReply}
+use Rattle.reply_lines.specs.declared.reply.QuestionReply.TheVariants as told
 use Rattle.reply_lines.specs.declared.reply.Reply.{Reply}
 use Rattle.reply_lines.specs.declared.reply.WhyAnswer.TheVariants as explained
 use Rattle.reply_lines.specs.declared.reply.WhyReply.{WhyReply}
@@ -30,7 +34,7 @@ use Rattle.session_meaning.specs.declared.Verdict.TheVariants.{Ask}
 use Rattle.session_meaning.specs.Verdicts.{verdict_of, first_verdict, why_verdict, site_of, stuck_verdict}
 use Rattle.session_meaning.specs.StuckSignals.{stuck_circuit, held_batch}
 use Rattle.session_meaning.specs.FirstTimes.{first_time, up_to_first}
-use Rattle.session_meaning.specs.Session.{Setup, Course, batch_of, first_batch, why_batch, stuck_batch, IsServed, Session, Opened, Served, IsSessionOf}
+use Rattle.session_meaning.specs.Session.{Setup, Course, batch_of, question_batch, IsServed, Session, Opened, Served, IsSessionOf}
 
 -- In a batch in which nothing is evicted, or whose needed cells fit, every query whose budget is as great as its need has its wave.
 abbrev pub IsAmpleBatch : Setup → List Item → List (List Entry) → List Reply → Type 0
@@ -45,36 +49,43 @@ answer_of (Some time) = answers.At time
 answer_of None = answers.Never
 
 -- Where a question for a first time has a budget as great as the need up to that time, it has its answer.
-abbrev pub IsAmpleFirst : Setup → FirstItem → List (List Entry) → FirstReply → Type 0
-IsAmpleFirst setup item lists reply = IsRoomy (first_batch setup item) lists
-    → (query : Query) → first_verdict setup.design item ≡ Ask query
-    → NeedsAtMost (first_batch setup item) (up_to_first setup.design.circuit query item.first.value) query.budget
-    → reply ≡ firsts.Answer (answer_of (first_time setup.design.circuit query.signal item.first.value query.from query.to))
+abbrev pub IsAmpleFirst : Setup → ℕ → First → List (List Entry) → FirstReply → Type 0
+IsAmpleFirst setup line first lists reply = IsRoomy (question_batch setup line (kinds.First first)) lists
+    → (query : Query) → first_verdict setup.design line first ≡ Ask query
+    → NeedsAtMost (question_batch setup line (kinds.First first)) (up_to_first setup.design.circuit query first.value) query.budget
+    → reply ≡ firsts.Answer (answer_of (first_time setup.design.circuit query.signal first.value query.from query.to))
 
 -- Where a question for an explanation has a budget as great as its need, it is not refused for it.
-abbrev pub IsAmpleWhy : Setup → WhyItem → List (List Entry) → WhyReply → Type 0
-IsAmpleWhy setup item lists reply = IsRoomy (why_batch setup item) lists
-    → (query : Query) → why_verdict setup.design item ≡ Ask query
-    → NeedsAtMost (why_batch setup item) query query.budget
+abbrev pub IsAmpleWhy : Setup → ℕ → Why → List (List Entry) → WhyReply → Type 0
+IsAmpleWhy setup line why lists reply = IsRoomy (question_batch setup line (kinds.Why why)) lists
+    → (query : Query) → why_verdict setup.design line why ≡ Ask query
+    → NeedsAtMost (question_batch setup line (kinds.Why why)) query query.budget
     → (budget : ℕ) → reply ≢ whys.Answer (explained.Budget budget)
 
 -- Where a question for a wave where a signal is stuck has a budget as great as the need where it is stuck, it has its wave, if both memos
 -- have room.
-abbrev pub IsAmpleStuck : Setup → StuckItem → List (List Entry) → List (List Entry) → StuckReply → Type 0
-IsAmpleStuck setup item lists own reply = (site : Site) (query : Query) → site_of setup.design item ≡ Some site → stuck_verdict setup.design item ≡ Ask query
-    → IsRoomy (stuck_batch setup item) lists → IsRoomy (held_batch setup.design.circuit site query) own
+abbrev pub IsAmpleStuck : Setup → ℕ → Stuck → List (List Entry) → List (List Entry) → StuckReply → Type 0
+IsAmpleStuck setup line stuck lists own reply = (site : Site) (query : Query)
+    → site_of setup.design stuck ≡ Some site → stuck_verdict setup.design line stuck ≡ Ask query
+    → IsRoomy (question_batch setup line (kinds.Stuck stuck)) lists → IsRoomy (held_batch setup.design.circuit site query) own
     → NeedsAtMost (held_batch setup.design.circuit site query) query query.budget
     → reply ≡ stucks.Answer (waves.Wave (wave (stuck_circuit setup.design.circuit site) query.signal query.from query.to))
+
+-- so it is of a question, whose reply is of its kind
+abbrev pub IsAmpleQuestion : Setup → ℕ → Asks → List (List Entry) → List (List Entry) → QuestionReply → Type 0
+IsAmpleQuestion setup line (kinds.First first) lists own (told.First reply) = IsAmpleFirst setup line first lists reply
+IsAmpleQuestion setup line (kinds.Why why) lists own (told.Why reply) = IsAmpleWhy setup line why lists reply
+IsAmpleQuestion setup line (kinds.Stuck stuck) lists own (told.Stuck reply) = IsAmpleStuck setup line stuck lists own reply
+IsAmpleQuestion setup line asks lists own reply = ⊥
 
 -- so it is in a unit, if it asks
 abbrev pub IsAmpleUnit : (setup : Setup) (now next : Course) (unit : ScriptUnit) → IsServed setup now unit next → Type 0
 IsAmpleUnit setup now next (units.Batch items) served = IsAmpleBatch setup items served.lists served.replies
 IsAmpleUnit setup now next (units.Trim most) served = ⊤
 IsAmpleUnit setup now next units.Stats served = ⊤
-IsAmpleUnit setup now next (units.First item) served = IsAmpleFirst setup item served.lists served.reply
-IsAmpleUnit setup now next (units.Why item) served = IsAmpleWhy setup item served.lists served.reply
+IsAmpleUnit setup now next (units.Question question) served =
+    IsAmpleQuestion setup question.line question.asks served.lists served.held served.reply
 IsAmpleUnit setup now next (units.Vcd file) served = ⊤
-IsAmpleUnit setup now next (units.Stuck item) served = IsAmpleStuck setup item served.lists served.held served.reply
 
 -- and in every unit of a session
 abbrev pub IsAmple : (setup : Setup) (all : List ScriptUnit) (course : Course) → Session setup all course → Type 0

@@ -4,6 +4,7 @@ pub mod Written
 pub mod FirstTimes
 pub mod Explanations
 pub mod StuckSignals
+pub mod Questions
 pub mod Dumps
 pub mod Session
 pub mod Broken

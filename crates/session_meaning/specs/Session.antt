@@ -11,28 +11,25 @@ use Rattle.batch_meaning.specs.Batches.{Batch, Site}
 use Rattle.journal_meaning.specs.Replay.{IsLegalBatch, IsLegalTrim}
 use Rattle.journal_meaning.specs.Sections.{Purpose, Asks, Trims, Forces, SectionEntries, own, cells_after, of_batch}
 use Rattle.journal_meaning.specs.Counts.{count}
-use Rattle.query_lines.specs.declared.unit.FirstItem.{FirstItem}
-use Rattle.query_lines.specs.declared.unit.WhyItem.{WhyItem}
-use Rattle.query_lines.specs.declared.unit.StuckItem.{StuckItem}
+use Rattle.query_lines.specs.declared.unit.Asks.{Asks as QuestionAsks}
+use Rattle.query_lines.specs.declared.unit.Asks.TheVariants as kinds
+use Rattle.query_lines.specs.declared.unit.Question.{Question}
 use Rattle.query_lines.specs.declared.unit.Item.{Item}
 use Rattle.query_lines.specs.declared.unit.Unit.{Unit as ScriptUnit}
 use Rattle.query_lines.specs.declared.unit.Unit.TheVariants as units
-use Rattle.reply_lines.specs.declared.reply.FirstReply.{FirstReply}
+use Rattle.reply_lines.specs.declared.reply.QuestionReply.{QuestionReply}
 use Rattle.reply_lines.specs.declared.reply.Reply.{Reply}
 use Rattle.reply_lines.specs.declared.reply.VcdReply.TheVariants as dumps
-use Rattle.reply_lines.specs.declared.reply.WhyReply.{WhyReply}
-use Rattle.reply_lines.specs.declared.reply.StuckReply.{StuckReply}
 use Rattle.query_lines.specs.Reading.{script_units}
-use Rattle.reply_lines.specs.Replies.{first_line, why_lines, stuck_lines, vcd_line, trimmed_line, stats_line}
+use Rattle.reply_lines.specs.Replies.{question_lines, vcd_line, trimmed_line, stats_line}
 use Rattle.design.specs.Joined.{Joined}
 use Rattle.vcd_answers.specs.Wires.{Wire}
 use Rattle.vcd_answers.specs.Dumps.{vcd_of}
-use Rattle.session_meaning.specs.Verdicts.{verdict_of, queries_of, first_verdict, why_verdict, site_of, stuck_verdict, asked, asked_at}
+use Rattle.session_meaning.specs.Verdicts.{verdict_of, queries_of, site_of, stuck_verdict}
 use Rattle.session_meaning.specs.Replies.{IsReply, replies_text}
 use Rattle.session_meaning.specs.Dumps.{wires_of}
-use Rattle.session_meaning.specs.FirstTimes.{up_to_first, IsFirstReply}
-use Rattle.session_meaning.specs.Explanations.{IsWhyReply}
-use Rattle.session_meaning.specs.StuckSignals.{held_batch, IsStuckReply, IsHeldMemo}
+use Rattle.session_meaning.specs.Questions.{question_queries, question_site, IsRightReply, IsOwnMemo}
+use Rattle.session_meaning.specs.StuckSignals.{held_batch}
 use Rattle.session_meaning.specs.declared.Verdict.{Verdict}
 use Rattle.session_meaning.specs.declared.Verdict.TheVariants.{Ask}
 use Rattle.session_meaning.specs.Written.{journal_text}
@@ -95,80 +92,44 @@ pub record IsBatchServed (setup : Setup) (now next : Course) (items : List Item)
   pub right : AllZip (λ item reply. IsReply setup.design.circuit (of_batch lists) (verdict_of setup.design item) reply) items replies
   pub leads : next ≡ with_waves (with_section now (Asks (batch_of setup items)) lists (replies_text items replies)) (wires_of setup.design items replies)
 
--- A question for a first time.
+-- A question that is a batch of its own.
 
--- a batch of its own, which asks only up to that time
-abbrev pub first_batch : Setup → FirstItem → Batch
-first_batch setup item = record {
+-- its batch, by the number of its line and what it asks
+abbrev pub question_batch : Setup → ℕ → QuestionAsks → Batch
+question_batch setup line asks = record {
   circuit = setup.design.circuit;
   shards = setup.shards;
   capacity = setup.capacity;
-  queries = map (λ query. up_to_first setup.design.circuit query item.first.value) (asked (first_verdict setup.design item));
-  site = None;
+  queries = question_queries setup.design line asks;
+  site = question_site setup.design asks;
 }
 
--- Each shard has a list of entries, legal from the cells that the sections before leave, and the reply is right.
-pub record IsFirstServed (setup : Setup) (now next : Course) (item : FirstItem) : Type 0 where
-  pub lists : List (List Entry)
-  pub reply : FirstReply
-  pub count : length lists ≡ setup.shards
-  pub legal : (shard : ℕ) → shard < setup.shards
-      → IsLegalBatch (first_batch setup item) shard (cells_after shard now.sections) (get_or lists shard [])
-  pub right : IsFirstReply setup.design.circuit (of_batch lists) (first_verdict setup.design item) item.first.value reply
-  pub leads : next ≡ with_section now (Asks (first_batch setup item)) lists (first_line item.first reply)
-
--- A question for an explanation.
-
--- a batch of its own, which asks for the one time
-abbrev pub why_batch : Setup → WhyItem → Batch
-why_batch setup item = record {
-  circuit = setup.design.circuit;
-  shards = setup.shards;
-  capacity = setup.capacity;
-  queries = asked (why_verdict setup.design item);
-  site = None;
-}
-
--- Each shard has a list of entries, legal from the cells that the sections before leave, and the reply is right.
-pub record IsWhyServed (setup : Setup) (now next : Course) (item : WhyItem) : Type 0 where
-  pub lists : List (List Entry)
-  pub reply : WhyReply
-  pub count : length lists ≡ setup.shards
-  pub legal : (shard : ℕ) → shard < setup.shards
-      → IsLegalBatch (why_batch setup item) shard (cells_after shard now.sections) (get_or lists shard [])
-  pub right : IsWhyReply setup.design (of_batch lists) (why_verdict setup.design item) item.why reply
-  pub leads : next ≡ with_section now (Asks (why_batch setup item)) lists (why_lines item.why reply)
-
--- A question for a wave where a signal is stuck.
-
--- a batch of its own, which asks for what is free of the site
-abbrev pub stuck_batch : Setup → StuckItem → Batch
-stuck_batch setup item = record {
-  circuit = setup.design.circuit;
-  shards = setup.shards;
-  capacity = setup.capacity;
-  queries = asked_at (site_of setup.design item) (stuck_verdict setup.design item);
-  site = site_of setup.design item;
-}
-
--- the section of the memo of its own, where a query is asked
+-- the section of the memo of its own where a signal is stuck, if a query is asked
 abbrev pub held_sections : Setup → Option Site → Verdict → List (List Entry) → List SectionEntries
 held_sections setup (Some site) (Ask query) lists = record { purpose = Forces (held_batch setup.design.circuit site query); lists = lists } ∷ []
 held_sections setup site verdict lists = []
 
--- Each shard has a list of entries, legal from the cells that the sections before leave, and the memo of its own has one; the reply is
--- right.
-pub record IsStuckServed (setup : Setup) (now next : Course) (item : StuckItem) : Type 0 where
+-- the sections of a memo of its own; a question of another kind has none
+abbrev pub own_sections : Setup → ℕ → QuestionAsks → List (List Entry) → List SectionEntries
+own_sections setup line (kinds.First first) held = []
+own_sections setup line (kinds.Why why) held = []
+own_sections setup line (kinds.Stuck stuck) held =
+    held_sections setup (site_of setup.design stuck) (stuck_verdict setup.design line stuck) held
+
+-- Each shard has a list of entries, legal from the cells that the sections before leave, and so has the memo of its own, if the question
+-- has one; the reply is right.
+pub record IsQuestionServed (setup : Setup) (now next : Course) (question : Question) : Type 0 where
   pub lists : List (List Entry)
   pub held : List (List Entry)
-  pub reply : StuckReply
+  pub reply : QuestionReply
   pub count : length lists ≡ setup.shards
   pub legal : (shard : ℕ) → shard < setup.shards
-      → IsLegalBatch (stuck_batch setup item) shard (cells_after shard now.sections) (get_or lists shard [])
-  pub memo : IsHeldMemo setup.design.circuit (site_of setup.design item) (stuck_verdict setup.design item) held
-  pub right : IsStuckReply setup.design.circuit (site_of setup.design item) (stuck_verdict setup.design item) (of_batch lists) (of_batch held) reply
-  pub leads : next ≡ with_sections (with_section now (Asks (stuck_batch setup item)) lists (stuck_lines item.stuck reply))
-      (held_sections setup (site_of setup.design item) (stuck_verdict setup.design item) held)
+      → IsLegalBatch (question_batch setup question.line question.asks) shard (cells_after shard now.sections) (get_or lists shard [])
+  pub memo : IsOwnMemo setup.design question.line question.asks held
+  pub right : IsRightReply setup.design question.line question.asks (of_batch lists) (of_batch held) reply
+  pub leads : next ≡ with_sections
+      (with_section now (Asks (question_batch setup question.line question.asks)) lists (question_lines question.asks reply))
+      (own_sections setup question.line question.asks held)
 
 -- A trim.
 
@@ -240,10 +201,8 @@ abbrev pub IsServed : Setup → Course → ScriptUnit → Course → Type 0
 IsServed setup now (units.Batch items) next = IsBatchServed setup now next items
 IsServed setup now (units.Trim most) next = IsTrimServed setup now next most
 IsServed setup now units.Stats next = next ≡ with_reply now (counts_line setup now.sections)
-IsServed setup now (units.First item) next = IsFirstServed setup now next item
-IsServed setup now (units.Why item) next = IsWhyServed setup now next item
+IsServed setup now (units.Question question) next = IsQuestionServed setup now next question
 IsServed setup now (units.Vcd file) next = next ≡ with_vcd setup now file
-IsServed setup now (units.Stuck item) next = IsStuckServed setup now next item
 
 -- What a session comes to by these units, one after another.
 pub data Session (setup : Setup) : List ScriptUnit → Course → Type 0 where

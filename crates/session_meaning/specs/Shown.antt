@@ -16,10 +16,8 @@ waves_left setup now next (units.Batch items) served left =
     Some (wires_of setup.design items served.replies)
 waves_left setup now next (units.Trim most) served left = left
 waves_left setup now next units.Stats served left = left
-waves_left setup now next (units.First item) served left = left
-waves_left setup now next (units.Why item) served left = left
+waves_left setup now next (units.Question question) served left = left
 waves_left setup now next (units.Vcd file) served left = left
-waves_left setup now next (units.Stuck item) served left = left
 
 -- the waves of the last batch of a session, if there was one
 abbrev pub last_waves : (setup : Setup) (all : List ScriptUnit) (course : Course)

@@ -4,9 +4,9 @@ use Rattle.batch_meaning.specs.declared.Query.{Query}
 use Rattle.batch_meaning.specs.Batches.{Site}
 use Rattle.query_lines.specs.declared.line.What.{What}
 use Rattle.query_lines.specs.declared.line.What.TheVariants as whats
-use Rattle.query_lines.specs.declared.unit.FirstItem.{FirstItem}
-use Rattle.query_lines.specs.declared.unit.WhyItem.{WhyItem}
-use Rattle.query_lines.specs.declared.unit.StuckItem.{StuckItem}
+use Rattle.query_lines.specs.declared.line.First.{First}
+use Rattle.query_lines.specs.declared.line.Why.{Why}
+use Rattle.query_lines.specs.declared.line.Stuck.{Stuck}
 use Rattle.query_lines.specs.declared.unit.Item.{Item}
 use Rattle.design.specs.Joined.{Joined}
 use Rattle.design.specs.Join.{number}
@@ -30,20 +30,20 @@ what_verdict d line whats.Bad = Bad
 abbrev pub verdict_of : Joined → Item → Verdict
 verdict_of d item = what_verdict d item.line item.what
 
--- of a question for a first time
-abbrev pub first_verdict : Joined → FirstItem → Verdict
-first_verdict d item = window_verdict d.circuit.horizon item.line item.first.from item.first.to item.first.budget (number d.netlist item.first.name)
+-- of a question for a first time, by the number of its line
+abbrev pub first_verdict : Joined → ℕ → First → Verdict
+first_verdict d line first = window_verdict d.circuit.horizon line first.from first.to first.budget (number d.netlist first.name)
 
 -- of a question for an explanation, which asks for one time
-abbrev pub why_verdict : Joined → WhyItem → Verdict
-why_verdict d item = window_verdict d.circuit.horizon item.line item.why.time (item.why.time + 1) item.why.budget (number d.netlist item.why.name)
+abbrev pub why_verdict : Joined → ℕ → Why → Verdict
+why_verdict d line why = window_verdict d.circuit.horizon line why.time (why.time + 1) why.budget (number d.netlist why.name)
 
 -- of a question for a wave where a signal is stuck: which signal that is, if it is one, and what is asked of it
-abbrev pub site_of : Joined → StuckItem → Option Site
-site_of d item = option_map (λ signal. record { signal = signal; value = item.stuck.value }) (number d.netlist item.stuck.site)
+abbrev pub site_of : Joined → Stuck → Option Site
+site_of d stuck = option_map (λ signal. record { signal = signal; value = stuck.value }) (number d.netlist stuck.site)
 
-abbrev pub stuck_verdict : Joined → StuckItem → Verdict
-stuck_verdict d item = window_verdict d.circuit.horizon item.line item.stuck.from item.stuck.to item.stuck.budget (number d.netlist item.stuck.name)
+abbrev pub stuck_verdict : Joined → ℕ → Stuck → Verdict
+stuck_verdict d line stuck = window_verdict d.circuit.horizon line stuck.from stuck.to stuck.budget (number d.netlist stuck.name)
 
 -- the query that is asked, if one is
 abbrev pub asked : Verdict → List Query

@@ -8,8 +8,9 @@
 //!   reply is right, over the entries of the item's batch.
 //! - `specs/Written` is how sections are written into the journal: numbered one after another, each by its kind.
 //! - `specs/Dumps` is what a dump shows of a batch: a wire for each wave that was replied, as `vcd_answers` defines wires.
-//! - `specs/StuckSignals` is the answer to a question for a wave where a signal is stuck, over the entries of two memos: that of the
-//!   session, of which only what is free of the signal is asked, and one of its own.
+//! - `specs/Questions` is what a question that is a batch of its own asks, and which reply to it is right, by its kind:
+//!   `specs/FirstTimes`, `specs/Explanations`, and `specs/StuckSignals`, which answers over the entries of two memos: that of the
+//!   session, of which only what is free of the stuck signal is asked, and one of its own.
 //! - `specs/Session` is a session, as the list of the units that were served. Each kind of unit is a case of its own, which says
 //!   what the session comes to by one such unit; the clauses are its fields. A line that asks for a dump adds a file, or the reply
 //!   says why not: the name is taken, there was no batch, or three dumps were made.

@@ -13,3 +13,4 @@ pub mod EmptyStores
 pub mod Opening
 pub mod Running
 pub mod Dumping
+pub mod Crewing

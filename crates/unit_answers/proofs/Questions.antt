@@ -1,4 +1,4 @@
--- What a question with a batch of its own comes to.
+-- What a question that is a batch of its own comes to.
 use Rattle.std.proofs.Common.{◌≡◌, ℕ, ◌<◌, List, [], ◌∷◌, length, get_or, map, Option, refl, sym, ap, subst, ◌∙◌, arith}
 use Rattle.std.proofs.lemmas.List.{get_or-map, length-map}
 use Rattle.valid_intervals.specs.declared.SignalCell.{SignalCell}
@@ -14,7 +14,10 @@ use Rattle.plan_machine.specs.Sound.{IsFresh}
 use Rattle.plan_machine.specs.Settle.{entries_in, journals_of}
 use Rattle.memo_shards.specs.KeptShards.{KeptShard}
 use Rattle.plan_core.specs.Parts.{shards_in}
-use Rattle.session_meaning.specs.Session.{Setup}
+use Rattle.query_lines.specs.declared.unit.Asks.{Asks}
+use Rattle.reply_lines.specs.declared.reply.QuestionReply.{QuestionReply}
+use Rattle.session_meaning.specs.Questions.{question_queries, question_site, IsRightReply, IsOwnMemo}
+use Rattle.session_meaning.specs.Session.{Setup, question_batch}
 use Rattle.unit_answers.specs.Stores.{AreStores, cells_of}
 use Rattle.unit_answers.specs.Done.{IsQuestionDone}
 use Rattle.unit_answers.specs.inner.Runs.{asks_at, store_of}
@@ -22,10 +25,14 @@ use Rattle.unit_answers.proofs.Left.{lists-many, lists-legal, stores-left, store
 use Rattle.unit_answers.proofs.Running.{map-twice}
 
 -- once its shards are closed, the question is done
-pub question-done : (setup : Setup) (site : Option Site) (qs : List Query) (right : List Entry → Type 0) (b : Batch) (cells : ℕ → List SignalCell) (opening : List Contents) → b ≡ asks_at setup site qs → cells ≡ cells_of opening
-    → (ms : List KeptShard) (lists : List (List Entry)) (left : List Contents) → IsFresh b cells (shards_in ms) → right (entries_in (shards_in ms))
-    → lists ≡ map (λ m. m.shard.journal) ms → left ≡ map (λ m. store_of b.capacity m.shard) ms → IsQuestionDone setup (asks_at setup site qs) right opening lists left
-question-done setup site qs right b cells opening batch opened ms lists left free answered journals stores =
+pub question-done : (setup : Setup) (line : ℕ) (asks : Asks) (reply : QuestionReply) (held : List (List Entry)) (b : Batch) (cells : ℕ → List SignalCell) (opening : List Contents)
+    → b ≡ question_batch setup line asks → cells ≡ cells_of opening
+    → (ms : List KeptShard) (lists : List (List Entry)) (left : List Contents) → IsFresh b cells (shards_in ms)
+    → IsOwnMemo setup.design line asks held → IsRightReply setup.design line asks (entries_in (shards_in ms)) (of_batch held) reply
+    → lists ≡ map (λ m. m.shard.journal) ms → left ≡ map (λ m. store_of b.capacity m.shard) ms → IsQuestionDone setup line asks opening reply lists held left
+question-done setup line asks reply held b cells opening batch opened ms lists left free memo answered journals stores =
+    let site : Option Site = question_site setup.design asks in
+    let qs : List Query = question_queries setup.design line asks in
     let first : List Shard = shards_in ms in
     let begins : IsFresh (asks_at setup site qs) (cells_of opening) first =
     subst (λ (x : Batch). IsFresh x (cells_of opening) first) batch (subst (λ (o : ℕ → List SignalCell). IsFresh b o first) opened free) in
@@ -35,7 +42,8 @@ question-done setup site qs right b cells opening batch opened ms lists left fre
     record {
       count = lists-many setup site qs opening first lists left begins lists_are stores_are;
       legal = lists-legal setup site qs opening first lists left begins lists_are stores_are;
-      right = subst (λ (l : List (List Entry)). right (of_batch l)) (sym lists_are) answered;
+      memo = memo;
+      right = subst (λ (l : List (List Entry)). IsRightReply setup.design line asks (of_batch l) (of_batch held) reply) (sym lists_are) answered;
       stores = stores-left setup site qs opening first lists left begins lists_are stores_are;
       leaves = stores-leave setup site qs opening first lists left begins lists_are stores_are;
     }
@@ -49,16 +57,19 @@ nothing-told [] = refl
 nothing-told (store ∷ stores) = nothing-told stores
 
 -- where nothing is asked, the question is done with no entries and the stores as they were
-pub unasked-done : (setup : Setup) (b : Batch) (right : List Entry → Type 0) (opening : List Contents) (lists : List (List Entry)) (left : List Contents) → AreStores setup opening
-    → right [] → lists ≡ map none_for opening → left ≡ opening → IsQuestionDone setup b right opening lists left
-unasked-done setup b right opening lists left stores nothing lists_are same =
+pub unasked-done : (setup : Setup) (line : ℕ) (asks : Asks) (opening : List Contents) (reply : QuestionReply) (lists held : List (List Entry)) → AreStores setup opening
+    → IsRightReply setup.design line asks [] [] reply → IsOwnMemo setup.design line asks [] → lists ≡ map none_for opening → held ≡ [] → IsQuestionDone setup line asks opening reply lists held opening
+unasked-done setup line asks opening reply lists held stores right none lists_are unheld =
+    let d = setup.design in
     let count = stores.count in
     let list-at : (n : ℕ) → n < setup.shards → get_or lists n [] ≡ [] = λ n low.
     ap (λ l. get_or l n []) lists_are ∙ get_or-map none_for opening n (contents 0 []) [] (omega arith) in
     record {
       count = ap length lists_are ∙ length-map opening none_for ∙ stores.count;
-      legal = λ n low. subst (IsLegalBatch b n (cells_of opening n)) (sym (list-at n low)) (record { legal = tt; ended = record { claims = refl; made = refl } });
-      right = subst right (sym (ap of_batch lists_are ∙ nothing-told opening)) nothing;
-      stores = subst (AreStores setup) (sym same) stores;
-      leaves = λ n low. ap (λ l. cells_of l n) same ∙ ap (λ es. (replay (fresh (cells_of opening n)) es).cells) (sym (list-at n low));
+      legal = λ n low. subst (IsLegalBatch (question_batch setup line asks) n (cells_of opening n)) (sym (list-at n low)) (record { legal = tt; ended = record { claims = refl; made = refl } });
+      memo = subst (IsOwnMemo d line asks) (sym unheld) none;
+      right = subst (λ (l : List (List Entry)). IsRightReply d line asks (of_batch lists) (of_batch l) reply) (sym unheld)
+          (subst (λ es. IsRightReply d line asks es [] reply) (sym (ap of_batch lists_are ∙ nothing-told opening)) right);
+      stores = stores;
+      leaves = λ n low. ap (λ es. (replay (fresh (cells_of opening n)) es).cells) (sym (list-at n low));
     }

@@ -8,18 +8,21 @@ use Rattle.batch_meaning.specs.declared.Query.{Query}
 use Rattle.batch_meaning.specs.Batches.{Batch}
 use Rattle.batch_meaning.specs.Lawful.{IsLawful}
 use Rattle.query_lines.specs.declared.line.What.TheVariants as whats
+use Rattle.query_lines.specs.declared.line.Why.{Why}
+use Rattle.query_lines.specs.declared.unit.Asks.TheVariants as kinds
 use Rattle.query_lines.specs.declared.unit.Item.{Item}
-use Rattle.query_lines.specs.declared.unit.WhyItem.{WhyItem}
 use Rattle.reply_lines.specs.declared.reply.WhyAnswer.{WhyAnswer}
 use Rattle.reply_lines.specs.declared.reply.WhyAnswer.TheVariants.{Proof, Budget}
-use Rattle.reply_lines.specs.declared.reply.WhyReply.TheVariants.{Answer}
+use Rattle.reply_lines.specs.declared.reply.WhyReply.TheVariants as whys
+use Rattle.reply_lines.specs.declared.reply.QuestionReply.TheVariants as told
 use Rattle.design.specs.Joined.{IsDesign}
 use Rattle.design.specs.Join.{number}
 use Rattle.session_meaning.specs.declared.Verdict.{Verdict}
-use Rattle.session_meaning.specs.declared.Verdict.TheVariants.{Ask, Past}
+use Rattle.session_meaning.specs.declared.Verdict.TheVariants.{Ask, Unknown, Past}
 use Rattle.session_meaning.specs.Explanations.{IsWhyAnswer, IsChecked, IsWhyReply}
 use Rattle.session_meaning.specs.Verdicts.{why_verdict, window_verdict, asked}
-use Rattle.session_meaning.specs.Session.{Setup, why_batch}
+use Rattle.session_meaning.specs.Questions.{IsRightReply}
+use Rattle.session_meaning.specs.Session.{Setup, question_batch}
 use Rattle.unit_answers.specs.inner.Runs.{asks}
 use Rattle.unit_answers.proofs.Running.{lawful-items}
 
@@ -41,37 +44,47 @@ time-asks horizon line time budget (Some s) q is = cases (nat_le (time + 1) (hor
         subst (λ x. IsForTime horizon line time (Some s) x) same (record { from_is = refl; to_is = refl; within = omega (arith, l); signal_is = refl })
     cases false low h = absurd cc
 
-module _ (setup : Setup) (item : WhyItem) where
+module _ (setup : Setup) (line : ℕ) (why : Why) where
+  abbrev batch : Batch
+  batch = question_batch setup line (kinds.Why why)
+
+  -- a question that asks nothing is told why
+  pub why-unknown : why_verdict setup.design line why ≡ Unknown → IsRightReply setup.design line (kinds.Why why) [] [] (told.Why whys.Unknown)
+  why-unknown is = subst (λ (v : Verdict). IsWhyReply setup.design [] v why whys.Unknown) (sym is) tt
+
+  pub why-past : why_verdict setup.design line why ≡ Past → IsRightReply setup.design line (kinds.Why why) [] [] (told.Why whys.Past)
+  why-past is = subst (λ (v : Verdict). IsWhyReply setup.design [] v why whys.Past) (sym is) tt
+
   -- the item of a batch that asks for the same time
   abbrev as_item : Item
-  as_item = record { line = item.line; what = whats.At item.why.name item.why.time item.why.budget }
+  as_item = record { line = line; what = whats.At why.name why.time why.budget }
 
-  module _ (q : Query) (is : why_verdict setup.design item ≡ Ask q) where
+  module _ (q : Query) (is : why_verdict setup.design line why ≡ Ask q) where
     -- the batch has one query
-    pub why-queries : (why_batch setup item).queries ≡ q ∷ []
+    pub why-queries : batch.queries ≡ q ∷ []
     why-queries = ap asked is
 
-    for-time : IsForTime setup.design.circuit.horizon item.line item.why.time (number setup.design.netlist item.why.name) q
-    for-time = time-asks setup.design.circuit.horizon item.line item.why.time item.why.budget (number setup.design.netlist item.why.name) q is
+    for-time : IsForTime setup.design.circuit.horizon line why.time (number setup.design.netlist why.name) q
+    for-time = time-asks setup.design.circuit.horizon line why.time why.budget (number setup.design.netlist why.name) q is
 
     -- which asks for one time
     pub why-window : q.to ≡ q.from + 1
     why-window = for-time.to_is ∙ ap (λ n. n + 1) (sym for-time.from_is)
 
     -- and is lawful
-    pub why-batch-lawful : IsDesign setup.design → 0 < setup.shards → 0 < setup.capacity → IsLawful (why_batch setup item)
+    pub why-batch-lawful : IsDesign setup.design → 0 < setup.shards → 0 < setup.capacity → IsLawful batch
     why-batch-lawful design some_shard some_cell =
-        subst (λ (qs : List Query). IsLawful (asks setup qs)) (append-nil (asked (why_verdict setup.design item)))
+        subst (λ (qs : List Query). IsLawful (asks setup qs)) (append-nil (asked (why_verdict setup.design line why)))
         (lawful-items setup (as_item ∷ []) design some_shard some_cell (λ i j d l m. absurd (omega arith)))
 
     -- what is answered is a right reply
-    pub why-right : (b : Batch) (es : List Entry) (told : WhyAnswer) → b ≡ why_batch setup item → IsWhyAnswer b.circuit es q told
-        → IsWhyReply setup.design es (why_verdict setup.design item) item.why (Answer told)
-    why-right b es told batch answered =
-        let here : IsWhyAnswer setup.design.circuit es q told = subst (λ (x : Batch). IsWhyAnswer x.circuit es q told) batch answered in
-        subst (λ (v : Verdict). IsWhyReply setup.design es v item.why (Answer told)) (sym is) (here, stands told here)
+    pub why-right : (b : Batch) (es own : List Entry) (found : WhyAnswer) → b ≡ batch → IsWhyAnswer b.circuit es q found
+        → IsRightReply setup.design line (kinds.Why why) es own (told.Why (whys.Answer found))
+    why-right b es own found same answered =
+        let here : IsWhyAnswer setup.design.circuit es q found = subst (λ (x : Batch). IsWhyAnswer x.circuit es q found) same answered in
+        subst (λ (v : Verdict). IsWhyReply setup.design es v why (whys.Answer found)) (sym is) (here, stands found here)
       where
-        stands : (told : WhyAnswer) → IsWhyAnswer setup.design.circuit es q told → IsChecked setup.design item.why q told
+        stands : (found : WhyAnswer) → IsWhyAnswer setup.design.circuit es q found → IsChecked setup.design why q found
         stands (Proof cells v) h = record {
           cells = h.justified;
           claim = record { name = for-time.signal_is; time = for-time.within; value = subst (λ t. option_map (λ (x : Cell). x.value) (answer setup.design.circuit cells q.signal t) ≡ Some v) for-time.from_is h.follows };

@@ -1,4 +1,5 @@
 pub mod Stores
 pub mod Done
+pub mod Crewed
 pub mod Dumps
 pub mod inner

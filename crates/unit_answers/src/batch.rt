@@ -1,7 +1,10 @@
 //! A batch of items.
 
-ghost use Rattle.std.specs.Prelude.{◌≡◌, ◌≢◌, ◌<◌, ◌≤◌, AllPairs, IfOk};
+ghost use Rattle.std.specs.Prelude.{◌≡◌, ◌≢◌, ◌<◌, ◌≤◌, flat_map, AllPairs, IfOk};
+ghost use Rattle.batch_meaning.specs.Pieces.{pieces};
 ghost use Rattle.query_lines.specs.Laws.{IsWithin};
+ghost use Rattle.session_meaning.specs.Verdicts.{queries_of};
+ghost use Rattle.unit_answers.specs.Crewed.{HasCrewed};
 ghost use Rattle.unit_answers.specs.Stores.{setup_of, AreStores};
 ghost use Rattle.unit_answers.specs.Done.{IsBatchDone};
 
@@ -41,7 +44,11 @@ pub fn answer_batch<C: Crew>(
     requires shards { (0 < sizes.shards) × (sizes.shards ≤ 64) }
     requires within { IsWithin design.now.circuit.horizon items.now }
     requires lines { AllPairs (λ a b. a.line ≢ b.line) items.now }
-    ensures { IfOk result (λ done. IsBatchDone (setup_of design.now sizes) items.now stores.items done.replies.items done.lists.items done.stores.items) }
+    ensures done { IfOk result (λ done. IsBatchDone (setup_of design.now sizes) items.now
+        stores.items done.replies.items done.lists.items done.stores.items) }
+    ensures crewed { let queries = queries_of design.now items.now in
+        IfOk result (λ done. HasCrewed (flat_map pieces queries) (C.is_open crew.now)
+        done.lists.items) }
 {
     design.facts();
     have_room(design, sizes, &stores);

@@ -35,8 +35,10 @@ fn push_wire(
     requires named { AsksByName item.now.what }
     requires wave { IsOwnWave design.now.circuit (verdict_of design.now item.now) reply.now }
     ensures wire { OnOk result (wires.new.items ≡ wires.old.items
-        ++ shown_of design.now.circuit (texts.name_of item.now.what) (verdict_of design.now item.now) reply.now) }
-    ensures sound { IsTrue (list_all is_wire wires.old.items) → OnOk result (IsTrue (list_all is_wire wires.new.items)) }
+        ++ shown_of design.now.circuit (texts.name_of item.now.what)
+        (verdict_of design.now item.now) reply.now) }
+    ensures sound { IsTrue (list_all is_wire wires.old.items)
+        → OnOk result (IsTrue (list_all is_wire wires.new.items)) }
 {
     let horizon = design.horizon();
     let Reply::Wave(runs) = reply else {
@@ -59,8 +61,10 @@ pub fn dump_waves(
     replies: &[Reply],
 ) -> Result<Dump, OutOfMemory>
     requires { AreReplied design.now items.now replies.now }
-    ensures text { IfOk result (λ dump. dump.text.items ≡ vcd_of (wires_of design.now items.now replies.now)) }
-    ensures wires { IfOk result (λ dump. dump.wires ≡ length (wires_of design.now items.now replies.now)) }
+    ensures text { IfOk result (λ dump. dump.text.items ≡ vcd_of
+        (wires_of design.now items.now replies.now)) }
+    ensures wires { IfOk result (λ dump. dump.wires ≡ length
+        (wires_of design.now items.now replies.now)) }
 {
     let mut wires = Vec::new(alloc);
     for i in 0..items.len() {

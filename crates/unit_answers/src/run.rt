@@ -5,6 +5,7 @@ ghost use Rattle.cell_store.specs.Recency.{Contents};
 ghost use Rattle.batch_meaning.specs.Lawful.{IsLawful};
 ghost use Rattle.batch_meaning.specs.Pieces.{pieces};
 ghost use Rattle.unit_answers.specs.Stores.{setup_of, cells_of, AreStores};
+ghost use Rattle.unit_answers.specs.Crewed.{HasCrewed};
 ghost use Rattle.unit_answers.specs.inner.Runs.{asks, store_of, AreOpened, AreBegun, HasRun};
 
 use crate::sizes::Sizes;
@@ -62,7 +63,8 @@ pub fn end_all<B: BatchName>(
 ) -> Result<(Vec<EntryList>, Vec<CellStore>), OutOfMemory>
     requires { All (λ m. m.shard.state.claims ≡ []) shards.items }
     ensures lists { IfOk result (λ ended. ended.0.items ≡ map (λ m. m.shard.journal) shards.items) }
-    ensures stores { IfOk result (λ ended. ended.1.items ≡ map (λ m. store_of B.batch.capacity m.shard) shards.items) }
+    ensures stores { IfOk result (λ ended. ended.1.items ≡ map
+        (λ m. store_of B.batch.capacity m.shard) shards.items) }
 {
     let mut lists = Vec::new(alloc);
     let mut stores = Vec::new(alloc);
@@ -89,11 +91,15 @@ pub fn run_batch<B: BatchName + Send + Sync, C: Crew>(
     requires stores { AreStores (setup_of design.now sizes) stores.items }
     requires most { sizes.shards ≤ 64 }
     requires few { length (flat_map pieces queries.now) ≤ 256 }
-    ensures { IfOk result (λ run. HasRun (asks (setup_of design.now sizes) queries.now) (cells_of stores.items) run.replies.items run.lists.items run.stores.items) }
+    ensures run { IfOk result (λ run. HasRun (asks (setup_of design.now sizes) queries.now)
+        (cells_of stores.items) run.replies.items run.lists.items run.stores.items) }
+    ensures crewed { IfOk result (λ run. HasCrewed (flat_map pieces queries.now)
+        (C.is_open crew.now) run.lists.items) }
 {
     let begun = begin_all::<B>(alloc, stores)?;
     let strands = strands_of::<B>(alloc, queries)?;
-    let handed = crew.run(alloc, design, begun, strands)?;
+    let ran = crew.run(alloc, design, begun, strands)?;
+    let handed = ran.shards.into_vec();
     let Settled { replies, shards } = settle(alloc, design, handed, queries)?;
     let (lists, stores) = end_all(alloc, shards)?;
     Ok(BatchRun {

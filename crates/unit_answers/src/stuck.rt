@@ -1,15 +1,16 @@
 //! A question for a wave where a signal is stuck.
 
-ghost use Rattle.std.specs.Prelude.{◌≡◌, ◌<◌, ◌≤◌, [], Some, IfOk};
+ghost use Rattle.std.specs.Prelude.{◌≡◌, ◌<◌, ◌≤◌, Some, IfOk};
 ghost use Rattle.batch_meaning.specs.Lawful.{IsLawful};
+ghost use Rattle.query_lines.specs.declared.unit.Asks.TheVariants as kinds;
 ghost use Rattle.session_meaning.specs.declared.Verdict.TheVariants.{Ask};
-ghost use Rattle.session_meaning.specs.Session.{stuck_batch};
-ghost use Rattle.session_meaning.specs.StuckSignals.{IsStuckReply, IsHeldMemo};
+ghost use Rattle.session_meaning.specs.Session.{question_batch};
 ghost use Rattle.session_meaning.specs.Verdicts.{site_of, stuck_verdict};
-ghost use Rattle.unit_answers.specs.Stores.{AreStores, cells_of, setup_of};
-ghost use Rattle.unit_answers.specs.Done.{IsStuckDone};
+ghost use Rattle.unit_answers.specs.Stores.{setup_of, cells_of, AreStores};
+ghost use Rattle.unit_answers.specs.Done.{IsQuestionDone};
 
-use crate::run::{begin_all, end_all, have_room, no_entries};
+use crate::outcome::{QuestionDone, unasked};
+use crate::run::{begin_all, end_all, have_room};
 use crate::sizes::Sizes;
 use batch_meaning::Query;
 use cell_store::CellStore;
@@ -17,103 +18,86 @@ use demand_points::BatchName;
 use design::Design;
 use journal_text::EntryList;
 use owned_text::OutOfMemory;
-use query_lines::StuckItem;
-use reply_lines::StuckReply;
+use query_lines::Stuck;
+use reply_lines::{QuestionReply, StuckReply};
 use std::alloc::Global;
 use std::marker::Brand;
 use stuck_faults::stuck_wave;
 use window_answers::{Verdict, stuck_site_of, stuck_verdict_of};
 
-/// What came of a question for a wave where a signal is stuck: the reply, the journal of each shard, and the stores that are left.
-#[derive(Drop)]
-pub struct StuckDone {
-    pub reply: StuckReply,
-    pub lists: Vec<EntryList>,
-    /// The journal of the memo of its own, where a query was asked, and else none.
-    pub held: Vec<EntryList>,
-    pub stores: Vec<CellStore>,
+/// What is asked where a signal is stuck: which signal that is, and the query.
+#[derive(Clone, Copy)]
+struct StuckQuery {
+    site: u32,
+    query: Query,
 }
 
 /// Asks both memos, in the batch that B names.
 fn run_stuck<B: BatchName>(
     alloc: Global,
     design: &Design,
-    item: &StuckItem,
-    site: u32,
-    query: Query,
+    line: u32,
+    stuck: &Stuck,
+    asked: StuckQuery,
     sizes: Sizes,
     stores: Vec<CellStore>,
-) -> Result<StuckDone, OutOfMemory>
-    requires batch { B.batch ≡ stuck_batch (setup_of design.now sizes) item.now }
+) -> Result<QuestionDone, OutOfMemory>
+    requires batch { B.batch ≡ question_batch (setup_of design.now sizes) line
+        (kinds.Stuck stuck.now) }
     requires opening { B.opening ≡ cells_of stores.items }
-    requires lawful { IsLawful (stuck_batch (setup_of design.now sizes) item.now) }
-    requires site { site_of design.now item.now ≡ Some (record { signal = site; value = item.now.stuck.value }) }
-    requires asks { stuck_verdict design.now item.now ≡ Ask query }
+    requires lawful { IsLawful (question_batch (setup_of design.now sizes) line
+        (kinds.Stuck stuck.now)) }
+    requires site { site_of design.now stuck.now ≡ Some
+        (record { signal = asked.site; value = stuck.now.value }) }
+    requires asks { stuck_verdict design.now line stuck.now ≡ Ask asked.query }
     requires stores { AreStores (setup_of design.now sizes) stores.items }
     requires most { sizes.shards ≤ 64 }
-    ensures { IfOk result (λ done. IsStuckDone (setup_of design.now sizes) item.now stores.items done.reply done.lists.items done.held.items done.stores.items) }
+    ensures { IfOk result (λ done. IsQuestionDone (setup_of design.now sizes) line
+        (kinds.Stuck stuck.now) stores.items
+        done.reply done.lists.items done.held.items done.stores.items) }
 {
     design.facts();
     let begun = begin_all::<B>(alloc, stores)?;
-    let found = stuck_wave(alloc, design, begun, query, site, item.stuck.value)?;
+    let found = stuck_wave(alloc, design, begun, asked.query, asked.site, stuck.value)?;
     let (lists, stores) = end_all(alloc, found.shards)?;
     let mut held = Vec::with_capacity(alloc, 1)?;
     held.push(EntryList::from_vec(found.held))?;
-    Ok(StuckDone {
-        reply: StuckReply::Answer(found.answer),
+    Ok(QuestionDone {
+        reply: QuestionReply::Stuck(StuckReply::Answer(found.answer)),
         lists,
         held,
         stores,
     })
 }
 
-/// What comes of a question that asks nothing: no shard records an entry, and the stores stay as they are.
-fn unasked(
-    alloc: Global,
-    design: &Design,
-    item: &StuckItem,
-    reply: StuckReply,
-    sizes: Sizes,
-    stores: Vec<CellStore>,
-) -> Result<StuckDone, OutOfMemory>
-    requires right { IsStuckReply design.now.circuit (site_of design.now item.now) (stuck_verdict design.now item.now) [] [] reply }
-    requires none { IsHeldMemo design.now.circuit (site_of design.now item.now) (stuck_verdict design.now item.now) [] }
-    requires stores { AreStores (setup_of design.now sizes) stores.items }
-    ensures { IfOk result (λ done. IsStuckDone (setup_of design.now sizes) item.now stores.items done.reply done.lists.items done.held.items done.stores.items) }
-{
-    let lists = no_entries(alloc, &stores)?;
-    Ok(StuckDone {
-        reply,
-        lists,
-        held: Vec::new(alloc),
-        stores,
-    })
-}
-
-/// Answers which waveform a signal has where another is stuck, over the stores. What is free of the stuck signal is asked of them, with no
-/// crew, and all else of a memo of its own. Where memory runs out, the stores are given up.
+/// Answers which waveform a signal has where another is stuck, over the stores. What is free of the stuck signal is asked of them, and
+/// all else of a memo of its own.
 pub fn answer_stuck(
     alloc: Global,
     design: &Design,
-    item: &StuckItem,
+    line: u32,
+    stuck: &Stuck,
     sizes: Sizes,
     stores: Vec<CellStore>,
-) -> Result<StuckDone, OutOfMemory>
+) -> Result<QuestionDone, OutOfMemory>
     requires stores { AreStores (setup_of design.now sizes) stores.items }
     requires shards { (0 < sizes.shards) × (sizes.shards ≤ 64) }
-    ensures { IfOk result (λ done. IsStuckDone (setup_of design.now sizes) item.now stores.items done.reply done.lists.items done.held.items done.stores.items) }
+    ensures { IfOk result (λ done. IsQuestionDone (setup_of design.now sizes) line
+        (kinds.Stuck stuck.now) stores.items
+        done.reply done.lists.items done.held.items done.stores.items) }
 {
     design.facts();
     have_room(design, sizes, &stores);
-    let Some(site) = stuck_site_of(design, item) else {
-        return unasked(alloc, design, item, StuckReply::UnknownSite, sizes, stores);
+    let Some(site) = stuck_site_of(design, stuck) else {
+        return unasked(alloc, QuestionReply::Stuck(StuckReply::UnknownSite), stores);
     };
-    match stuck_verdict_of(design, item) {
+    match stuck_verdict_of(design, line, stuck) {
         Verdict::Ask(query) => {
-            run_stuck::<Brand>(alloc, design, item, site, query, sizes, stores)
+            let asked = StuckQuery { site, query };
+            run_stuck::<Brand>(alloc, design, line, stuck, asked, sizes, stores)
         }
-        Verdict::Unknown => unasked(alloc, design, item, StuckReply::Unknown, sizes, stores),
-        Verdict::Past => unasked(alloc, design, item, StuckReply::Past, sizes, stores),
+        Verdict::Unknown => unasked(alloc, QuestionReply::Stuck(StuckReply::Unknown), stores),
+        Verdict::Past => unasked(alloc, QuestionReply::Stuck(StuckReply::Past), stores),
         Verdict::Bad => unreachable!(),
     }
 }

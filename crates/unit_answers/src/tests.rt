@@ -13,8 +13,8 @@ use design::{Design, JoinFault};
 use gate_values::Value;
 use journal_text::{EntryList, entry_text};
 use owned_text::{OutOfMemory, Text};
-use query_lines::{First, FirstItem, Item, Stuck, StuckItem, What, Why, WhyItem};
-use reply_lines::{FirstAnswer, FirstReply, Reply, stuck_text, why_text};
+use query_lines::{Asks, First, Item, Question, Stuck, What, Why};
+use reply_lines::{Reply, question_text};
 use std::alloc::Global;
 use std::sync::Wait;
 use std::test::Fail;
@@ -183,10 +183,10 @@ fn a_batch_is_answered_and_trimmed(rt: HostRuntime) -> Result<(), Fail> {
     Ok(())
 }
 
-/// What came of a question for a first time: the reply, the journals, and how many stores are left.
+/// What came of a question for a first time: the reply's text, the journals, and how many stores are left.
 #[derive(Drop)]
 struct FirstSeen {
-    reply: FirstReply,
+    text: Vec<u8>,
     journals: Vec<u8>,
     stores: usize,
 }
@@ -198,20 +198,20 @@ fn first_one(
     name: &[u8],
     to: u32,
 ) -> Result<FirstSeen, OutOfMemory> {
-    let item = FirstItem {
+    let question = Question {
         line: 1,
-        first: First {
+        asks: Asks::First(First {
             name: Text::from_bytes(alloc, name)?,
             value: Value::One,
             from: 0,
             to,
             budget: 3,
-        },
+        }),
     };
     let stores = empty_stores(alloc)?;
-    let done = answer_first(alloc, design, &item, SIZES, stores)?;
+    let done = answer_question(alloc, design, &question, SIZES, stores)?;
     Ok(FirstSeen {
-        reply: done.reply,
+        text: question_text(alloc, &question.asks, &done.reply)?,
         journals: journals_text(alloc, &done.lists)?,
         stores: done.stores.len(),
     })
@@ -225,7 +225,7 @@ fn first_seen(alloc: Global, name: &[u8], to: u32) -> Result<FirstSeen, Fail> {
 #[test]
 fn a_first_time_is_answered(rt: HostRuntime) -> Result<(), Fail> {
     let seen = first_seen(rt.alloc(), b"y", 11)?;
-    assert_eq!(rt; seen.reply, FirstReply::Answer(FirstAnswer::At(1)));
+    assert_eq!(rt; seen.text.as_slice(), b"first y 1 0 11 1\n".as_slice());
     assert_eq!(rt;
         seen.journals.as_slice(),
         b"shard\nshard\nclaim 1 1 1\nfill 1 1 1 1 11 1\n".as_slice()
@@ -236,13 +236,10 @@ fn a_first_time_is_answered(rt: HostRuntime) -> Result<(), Fail> {
 
 #[test]
 fn a_first_time_that_is_not_asked(rt: HostRuntime) -> Result<(), Fail> {
-    let rows: [(&[u8], u32, FirstReply); 2] = [
-        (b"z", 11, FirstReply::Unknown),
-        (b"y", 12, FirstReply::Past),
-    ];
-    for (name, to, reply) in rows {
+    let rows: [(&[u8], u32, &[u8]); 2] = [(b"z", 11, b"unknown z\n"), (b"y", 12, b"past y 0 12\n")];
+    for (name, to, want) in rows {
         let seen = first_seen(rt.alloc(), name, to)?;
-        assert_eq!(rt; seen.reply, reply);
+        assert_eq!(rt; seen.text.as_slice(), want);
         assert_eq!(rt; seen.journals.as_slice(), b"shard\nshard\n".as_slice());
     }
     Ok(())
@@ -258,18 +255,18 @@ struct WhySeen {
 
 /// Why the signal of this name has its value at the time, over empty stores.
 fn why_of(alloc: Global, design: &Design, name: &[u8], time: u32) -> Result<WhySeen, OutOfMemory> {
-    let item = WhyItem {
+    let question = Question {
         line: 1,
-        why: Why {
+        asks: Asks::Why(Why {
             name: Text::from_bytes(alloc, name)?,
             time,
             budget: 3,
-        },
+        }),
     };
     let stores = empty_stores(alloc)?;
-    let done = answer_why(alloc, design, &item, SIZES, stores)?;
+    let done = answer_question(alloc, design, &question, SIZES, stores)?;
     Ok(WhySeen {
-        text: why_text(alloc, &item.why, &done.reply)?,
+        text: question_text(alloc, &question.asks, &done.reply)?,
         lists: done.lists.len(),
         entries: match done.lists.get(1) {
             Some(list) => list.as_slice().len(),
@@ -316,21 +313,21 @@ fn stuck_of(
     name: &[u8],
     to: u32,
 ) -> Result<StuckSeen, OutOfMemory> {
-    let item = StuckItem {
+    let question = Question {
         line: 1,
-        stuck: Stuck {
+        asks: Asks::Stuck(Stuck {
             site: Text::from_bytes(alloc, site)?,
             value: Value::Zero,
             name: Text::from_bytes(alloc, name)?,
             from: 0,
             to,
             budget: 3,
-        },
+        }),
     };
     let stores = empty_stores(alloc)?;
-    let done = answer_stuck(alloc, design, &item, SIZES, stores)?;
+    let done = answer_question(alloc, design, &question, SIZES, stores)?;
     Ok(StuckSeen {
-        text: stuck_text(alloc, &item.stuck, &done.reply)?,
+        text: question_text(alloc, &question.asks, &done.reply)?,
         journals: journals_text(alloc, &done.lists)?,
         held: journals_text(alloc, &done.held)?,
     })

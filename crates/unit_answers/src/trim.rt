@@ -52,7 +52,8 @@ pub fn trim_stores(
     stores: Vec<CellStore>,
 ) -> Result<TrimDone, OutOfMemory>
     requires stores { AreStores (setup_of design.now sizes) stores.items }
-    ensures { IfOk result (λ done. IsTrimDone (setup_of design.now sizes) most stores.items done.lists.items done.stores.items) }
+    ensures { IfOk result (λ done. IsTrimDone (setup_of design.now sizes) most stores.items
+        done.lists.items done.stores.items) }
 {
     let mut lists = Vec::new(alloc);
     let mut stores = stores;

@@ -12,12 +12,13 @@ use Rattle.reply_lines.specs.declared.reply.Reply.{Reply}
 use Rattle.asked_cells.specs.Memos.{AreFreeShards, entries_of}
 use Rattle.window_answers.specs.inner.Phases.{IsWalking}
 use Rattle.window_answers.specs.Phases.{refused_of}
-use Rattle.window_answers.specs.Settlement.{HasSettled}
+use Rattle.window_answers.specs.Settlement.{AsksTwice, HasSettled}
 
 -- the claims were freed, and both phases are done
 pub has-settled : (b : Batch) → IsLawful b → (opening : ℕ → List SignalCell) (handed begun : List KeptShard) → AreShards b opening (shards_in handed) → AreFreed (shards_in handed) (shards_in begun)
-    → (new : List KeptShard) (replies : List Reply) → AreFreeShards b opening new → IsWalking b (entries_of begun) (shards_in begun) (shards_in new) b.queries replies [] [] → HasSettled b opening handed new replies
-has-settled b lawful opening handed begun are f new replies kept w =
+    → (new : List KeptShard) (replies : List Reply) → AreFreeShards b opening new → IsWalking b (entries_of begun) (shards_in begun) (shards_in new) b.queries replies [] []
+    → AsksTwice b opening (shards_in handed) (shards_in new) (refused_of replies) → HasSettled b opening handed new replies
+has-settled b lawful opening handed begun are f new replies kept w asks =
     let r = all-freed b lawful opening (shards_in handed) (shards_in begun) are f in
     record {
       numbers = kept.numbers;
@@ -28,4 +29,5 @@ has-settled b lawful opening handed begun are f new replies kept w =
         queries = all-before b lawful opening b.circuit (entries_of handed) r.added (entries_of begun) (entries_of new) r.journals.together r.drops b.queries (refused_of replies) w.settled;
       };
       replies_are = w.answers;
+      asks = asks;
     }

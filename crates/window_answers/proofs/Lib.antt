@@ -1,5 +1,6 @@
 pub mod Filled
 pub mod Pins
 pub mod Phases
+pub mod Turns
 pub mod Finished
 pub mod Pieces

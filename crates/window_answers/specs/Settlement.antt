@@ -1,13 +1,35 @@
--- What settlement leaves and replies.
-use Rattle.std.specs.Prelude.{ℕ, List}
+-- What settlement asks for, leaves and replies.
+use Rattle.std.specs.Prelude.{◌≡◌, ℕ, Bool, false, List, [], ◌∷◌, map}
 use Rattle.valid_intervals.specs.declared.SignalCell.{SignalCell}
+use Rattle.batch_meaning.specs.declared.Query.{Query}
 use Rattle.batch_meaning.specs.Batches.{Batch}
-use Rattle.plan_machine.specs.Settle.{AreSettled}
+use Rattle.plan_machine.specs.Shards.{Shard}
+use Rattle.plan_machine.specs.Settle.{AreFreed, AreSettled}
 use Rattle.reply_lines.specs.declared.reply.Reply.{Reply}
 use Rattle.memo_shards.specs.KeptShards.{KeptShard}
 use Rattle.plan_core.specs.Parts.{shards_in}
+use Rattle.asked_cells.specs.Asked.{AsksOn}
 use Rattle.asked_cells.specs.Shards.{AreNumbered}
 use Rattle.window_answers.specs.Phases.{AreReplies, refused_of}
+
+-- It asks for one query after another, from shards to shards. Each query was refused before or not, and is refused after that or not.
+abbrev pub AskInTurn : Batch → (ℕ → List SignalCell) → List Query → List Shard → List Bool → List Shard → List Bool → Type 0
+AskInTurn b opening [] old [] new [] = new ≡ old
+AskInTurn b opening (q ∷ qs) old (was ∷ before) new (is ∷ after) = (now : List Shard) × AsksOn b opening q old was now is × AskInTurn b opening qs now before new after
+AskInTurn b opening qs old before new after = ⊥
+
+-- no query is refused yet
+abbrev pub none_refused : List Query → List Bool
+none_refused qs = map (λ _. false) qs
+
+-- Once the claims are freed, it goes by all queries twice: at first no query is refused by it, and one that is then is asked for no more.
+pub record AsksTwice (b : Batch) (opening : ℕ → List SignalCell) (old new : List Shard) (refused : List Bool) : Type 0 where
+  pub freed : List Shard
+  pub frees : AreFreed old freed
+  pub visited : List Shard
+  pub refused_then : List Bool
+  pub visits : AskInTurn b opening b.queries freed (none_refused b.queries) visited refused_then
+  pub walks : AskInTurn b opening b.queries visited refused_then new refused
 
 -- The shards stand in order, each journal that was handed in is a prefix of its new one, and no claim is left. Each query is replied its
 -- waveform, and is closed, where settlement recorded no refusal of it; else its budget, which has its cause, and one refusal.
@@ -15,3 +37,4 @@ pub record HasSettled (b : Batch) (opening : ℕ → List SignalCell) (old new :
   pub numbers : AreNumbered new
   pub settled : AreSettled b opening (shards_in old) (shards_in new) (refused_of replies)
   pub replies_are : AreReplies b.circuit b.queries replies
+  pub asks : AsksTwice b opening (shards_in old) (shards_in new) (refused_of replies)

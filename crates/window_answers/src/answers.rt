@@ -1,6 +1,6 @@
 //! The queries of a batch, one after another.
 
-ghost use Rattle.std.specs.Prelude.{◌≡◌, min, List, [], All, Contains, None, length, IfOk, OnOk};
+ghost use Rattle.std.specs.Prelude.{◌≡◌, false, min, List, [], All, Contains, None, length, IfOk, OnOk};
 ghost use Rattle.journal_meaning.specs.declared.Entry.{Entry as EntryRecord};
 ghost use Rattle.journal_meaning.specs.Answers.{filled};
 ghost use Rattle.batch_meaning.specs.Batches.{IsNeededBy};
@@ -10,10 +10,12 @@ ghost use Rattle.plan_machine.specs.inner.Settle.{IsOpen, SettlesQuery};
 ghost use Rattle.plan_machine.specs.Settle.{charge_of};
 ghost use Rattle.plan_machine.specs.Settling.{fills_of};
 ghost use Rattle.plan_core.specs.Parts.{shards_in};
+ghost use Rattle.asked_cells.specs.Asked.{AsksOn};
 ghost use Rattle.asked_cells.specs.Memos.{AreFreeShards, entries_of};
 ghost use Rattle.asked_cells.specs.inner.Standings.{standing};
-ghost use Rattle.window_answers.specs.inner.Phases.{IsFedWith, FeedsQuery, IsFeeding, IsWalking};
-ghost use Rattle.window_answers.specs.Phases.{IsReplyTo, is_budget};
+ghost use Rattle.window_answers.specs.inner.Phases.{IsFedWith, FeedsQuery, IsFeeding, IsWalking, refused_in};
+ghost use Rattle.window_answers.specs.Phases.{IsReplyTo, is_budget, refused_of};
+ghost use Rattle.window_answers.specs.Settlement.{AskInTurn, none_refused};
 
 use crate::fills::FilledPoints;
 use crate::visits::{settle_fills, settle_window};
@@ -59,8 +61,13 @@ fn feed_one<B: BatchName>(
     requires counts { length points.now ≡ filled (entries_of memo.old) q.number }
     requires kept { AreFreeShards B.batch B.opening memo.old }
     ensures kept { OnOk result (AreFreeShards B.batch B.opening memo.new) }
-    ensures feeds { (start : List EntryRecord) → IsOpen B.batch.circuit q start (entries_of memo.old) → points.now ≡ fills_of start q.number
-        → IfOk result (λ f. FeedsQuery B.batch q start (shards_in memo.old) (shards_in memo.new) f) }
+    ensures feeds { (start : List EntryRecord)
+        → IsOpen B.batch.circuit q start (entries_of memo.old)
+        → points.now ≡ fills_of start q.number
+        → IfOk result (λ f. FeedsQuery B.batch q start (shards_in memo.old) (shards_in memo.new)
+        f) }
+    ensures asks { IfOk result (λ f. AsksOn B.batch B.opening q (shards_in memo.old) false
+        (shards_in memo.new) f.refused) }
 {
     let mut charge = charge_at(points.len(), q.budget);
     let refused = settle_fills(memo, design, q, points, &mut charge)?;
@@ -81,7 +88,11 @@ pub fn feed_all<B: BatchName>(
     requires queries { queries.now ≡ B.batch.queries }
     requires kept { AreFreeShards B.batch B.opening memo.old }
     ensures kept { OnOk result (AreFreeShards B.batch B.opening memo.new) }
-    ensures fed { IfOk result (λ fed. IsFeeding B.batch (entries_of memo.old) (shards_in memo.old) (shards_in memo.new) B.batch.queries fed.items []) }
+    ensures fed { IfOk result (λ fed. IsFeeding B.batch (entries_of memo.old) (shards_in memo.old)
+        (shards_in memo.new) B.batch.queries fed.items []) }
+    ensures asks { let qs = queries.now in
+        IfOk result (λ fed. AskInTurn B.batch B.opening qs (shards_in memo.old) (none_refused qs)
+        (shards_in memo.new) (refused_in fed.items)) }
 {
     let gathered = FilledPoints::gather(alloc, memo.shards())?;
     let mut fed = Vec::new(alloc);
@@ -108,8 +119,12 @@ fn answer_one<B: BatchName>(
     requires kept { AreFreeShards B.batch B.opening memo.old }
     ensures kept { OnOk result (AreFreeShards B.batch B.opening memo.new) }
     ensures reply { IfOk result (IsReplyTo B.batch.circuit q) }
-    ensures settles { (start : List EntryRecord) → IsFedWith B.batch.circuit q start (entries_of memo.old) fed
-        → IfOk result (λ r. SettlesQuery B.batch B.opening q start (shards_in memo.old) (standing memo.new (is_budget r))) }
+    ensures settles { (start : List EntryRecord)
+        → IsFedWith B.batch.circuit q start (entries_of memo.old) fed
+        → IfOk result (λ r. SettlesQuery B.batch B.opening q start (shards_in memo.old)
+        (standing memo.new (is_budget r))) }
+    ensures asks { IfOk result (λ r. AsksOn B.batch B.opening q (shards_in memo.old) fed.refused
+        (shards_in memo.new) (is_budget r)) }
 {
     if fed.refused {
         return Ok(Reply::Budget(q.budget));
@@ -135,10 +150,17 @@ pub fn answer_all<B: BatchName>(
     requires queries { queries.now ≡ B.batch.queries }
     requires count { length fed.now ≡ length queries.now }
     requires kept { AreFreeShards B.batch B.opening memo.old }
-    requires fed { (start : List EntryRecord) × ((first : List ShardRecord) × IsWalking B.batch start first (shards_in memo.old) [] [] queries.now fed.now) }
+    requires fed { (start : List EntryRecord) ×
+        ((first : List ShardRecord) × IsWalking B.batch start first (shards_in memo.old) [] []
+        queries.now fed.now) }
     ensures kept { OnOk result (AreFreeShards B.batch B.opening memo.new) }
-    ensures settled { (start : List EntryRecord) (first : List ShardRecord) → IsWalking B.batch start first (shards_in memo.old) [] [] queries.now fed.now
-        → IfOk result (λ replies. IsWalking B.batch start first (shards_in memo.new) B.batch.queries replies.items [] []) }
+    ensures settled { (start : List EntryRecord) (first : List ShardRecord)
+        → IsWalking B.batch start first (shards_in memo.old) [] [] queries.now fed.now
+        → IfOk result (λ replies. IsWalking B.batch start first (shards_in memo.new) B.batch.queries
+        replies.items [] []) }
+    ensures asks { let qs = queries.now in let was = refused_in fed.now in
+        IfOk result (λ replies. AskInTurn B.batch B.opening qs (shards_in memo.old) was
+        (shards_in memo.new) (refused_of replies.items)) }
 {
     let mut replies = Vec::new(alloc);
     for k in 0..queries.len() {

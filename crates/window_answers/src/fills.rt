@@ -36,7 +36,8 @@ impl FilledPoints {
 
     /// Adds a point that the query with this number filled.
     fn push(&mut self, number: u32, p: Point) -> Result<(), OutOfMemory>
-        ensures { OnOk result ((n : ℕ) → points_in (get nat_cmp self.new.by_query n) ≡ points_in (get nat_cmp self.old.by_query n) ++ added_for number p n) }
+        ensures { OnOk result ((n : ℕ) → points_in (get nat_cmp self.new.by_query n) ≡ points_in
+            (get nat_cmp self.old.by_query n) ++ added_for number p n) }
     {
         if let Some(points) = self.by_query.get_mut(&number) {
             points.push(p)?;
@@ -50,7 +51,8 @@ impl FilledPoints {
 
     /// Adds the point of an entry, if it is a fill.
     fn note(&mut self, entry: &Entry) -> Result<(), OutOfMemory>
-        ensures { OnOk result ((n : ℕ) → points_in (get nat_cmp self.new.by_query n) ≡ points_in (get nat_cmp self.old.by_query n) ++ fills_of (entry.now ∷ []) n) }
+        ensures { OnOk result ((n : ℕ) → points_in (get nat_cmp self.new.by_query n) ≡ points_in
+            (get nat_cmp self.old.by_query n) ++ fills_of (entry.now ∷ []) n) }
     {
         match entry {
             Entry::Filled { q, p, .. } => self.push(*q, *p),
@@ -64,7 +66,8 @@ impl FilledPoints {
 
     /// Adds the points of entries.
     fn note_all(&mut self, entries: &[Entry]) -> Result<(), OutOfMemory>
-        ensures { OnOk result ((n : ℕ) → points_in (get nat_cmp self.new.by_query n) ≡ points_in (get nat_cmp self.old.by_query n) ++ fills_of entries.now n) }
+        ensures { OnOk result ((n : ℕ) → points_in (get nat_cmp self.new.by_query n) ≡ points_in
+            (get nat_cmp self.old.by_query n) ++ fills_of entries.now n) }
     {
         for entry in entries {
             self.note(entry)?;
@@ -77,7 +80,8 @@ impl FilledPoints {
         alloc: Global,
         shards: &[Shard<B>],
     ) -> Result<FilledPoints, OutOfMemory>
-        ensures { IfOk result (λ filled. (n : ℕ) → points_in (get nat_cmp filled.by_query n) ≡ fills_of (entries_of shards.now) n) }
+        ensures { IfOk result (λ filled. (n : ℕ)
+            → points_in (get nat_cmp filled.by_query n) ≡ fills_of (entries_of shards.now) n) }
     {
         let mut filled = FilledPoints::new(alloc);
         for shard in shards {

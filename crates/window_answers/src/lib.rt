@@ -9,8 +9,9 @@
 //!   looked pin among the base answers and the cells that entries of the batch say, or has a strand ask for it that runs alone.
 //! - For each query in order it walks the window from cell to cell in the same way, and gathers its runs.
 //!
-//! A query that is refused meanwhile is replied its budget, and every other its waveform (`specs/Settlement`). Where memory runs out,
-//! the shards are given up.
+//! A query that is refused meanwhile is replied its budget, and every other its waveform (`specs/Settlement`). Each strand is charged at
+//! its start what its query has filled in the batch so far, at most its budget, and none is started for a query that was refused
+//! (`AsksOn` of `asked_cells`). Where memory runs out, the shards are given up.
 //!
 //! What settlement costs grows with what the batch recorded, and not with the number of its queries. Let n be the number of entries
 //! that the journals have in the end:

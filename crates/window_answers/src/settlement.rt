@@ -37,7 +37,8 @@ pub fn settle<B: BatchName>(
     requires queries { queries.now ≡ B.batch.queries }
     requires count { length shards.items ≡ B.batch.shards }
     requires numbers { AreNumbered shards.items }
-    ensures { IfOk result (λ settled. HasSettled B.batch B.opening shards.items settled.shards.items settled.replies.items) }
+    ensures { IfOk result (λ settled. HasSettled B.batch B.opening shards.items settled.shards.items
+        settled.replies.items) }
 {
     let mut memo = begin(alloc, shards)?;
     let fed = feed_all(alloc, &mut memo, design, queries)?;

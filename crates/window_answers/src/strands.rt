@@ -49,7 +49,8 @@ fn push_piece<B: BatchName>(
     requires start { IsStart B.batch (piece_start q from to budget) }
     requires order { IsInOrder strands.old.items }
     ensures order { OnOk result (IsInOrder strands.new.items) }
-    ensures strands { OnOk result (strands_in strands.new.items ≡ strands_in strands.old.items ++ started B.batch.circuit (piece_start q from to budget) ∷ []) }
+    ensures strands { OnOk result (strands_in strands.new.items ≡ strands_in
+        strands.old.items ++ started B.batch.circuit (piece_start q from to budget) ∷ []) }
 {
     let Ok(number) = u32::try_from(strands.len()) else {
         return Err(OutOfMemory);
@@ -69,7 +70,8 @@ fn push_pieces<B: BatchName>(
     requires known { Contains B.batch.queries q }
     requires order { IsInOrder strands.old.items }
     ensures order { OnOk result (IsInOrder strands.new.items) }
-    ensures strands { OnOk result (strands_in strands.new.items ≡ strands_in strands.old.items ++ map (started B.batch.circuit) (pieces q)) }
+    ensures strands { OnOk result (strands_in strands.new.items ≡ strands_in
+        strands.old.items ++ map (started B.batch.circuit) (pieces q)) }
 {
     let count = count_pieces(q);
     let each = q.budget / count;
@@ -93,7 +95,8 @@ pub fn strands_of<B: BatchName>(
     requires site { B.batch.site ≡ None }
     requires queries { queries.now ≡ B.batch.queries }
     ensures order { IfOk result (λ strands. IsInOrder strands.items) }
-    ensures strands { IfOk result (λ strands. strands_in strands.items ≡ map (started B.batch.circuit) (flat_map pieces queries.now)) }
+    ensures strands { IfOk result (λ strands. strands_in strands.items ≡ map
+        (started B.batch.circuit) (flat_map pieces queries.now)) }
 {
     let mut strands = Vec::new(alloc);
     for &q in queries {

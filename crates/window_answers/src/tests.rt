@@ -196,7 +196,14 @@ fn served<B: BatchName>(
 /// A query for the signal at one time.
 fn at(number: u32, signal: u32, time: u32, budget: u32) -> Query
     requires { time < 100 }
-    ensures { result ≡ record { number = number; signal = signal; from = time; to = time + 1; budget = budget } }
+    ensures { result ≡ record {
+      number = number;
+      signal = signal;
+      from = time;
+      to = time + 1;
+      budget
+          = budget;
+    } }
 {
     Query {
         number,

@@ -7,7 +7,7 @@ ghost use Rattle.session_meaning.specs.Verdicts.{window_verdict, verdict_of, fir
 use batch_meaning::Query;
 use design::Design;
 use owned_text::{OutOfMemory, Text};
-use query_lines::{FirstItem, Item, StuckItem, What, WhyItem};
+use query_lines::{First, Item, Stuck, What, Why};
 use session_meaning::Verdict;
 use std::alloc::Global;
 
@@ -20,7 +20,8 @@ fn window_verdict(
     to: u64,
     budget: u32,
 ) -> Verdict
-    ensures { result ≡ window_verdict design.now.circuit.horizon line from to budget (number design.now.netlist name.now) }
+    ensures { result ≡ window_verdict design.now.circuit.horizon line from to budget
+        (number design.now.netlist name.now) }
 {
     let Some(signal) = design.netlist().id_of(name.bytes()) else {
         return Verdict::Unknown;
@@ -71,13 +72,12 @@ pub fn verdicts_of(
 }
 
 /// What a question for a first time asks: one look-up of its name by hashing.
-pub fn first_verdict_of(design: &Design, item: &FirstItem) -> Verdict
-    ensures { result ≡ first_verdict design.now item.now }
+pub fn first_verdict_of(design: &Design, line: u32, first: &First) -> Verdict
+    ensures { result ≡ first_verdict design.now line first.now }
 {
-    let first = &item.first;
     window_verdict(
         design,
-        item.line,
+        line,
         &first.name,
         first.from,
         first.to as u64,
@@ -86,29 +86,27 @@ pub fn first_verdict_of(design: &Design, item: &FirstItem) -> Verdict
 }
 
 /// What a question for an explanation asks: one look-up of its name by hashing.
-pub fn why_verdict_of(design: &Design, item: &WhyItem) -> Verdict
-    ensures { result ≡ why_verdict design.now item.now }
+pub fn why_verdict_of(design: &Design, line: u32, why: &Why) -> Verdict
+    ensures { result ≡ why_verdict design.now line why.now }
 {
-    let why = &item.why;
     let stop = why.time as u64 + 1;
-    window_verdict(design, item.line, &why.name, why.time, stop, why.budget)
+    window_verdict(design, line, &why.name, why.time, stop, why.budget)
 }
 
 /// The number of the signal that a question takes to be stuck, if its name is one: one look-up by hashing.
-pub fn stuck_site_of(design: &Design, item: &StuckItem) -> Option<u32>
-    ensures { result ≡ number design.now.netlist item.now.stuck.site }
+pub fn stuck_site_of(design: &Design, stuck: &Stuck) -> Option<u32>
+    ensures { result ≡ number design.now.netlist stuck.now.site }
 {
-    design.netlist().id_of(item.stuck.site.bytes())
+    design.netlist().id_of(stuck.site.bytes())
 }
 
 /// What a question for a wave where a signal is stuck asks, if its site is a signal: one look-up of its name by hashing.
-pub fn stuck_verdict_of(design: &Design, item: &StuckItem) -> Verdict
-    ensures { result ≡ stuck_verdict design.now item.now }
+pub fn stuck_verdict_of(design: &Design, line: u32, stuck: &Stuck) -> Verdict
+    ensures { result ≡ stuck_verdict design.now line stuck.now }
 {
-    let stuck = &item.stuck;
     window_verdict(
         design,
-        item.line,
+        line,
         &stuck.name,
         stuck.from,
         stuck.to as u64,

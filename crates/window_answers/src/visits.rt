@@ -11,6 +11,7 @@ ghost use Rattle.plan_machine.specs.inner.Settle.{IsStanding, Advances, IsVisite
 ghost use Rattle.plan_machine.specs.Settle.{entries_in};
 ghost use Rattle.demand_points.specs.Frames.{IsFrame, IsLooking, LooksOn, next_point};
 ghost use Rattle.plan_core.specs.Parts.{shards_in};
+ghost use Rattle.asked_cells.specs.Asked.{AsksOn};
 ghost use Rattle.asked_cells.specs.Memos.{IsChargedMemo, entries_of, is_missing};
 ghost use Rattle.asked_cells.specs.inner.Standings.{live, standing};
 ghost use Rattle.window_answers.specs.inner.Sources.{IsSourceCovered};
@@ -41,10 +42,17 @@ fn look<B: BatchName>(
     requires asking { IsChargedMemo B.batch B.opening memo.old q charge.old }
     ensures asking { OnOk result (IsChargedMemo B.batch B.opening memo.new q charge.new) }
     ensures frame { IfOk result (λ r. IfSome r (LooksOn design.now.circuit frame.now)) }
-    ensures advances { (start : List EntryRecord) (first : List ShardRecord) → IsStanding B.batch B.opening q start first (live memo.old)
-        → IfOk result (λ r. Advances B.batch B.opening q start first (live memo.old) (standing memo.new (is_missing r))) }
-    ensures covered { (start : List EntryRecord) (first : List ShardRecord) → IsStanding B.batch B.opening q start first (live memo.old)
-        → IfOk result (λ r. is_missing r ≡ false → IsSourceCovered B.batch.circuit (entries_of memo.new) (next_point design.now.circuit frame.now)) }
+    ensures advances { (start : List EntryRecord) (first : List ShardRecord)
+        → IsStanding B.batch B.opening q start first (live memo.old)
+        → IfOk result (λ r. Advances B.batch B.opening q start first (live memo.old)
+        (standing memo.new (is_missing r))) }
+    ensures covered { (start : List EntryRecord) (first : List ShardRecord)
+        → IsStanding B.batch B.opening q start first (live memo.old)
+        → IfOk result (λ r. is_missing r ≡ false
+        → IsSourceCovered B.batch.circuit (entries_of memo.new)
+        (next_point design.now.circuit frame.now)) }
+    ensures asks { IfOk result (λ r. AsksOn B.batch B.opening q (shards_in memo.old) false
+        (shards_in memo.new) (is_missing r)) }
 {
     let Some(x) = frame.next_source(design) else {
         return Ok(Some(frame.see(design, None)));
@@ -77,10 +85,15 @@ fn settle_children<B: BatchName>(
     requires needed { IsNeededBy B.batch q p }
     requires asking { IsChargedMemo B.batch B.opening memo.old q charge.old }
     ensures asking { OnOk result (IsChargedMemo B.batch B.opening memo.new q charge.new) }
-    ensures advances { (start : List EntryRecord) (first : List ShardRecord) → IsStanding B.batch B.opening q start first (live memo.old)
-        → IfOk result (λ r. Advances B.batch B.opening q start first (live memo.old) (standing memo.new r)) }
-    ensures visited { (start : List EntryRecord) (first : List ShardRecord) → IsStanding B.batch B.opening q start first (live memo.old)
+    ensures advances { (start : List EntryRecord) (first : List ShardRecord)
+        → IsStanding B.batch B.opening q start first (live memo.old)
+        → IfOk result (λ r. Advances B.batch B.opening q start first (live memo.old)
+        (standing memo.new r)) }
+    ensures visited { (start : List EntryRecord) (first : List ShardRecord)
+        → IsStanding B.batch B.opening q start first (live memo.old)
         → IfOk result (λ r. r ≡ false → IsVisited B.batch.circuit (entries_of memo.new) p) }
+    ensures asks { IfOk result (AsksOn B.batch B.opening q (shards_in memo.old) false
+        (shards_in memo.new)) }
 {
     let mut frame = Frame::new(design, p);
     'pins: while !frame.is_done(design) {
@@ -107,10 +120,16 @@ pub fn settle_fills<B: BatchName>(
     requires needed { All (IsNeededBy B.batch q) fills.now }
     requires asking { IsChargedMemo B.batch B.opening memo.old q charge.old }
     ensures asking { OnOk result (IsChargedMemo B.batch B.opening memo.new q charge.new) }
-    ensures advances { (start : List EntryRecord) (first : List ShardRecord) → IsStanding B.batch B.opening q start first (live memo.old)
-        → IfOk result (λ r. Advances B.batch B.opening q start first (live memo.old) (standing memo.new r)) }
-    ensures visited { (start : List EntryRecord) (first : List ShardRecord) → IsStanding B.batch B.opening q start first (live memo.old)
-        → IfOk result (λ r. r ≡ false → All (IsVisited B.batch.circuit (entries_of memo.new)) fills.now) }
+    ensures advances { (start : List EntryRecord) (first : List ShardRecord)
+        → IsStanding B.batch B.opening q start first (live memo.old)
+        → IfOk result (λ r. Advances B.batch B.opening q start first (live memo.old)
+        (standing memo.new r)) }
+    ensures visited { (start : List EntryRecord) (first : List ShardRecord)
+        → IsStanding B.batch B.opening q start first (live memo.old)
+        → IfOk result (λ r. r ≡ false → All (IsVisited B.batch.circuit (entries_of memo.new))
+        fills.now) }
+    ensures asks { IfOk result (AsksOn B.batch B.opening q (shards_in memo.old) false
+        (shards_in memo.new)) }
 {
     for &p in fills {
         if settle_children(memo, design, q, p, charge)? {
@@ -134,11 +153,17 @@ pub fn settle_window<B: BatchName>(
     requires known { Contains B.batch.queries q }
     requires asking { IsChargedMemo B.batch B.opening memo.old q charge.old }
     ensures asking { OnOk result (IsChargedMemo B.batch B.opening memo.new q charge.new) }
-    ensures wave { IfOk result (λ r. IfSome r (λ runs. runs ≡ wave B.batch.circuit q.signal q.from q.to)) }
-    ensures advances { (start : List EntryRecord) (first : List ShardRecord) → IsStanding B.batch B.opening q start first (live memo.old)
-        → IfOk result (λ r. Advances B.batch B.opening q start first (live memo.old) (standing memo.new (is_missing r))) }
-    ensures covered { (start : List EntryRecord) (first : List ShardRecord) → IsStanding B.batch B.opening q start first (live memo.old)
+    ensures wave { IfOk result (λ r. IfSome r
+        (λ runs. runs ≡ wave B.batch.circuit q.signal q.from q.to)) }
+    ensures advances { (start : List EntryRecord) (first : List ShardRecord)
+        → IsStanding B.batch B.opening q start first (live memo.old)
+        → IfOk result (λ r. Advances B.batch B.opening q start first (live memo.old)
+        (standing memo.new (is_missing r))) }
+    ensures covered { (start : List EntryRecord) (first : List ShardRecord)
+        → IsStanding B.batch B.opening q start first (live memo.old)
         → IfOk result (λ r. IsCoveredTo B.batch.circuit q (standing memo.new (is_missing r)) q.to) }
+    ensures asks { IfOk result (λ r. AsksOn B.batch B.opening q (shards_in memo.old) false
+        (shards_in memo.new) (is_missing r)) }
 {
     let mut walk = WindowWalk::new(alloc, q.from, q.to);
     'roots: while let Some(time) = walk.next() {

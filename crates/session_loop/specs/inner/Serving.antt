@@ -62,9 +62,9 @@ Stops setup desk more out new_out made new_made files stop = (units : List Scrip
     → Session setup units now → Keeps setup desk now → StoppedIn setup (units ++ more) now out new_out made new_made files stop
 
 -- the section of a memo of its own, if a question had one: that of this batch
-abbrev pub own_sections : Batch → List (List Entry) → List SectionEntries
-own_sections own [] = []
-own_sections own (es ∷ lists) = record { purpose = Forces own; lists = es ∷ lists } ∷ []
+abbrev pub forced_sections : Batch → List (List Entry) → List SectionEntries
+forced_sections own [] = []
+forced_sections own (es ∷ lists) = record { purpose = Forces own; lists = es ∷ lists } ∷ []
 
 -- its text, under this number
 abbrev pub held_text : ℕ → List (List Entry) → List ℕ
@@ -74,7 +74,7 @@ held_text number (es ∷ lists) = section_lines (record { kind = Held; number = 
 -- A question with a batch of its own was answered by this text and these lists, whatever was served before, and by those of a memo of its
 -- own, if it had one. The stores are as the lists leave them.
 pub record IsAnswered (setup : Setup) (desk : Desk) (unit : ScriptUnit) (batch own : Batch) (text : List ℕ) (lists held : List (List Entry)) (left : List Contents) : Type 0 where
-  pub serves : (now : Course) → Keeps setup desk now → IsServed setup now unit (with_sections (with_section now (Asks batch) lists text) (own_sections own held))
+  pub serves : (now : Course) → Keeps setup desk now → IsServed setup now unit (with_sections (with_section now (Asks batch) lists text) (forced_sections own held))
   pub leaves : (shard : ℕ) → shard < setup.shards → cells_of left shard ≡ (replay (fresh (cells_of desk.stores.items shard)) (get_or lists shard [])).cells
 
 -- the reader has taken so many bytes of a script, for a simulation up to this horizon

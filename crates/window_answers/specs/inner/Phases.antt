@@ -1,5 +1,5 @@
 -- What only the proofs and the private functions of this crate speak of, beside `Phases`.
-use Rattle.std.specs.Prelude.{◌≡◌, Bool, true, false, List, [], ◌∷◌}
+use Rattle.std.specs.Prelude.{◌≡◌, Bool, true, false, List, [], ◌∷◌, map}
 use Rattle.std.specs.List.{AllByRecursion}
 use Rattle.circuit_meaning.specs.Circuit.{Circuit}
 use Rattle.journal_meaning.specs.declared.Entry.{Entry}
@@ -13,6 +13,10 @@ use Rattle.plan_machine.specs.Settle.{IsSettled, AreAllSettled, journals_of, ent
 use Rattle.reply_lines.specs.declared.reply.Reply.{Reply}
 use Rattle.window_answers.specs.declared.answers.Fed.{Fed}
 use Rattle.window_answers.specs.Phases.{AreReplies, refused_of}
+
+-- which queries were refused as what they filled was visited
+abbrev pub refused_in : List Fed → List Bool
+refused_in fs = map (λ (f : Fed). f.refused) fs
 
 -- what a query filled before settlement is visited, or it was refused
 abbrev pub IsFed : Circuit → Query → List Entry → List Entry → Bool → Type 0

@@ -10,4 +10,4 @@ returns g c =
     let m = c.index-shards-home.result in
     let low : c.args.p.signal % length ms < length ms = c.if-home-shards.false in
     if-some c.seek.result (IsSaidFor c.journal.result.now c.args.p) (IsSaidFor (entries_of ms) c.args.p)
-    (λ x h. said-in-one ms (c.args.p.signal % length ms) m c.args.p x low c.index-shards-home.is (subst (λ l. IsSaidFor l c.args.p x) c.journal.ensures h)) c.seek.ensures
+    (λ x h. said-in-one ms (c.args.p.signal % length ms) m c.args.p x low c.index-shards-home.is (subst (λ l. IsSaidFor l c.args.p x) c.journal.ensures h)) c.seek.ensures.said

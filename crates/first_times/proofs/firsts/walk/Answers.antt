@@ -6,16 +6,17 @@ use Rattle.circuit_meaning.proofs.Cover.{cell-covers}
 use Rattle.plan_machine.specs.Settle.{sub_query}
 use Rattle.plan_core.specs.Parts.{shards_in}
 use Rattle.asked_cells.specs.Memos.{asked_at, at_time, is_missing}
-use Rattle.asked_cells.specs.Asked.{HasAsked}
+use Rattle.asked_cells.specs.Asked.{HasAsked, Nothing}
 use Rattle.asked_cells.proofs.Alone.{some-of}
 use Rattle.first_times.proofs.Finding.{goes-on, has}
-use Rattle.first_times.proofs.Walks.{IsWalking, instant, begins, in-time, root-start, journals-of-reach, goes-by, ends-here, ends-never}
+use Rattle.first_times.proofs.Walks.{IsWalking, instant, begins, in-time, root-start, asks-more, journals-of-reach, goes-by, ends-here, ends-never}
 use Rattle.first_times.proofs.firsts.walk.Goals as goal
 
 pub cells-init : goal.cells-init
 cells-init g c = record {
   asking = record { kept = c.requires.kept; counts = (let e = c.requires.unused in rw e (omega arith)) };
   walking = begins g.B.BatchName.batch c.requires.lawful g.B.BatchName.opening c.args.query c.args.value c.requires.queries c.args.memo.now c.requires.kept c.requires.unused;
+  asks = Nothing;
 }
 
 pub reach-requires-clause-time : goal.reach-requires-clause-time
@@ -48,6 +49,26 @@ returns-then-is_same-clause-answer g c =
     let is : has b.circuit q w t ≡ true = ap (λ (x : Cell). same_value x.value w) (sym right) ∙ sym c.is_same.ensures ∙ c.if-is_same.true in
     ends-here b c.requires.lawful g.B.BatchName.opening q w c.requires.queries c.args.memo.now c.cells.memo c.reach.new.memo t c.cells.charge c.cells.invariant.walking c.cells-test.true c.cells.invariant.asking.counts h is
 
+pub returns-in_default-clause-asks : goal.returns-in_default-clause-asks
+returns-in_default-clause-asks g c =
+    let b = g.B.BatchName.batch in
+    let t = c.cells.time in
+    let q = c.args.query in
+    let w = c.args.value in
+    let k = c.cells.invariant.walking in
+    let h = subst (λ o. HasAsked b g.B.BatchName.opening (asked_at (instant b c.requires.lawful g.B.BatchName.opening q w c.requires.queries t) t c.cells.charge) (shards_in c.cells.memo) (shards_in c.reach.new.memo) (is_missing o)) c.in_default.is c.in_ok-cell.ensures.asked in
+    asks-more b c.requires.lawful g.B.BatchName.opening q w c.requires.queries c.requires.site c.args.memo.now c.cells.memo c.reach.new.memo t c.cells.charge true (k.root (goes-on b.circuit q w t k.none c.cells-test.true)) c.cells.invariant.asking.counts c.cells.invariant.asks h
+
+pub returns-then-is_same-clause-asks : goal.returns-then-is_same-clause-asks
+returns-then-is_same-clause-asks g c =
+    let b = g.B.BatchName.batch in
+    let t = c.cells.time in
+    let q = c.args.query in
+    let w = c.args.value in
+    let k = c.cells.invariant.walking in
+    let h = subst (λ o. HasAsked b g.B.BatchName.opening (asked_at (instant b c.requires.lawful g.B.BatchName.opening q w c.requires.queries t) t c.cells.charge) (shards_in c.cells.memo) (shards_in c.reach.new.memo) (is_missing o)) c.in-Some.is c.in_ok-cell.ensures.asked in
+    asks-more b c.requires.lawful g.B.BatchName.opening q w c.requires.queries c.requires.site c.args.memo.now c.cells.memo c.reach.new.memo t c.cells.charge false (k.root (goes-on b.circuit q w t k.none c.cells-test.true)) c.cells.invariant.asking.counts c.cells.invariant.asks h
+
 pub cells-smaller : goal.cells-smaller
 cells-smaller g c =
     let b = g.B.BatchName.batch in
@@ -77,6 +98,8 @@ cells-preserved g c =
       asking = record { kept = k.kept; counts = k.counts };
       walking = subst (IsWalking b g.B.BatchName.opening q w c.args.memo.now c.reach.new.memo) (sym end)
           (goes-by b c.requires.lawful g.B.BatchName.opening q w c.requires.queries c.args.memo.now c.cells.memo c.reach.new.memo t c.cells.charge c.cells.invariant.walking c.cells-test.true c.cells.invariant.asking.counts h other);
+      asks = asks-more b c.requires.lawful g.B.BatchName.opening q w c.requires.queries c.requires.site c.args.memo.now c.cells.memo c.reach.new.memo t c.cells.charge false
+          (c.cells.invariant.walking.root (goes-on b.circuit q w t c.cells.invariant.walking.none c.cells-test.true)) c.cells.invariant.asking.counts c.cells.invariant.asks h;
     }
 
 pub returns-clause-answer : goal.returns-clause-answer

@@ -1,4 +1,7 @@
-use Rattle.std.proofs.Common.{◌-◌}
+use Rattle.std.proofs.Common.{◌-◌, false}
+use Rattle.session_meaning.specs.FirstTimes.{up_to_first}
+use Rattle.plan_core.specs.Parts.{shards_in}
+use Rattle.asked_cells.specs.Asked.{AsksOn}
 use Rattle.asked_cells.specs.Memos.{IsChargedMemo}
 use Rattle.first_times.proofs.Walks.{IsWalking}
 use Rattle.first_times.proofs.firsts.walk.Given as goal
@@ -7,6 +10,7 @@ abbrev pub invariant-cells : goal.invariant-cells
 invariant-cells g l = record {
   asking : IsChargedMemo g.B.BatchName.batch g.B.BatchName.opening l.memo l.query l.charge;
   walking : IsWalking g.B.BatchName.batch g.B.BatchName.opening l.query l.value l.initial.memo l.memo l.time;
+  asks : AsksOn g.B.BatchName.batch g.B.BatchName.opening (up_to_first g.B.BatchName.batch.circuit l.query l.value) (shards_in l.initial.memo) false (shards_in l.memo) false;
 }
 
 abbrev pub decreases-cells : goal.decreases-cells

@@ -36,7 +36,7 @@ returns-in_err-write_replies-clause-stopped g c names =
     let M = g.F.Files.made in
     err-is _ _ c.from_residual-in_err-write_replies.result c.from_residual-in_err-write_replies.ensures.1
     (batch-stopped (session_of c.args.design.now c.args.sizes names) items c.args.desk done.replies.items done.lists.items done.stores.items
-    (batch-named (setup_of c.args.design.now c.args.sizes) names items c.as_slice.result.now c.args.desk.stores.items done.replies.items done.lists.items done.stores.items c.as_slice.ensures c.in_ok-done.ensures)
+    (batch-named (setup_of c.args.design.now c.args.sizes) names items c.as_slice.result.now c.args.desk.stores.items done.replies.items done.lists.items done.stores.items c.as_slice.ensures c.in_ok-done.ensures.done)
     c.in-Some.counts (subst (λ l. IsCounted c.args.desk.counts Batch l c.in-Some.counts) c.deref.ensures.value c.in-Some.ensures)
     (W c.args.out.now) (W c.write_replies.new.out) (M c.args.files.now) (M c.args.files.now)
     (g.F.Files.state c.args.files.now).created c.in_err-write_replies.field-0.0 c.requires.files (replies-of-unit _ _ _ c.in_err-write_replies.ensures.state)
@@ -52,7 +52,7 @@ returns-in_err-write_section-clause-stopped g c names =
     let M = g.F.Files.made in
     err-is _ _ c.from_residual-in_err-write_section.result c.from_residual-in_err-write_section.ensures.1
     (batch-stopped (session_of c.args.design.now c.args.sizes names) items c.args.desk done.replies.items done.lists.items done.stores.items
-    (batch-named (setup_of c.args.design.now c.args.sizes) names items c.as_slice.result.now c.args.desk.stores.items done.replies.items done.lists.items done.stores.items c.as_slice.ensures c.in_ok-done.ensures)
+    (batch-named (setup_of c.args.design.now c.args.sizes) names items c.as_slice.result.now c.args.desk.stores.items done.replies.items done.lists.items done.stores.items c.as_slice.ensures c.in_ok-done.ensures.done)
     c.in-Some.counts (subst (λ l. IsCounted c.args.desk.counts Batch l c.in-Some.counts) c.deref.ensures.value c.in-Some.ensures)
     (W c.args.out.now) (W c.write_replies.new.out) (M c.args.files.now) (M c.write_section.new.files)
     (g.F.Files.state c.write_section.new.files).created c.in_err-write_section.field-0.0 (journal-created _ _ _ c.in_err-write_section.ensures.state ∙ c.requires.files) (journal-of-unit _ _ _ c.in_err-write_section.ensures.state)
@@ -65,8 +65,8 @@ pub returns-clause-desk : goal.returns-clause-desk
 returns-clause-desk g c =
     let done = c.in_ok-done.done in
     record {
-      stores = c.in_ok-done.ensures.stores;
-      shown = batch-shown (setup_of c.args.design.now c.args.sizes) c.args.items c.as_slice.result.now c.args.desk.stores.items done.replies.items done.lists.items done.stores.items c.as_slice.ensures c.in_ok-done.ensures c.requires.within c.requires.named;
+      stores = c.in_ok-done.ensures.done.stores;
+      shown = batch-shown (setup_of c.args.design.now c.args.sizes) c.args.items c.as_slice.result.now c.args.desk.stores.items done.replies.items done.lists.items done.stores.items c.as_slice.ensures c.in_ok-done.ensures.done c.requires.within c.requires.named;
     }
 
 pub returns-clause-served : goal.returns-clause-served
@@ -78,7 +78,7 @@ returns-clause-served g c names =
     let last : LastBatch = record { items = items; replies = done.replies } in
     let dumps : Dumps = record { last = Some last; own = c.args.desk.dumps.own; made = c.args.desk.dumps.made } in
     batch-served (session_of c.args.design.now c.args.sizes names) items c.args.desk done.replies.items done.lists.items done.stores.items
-    (batch-named (setup_of c.args.design.now c.args.sizes) names items c.as_slice.result.now c.args.desk.stores.items done.replies.items done.lists.items done.stores.items c.as_slice.ensures c.in_ok-done.ensures)
+    (batch-named (setup_of c.args.design.now c.args.sizes) names items c.as_slice.result.now c.args.desk.stores.items done.replies.items done.lists.items done.stores.items c.as_slice.ensures c.in_ok-done.ensures.done)
     c.in-Some.counts (subst (λ l. IsCounted c.args.desk.counts Batch l c.in-Some.counts) c.deref.ensures.value c.in-Some.ensures)
     (W c.args.out.now) (W c.write_replies.new.out) (M c.args.files.now) (M c.write_section.new.files)
     (record { stores = done.stores; counts = c.in-Some.counts; dumps = dumps }) last refl refl refl refl refl

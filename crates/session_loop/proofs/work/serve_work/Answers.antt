@@ -38,7 +38,7 @@ returns-in_err-write_section-clause-halted g c =
     let M = g.F.Files.made in
     rw (p.1, p.2)
     (work-stopped (setup_of c.args.design.now c.args.sizes) c.args.items.now c.args.journal.now c.in_ok-stores.stores.items done.stores.items
-    (λ shard within. empty-cells c.args.sizes.shards c.args.sizes.cells c.in_ok-stores.stores.items shard c.in_ok-stores.ensures within) done.replies.items done.lists.items c.in_ok-done.ensures
+    (λ shard within. empty-cells c.args.sizes.shards c.args.sizes.cells c.in_ok-stores.stores.items shard c.in_ok-stores.ensures within) done.replies.items done.lists.items c.in_ok-done.ensures.done
     (M c.args.files.now) (M c.begin_journal.new.files) (M c.write_section.new.files) c.in_ok-begin_journal.ensures.begun
     (subst (λ l. FileGrowsPart (M c.begin_journal.new.files) (M c.write_section.new.files) 0 (section_lines (record { kind = Batch; number = 1; shards = l }))) c.deref.ensures.value c.in_err-write_section.ensures.begun))
 
@@ -58,7 +58,7 @@ returns-in_err-finish_journal-clause-halted g c =
     (work-done setup c.args.items.now c.args.journal.now done.replies.items (M c.args.files.now) (M c.finish_journal.new.files)
     (work-same setup c.args.items.now c.args.journal.now (IsWork setup c.args.items.now done.replies.items) (M c.args.files.now) (M c.write_section.new.files) (M c.finish_journal.new.files)
     (worked setup c.args.items.now c.args.journal.now c.in_ok-stores.stores.items done.stores.items
-    (λ shard within. empty-cells c.args.sizes.shards c.args.sizes.cells c.in_ok-stores.stores.items shard c.in_ok-stores.ensures within) done.replies.items done.lists.items c.in_ok-done.ensures
+    (λ shard within. empty-cells c.args.sizes.shards c.args.sizes.cells c.in_ok-stores.stores.items shard c.in_ok-stores.ensures within) done.replies.items done.lists.items c.in_ok-done.ensures.done
     (M c.args.files.now) (M c.begin_journal.new.files) (M c.write_section.new.files) c.in_ok-begin_journal.ensures.begun
     (subst (λ l. FileGrows (M c.begin_journal.new.files) (M c.write_section.new.files) 0 (section_lines (record { kind = Batch; number = 1; shards = l }))) c.deref.ensures.value c.in_ok-write_section.ensures.written))
     c.finish_journal.ensures.made)) c.in_err-finish_journal.ensures.state)
@@ -70,7 +70,7 @@ returns-clause-worked g c =
     let M = g.F.Files.made in
     work-same setup c.args.items.now c.args.journal.now (IsWork setup c.args.items.now done.replies.items) (M c.args.files.now) (M c.write_section.new.files) (M c.finish_journal.new.files)
     (worked setup c.args.items.now c.args.journal.now c.in_ok-stores.stores.items done.stores.items
-    (λ shard within. empty-cells c.args.sizes.shards c.args.sizes.cells c.in_ok-stores.stores.items shard c.in_ok-stores.ensures within) done.replies.items done.lists.items c.in_ok-done.ensures
+    (λ shard within. empty-cells c.args.sizes.shards c.args.sizes.cells c.in_ok-stores.stores.items shard c.in_ok-stores.ensures within) done.replies.items done.lists.items c.in_ok-done.ensures.done
     (M c.args.files.now) (M c.begin_journal.new.files) (M c.write_section.new.files) c.in_ok-begin_journal.ensures.begun
     (subst (λ l. FileGrows (M c.begin_journal.new.files) (M c.write_section.new.files) 0 (section_lines (record { kind = Batch; number = 1; shards = l }))) c.deref.ensures.value c.in_ok-write_section.ensures.written))
     c.finish_journal.ensures.made

@@ -5,6 +5,7 @@ use Rattle.batch_meaning.specs.Pieces.{pieces}
 use Rattle.session_meaning.specs.declared.Verdict.{Verdict}
 use Rattle.session_meaning.specs.Session.{Setup}
 use Rattle.session_meaning.specs.Verdicts.{verdict_of, queries_of}
+use Rattle.unit_answers.specs.Crewed.{HasCrewed}
 use Rattle.unit_answers.specs.Stores.{setup_of, cells_of}
 use Rattle.unit_answers.specs.inner.Placed as places
 use Rattle.unit_answers.specs.inner.Runs.{asks, HasRun}
@@ -31,19 +32,25 @@ pub placed-requires : goal.placed-requires
 placed-requires g c =
     let d = c.args.design.now in
     let setup : Setup = setup_of d c.args.sizes in
-    let ran : HasRun (asks setup c.deref-3.result.now) (cells_of c.args.stores.items) c.in_ok-ran.ran.replies.items c.in_ok-ran.ran.lists.items c.in_ok-ran.ran.stores.items = c.in_ok-ran.ensures in
+    let ran : HasRun (asks setup c.deref-3.result.now) (cells_of c.args.stores.items) c.in_ok-ran.ran.replies.items c.in_ok-ran.ran.lists.items c.in_ok-ran.ran.stores.items = c.in_ok-ran.ensures.run in
     replies-asked d.circuit c.in_ok-verdicts.verdicts.items c.deref-2.result.now c.deref-4.result.now c.in_ok-queries.queries.items c.deref-3.result.now c.in_ok-ran.ran.replies.items
     c.deref-2.ensures.value c.in_ok-queries.ensures c.deref-3.ensures.value c.deref-4.ensures.value ran.replies_are
 
-pub returns : goal.returns
-returns g c =
+pub returns-clause-done : goal.returns-clause-done
+returns-clause-done g c =
     let d = c.args.design.now in
     let setup : Setup = setup_of d c.args.sizes in
     let queries = asked-by d c.args.items.now c.in_ok-verdicts.verdicts.items c.deref-2.result.now c.in_ok-queries.queries.items c.deref-3.result.now c.in_ok-verdicts.ensures c.deref-2.ensures.value c.in_ok-queries.ensures c.deref-3.ensures.value in
     let rs = c.in_ok-ran.ran.replies.items in
     let ran : HasRun (asks setup (queries_of d c.args.items.now)) (cells_of c.args.stores.items) rs c.in_ok-ran.ran.lists.items c.in_ok-ran.ran.stores.items =
-    subst (λ (qs : List Query). HasRun (asks setup qs) (cells_of c.args.stores.items) rs c.in_ok-ran.ran.lists.items c.in_ok-ran.ran.stores.items) queries c.in_ok-ran.ensures in
+    subst (λ (qs : List Query). HasRun (asks setup qs) (cells_of c.args.stores.items) rs c.in_ok-ran.ran.lists.items c.in_ok-ran.ran.stores.items) queries c.in_ok-ran.ensures.run in
     let placed : c.in_ok-replies.replies.items ≡ places.placed (map (verdict_of d) c.args.items.now) rs =
     subst (λ (vs : List Verdict). c.in_ok-replies.replies.items ≡ places.placed vs rs) c.in_ok-verdicts.ensures
     (subst (λ (vs : List Verdict). c.in_ok-replies.replies.items ≡ places.placed vs rs) c.deref-4.ensures.value c.in_ok-replies.ensures) in
     batch-done setup c.args.items.now c.args.stores.items rs c.in_ok-ran.ran.lists.items c.in_ok-ran.ran.stores.items ran c.in_ok-replies.replies.items placed
+
+pub returns-clause-crewed : goal.returns-clause-crewed
+returns-clause-crewed g c =
+    let d = c.args.design.now in
+    let queries = asked-by d c.args.items.now c.in_ok-verdicts.verdicts.items c.deref-2.result.now c.in_ok-queries.queries.items c.deref-3.result.now c.in_ok-verdicts.ensures c.deref-2.ensures.value c.in_ok-queries.ensures c.deref-3.ensures.value in
+    subst (λ (qs : List Query). HasCrewed (flat_map pieces qs) (g.C.Crew.is_open c.args.crew.now) c.in_ok-ran.ran.lists.items) queries c.in_ok-ran.ensures.crewed

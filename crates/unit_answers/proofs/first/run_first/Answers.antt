@@ -3,10 +3,12 @@ use Rattle.valid_intervals.specs.declared.SignalCell.{SignalCell}
 use Rattle.batch_meaning.specs.Batches.{Batch}
 use Rattle.plan_machine.specs.Settle.{entries_in}
 use Rattle.plan_core.specs.Parts.{shards_in}
-use Rattle.session_meaning.specs.FirstTimes.{up_to_first, IsFirstReply}
-use Rattle.session_meaning.specs.Verdicts.{first_verdict}
-use Rattle.session_meaning.specs.Session.{first_batch}
+use Rattle.query_lines.specs.declared.unit.Asks.TheVariants as kinds
+use Rattle.session_meaning.specs.FirstTimes.{up_to_first}
+use Rattle.session_meaning.specs.Session.{question_batch}
+use Rattle.journal_meaning.specs.Sections.{of_batch}
 use Rattle.reply_lines.specs.declared.reply.FirstReply.TheVariants.{Answer}
+use Rattle.reply_lines.specs.declared.reply.QuestionReply.TheVariants as told
 use Rattle.unit_answers.specs.Stores.{setup_of}
 use Rattle.unit_answers.specs.inner.Runs.{AreOpened}
 use Rattle.unit_answers.proofs.Firsts.{first-queries, first-right}
@@ -17,7 +19,7 @@ use Rattle.unit_answers.proofs.first.run_first.Goals as goal
 pub begin_all-requires-clause-opened : goal.begin_all-requires-clause-opened
 begin_all-requires-clause-opened g c =
     let setup = setup_of c.args.design.now c.args.sizes in
-    let b = first_batch setup c.args.item.now in
+    let b = question_batch setup c.args.line (kinds.First c.args.first.now) in
     let stores = c.args.stores.items in
     subst (λ (x : Batch). AreOpened x g.B.BatchName.opening stores) (sym c.requires.batch)
     (subst (λ (o : ℕ → List SignalCell). AreOpened b o stores) (sym c.requires.opening) (opened-by setup None b.queries stores c.requires.stores))
@@ -25,8 +27,8 @@ begin_all-requires-clause-opened g c =
 pub first_time-requires-clause-queries : goal.first_time-requires-clause-queries
 first_time-requires-clause-queries g c =
     let setup = setup_of c.args.design.now c.args.sizes in
-    let value = c.args.item.now.first.value in
-    ap (λ (x : Batch). x.queries) c.requires.batch ∙ first-queries setup c.args.item.now c.args.query c.requires.asks
+    let value = c.args.first.now.value in
+    ap (λ (x : Batch). x.queries) c.requires.batch ∙ first-queries setup c.args.line c.args.first.now c.args.query c.requires.asks
     ∙ sym (ap (λ (x : Batch). up_to_first x.circuit c.args.query value ∷ []) c.requires.batch)
 
 pub first_time-requires-clause-count : goal.first_time-requires-clause-count
@@ -44,10 +46,11 @@ end_all-requires g c = fresh-free g.B.BatchName.batch g.B.BatchName.opening c.in
 pub returns : goal.returns
 returns g c =
     let setup = setup_of c.args.design.now c.args.sizes in
-    let item = c.args.item.now in
+    let first = c.args.first.now in
+    let held = c.new.result.items in
     let ms = c.in_ok-found.found.shards.items in
     let answer = c.in_ok-found.found.answer in
-    question-done setup None (first_batch setup item).queries (λ es. IsFirstReply setup.design.circuit es (first_verdict setup.design item) item.first.value (Answer answer))
-    g.B.BatchName.batch g.B.BatchName.opening c.args.stores.items c.requires.batch c.requires.opening ms c.in_ok-lists.lists.items c.in_ok-lists.stores.items c.in_ok-found.ensures.fresh
-    (first-right setup item c.args.query c.requires.asks g.B.BatchName.batch (entries_in (shards_in ms)) answer c.requires.batch c.in_ok-found.ensures.answer)
+    question-done setup c.args.line (kinds.First first) (told.First (Answer answer)) held
+    g.B.BatchName.batch g.B.BatchName.opening c.args.stores.items c.requires.batch c.requires.opening ms c.in_ok-lists.lists.items c.in_ok-lists.stores.items c.in_ok-found.ensures.fresh c.new.ensures.items
+    (first-right setup c.args.line first c.args.query c.requires.asks g.B.BatchName.batch (entries_in (shards_in ms)) (of_batch held) answer c.requires.batch c.in_ok-found.ensures.answer)
     c.in_ok-lists.ensures.lists c.in_ok-lists.ensures.stores

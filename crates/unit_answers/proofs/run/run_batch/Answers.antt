@@ -1,8 +1,11 @@
-use Rattle.std.proofs.Common.{ℕ, List, None, sym, subst}
+use Rattle.std.proofs.Common.{◌≡◌, ℕ, List, None, flat_map, sum, sum_by, sym, subst, ◌∙◌}
 use Rattle.valid_intervals.specs.declared.SignalCell.{SignalCell}
 use Rattle.batch_meaning.specs.Batches.{Batch}
+use Rattle.batch_meaning.specs.Pieces.{pieces}
+use Rattle.batch_crew.specs.Crews.{AreInOrder, booked_in}
 use Rattle.unit_answers.specs.Stores.{setup_of, cells_of}
 use Rattle.unit_answers.specs.inner.Runs.{asks, AreOpened, HasRun}
+use Rattle.unit_answers.proofs.Crewing.{has-crewed}
 use Rattle.unit_answers.proofs.Running.{opened-by, strands-new, order-numbers, settled-free, has-run}
 use Rattle.unit_answers.proofs.run.run_batch.Goals as goal
 
@@ -17,15 +20,24 @@ pub run-requires-clause-new : goal.run-requires-clause-new
 run-requires-clause-new g c κs within = strands-new g.B.BatchName.batch.circuit c.args.queries.now c.in_ok-strands.strands.items c.in_ok-strands.ensures.order c.in_ok-strands.ensures.strands
 
 pub settle-requires-clause-numbers : goal.settle-requires-clause-numbers
-settle-requires-clause-numbers g c = order-numbers c.in_ok-handed.handed.items c.in_ok-handed.ensures.order
+settle-requires-clause-numbers g c = order-numbers c.into_vec-handed.result.items (subst AreInOrder (sym c.into_vec-handed.ensures) c.in_ok-ran.ensures.order)
 
 pub end_all-requires : goal.end_all-requires
-end_all-requires g c = settled-free g.B.BatchName.batch g.B.BatchName.opening c.in_ok-handed.handed.items c.in_ok-replies.field-0.shards.items c.in_ok-replies.field-0.replies.items c.in_ok-replies.ensures
+end_all-requires g c = settled-free g.B.BatchName.batch g.B.BatchName.opening c.into_vec-handed.result.items c.in_ok-replies.field-0.shards.items c.in_ok-replies.field-0.replies.items c.in_ok-replies.ensures
 
-pub returns : goal.returns
-returns g c =
+pub returns-clause-run : goal.returns-clause-run
+returns-clause-run g c =
     let rs = c.in_ok-replies.field-0.replies.items in
     let lists = c.in_ok-lists.lists.items in
     let left = c.in_ok-lists.stores.items in
-    let run = has-run g.B.BatchName.batch g.B.BatchName.opening c.in_ok-handed.handed.items c.in_ok-replies.field-0.shards.items rs lists left c.in_ok-replies.ensures c.in_ok-lists.ensures.lists c.in_ok-lists.ensures.stores in
+    let run = has-run g.B.BatchName.batch g.B.BatchName.opening c.into_vec-handed.result.items c.in_ok-replies.field-0.shards.items rs lists left c.in_ok-replies.ensures c.in_ok-lists.ensures.lists c.in_ok-lists.ensures.stores in
     subst (λ (b : Batch). HasRun b (cells_of c.args.stores.items) rs lists left) c.requires.batch (subst (λ (o : ℕ → List SignalCell). HasRun g.B.BatchName.batch o rs lists left) c.requires.opening run)
+
+pub returns-clause-crewed : goal.returns-clause-crewed
+returns-clause-crewed g c =
+    let b = g.B.BatchName.batch in
+    let handed = c.into_vec-handed.result.items in
+    let ran = c.in_ok-ran.ran in
+    let e = c.in_ok-ran.ensures in
+    has-crewed b.circuit (flat_map pieces c.args.queries.now) c.in_ok-strands.strands.items c.in_ok-strands.ensures.strands ran.strands ran.counts e.ended b g.B.BatchName.opening handed c.in_ok-replies.field-0.shards.items c.in_ok-replies.field-0.replies.items c.in_ok-lists.lists.items
+    (g.C.Crew.is_open c.args.crew.now) c.in_ok-replies.ensures c.in_ok-lists.ensures.lists (subst (λ ms. sum ran.counts ≡ sum_by booked_in ms) (sym c.into_vec-handed.ensures) e.counted) (e.places ∙ c.in_ok-strands.strands.ok.0) (e.counts ∙ c.in_ok-strands.strands.ok.0) e.filled

@@ -58,5 +58,5 @@ dump_waves-requires g c =
     subst (AreReplied d (first name ∷ second name ∷ [])) (sym c.deref.ensures.value) (record {
       within = two-within name d.circuit.horizon;
       named = All-cons Named (first name) (second name ∷ []) tt (All-cons Named (second name) [] word (All-nil Named));
-      waves = done-waves (setup_of d sizes) (first name ∷ second name ∷ []) c.in_ok-stores.stores.items done.replies.items done.lists.items done.stores.items c.in_ok-done.ensures;
+      waves = done-waves (setup_of d sizes) (first name ∷ second name ∷ []) c.in_ok-stores.stores.items done.replies.items done.lists.items done.stores.items c.in_ok-done.ensures.done;
     })

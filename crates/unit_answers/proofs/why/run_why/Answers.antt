@@ -3,10 +3,11 @@ use Rattle.valid_intervals.specs.declared.SignalCell.{SignalCell}
 use Rattle.batch_meaning.specs.Batches.{Batch}
 use Rattle.plan_machine.specs.Settle.{entries_in}
 use Rattle.plan_core.specs.Parts.{shards_in}
-use Rattle.session_meaning.specs.Explanations.{IsWhyReply}
-use Rattle.session_meaning.specs.Verdicts.{why_verdict}
-use Rattle.session_meaning.specs.Session.{why_batch}
+use Rattle.query_lines.specs.declared.unit.Asks.TheVariants as kinds
+use Rattle.session_meaning.specs.Session.{question_batch}
+use Rattle.journal_meaning.specs.Sections.{of_batch}
 use Rattle.reply_lines.specs.declared.reply.WhyReply.TheVariants.{Answer}
+use Rattle.reply_lines.specs.declared.reply.QuestionReply.TheVariants as told
 use Rattle.unit_answers.specs.Stores.{setup_of}
 use Rattle.unit_answers.specs.inner.Runs.{AreOpened}
 use Rattle.unit_answers.proofs.Whys.{why-queries, why-window, why-right}
@@ -17,17 +18,17 @@ use Rattle.unit_answers.proofs.why.run_why.Goals as goal
 pub begin_all-requires-clause-opened : goal.begin_all-requires-clause-opened
 begin_all-requires-clause-opened g c =
     let setup = setup_of c.args.design.now c.args.sizes in
-    let b = why_batch setup c.args.item.now in
+    let b = question_batch setup c.args.line (kinds.Why c.args.why.now) in
     let stores = c.args.stores.items in
     subst (λ (x : Batch). AreOpened x g.B.BatchName.opening stores) (sym c.requires.batch)
     (subst (λ (o : ℕ → List SignalCell). AreOpened b o stores) (sym c.requires.opening) (opened-by setup None b.queries stores c.requires.stores))
 
 pub explain-requires-clause-queries : goal.explain-requires-clause-queries
 explain-requires-clause-queries g c =
-    ap (λ (x : Batch). x.queries) c.requires.batch ∙ why-queries (setup_of c.args.design.now c.args.sizes) c.args.item.now c.args.query c.requires.asks
+    ap (λ (x : Batch). x.queries) c.requires.batch ∙ why-queries (setup_of c.args.design.now c.args.sizes) c.args.line c.args.why.now c.args.query c.requires.asks
 
 pub explain-requires-clause-window : goal.explain-requires-clause-window
-explain-requires-clause-window g c = why-window (setup_of c.args.design.now c.args.sizes) c.args.item.now c.args.query c.requires.asks
+explain-requires-clause-window g c = why-window (setup_of c.args.design.now c.args.sizes) c.args.line c.args.why.now c.args.query c.requires.asks
 
 pub explain-requires-clause-count : goal.explain-requires-clause-count
 explain-requires-clause-count g c = c.in_ok-begun.ensures.count ∙ c.requires.stores.count ∙ sym (ap (λ (x : Batch). x.shards) c.requires.batch)
@@ -44,10 +45,11 @@ end_all-requires g c = fresh-free g.B.BatchName.batch g.B.BatchName.opening c.in
 pub returns : goal.returns
 returns g c =
     let setup = setup_of c.args.design.now c.args.sizes in
-    let item = c.args.item.now in
+    let why = c.args.why.now in
+    let held = c.new.result.items in
     let ms = c.in_ok-found.found.shards.items in
     let answer = c.in_ok-found.found.answer in
-    question-done setup None (why_batch setup item).queries (λ es. IsWhyReply setup.design es (why_verdict setup.design item) item.why (Answer answer))
-    g.B.BatchName.batch g.B.BatchName.opening c.args.stores.items c.requires.batch c.requires.opening ms c.in_ok-lists.lists.items c.in_ok-lists.stores.items c.in_ok-found.ensures.fresh
-    (why-right setup item c.args.query c.requires.asks g.B.BatchName.batch (entries_in (shards_in ms)) answer c.requires.batch c.in_ok-found.ensures.answer)
+    question-done setup c.args.line (kinds.Why why) (told.Why (Answer answer)) held
+    g.B.BatchName.batch g.B.BatchName.opening c.args.stores.items c.requires.batch c.requires.opening ms c.in_ok-lists.lists.items c.in_ok-lists.stores.items c.in_ok-found.ensures.fresh c.new.ensures.items
+    (why-right setup c.args.line why c.args.query c.requires.asks g.B.BatchName.batch (entries_in (shards_in ms)) (of_batch held) answer c.requires.batch c.in_ok-found.ensures.answer)
     c.in_ok-lists.ensures.lists c.in_ok-lists.ensures.stores

@@ -1,7 +1,9 @@
-use Rattle.std.proofs.Common.{◌<◌, ◌+◌, [], List, false, length, take, drop, sym, subst, arith}
+use Rattle.std.proofs.Common.{◌<◌, ◌+◌, [], List, false, length, take, drop, refl, sym, subst, arith}
 use Rattle.plan_core.specs.Parts.{shards_in}
 use Rattle.reply_lines.specs.declared.reply.Reply.{Reply}
 use Rattle.window_answers.specs.inner.Phases.{IsWalking}
+use Rattle.batch_meaning.specs.declared.Query.{Query}
+use Rattle.window_answers.proofs.Turns.{WalksTo, turn-next, turn-last}
 use Rattle.window_answers.proofs.Phases.{walk-fed, walk-next, walk-last}
 use Rattle.window_answers.proofs.answers.answer_all.Goals as goal
 
@@ -9,7 +11,11 @@ pub loop-k-init : goal.loop-k-init
 loop-k-init g c = record {
   kept = c.requires.kept;
   walked = λ start first h. subst (λ (rs : List Reply). IsWalking g.B.BatchName.batch start first (shards_in c.args.memo.now) [] rs c.args.queries.now c.args.fed.now) (sym c.new-replies.ensures.items) h;
+  asks = let ss = shards_in c.args.memo.now in subst (λ (rs : List Reply). WalksTo g.B.BatchName.batch g.B.BatchName.opening c.args.queries.now ss c.args.fed.now ss 0 rs) (sym c.new-replies.ensures.items) refl;
 }
+
+abbrev no_query : Query
+no_query = record { number = 0; signal = 0; from = 0; to = 0; budget = 0 }
 
 pub answer_one-requires-clause-counts : goal.answer_one-requires-clause-counts
 answer_one-requires-clause-counts g c =
@@ -36,6 +42,8 @@ loop-k-preserved g c =
           let f = walk-fed b c.requires.lawful start first qs c.requires.queries k c.loop-k-test.true _ fs high _ (shards_in now) c.loop-k.replies.items was in
           subst (λ (rs : List Reply). IsWalking b start first (shards_in new) (take (k + 1) qs) rs (drop (k + 1) qs) (drop (k + 1) fs)) (sym c.in_ok-push.ensures.items)
           (walk-next b c.requires.lawful start first qs c.requires.queries k c.loop-k-test.true _ fs high (record { charge = 0; refused = false }) g.B.BatchName.opening (shards_in now) (shards_in new) c.loop-k.replies.items r was (c.in_ok-reply.ensures.settles start f) c.in_ok-reply.ensures.reply);
+      asks = subst (λ (rs : List Reply). WalksTo b g.B.BatchName.opening qs (shards_in c.args.memo.now) fs (shards_in new) (k + 1) rs) (sym c.in_ok-push.ensures.items)
+          (turn-next b g.B.BatchName.opening qs (shards_in c.args.memo.now) fs (shards_in now) (shards_in new) k no_query (record { charge = 0; refused = false }) c.loop-k.replies.items r c.loop-k-test.true high c.loop-k.invariant.asks c.in_ok-reply.ensures.asks);
     }
 
 pub returns-clause-settled : goal.returns-clause-settled
@@ -43,3 +51,9 @@ returns-clause-settled g c = λ start first h.
     let t = c.loop-k-test.false in
     let n = c.requires.count in
     walk-last g.B.BatchName.batch c.requires.lawful start first c.args.queries.now c.requires.queries (shards_in c.loop-k.memo) c.loop-k.k c.loop-k.replies.items c.args.fed.now (omega arith) (omega arith) (c.loop-k.invariant.walked start first h)
+
+pub returns-clause-asks : goal.returns-clause-asks
+returns-clause-asks g c =
+    let t = c.loop-k-test.false in
+    let n = c.requires.count in
+    turn-last g.B.BatchName.batch g.B.BatchName.opening c.args.queries.now (shards_in c.args.memo.now) c.args.fed.now (shards_in c.loop-k.memo) c.loop-k.k c.loop-k.replies.items (omega arith) (omega arith) c.loop-k.invariant.asks

@@ -4,6 +4,7 @@ use Rattle.plan_machine.specs.Shards.{Shard}
 use Rattle.plan_core.specs.Parts.{shards_in}
 use Rattle.asked_cells.specs.Memos.{AreFreeShards}
 use Rattle.window_answers.specs.inner.Phases.{IsWalking}
+use Rattle.window_answers.proofs.Turns.{WalksTo}
 use Rattle.window_answers.proofs.answers.answer_all.Given as goal
 
 abbrev pub invariant-loop-k : goal.invariant-loop-k
@@ -11,4 +12,5 @@ invariant-loop-k g l = record {
   kept : AreFreeShards g.B.BatchName.batch g.B.BatchName.opening l.memo;
   walked : (start : List Entry) (first : List Shard) → IsWalking g.B.BatchName.batch start first (shards_in l.initial.memo) [] [] l.queries l.fed
       → IsWalking g.B.BatchName.batch start first (shards_in l.memo) (take l.k l.queries) l.replies.items (drop l.k l.queries) (drop l.k l.fed);
+  asks : WalksTo g.B.BatchName.batch g.B.BatchName.opening l.queries (shards_in l.initial.memo) l.fed (shards_in l.memo) l.k l.replies.items;
 }

@@ -1,6 +1,7 @@
-use Rattle.std.proofs.Common.{false, true, ap, subst}
+use Rattle.std.proofs.Common.{false, true, ap, sym, subst}
 use Rattle.plan_machine.specs.inner.Settle.{Advances, IsCoveredTo}
 use Rattle.plan_core.specs.Parts.{shards_in}
+use Rattle.asked_cells.specs.Asked.{AsksOn, Nothing}
 use Rattle.asked_cells.specs.Memos.{is_missing}
 use Rattle.asked_cells.specs.inner.Standings.{live, standing}
 use Rattle.window_answers.proofs.Phases.{walks-refused, walk-begins, walks}
@@ -34,3 +35,24 @@ returns-in-None-clause-settles g c = λ start k.
     walks b c.requires.lawful opening q c.requires.known start ms c.args.fed c.requires.kept.fresh c.if-fed.false k new true
     (subst (λ r. Advances b opening q start (shards_in ms) (live ms) (standing new r)) e (c.in_ok-runs.ensures.advances start (shards_in ms) s))
     (subst (λ r. IsCoveredTo b.circuit q (standing new r) q.to) e (c.in_ok-runs.ensures.covered start (shards_in ms) s))
+
+pub returns-then-fed-clause-asks : goal.returns-then-fed-clause-asks
+returns-then-fed-clause-asks g c =
+    let ss = shards_in c.args.memo.now in
+    subst (λ was. AsksOn g.B.BatchName.batch g.B.BatchName.opening c.args.q ss was ss true) (sym c.if-fed.true) Nothing
+
+pub returns-in-Some-clause-asks : goal.returns-in-Some-clause-asks
+returns-in-Some-clause-asks g c =
+    let b = g.B.BatchName.batch in
+    let old = shards_in c.args.memo.now in
+    let new = shards_in c.settle_window.new.memo in
+    subst (λ was. AsksOn b g.B.BatchName.opening c.args.q old was new false) (sym c.if-fed.false)
+    (subst (λ o. AsksOn b g.B.BatchName.opening c.args.q old false new (is_missing o)) c.in-Some.is c.in_ok-runs.ensures.asks)
+
+pub returns-in-None-clause-asks : goal.returns-in-None-clause-asks
+returns-in-None-clause-asks g c =
+    let b = g.B.BatchName.batch in
+    let old = shards_in c.args.memo.now in
+    let new = shards_in c.settle_window.new.memo in
+    subst (λ was. AsksOn b g.B.BatchName.opening c.args.q old was new true) (sym c.if-fed.false)
+    (subst (λ o. AsksOn b g.B.BatchName.opening c.args.q old false new (is_missing o)) c.in-None.is c.in_ok-runs.ensures.asks)

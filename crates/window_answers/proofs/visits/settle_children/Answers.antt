@@ -7,10 +7,13 @@ use Rattle.batch_meaning.specs.Batches.{IsNeededBy}
 use Rattle.plan_machine.specs.inner.Settle.{Advances}
 use Rattle.plan_machine.proofs.Settle.{stays, then}
 use Rattle.demand_points.specs.Frames.{IsPoint, LooksOn, looked_at}
+use Rattle.plan_core.specs.Parts.{shards_in}
+use Rattle.asked_cells.specs.Asked.{AsksOn, Nothing}
 use Rattle.asked_cells.specs.Memos.{entries_of, is_missing}
 use Rattle.asked_cells.specs.inner.Standings.{live, standing}
 use Rattle.window_answers.specs.inner.Sources.{IsSourceCovered}
 use Rattle.asked_cells.proofs.Alone.{some-of}
+use Rattle.asked_cells.proofs.Asking.{asks-then}
 use Rattle.window_answers.proofs.Pins.{needed-has, needed-point, pins-visited, source-kept}
 use Rattle.window_answers.proofs.visits.settle_children.Goals as goal
 
@@ -27,6 +30,7 @@ pins-init g c = record {
   asking = c.requires.asking;
   advances = λ start first s. stays g.B.BatchName.batch g.B.BatchName.opening c.args.q start first (live c.args.memo.now) s;
   covered = λ start first s i low. let z = c.new-frame.ensures.looked in absurd (omega arith);
+  asks = Nothing;
 }
 
 pub look-requires-clause-needed : goal.look-requires-clause-needed
@@ -71,6 +75,8 @@ pins-preserved g c =
                 subst (λ j. IsSourceCovered b.circuit (entries_of new) (get_or (looked_at d c.args.p) j None)) (sym same)
                 (subst (λ (p : Point). IsSourceCovered b.circuit (entries_of new) (get_or (looked_at d p) c.pins.frame.looked None)) c.pins.invariant.point here)
           ];
+      asks = asks-then b g.B.BatchName.opening q (shards_in c.args.memo.now) false (shards_in c.pins.memo) (shards_in new) false c.pins.invariant.asks
+          (subst (λ o. AsksOn b g.B.BatchName.opening q (shards_in c.pins.memo) false (shards_in new) (is_missing o)) c.in-Some.is c.in_ok-look.ensures.asks);
     }
 
 pub returns-clause-visited : goal.returns-clause-visited
@@ -84,3 +90,11 @@ returns-clause-visited g c = λ start first s e.
     let here : length (looked_at d c.pins.frame.point) ≡ length (looked_at d p) = ap (λ (x : Point). length (looked_at d x)) c.pins.invariant.point in
     let each : (i : ℕ) → i < length (looked_at d p) → IsSourceCovered b.circuit es (get_or (looked_at d p) i None) = λ i l. all i (omega arith) in
     pins-visited b.circuit es p (subst (λ (z : Circuit). (i : ℕ) → i < length (looked_at z p) → IsSourceCovered b.circuit es (get_or (looked_at z p) i None)) c.requires.design each)
+
+pub returns-in-None-clause-asks : goal.returns-in-None-clause-asks
+returns-in-None-clause-asks g c =
+    let b = g.B.BatchName.batch in
+    let q = c.args.q in
+    let new = c.look.new.memo in
+    asks-then b g.B.BatchName.opening q (shards_in c.args.memo.now) false (shards_in c.pins.memo) (shards_in new) true c.pins.invariant.asks
+    (subst (λ o. AsksOn b g.B.BatchName.opening q (shards_in c.pins.memo) false (shards_in new) (is_missing o)) c.in-None.is c.in_ok-look.ensures.asks)

@@ -1,8 +1,10 @@
-use Rattle.std.proofs.Common.{◌≡◌, ◌<◌, ◌-◌, ℕ, List, None, get_or, length}
+use Rattle.std.proofs.Common.{◌≡◌, ◌<◌, ◌-◌, ℕ, List, None, false, get_or, length}
 use Rattle.journal_meaning.specs.declared.Entry.{Entry}
 use Rattle.plan_machine.specs.Shards.{Shard}
 use Rattle.plan_machine.specs.inner.Settle.{IsStanding, Advances}
 use Rattle.demand_points.specs.Frames.{IsFrame, looked_at}
+use Rattle.plan_core.specs.Parts.{shards_in}
+use Rattle.asked_cells.specs.Asked.{AsksOn}
 use Rattle.asked_cells.specs.Memos.{IsChargedMemo, entries_of}
 use Rattle.asked_cells.specs.inner.Standings.{live}
 use Rattle.window_answers.specs.inner.Sources.{IsSourceCovered}
@@ -17,6 +19,7 @@ invariant-pins g l = record {
       → Advances g.B.BatchName.batch g.B.BatchName.opening l.q start first (live l.initial.memo) (live l.memo);
   covered : (start : List Entry) (first : List Shard) → IsStanding g.B.BatchName.batch g.B.BatchName.opening l.q start first (live l.initial.memo)
       → (i : ℕ) → i < l.frame.looked → IsSourceCovered g.B.BatchName.batch.circuit (entries_of l.memo) (get_or (looked_at l.design.circuit l.fn.p) i None);
+  asks : AsksOn g.B.BatchName.batch g.B.BatchName.opening l.q (shards_in l.initial.memo) false (shards_in l.memo) false;
 }
 
 abbrev pub decreases-pins : goal.decreases-pins

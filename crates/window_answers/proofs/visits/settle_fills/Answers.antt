@@ -6,10 +6,29 @@ use Rattle.circuit_meaning.specs.Need.{children}
 use Rattle.journal_meaning.specs.Answers.{IsCovered}
 use Rattle.plan_machine.specs.Settle.{Standing}
 use Rattle.plan_machine.specs.inner.Settle.{Advances, IsVisited}
-use Rattle.plan_machine.proofs.Settle.{then}
+use Rattle.plan_machine.proofs.Settle.{stays, then}
+use Rattle.plan_core.specs.Parts.{shards_in}
+use Rattle.asked_cells.specs.Asked.{AsksOn, Nothing}
+use Rattle.asked_cells.proofs.Asking.{asks-then}
 use Rattle.asked_cells.specs.Memos.{entries_of}
 use Rattle.asked_cells.specs.inner.Standings.{live, standing}
 use Rattle.window_answers.proofs.visits.settle_fills.Goals as goal
+
+pub loop-p-init : goal.loop-p-init
+loop-p-init g c = record {
+  asking = c.requires.asking;
+  advances = λ start first s. stays g.B.BatchName.batch g.B.BatchName.opening c.args.q start first (live c.args.memo.now) s;
+  visited = λ start first s k d low. absurd (omega arith);
+  asks = Nothing;
+}
+
+pub returns-then-branch-clause-asks : goal.returns-then-branch-clause-asks
+returns-then-branch-clause-asks g c =
+    let b = g.B.BatchName.batch in
+    let q = c.args.q in
+    let new = c.settle_children.new.memo in
+    asks-then b g.B.BatchName.opening q (shards_in c.args.memo.now) false (shards_in c.loop-p.memo) (shards_in new) true c.loop-p.invariant.asks
+    (subst (AsksOn b g.B.BatchName.opening q (shards_in c.loop-p.memo) false (shards_in new)) c.if-branch.true c.in_ok-settle_children.ensures.asks)
 
 pub returns-then-branch-clause-advances : goal.returns-then-branch-clause-advances
 returns-then-branch-clause-advances g c = λ start first s.
@@ -46,6 +65,8 @@ loop-p-preserved g c =
                 subst (λ j. IsVisited b.circuit (entries_of new) (get_or c.args.fills.now j d)) (sym e)
                 (subst (IsVisited b.circuit (entries_of new)) (get_or_default c.args.fills.now c.loop-p.p-index _ d c.loop-p-test.true) (c.in_ok-settle_children.ensures.visited start first a.stands c.if-branch.false))
           ];
+      asks = asks-then b g.B.BatchName.opening q (shards_in c.args.memo.now) false (shards_in c.loop-p.memo) (shards_in new) false c.loop-p.invariant.asks
+          (subst (AsksOn b g.B.BatchName.opening q (shards_in c.loop-p.memo) false (shards_in new)) c.if-branch.false c.in_ok-settle_children.ensures.asks);
     }
 
 pub returns-clause-visited : goal.returns-clause-visited

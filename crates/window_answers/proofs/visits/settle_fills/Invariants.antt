@@ -1,8 +1,10 @@
-use Rattle.std.proofs.Common.{ℕ, ◌<◌, List, get_or}
+use Rattle.std.proofs.Common.{ℕ, ◌<◌, List, false, get_or}
 use Rattle.valid_intervals.specs.declared.Point.{Point}
 use Rattle.journal_meaning.specs.declared.Entry.{Entry}
 use Rattle.plan_machine.specs.Shards.{Shard}
 use Rattle.plan_machine.specs.inner.Settle.{IsStanding, Advances, IsVisited}
+use Rattle.plan_core.specs.Parts.{shards_in}
+use Rattle.asked_cells.specs.Asked.{AsksOn}
 use Rattle.asked_cells.specs.Memos.{IsChargedMemo, entries_of}
 use Rattle.asked_cells.specs.inner.Standings.{live}
 use Rattle.window_answers.proofs.visits.settle_fills.Given as goal
@@ -14,4 +16,5 @@ invariant-loop-p g l = record {
       → Advances g.B.BatchName.batch g.B.BatchName.opening l.q start first (live l.initial.memo) (live l.memo);
   visited : (start : List Entry) (first : List Shard) → IsStanding g.B.BatchName.batch g.B.BatchName.opening l.q start first (live l.initial.memo)
       → (k : ℕ) (d : Point) → k < l.p-index → IsVisited g.B.BatchName.batch.circuit (entries_of l.memo) (get_or l.fills k d);
+  asks : AsksOn g.B.BatchName.batch g.B.BatchName.opening l.q (shards_in l.initial.memo) false (shards_in l.memo) false;
 }

@@ -7,9 +7,12 @@ use Rattle.circuit_meaning.proofs.Cover.{cell-covers}
 use Rattle.batch_meaning.specs.Batches.{window_of}
 use Rattle.plan_machine.specs.inner.Settle.{Advances, Reaches, IsCoveredTo}
 use Rattle.plan_machine.proofs.Settle.{stays, then, within, window-step}
+use Rattle.plan_core.specs.Parts.{shards_in}
+use Rattle.asked_cells.specs.Asked.{AsksOn, Nothing}
 use Rattle.asked_cells.specs.Memos.{entries_of, is_missing, at_time}
 use Rattle.asked_cells.specs.inner.Standings.{live, standing}
 use Rattle.asked_cells.proofs.Asked.{reaches}
+use Rattle.asked_cells.proofs.Asking.{asks-then, asks-root}
 use Rattle.window_answers.proofs.Pins.{root-asks}
 use Rattle.asked_cells.proofs.Alone.{some-of}
 use Rattle.window_answers.proofs.visits.settle_window.Goals as goal
@@ -27,6 +30,7 @@ roots-init g c =
       root = λ h. subst (IsRoot b.circuit (window_of q)) (sym made.time) (First (let t = made.time in omega arith));
       advances = λ start first s. stays b g.B.BatchName.opening q start first (live c.args.memo.now) s;
       covered = λ start first s e t low high. let m = made.time in absurd (omega arith);
+      asks = Nothing;
     }
 
 pub returns-in_default-2-clause-advances : goal.returns-in_default-2-clause-advances
@@ -38,6 +42,22 @@ returns-in_default-2-clause-advances g c = λ start first s.
     let a = c.roots.invariant.advances start first s in
     let r = reaches b c.requires.lawful g.B.BatchName.opening q start first ms c.reach.new.memo q c.in-Some.time c.roots.charge (is_missing c.in_ok-cell.field-0) a.stands (root-asks q (entries_of ms) c.in-Some.time c.roots.charge c.roots.invariant.asking.counts) c.in_ok-cell.ensures.asked in
     then b g.B.BatchName.opening q start first old (live ms) (standing c.reach.new.memo true) a (subst (λ o. Advances b g.B.BatchName.opening q start first (live ms) (standing c.reach.new.memo (is_missing o))) c.in_default-2.is r.0)
+
+pub returns-in_default-2-clause-asks : goal.returns-in_default-2-clause-asks
+returns-in_default-2-clause-asks g c =
+    let b = g.B.BatchName.batch in
+    let q = c.args.q in
+    let t = c.in-Some.time in
+    let i = c.roots.invariant in
+    let next = c.in-Some.ensures.some in
+    let stop = i.stop in
+    let low : t < q.to = omega (arith, next.1, stop) in
+    let root : IsRoot b.circuit (window_of q) t = subst (IsRoot b.circuit (window_of q)) (sym next.0) (i.root (omega (arith, low, next.0))) in
+    let ms = c.roots.memo in
+    let new = c.reach.new.memo in
+    asks-then b g.B.BatchName.opening q (shards_in c.args.memo.now) false (shards_in ms) (shards_in new) true i.asks
+    (subst (λ o. AsksOn b g.B.BatchName.opening q (shards_in ms) false (shards_in new) (is_missing o)) c.in_default-2.is
+    (asks-root b g.B.BatchName.opening q ms new c.roots.charge i.asking.counts (is_missing c.in_ok-cell.field-0) t root c.in_ok-cell.ensures.asked))
 
 pub roots-smaller : goal.roots-smaller
 roots-smaller g c =
@@ -85,6 +105,9 @@ roots-preserved g c =
           let before : IsCoveredTo b.circuit q (live ms) t = subst (IsCoveredTo b.circuit q (live ms)) (sym next.0) (i.covered start first s) in
           let w = window-step b c.requires.lawful g.B.BatchName.opening q c.requires.known start first (live ms) (standing new false) t low root before one in
           subst (IsCoveredTo b.circuit q (standing new false)) (sym end) w.covered;
+      asks = asks-then b g.B.BatchName.opening q (shards_in c.args.memo.now) false (shards_in ms) (shards_in new) false i.asks
+          (subst (λ o. AsksOn b g.B.BatchName.opening q (shards_in ms) false (shards_in new) (is_missing o)) c.in-Some-2.is
+          (asks-root b g.B.BatchName.opening q ms new c.roots.charge i.asking.counts (is_missing c.in_ok-cell.field-0) t root c.in_ok-cell.ensures.asked));
     }
 
 pub returns-clause-covered : goal.returns-clause-covered

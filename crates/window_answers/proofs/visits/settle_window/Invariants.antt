@@ -1,10 +1,12 @@
-use Rattle.std.proofs.Common.{◌≡◌, ◌<◌, ◌-◌, List}
+use Rattle.std.proofs.Common.{◌≡◌, ◌<◌, ◌-◌, List, false}
 use Rattle.circuit_meaning.specs.Need.{IsRoot}
 use Rattle.journal_meaning.specs.declared.Entry.{Entry}
 use Rattle.batch_meaning.specs.Batches.{window_of}
 use Rattle.plan_machine.specs.Shards.{Shard}
 use Rattle.plan_machine.specs.inner.Settle.{IsStanding, Advances, IsCoveredTo}
 use Rattle.window_walks.specs.Walks.{IsWalked}
+use Rattle.plan_core.specs.Parts.{shards_in}
+use Rattle.asked_cells.specs.Asked.{AsksOn}
 use Rattle.asked_cells.specs.Memos.{IsChargedMemo}
 use Rattle.asked_cells.specs.inner.Standings.{live}
 use Rattle.window_answers.proofs.visits.settle_window.Given as goal
@@ -20,6 +22,7 @@ invariant-roots g l = record {
       → Advances g.B.BatchName.batch g.B.BatchName.opening l.q start first (live l.initial.memo) (live l.memo);
   covered : (start : List Entry) (first : List Shard) → IsStanding g.B.BatchName.batch g.B.BatchName.opening l.q start first (live l.initial.memo)
       → IsCoveredTo g.B.BatchName.batch.circuit l.q (live l.memo) l.walk.time;
+  asks : AsksOn g.B.BatchName.batch g.B.BatchName.opening l.q (shards_in l.initial.memo) false (shards_in l.memo) false;
 }
 
 abbrev pub decreases-roots : goal.decreases-roots

@@ -1,0 +1,296 @@
+-- Places in chains: what a look-up along a chain finds, and one entry more.
+use Rattle.std.proofs.Common.{◌≡◌, ◌≢◌, ℕ, zero, suc, ◌+◌, ◌-◌, ◌*◌, ◌/◌, ◌^◌, ◌<◌, ◌≤◌, List, [], ◌∷◌, length, get_or, set, take, replicate, Option, Some, None, is_some, Bool, true, false, true≢false, eqb, ◌&&◌, Decides, rules, OnSome, IfNone, refl, sym, ap, subst, ◌∙◌, arith, inl, inr, get_or-set_same, get_or-set_other, length-set}
+use Rattle.std.specs.List.{AllByRecursion}
+use Rattle.std.proofs.lemmas.Bool.{cases_eq, cases_lt}
+use Rattle.std.proofs.lemmas.Grind.{pow_more}
+use Rattle.std.proofs.lemmas.Nat.{and_le_r, pow_pos}
+use Rattle.valid_intervals.specs.declared.Point.{Point}
+use Rattle.journal_meaning.specs.declared.Entry.{Entry}
+use Rattle.journal_meaning.specs.inner.Index.{SaidCell, cell_said}
+use Rattle.journal_meaning.proofs.Lists.{Each, each-imply}
+use Rattle.asked_cells.specs.inner.Places.{point_of, point_at, chain_of, IsChain, HasPoint, LacksPoint, IsOfChain, IsUnsaid, IsChainOf, IsChainFor, AreNoted, AreEnough}
+
+-- the point of the entry in a place
+pub point-is : (journal : List Entry) (place : ℕ) (e : Entry) → place < length journal → e ≡ get_or journal place e → point_at journal place ≡ point_of (cell_said e)
+point-is [] place e low is = absurd (omega arith)
+point-is (x ∷ journal) zero e low is = ap (λ z. point_of (cell_said z)) (sym is)
+point-is (x ∷ journal) (suc place) e low is = point-is journal place e (omega arith) is
+
+-- there is none past the end
+pub point-past : (journal : List Entry) (place : ℕ) → length journal ≤ place → point_at journal place ≡ None
+point-past [] place h = refl
+point-past (x ∷ journal) zero h = absurd (omega arith)
+point-past (x ∷ journal) (suc place) h = point-past journal place (omega arith)
+
+-- an entry says what it was recorded for
+pub point-said : (journal : List Entry) (place : ℕ) (e : Entry) (f : SaidCell) → place < length journal → e ≡ get_or journal place e → cell_said e ≡ Some f → point_at journal place ≡ Some f.point
+point-said journal place e f low is said = point-is journal place e low is ∙ ap point_of said
+
+-- and nothing if it says no cell
+pub point-unsaid : (journal : List Entry) (place : ℕ) (e : Entry) → place < length journal → e ≡ get_or journal place e → cell_said e ≡ None → point_at journal place ≡ None
+point-unsaid journal place e low is said = point-is journal place e low is ∙ ap point_of said
+
+-- what has no point has not this one
+pub none-lacks : (o : Option Point) (p : Point) → o ≡ None → o ≢ Some p
+none-lacks o p none some = absurd (cc (none, some))
+
+-- nor has what has another
+pub other-lacks : (o : Option Point) (p q : Point) → o ≡ Some q → q ≢ p → o ≢ Some p
+other-lacks o p q is ne some = let same : q ≡ p = cc (is, some) in ne same
+
+-- A look-up along a chain: the places that are left, and what is known of all once so many of these are looked at.
+pub record IsSought (journal : List Entry) (p : Point) (before : List ℕ) (number : ℕ) (places : List ℕ) (more : ℕ) : Type 0 where
+  pub left : List ℕ
+  pub linked : IsChain before number left
+  pub lacks : AllByRecursion (λ place. point_at journal place ≢ Some p) (take more left) → LacksPoint journal p places
+  pub has : HasPoint journal p left → HasPoint journal p places
+
+module _ (journal : List Entry) (p : Point) (before : List ℕ) where
+  -- it begins with all places
+  pub sought-first : (number : ℕ) (places : List ℕ) → IsChain before number places → IsSought journal p before number places 32
+  sought-first number places h = record { left = places; linked = h; lacks = λ k. k; has = λ k. k }
+
+  module _ (number : ℕ) (places : List ℕ) (more : ℕ) (s : IsSought journal p before number places more) where
+    -- the chain is at its end
+    pub sought-end : number ≡ 0 → LacksPoint journal p places
+    sought-end none = go s.left s.linked s.lacks
+      where
+        go : (left : List ℕ) → IsChain before number left → (AllByRecursion (λ place. point_at journal place ≢ Some p) (take more left) → LacksPoint journal p places) → LacksPoint journal p places
+        go [] linked lacks = lacks (empty more)
+          where
+            empty : (n : ℕ) → AllByRecursion (λ place. point_at journal place ≢ Some p) (take n [])
+            empty zero = tt
+            empty (suc n) = tt
+        go (x ∷ left) linked lacks = let is = linked.0 in absurd (omega arith)
+
+    -- enough are looked at
+    pub sought-over : more ≡ 0 → LacksPoint journal p places
+    sought-over none = s.lacks (subst (λ n. AllByRecursion (λ place. point_at journal place ≢ Some p) (take n s.left)) (sym none) tt)
+
+    module _ (place : ℕ) (is : number ≡ place + 1) where
+      -- it is found
+      pub sought-found : point_at journal place ≡ Some p → HasPoint journal p places
+      sought-found here = go s.left s.linked s.has
+        where
+          go : (left : List ℕ) → IsChain before number left → (HasPoint journal p left → HasPoint journal p places) → HasPoint journal p places
+          go [] linked has = let none : number ≡ 0 = linked in absurd (omega arith)
+          go (x ∷ left) linked has =
+              let other = linked.0 in
+              let same : x ≡ place = omega arith in
+              has (inl (subst (λ n. point_at journal n ≡ Some p) (sym same) here))
+
+      -- one place more is looked at
+      pub sought-next : (next less : ℕ) → point_at journal place ≢ Some p → next ≡ get_or before place 0 → more ≡ suc less → IsSought journal p before next places less
+      sought-next next less not then fewer = go s.left s.linked s.lacks s.has
+        where
+          go : (left : List ℕ) → IsChain before number left → (AllByRecursion (λ place. point_at journal place ≢ Some p) (take more left) → LacksPoint journal p places) → (HasPoint journal p left → HasPoint journal p places)
+              → IsSought journal p before next places less
+          go [] linked lacks has = let none : number ≡ 0 = linked in absurd (omega arith)
+          go (x ∷ left) linked lacks has =
+              let other = linked.0 in
+              let same : x ≡ place = omega arith in
+              let here : point_at journal x ≢ Some p = subst (λ n. point_at journal n ≢ Some p) (sym same) not in
+              record {
+                left = left;
+                linked = subst (λ n. IsChain before n left) (ap (λ n. get_or before n 0) same ∙ sym then) linked.1;
+                lacks = λ k. lacks (subst (λ n. AllByRecursion (λ place. point_at journal place ≢ Some p) (take n (x ∷ left))) (sym fewer) (here, k));
+                has = λ k. has (inr k);
+              }
+
+-- A chain in which no number of a place at or past the end stands is not changed by what is written there.
+chain-kept : (before : List ℕ) (end v : ℕ) (places : List ℕ) (number : ℕ) → AllByRecursion (λ place. place < end) places → IsChain before number places → IsChain (set before end v) number places
+chain-kept before end v [] number low h = h
+chain-kept before end v (place ∷ places) number low h =
+    let ne : place ≢ end = λ e. (let l = low.0 in omega arith) in
+    (h.0, subst (λ n. IsChain (set before end v) n places) (sym (get_or-set_other before end place v 0 ne)) (chain-kept before end v places (get_or before place 0) low.1 h.1))
+
+-- what lacks a point in all its places
+lacks-all : (journal : List Entry) (p : Point) (n : ℕ) (places : List ℕ) → length places ≤ n → AllByRecursion (λ place. point_at journal place ≢ Some p) (take n places) → HasPoint journal p places → ⊥
+lacks-all journal p n [] few h k = k
+lacks-all journal p zero (place ∷ places) few h k = absurd (omega arith)
+lacks-all journal p (suc n) (place ∷ places) few h (inl k) = h.0 k
+lacks-all journal p (suc n) (place ∷ places) few h (inr k) = lacks-all journal p n places (omega arith) h.1 k
+
+-- so nothing was recorded for a point that its chain lacks
+pub lacks-unsaid : (journal : List Entry) (noted : ℕ) (last before : List ℕ) (p : Point) (chain : IsChainFor journal noted last before p) → length chain.places ≤ 32 → LacksPoint journal p chain.places → IsUnsaid journal noted p
+lacks-unsaid journal noted last before p chain few lacks place low numbered said = lacks-all journal p 32 chain.places few lacks (chain.has place p low numbered said refl)
+
+-- before the first entry each chain is empty
+pub noted-first : (journal : List Entry) (last before : List ℕ) → ((chain : ℕ) → get_or last chain 0 ≡ 0) → AreNoted journal 0 last before
+noted-first journal last before none chain = record {
+  places = [];
+  linked = none chain;
+  own = tt;
+  spread = tt;
+  has = λ place p less numbered said of. absurd (omega arith);
+}
+
+-- zeros are zeros everywhere
+pub zeros-at : (n chain : ℕ) → ◌≡◌ {A = ℕ} (get_or (replicate n 0) chain 0) 0
+zeros-at zero chain = refl
+zeros-at (suc n) zero = refl
+zeros-at (suc n) (suc chain) = zeros-at n chain
+
+module _ (journal : List Entry) (noted : ℕ) (last before : List ℕ) (chains : AreNoted journal noted last before) where
+  later : (chain : ℕ) (places : List ℕ) → Each (IsOfChain journal noted (length last) chain) places → Each (IsOfChain journal (noted + 1) (length last) chain) places
+  later chain places h = each-imply (IsOfChain journal noted (length last) chain) (IsOfChain journal (noted + 1) (length last) chain) (λ place k. ((let l = k.0 in omega arith), k.1)) places h
+
+  -- an entry that is not noted says nothing, or its point stands in its chain already, or it has no number
+  skipped : ((p : Point) → noted + 1 < 2 ^ 32 → point_at journal noted ≡ Some p → HasPoint journal p (chains (chain_of p (length last))).places) → AreNoted journal (noted + 1) last before
+  skipped there chain =
+      let c = chains chain in
+      record {
+        places = c.places;
+        linked = c.linked;
+        own = later chain c.places c.own;
+        spread = c.spread;
+        has = λ place p less numbered said of.
+            elim (cases_eq place noted) [
+              | inl e ↦
+                  let here : HasPoint journal p (chains (chain_of p (length last))).places = there p (subst (λ n. n + 1 < 2 ^ 32) e numbered) (subst (λ n. point_at journal n ≡ Some p) e said) in
+                  subst (λ n. HasPoint journal p (chains n).places) of here
+              | inr ne ↦ c.has place p (omega arith) numbered said of
+            ];
+      }
+
+  pub skipped-unsaid : point_at journal noted ≡ None → AreNoted journal (noted + 1) last before
+  skipped-unsaid none = skipped (λ p numbered said. absurd (cc (none, said)))
+
+  pub skipped-numberless : 2 ^ 32 ≤ noted + 1 → AreNoted journal (noted + 1) last before
+  skipped-numberless high = skipped (λ p numbered said. absurd (omega arith))
+
+  module _ (p : Point) (said : point_at journal noted ≡ Some p) where
+    pub skipped-found : HasPoint journal p (chains (chain_of p (length last))).places → AreNoted journal (noted + 1) last before
+    skipped-found there = skipped (λ q numbered k. let same : p ≡ q = cc (said, k) in subst (λ z. HasPoint journal z (chains (chain_of z (length last))).places) same there)
+
+    abbrev here : ℕ
+    here = chain_of p (length last)
+
+    below : (places : List ℕ) (chain : ℕ) → Each (IsOfChain journal noted (length last) chain) places → AllByRecursion (λ place. place < noted) places
+    below places chain h = each-imply (IsOfChain journal noted (length last) chain) (λ place. place < noted) (λ place k. k.0) places h
+
+    -- one entry more is noted
+    pub noted-more : here < length last → noted < length before → LacksPoint journal p (chains here).places → AreNoted journal (noted + 1) (set last here (noted + 1)) (set before noted (get_or last here 0))
+    noted-more low within lacks chain = subst (λ n. IsChainOf journal (noted + 1) n chain (set before noted (get_or last here 0)) (get_or (set last here (noted + 1)) chain 0)) (sym (length-set last here (noted + 1)))
+        (elim (cases_eq chain here) [
+          | inl e ↦ subst (λ c. IsChainOf journal (noted + 1) (length last) c (set before noted (get_or last here 0)) (get_or (set last here (noted + 1)) c 0)) (sym e) mine
+          | inr ne ↦ others ne
+        ])
+      where
+        after : List ℕ
+        after = set before noted (get_or last here 0)
+
+        kept : (c : ℕ) → IsChain (set before noted (get_or last here 0)) (get_or last c 0) (chains c).places
+        kept c = chain-kept before noted (get_or last here 0) (chains c).places (get_or last c 0) (below (chains c).places c (chains c).own) (chains c).linked
+
+        mine : IsChainOf journal (noted + 1) (length last) here (set before noted (get_or last here 0)) (get_or (set last here (noted + 1)) here 0)
+        mine =
+            let c = chains here in
+            record {
+              places = noted ∷ c.places;
+              linked = (get_or-set_same last here (noted + 1) 0 low, subst (λ n. IsChain (set before noted (get_or last here 0)) n c.places) (sym (get_or-set_same before noted (get_or last here 0) 0 within)) (kept here));
+              own = ((omega arith, (p, said, refl)), later here c.places c.own);
+              spread = ((λ q k. let same : p ≡ q = cc (said, k) in subst (λ z. LacksPoint journal z c.places) same lacks), c.spread);
+              has = λ place q less numbered k of.
+                  elim (cases_eq place noted) [
+                    | inl e ↦ inl (subst (λ n. point_at journal n ≡ Some q) e k)
+                    | inr ne ↦ inr (c.has place q (omega arith) numbered k of)
+                  ];
+            }
+
+        others : chain ≢ here → IsChainOf journal (noted + 1) (length last) chain (set before noted (get_or last here 0)) (get_or (set last here (noted + 1)) chain 0)
+        others ne =
+            let c = chains chain in
+            record {
+              places = c.places;
+              linked = subst (λ n. IsChain (set before noted (get_or last here 0)) n c.places) (sym (get_or-set_other last here chain (noted + 1) 0 ne)) (kept chain);
+              own = later chain c.places c.own;
+              spread = c.spread;
+              has = λ place q less numbered k of.
+                  elim (cases_eq place noted) [
+                    | inl e ↦
+                        let mine : point_at journal noted ≡ Some q = subst (λ n. point_at journal n ≡ Some q) e k in
+                        let same : p ≡ q = cc (said, mine) in
+                        absurd (ne (sym (ap (λ z. chain_of z (length last)) same ∙ of)))
+                    | inr other ↦ c.has place q (omega arith) numbered k of
+                  ];
+            }
+
+-- a point's chain is one of the chains
+pub chain-low : (p : Point) (chains : ℕ) → 0 < chains → chain_of p chains < chains
+chain-low p chains some = let l = and_le_r (p.signal * 2654435761 / 65536 + p.time) (chains - 1) in omega arith
+
+-- The number of chains is doubled so often, at most, and no more once it is enough.
+pub record IsDoubled (entries steps chains : ℕ) : Type 0 where
+  pub power : ℕ
+  pub is : chains ≡ 2 ^ power
+  pub short : chains < entries / 2 → power ≡ steps
+
+pub doubled-first : (entries : ℕ) → IsDoubled entries 0 1
+doubled-first entries = record { power = 0; is = refl; short = λ h. refl }
+
+pub doubled-more : (entries steps chains : ℕ) → IsDoubled entries steps chains → chains < entries / 2 → IsDoubled entries (steps + 1) (chains * 2)
+doubled-more entries steps chains d h = record {
+  power = d.power + 1;
+  is = ap (λ n. n * 2) d.is ∙ sym (pow_more 2 d.power);
+  short = λ k. ap (λ n. n + 1) (d.short h);
+}
+
+pub doubled-same : (entries steps chains : ℕ) → IsDoubled entries steps chains → entries / 2 ≤ chains → IsDoubled entries (steps + 1) chains
+doubled-same entries steps chains d h = record { power = d.power; is = d.is; short = λ k. absurd (omega arith) }
+
+pub doubled-enough : (entries chains : ℕ) → IsDoubled entries 31 chains → AreEnough entries chains
+doubled-enough entries chains d =
+    let some : 0 < chains = subst (λ n. 0 < n) (sym d.is) (pow_pos d.power) in
+    record {
+      some = some;
+      power = (d.power, d.is);
+      many = λ few. elim (cases_lt chains (entries / 2)) [
+        | inl h ↦
+            let all : chains ≡ 2 ^ 31 = d.is ∙ ap (λ n. 2 ^ n) (d.short h) in
+            absurd (omega arith)
+        | inr h ↦ omega arith
+      ];
+    }
+
+-- two points are compared part by part
+pub point-eq : (p q : Point) → Decides (eqb p.signal q.signal && eqb p.time q.time) (p ≡ q)
+point-eq p q = search rules
+
+pub same-point : (p q : Point) (r : Bool) → r ≡ eqb p.signal q.signal && eqb p.time q.time → r ≡ true → p ≡ q
+same-point p q r is true_is = (point-eq p q).0 (sym is ∙ true_is)
+
+pub other-point : (p q : Point) (r : Bool) → r ≡ eqb p.signal q.signal && eqb p.time q.time → r ≡ false → p ≢ q
+other-point p q r is false_is same = absurd (true≢false (sym ((point-eq p q).1 same) ∙ sym is ∙ false_is))
+
+-- What a look-up reads is the chain of the point.
+pub chain-is : (last : List ℕ) (p : Point) (chain many : ℕ) → many ≡ length last → (0 < many → chain ≡ chain_of p many) → 0 < length last → chain ≡ chain_of p (length last)
+chain-is last p chain many all of some = of (subst (λ n. 0 < n) (sym all) some) ∙ ap (chain_of p) all
+
+pub number-of : (last seen : List ℕ) (p : Point) (chain number many : ℕ) → seen ≡ last → many ≡ length last → (0 < many → chain ≡ chain_of p many) → 0 < length last → number ≡ get_or seen chain 0 → number ≡ get_or last (chain_of p (length last)) 0
+number-of last seen p chain number many same all of some is =
+    is ∙ ap (λ l. get_or l chain 0) same ∙ ap (λ n. get_or last n 0) (chain-is last p chain many all of some)
+
+pub linked-as : (before seen : List ℕ) (number read : ℕ) (places : List ℕ) → seen ≡ before → read ≡ number → IsChain before number places → IsChain seen read places
+linked-as before seen number read places same is h = subst (λ l. IsChain l read places) (sym same) (subst (λ n. IsChain before n places) (sym is) h)
+
+-- What is written is one entry more.
+pub noted-as : (journal : List Entry) (noted : ℕ) (last before written_last written_before : List ℕ) → written_last ≡ last → written_before ≡ before → AreNoted journal noted last before → AreNoted journal noted written_last written_before
+noted-as journal noted last before written_last written_before l b h = subst (λ x. AreNoted journal noted x written_before) (sym l) (subst (λ x. AreNoted journal noted last x) (sym b) h)
+
+-- what holds where something is found, and where nothing is
+pub some-holds : {A : Type 0} (o : Option A) (P : Type 0) → is_some o ≡ true → OnSome o P → P
+some-holds None P e h = absurd (cc e)
+some-holds (Some x) P e h = h
+
+pub none-holds : {A : Type 0} (o : Option A) (P : Type 0) → is_some o ≡ false → IfNone o P → P
+none-holds None P e h = h
+none-holds (Some x) P e h = absurd (cc e)
+
+pub none-more : {A : Type 0} (o : Option A) (P Q : Type 0) → (P → Q) → IfNone o P → IfNone o Q
+none-more None P Q f h = f h
+none-more (Some x) P Q f h = tt
+
+pub none-if : {A : Type 0} (o : Option A) (P : Type 0) → P → IfNone o P
+none-if None P h = h
+none-if (Some x) P h = tt

@@ -1,0 +1,45 @@
+//! What comes of a question that is a batch of its own.
+
+ghost use Rattle.std.specs.Prelude.{ℕ, [], IfOk};
+ghost use Rattle.query_lines.specs.declared.unit.Asks.{Asks as QuestionAsks};
+ghost use Rattle.session_meaning.specs.Questions.{IsRightReply, IsOwnMemo};
+ghost use Rattle.session_meaning.specs.Session.{Setup};
+ghost use Rattle.unit_answers.specs.Stores.{AreStores};
+ghost use Rattle.unit_answers.specs.Done.{IsQuestionDone};
+
+use crate::run::no_entries;
+use cell_store::CellStore;
+use journal_text::EntryList;
+use owned_text::OutOfMemory;
+use reply_lines::QuestionReply;
+use std::alloc::Global;
+
+/// What came of a question: the reply, the journal of each shard, and the stores that are left.
+#[derive(Drop)]
+pub struct QuestionDone {
+    pub reply: QuestionReply,
+    pub lists: Vec<EntryList>,
+    /// The journal of a memo of its own, where the question has one, and else none.
+    pub held: Vec<EntryList>,
+    pub stores: Vec<CellStore>,
+}
+
+/// What comes of a question that asks nothing: no shard records an entry, and the stores stay as they are.
+pub fn unasked(
+    alloc: Global,
+    reply: QuestionReply,
+    stores: Vec<CellStore>,
+) -> Result<QuestionDone, OutOfMemory>
+    ensures { (setup : Setup) (line : ℕ) (asks : QuestionAsks) → AreStores setup stores.items
+        → IsRightReply setup.design line asks [] [] reply → IsOwnMemo setup.design line asks []
+        → IfOk result (λ done. IsQuestionDone setup line asks stores.items
+        done.reply done.lists.items done.held.items done.stores.items) }
+{
+    let lists = no_entries(alloc, &stores)?;
+    Ok(QuestionDone {
+        reply,
+        lists,
+        held: Vec::new(alloc),
+        stores,
+    })
+}

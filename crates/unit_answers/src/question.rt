@@ -1,0 +1,39 @@
+//! A question that is a batch of its own.
+
+ghost use Rattle.std.specs.Prelude.{◌<◌, ◌≤◌, IfOk};
+ghost use Rattle.unit_answers.specs.Stores.{setup_of, AreStores};
+ghost use Rattle.unit_answers.specs.Done.{IsQuestionDone};
+
+use crate::first::answer_first;
+use crate::outcome::QuestionDone;
+use crate::sizes::Sizes;
+use crate::stuck::answer_stuck;
+use crate::why::answer_why;
+use cell_store::CellStore;
+use design::Design;
+use owned_text::OutOfMemory;
+use query_lines::{Asks, Question};
+use std::alloc::Global;
+
+/// Answers a question over the stores, with no crew: when a signal first has a value, why it has its value at a time, or which waveform
+/// it has where another is stuck. Where memory runs out, the stores are given up.
+pub fn answer_question(
+    alloc: Global,
+    design: &Design,
+    question: &Question,
+    sizes: Sizes,
+    stores: Vec<CellStore>,
+) -> Result<QuestionDone, OutOfMemory>
+    requires stores { AreStores (setup_of design.now sizes) stores.items }
+    requires shards { (0 < sizes.shards) × (sizes.shards ≤ 64) }
+    ensures { IfOk result (λ done. IsQuestionDone (setup_of design.now sizes)
+        question.now.line question.now.asks stores.items
+        done.reply done.lists.items done.held.items done.stores.items) }
+{
+    let line = question.line;
+    match &question.asks {
+        Asks::First(first) => answer_first(alloc, design, line, first, sizes, stores),
+        Asks::Why(why) => answer_why(alloc, design, line, why, sizes, stores),
+        Asks::Stuck(stuck) => answer_stuck(alloc, design, line, stuck, sizes, stores),
+    }
+}
