@@ -31,7 +31,8 @@ impl HeldFiles {
 
     /// The place of the first file of this name.
     pub(crate) fn place_of(&self, name: &str) -> Option<usize>
-        ensures bytes { OnSome result (bytes_under self.now.files.items name.now ≡ Some (bytes_at self.now.files.items result)) }
+        ensures bytes { OnSome result (bytes_under self.now.files.items name.now ≡ Some
+            (bytes_at self.now.files.items result)) }
         ensures none { IfNone result (bytes_under self.now.files.items name.now ≡ None) }
     {
         for (place, file) in self.files.iter().enumerate() {
@@ -45,7 +46,8 @@ impl HeldFiles {
     /// Begins to read the file at this place, or an empty file.
     pub(crate) fn start(&mut self, place: Option<usize>)
         requires { self.old.started < 4 }
-        ensures rest { drop self.new.at (bytes_at self.new.files.items self.new.reading) ≡ bytes_at self.old.files.items place }
+        ensures rest { drop self.new.at (bytes_at self.new.files.items self.new.reading) ≡ bytes_at
+            self.old.files.items place }
         ensures files { self.new.files ≡ self.old.files }
         ensures started { self.new.started ≡ self.old.started + 1 }
     {
@@ -70,8 +72,10 @@ impl HeldFiles {
     /// Copies the next bytes of the file that is being read into the front of a buffer.
     pub(crate) fn next(&mut self, into: &mut [u8]) -> usize
         ensures bound { result ≤ length into.new }
-        ensures bytes { drop self.old.at (bytes_at self.old.files.items self.old.reading) ≡ take result into.new ++ drop self.new.at (bytes_at self.new.files.items self.new.reading) }
-        ensures end { result ≡ 0 → 0 < length into.new → drop self.new.at (bytes_at self.new.files.items self.new.reading) ≡ [] }
+        ensures bytes { drop self.old.at (bytes_at self.old.files.items self.old.reading) ≡ take
+            result into.new ++ drop self.new.at (bytes_at self.new.files.items self.new.reading) }
+        ensures end { result ≡ 0 → 0 < length into.new
+            → drop self.new.at (bytes_at self.new.files.items self.new.reading) ≡ [] }
         ensures files { self.new.files ≡ self.old.files }
         ensures started { self.new.started ≡ self.old.started }
     {

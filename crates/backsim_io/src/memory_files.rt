@@ -41,7 +41,8 @@ impl MemFiles {
     /// fails where `failing` lists its number, the first call being number 0. So does `start_read` for
     /// a name that isn't held, and a `create` or a `write` for which there is no memory.
     pub fn new(alloc: Global, held: Vec<(Text, Vec<u8>)>, failing: Vec<u64>) -> MemFiles
-        ensures state { ⟦<MemFiles as Files>⟧.state result ≡ fresh_files (bytes_under held.items) (Some []) }
+        ensures state { ⟦<MemFiles as Files>⟧.state result ≡ fresh_files (bytes_under held.items)
+            (Some []) }
         ensures made { ⟦<MemFiles as Files>⟧.made result [] }
         ensures calls { files_calls result ≡ record { failing = failing.items; next = 0 } }
     {
@@ -59,7 +60,8 @@ impl MemFiles {
 
     /// The bytes of the created file at this place.
     pub fn made(&self, slot: u32) -> Option<&[u8]>
-        ensures bytes { (files : List Made) → ⟦<MemFiles as Files>⟧.made self.now files → option_copied result ≡ option_map (λ file. file.bytes) (slice_get files slot) }
+        ensures bytes { (files : List Made) → ⟦<MemFiles as Files>⟧.made self.now files
+            → option_copied result ≡ option_map (λ file. file.bytes) (slice_get files slot) }
         ensures none { IsNone result ↔ ((⟦<MemFiles as Files>⟧.state self.now).created ≤ slot) }
     {
         match self.created.get(slot as usize) {
@@ -71,7 +73,8 @@ impl MemFiles {
 
 /// Appends an empty file of this name. Answers `false` where there is no memory for it.
 fn create_empty(alloc: Global, created: &mut Vec<(Text, Vec<u8>)>, name: &str) -> bool
-    ensures created { OnTrue result (files_of created.new.items ≡ files_of created.old.items ++ record { name = name.now; bytes = [] } ∷ []) }
+    ensures created { OnTrue result (files_of created.new.items ≡ files_of
+        created.old.items ++ record { name = name.now; bytes = [] } ∷ []) }
     ensures none { OnFalse result (created.new.items ≡ created.old.items) }
     ensures count { OnTrue result (length created.new.items ≡ length created.old.items + 1) }
 {
@@ -84,7 +87,8 @@ fn create_empty(alloc: Global, created: &mut Vec<(Text, Vec<u8>)>, name: &str) -
 /// Appends bytes to the file at this place. Answers `false` where there is no memory for them.
 fn write_more(created: &mut Vec<(Text, Vec<u8>)>, place: usize, piece: &[u8]) -> bool
     requires { place < length created.old.items }
-    ensures grown { OnTrue result (files_of created.new.items ≡ grown (files_of created.old.items) place piece.now) }
+    ensures grown { OnTrue result (files_of created.new.items ≡ grown (files_of created.old.items)
+        place piece.now) }
     ensures none { OnFalse result (files_of created.new.items ≡ files_of created.old.items) }
     ensures count { length created.new.items ≡ length created.old.items }
     ensures room { HasRoomAt created.old.items place (length piece.now) → IsTrue result }
@@ -106,11 +110,16 @@ impl Files for MemFiles {
     /// It fails exactly where its number is listed or the name isn't held.
     fn start_read(&mut self, name: &str) -> Result<(), Failed>
         requires { (files_state self.old).started < 4 }
-        ensures opens { OnOk result (files_state self.new ≡ record (files_state self.old) { started = (files_state self.old).started + 1; left = (files_state self.old).held name.now }) }
+        ensures opens { OnOk result (files_state self.new ≡ record (files_state self.old) {
+          started = (files_state self.old).started + 1;
+          left = (files_state self.old).held
+              name.now;
+        }) }
         ensures failed { OnErr result (FileFault (files_state self.old) (files_state self.new)) }
         ensures missing { IsNone ((files_state self.old).held name.now) → IsErr result }
         ensures listed { IsTrue (is_listed (files_calls self.old)) → IsErr result }
-        ensures others { IsErr result → IsTrue (is_listed (files_calls self.old)) ⊎ IsNone ((files_state self.old).held name.now) }
+        ensures others { IsErr result → IsTrue (is_listed (files_calls self.old)) ⊎
+            IsNone ((files_state self.old).held name.now) }
         ensures calls { files_calls self.new ≡ after_call (files_calls self.old) }
         ensures made { SameMade (files_made self.old) (files_made self.new) }
     {
@@ -126,8 +135,10 @@ impl Files for MemFiles {
     /// It fails exactly where its number is listed.
     fn read(&mut self, into: &mut [u8]) -> Result<usize, Failed>
         ensures bound { ReadsAtMost result into.new }
-        ensures bytes { IfOk result (λ n. Reads (files_state self.old) (files_state self.new) (take n into.new)) }
-        ensures end { IfOk result (λ n. n ≡ 0 → 0 < length into.new → IsAtEnd (files_state self.new).left) }
+        ensures bytes { IfOk result (λ n. Reads (files_state self.old) (files_state self.new)
+            (take n into.new)) }
+        ensures end { IfOk result (λ n. n ≡ 0 → 0 < length into.new
+            → IsAtEnd (files_state self.new).left) }
         ensures failed { OnErr result (ReadFault (files_state self.old) (files_state self.new)) }
         ensures listed { IsErr result ↔ IsTrue (is_listed (files_calls self.old)) }
         ensures calls { files_calls self.new ≡ after_call (files_calls self.old) }
@@ -144,11 +155,16 @@ impl Files for MemFiles {
     fn create(&mut self, name: &str) -> Result<u32, Failed>
         requires { (files_state self.old).created < 4 }
         ensures place { IfOk result (λ place. place ≡ (files_state self.old).created) }
-        ensures creates { OnOk result (files_state self.new ≡ record (files_state self.old) { created = (files_state self.old).created + 1; unfinished = (files_state self.old).unfinished ++ (files_state self.old).created ∷ [] }) }
+        ensures creates { OnOk result (files_state self.new ≡ record (files_state self.old) {
+          created = (files_state self.old).created + 1;
+          unfinished =
+              (files_state self.old).unfinished ++ (files_state self.old).created ∷ [];
+        }) }
         ensures failed { OnErr result (FileFault (files_state self.old) (files_state self.new)) }
         ensures listed { IsTrue (is_listed (files_calls self.old)) → IsErr result }
         ensures calls { files_calls self.new ≡ after_call (files_calls self.old) }
-        ensures made { OnOk result (CreatesIn (files_made self.old) (files_made self.new) name.now) }
+        ensures made { OnOk result (CreatesIn (files_made self.old) (files_made self.new)
+            name.now) }
         ensures none_made { OnErr result (SameMade (files_made self.old) (files_made self.new)) }
     {
         let place = self.slots.files();
@@ -168,9 +184,11 @@ impl Files for MemFiles {
         ensures takes { OnOk result (files_state self.new ≡ files_state self.old) }
         ensures failed { OnErr result (WriteFault (files_state self.old) (files_state self.new)) }
         ensures listed { IsTrue (is_listed (files_calls self.old)) → IsErr result }
-        ensures others { IsErr result → FileHasRoom self.old slot (length piece.now) → IsTrue (is_listed (files_calls self.old)) }
+        ensures others { IsErr result → FileHasRoom self.old slot (length piece.now)
+            → IsTrue (is_listed (files_calls self.old)) }
         ensures calls { files_calls self.new ≡ after_call (files_calls self.old) }
-        ensures made { FileWrites (files_made self.old) (files_made self.new) slot result piece.now }
+        ensures made { FileWrites (files_made self.old) (files_made self.new) slot result
+            piece.now }
     {
         let place = slot as usize;
         if self.calls.fails() || !write_more(&mut self.created, place, piece) {
@@ -183,7 +201,8 @@ impl Files for MemFiles {
     /// It fails exactly where its number is listed.
     fn finish(&mut self, slot: u32) -> Result<(), Failed>
         requires { Contains (files_state self.old).unfinished slot }
-        ensures finishes { OnOk result (files_state self.new ≡ record (files_state self.old) { unfinished = without (files_state self.old).unfinished slot }) }
+        ensures finishes { OnOk result (files_state self.new ≡ record (files_state self.old)
+            { unfinished = without (files_state self.old).unfinished slot }) }
         ensures failed { OnErr result (FileFault (files_state self.old) (files_state self.new)) }
         ensures listed { IsErr result ↔ IsTrue (is_listed (files_calls self.old)) }
         ensures calls { files_calls self.new ≡ after_call (files_calls self.old) }

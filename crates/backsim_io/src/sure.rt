@@ -19,7 +19,8 @@ pub struct SureSource {
 impl SureSource {
     /// A source of these bytes.
     pub fn new(bytes: Vec<u8>) -> SureSource
-        ensures { ⟦<SureSource as Source>⟧.state result ≡ record { left = Some bytes.items; faults = 0 } }
+        ensures { ⟦<SureSource as Source>⟧.state result ≡ record
+            { left = Some bytes.items; faults = 0 } }
     {
         SureSource { bytes, at: 0 }
     }

@@ -111,7 +111,8 @@ impl SureFiles {
         room: usize,
     ) -> Result<SureFiles, OutOfMemory>
         ensures room { IfOk result (λ s. room_of s ≡ room) }
-        ensures state { IfOk result (λ s. ⟦<SureFiles as Files>⟧.state s ≡ fresh_files (held_or_empty held.items) (Some [])) }
+        ensures state { IfOk result (λ s. ⟦<SureFiles as Files>⟧.state s ≡ fresh_files
+            (held_or_empty held.items) (Some [])) }
         ensures made { IfOk result (λ s. ⟦<SureFiles as Files>⟧.made s []) }
     {
         let created = Vec::with_capacity(alloc, FILES)?;
@@ -127,7 +128,9 @@ impl SureFiles {
 
     /// The bytes that were kept of the created file at this place.
     pub fn made(&self, slot: u32) -> Option<&[u8]>
-        ensures bytes { (files : List Made) → ⟦<SureFiles as Files>⟧.made self.now files → option_copied result ≡ option_map (λ file. take (room_of self.now) file.bytes) (slice_get files slot) }
+        ensures bytes { (files : List Made) → ⟦<SureFiles as Files>⟧.made self.now files
+            → option_copied result ≡ option_map (λ file. take (room_of self.now) file.bytes)
+            (slice_get files slot) }
         ensures none { IsNone result ↔ ((⟦<SureFiles as Files>⟧.state self.now).created ≤ slot) }
     {
         match self.created.get(slot as usize) {

@@ -15,7 +15,8 @@ pub fn words_after_name(
     given: io::Result<Vec<String>>,
 ) -> Result<Vec<String>, OutOfMemory>
     ensures words { IfOk given (λ all. IsOkAnd result (λ words. words.items ≡ drop 1 all.items)) }
-    ensures no_text { IfErr given (λ error. error_kind error ≡ InvalidData → IsOkAnd result (λ words. words.items ≡ [])) }
+    ensures no_text { IfErr given (λ error. error_kind error ≡ InvalidData
+        → IsOkAnd result (λ words. words.items ≡ [])) }
     ensures fault { IfErr given (λ error. (error_kind error ≡ InvalidData → ⊥) → IsErr result) }
 {
     match given {

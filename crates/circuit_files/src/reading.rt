@@ -65,7 +65,8 @@ fn read_text<F: Files>(
     file: CircuitFile,
 ) -> Result<Vec<u8>, FilesStop>
     requires { (F.state files.old).started ≡ before file }
-    ensures text { (bytes : List ℕ) → (F.state files.old).held name.now ≡ Some bytes → AnswersText (λ text. text.items) result (limited file bytes) }
+    ensures text { (bytes : List ℕ) → (F.state files.old).held name.now ≡ Some bytes
+        → AnswersText (λ text. text.items) result (limited file bytes) }
     ensures within { IfOk result (λ text. vec_len text ≤ 67108864) }
     ensures place { IfErr result (IsAt file) }
     ensures started { (F.state files.new).started ≤ before file + 1 }

@@ -52,7 +52,8 @@ fn command<'a>(alloc: Global) -> Result<Command<'a>, AllocError>
 /// What the words say, as texts.
 pub(crate) fn find_words<'a>(alloc: Global, words: &'a [&'a str]) -> Result<ArgMatches<'a>, Error>
     ensures exact { FailsBy (fault_of command_app (map (λ w. w.now) words.entry.now)) result }
-    ensures found { IfOk result (λ m. rows_of (found_of m) ≡ matches_of command_app (map (λ w. w.now) words.entry.now)) }
+    ensures found { IfOk result (λ m. rows_of (found_of m) ≡ matches_of command_app
+        (map (λ w. w.now) words.entry.now)) }
 {
     let command = command(alloc)?;
     command.try_get_matches_from(words)

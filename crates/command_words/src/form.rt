@@ -150,7 +150,8 @@ fn are_texts(words: &[&str])
 
 /// The form that the words are, or `None` where they are none.
 pub fn read_words<'a>(alloc: Global, words: &'a [&'a str]) -> Result<Option<Words<'a>>, OutOfMemory>
-    ensures { IfOk result (λ form. option_map form_in form ≡ words_of (map (λ word. word.now) words.entry.now)) }
+    ensures { IfOk result (λ form. option_map form_in form ≡ words_of
+        (map (λ word. word.now) words.entry.now)) }
 {
     are_texts(words);
     match find_words(alloc, words) {

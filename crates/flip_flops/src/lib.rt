@@ -51,7 +51,8 @@ pub fn flop_span(clock: &Clock, delay: u32, t: u32, cut: u32) -> Span
     requires delay { (1 ≤ delay) × (delay ≤ 1000000) }
     requires time { t < cut }
     requires cut { cut ≤ 1000001 }
-    ensures span { result ≡ edges.flop_span cut delay (Some clock.now) (edges.last_edge clock.now delay t) }
+    ensures span { result ≡ edges.flop_span cut delay (Some clock.now)
+        (edges.last_edge clock.now delay t) }
     ensures inside { IsIn result t }
 {
     match last_edge(clock, delay, t) {

@@ -349,7 +349,8 @@ impl Look {
         requires one { IsTrue (is_unary self.now.kind) → length self.now.values ≡ 1 }
         ensures value { result ≡ gate_value self.now.kind self.now.values }
         // once a value has decided, so it is whatever the pins after it are
-        ensures decided { Decided self.now → (rest : List Value) → gate_value self.now.kind (self.now.values ++ rest) ≡ result }
+        ensures decided { Decided self.now → (rest : List Value)
+            → gate_value self.now.kind (self.now.values ++ rest) ≡ result }
     {
         eval_all(self.kind, &self.seen[..self.count])
     }
@@ -380,7 +381,8 @@ impl Evaluation {
     /// Sees one pin more.
     pub fn see(self, value: Value) -> Evaluation
         ensures kind { result.kind ≡ self.kind }
-        ensures seen { (seen : List Value) → (IsTrue (is_unary self.kind) → seen ≡ []) → Evaluates self seen
+        ensures seen { (seen : List Value) → (IsTrue (is_unary self.kind) → seen ≡ [])
+            → Evaluates self seen
             → Evaluates result (seen ++ value ∷ []) }
     {
         let before = self.value;

@@ -15,11 +15,16 @@ use valid_intervals::{Cell, Point, Span};
 /// The section whose text stands at the front of the bytes, and the length of that text.
 pub fn read_section(alloc: Global, text: &[u8]) -> Result<Option<(Section, usize)>, OutOfMemory>
     // What is read is a section, and its text stands at the front.
-    ensures found { IfOk result (λ read. IfSome read (λ r. IsSection r.0 × (text.now ≡ section_lines r.0 ++ drop r.1 text.now))) }
+    ensures found { IfOk result (λ read. IfSome read
+        (λ r. IsSection r.0 × (text.now ≡ section_lines r.0 ++ drop r.1 text.now))) }
     // The section whose text stands at the front is read.
-    ensures only { (section : Section) (rest : List ℕ) → IsSection section → text.now ≡ section_lines section ++ rest → IfOk result (λ read. read ≡ Some (section, length (section_lines section))) }
+    ensures only { (section : Section) (rest : List ℕ) → IsSection section
+        → text.now ≡ section_lines section ++ rest
+        → IfOk result (λ read. read ≡ Some (section, length (section_lines section))) }
     // Nothing is read only where no section's text stands at the front.
-    ensures none { IfOk result (λ read. IfNone read ((section : Section) (rest : List ℕ) → IsSection section → text.now ≢ section_lines section ++ rest)) }
+    ensures none { IfOk result (λ read. IfNone read
+        ((section : Section) (rest : List ℕ) → IsSection section
+        → text.now ≢ section_lines section ++ rest)) }
 {
     let Some((section, rest)) = section_of(alloc, text)? else {
         return Ok(None);

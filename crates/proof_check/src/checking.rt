@@ -34,32 +34,60 @@ fn check_files<F: Files, S: Sink>(
 ) -> CheckStatus
     requires { (F.state files.old).started ≡ 0 }
     ensures no_usage { ¬ (result ≡ CheckStatus.Words) }
-    ensures yes { (given : Given) (bytes : List ℕ) → AreAll (F.state files.old).held (names_of netlist.now timing.now stimulus.now proof.now) given bytes
-        → result ≡ CheckStatus.Yes → Wrote (IsProved given bytes) (S.written out.old) (S.written out.new) }
-    ensures holds { (given : Given) → AreGiven (F.state files.old).held (names_of netlist.now timing.now stimulus.now proof.now) given
-        → result ≡ CheckStatus.Yes → Wrote (IsTrueOf given) (S.written out.old) (S.written out.new) }
-    ensures no { (given : Given) (bytes : List ℕ) → AreAll (F.state files.old).held (names_of netlist.now timing.now stimulus.now proof.now) given bytes
-        → result ≡ CheckStatus.No → Wrote (IsUnproved given bytes) (S.written out.old) (S.written out.new) }
-    ensures refused { (given : Given) (bytes : List ℕ) → AreAll (F.state files.old).held (names_of netlist.now timing.now stimulus.now proof.now) given bytes
-        → result ≡ CheckStatus.Refused → Wrote (IsRefused given bytes) (S.written out.old) (S.written out.new) }
-    ensures proved { (given : Given) (bytes line : List ℕ) → AreAll (F.state files.old).held (names_of netlist.now timing.now stimulus.now proof.now) given bytes
+    ensures yes { (given : Given) (bytes : List ℕ)
+        → AreAll (F.state files.old).held (names_of netlist.now timing.now stimulus.now proof.now)
+        given bytes
+        → result ≡ CheckStatus.Yes → Wrote (IsProved given bytes) (S.written out.old)
+        (S.written out.new) }
+    ensures holds { (given : Given) → AreGiven (F.state files.old).held
+        (names_of netlist.now timing.now stimulus.now proof.now) given
+        → result ≡ CheckStatus.Yes → Wrote (IsTrueOf given) (S.written out.old)
+        (S.written out.new) }
+    ensures no { (given : Given) (bytes : List ℕ)
+        → AreAll (F.state files.old).held (names_of netlist.now timing.now stimulus.now proof.now)
+        given bytes
+        → result ≡ CheckStatus.No → Wrote (IsUnproved given bytes) (S.written out.old)
+        (S.written out.new) }
+    ensures refused { (given : Given) (bytes : List ℕ)
+        → AreAll (F.state files.old).held (names_of netlist.now timing.now stimulus.now proof.now)
+        given bytes
+        → result ≡ CheckStatus.Refused → Wrote (IsRefused given bytes) (S.written out.old)
+        (S.written out.new) }
+    ensures proved { (given : Given) (bytes line : List ℕ)
+        → AreAll (F.state files.old).held (names_of netlist.now timing.now stimulus.now proof.now)
+        given bytes
         → IsProved given bytes line → EndsAs CheckStatus.Yes result }
-    ensures unproved { (given : Given) (bytes line : List ℕ) → AreAll (F.state files.old).held (names_of netlist.now timing.now stimulus.now proof.now) given bytes
+    ensures unproved { (given : Given) (bytes line : List ℕ)
+        → AreAll (F.state files.old).held (names_of netlist.now timing.now stimulus.now proof.now)
+        given bytes
         → IsUnproved given bytes line → EndsAs CheckStatus.No result }
     ensures netlist_refused { (refusal : FileRefusal) (first : List ℕ)
         → (F.state files.old).held netlist.now ≡ Some first → netlist_of first ≡ Err refusal
-        → Refuses 1 (refusal_text refusal) (F.state files.new).started (S.written out.old) (S.written out.new) result }
+        → Refuses 1 (refusal_text refusal) (F.state files.new).started (S.written out.old)
+        (S.written out.new) result }
     ensures timing_refused { (refusal : FileRefusal) (first second : List ℕ)
-        → (F.state files.old).held netlist.now ≡ Some first → (F.state files.old).held timing.now ≡ Some second → first_two first second ≡ Err refusal
-        → Refuses 2 (refusal_text refusal) (F.state files.new).started (S.written out.old) (S.written out.new) result }
-    ensures files_refused { (refusal : FileRefusal) (given : Given) → AreGiven (F.state files.old).held (names_of netlist.now timing.now stimulus.now proof.now) given
+        → (F.state files.old).held netlist.now ≡ Some first
+        → (F.state files.old).held timing.now ≡ Some second → first_two first second ≡ Err refusal
+        → Refuses 2 (refusal_text refusal) (F.state files.new).started (S.written out.old)
+        (S.written out.new) result }
+    ensures files_refused { (refusal : FileRefusal) (given : Given)
+        → AreGiven (F.state files.old).held (names_of netlist.now timing.now stimulus.now proof.now)
+        given
         → design_of_files given.netlist given.timing given.stimulus ≡ Err refusal
-        → Refuses 3 (refusal_text refusal) (F.state files.new).started (S.written out.old) (S.written out.new) result }
-    ensures proof_refused { (design : Joined) (given : Given) (bytes : List ℕ) → AreAll (F.state files.old).held (names_of netlist.now timing.now stimulus.now proof.now) given bytes
-        → design_of_files given.netlist given.timing given.stimulus ≡ Ok design → 268435456 < length bytes
-        → Refuses 4 too_long (F.state files.new).started (S.written out.old) (S.written out.new) result }
-    ensures state { CheckChanges (F.state files.old) (F.state files.new) (S.faults out.old) (S.faults out.new) result }
-    ensures cut { (given : Given) (bytes : List ℕ) → AreAll (F.state files.old).held (names_of netlist.now timing.now stimulus.now proof.now) given bytes
+        → Refuses 3 (refusal_text refusal) (F.state files.new).started (S.written out.old)
+        (S.written out.new) result }
+    ensures proof_refused { (design : Joined) (given : Given) (bytes : List ℕ)
+        → AreAll (F.state files.old).held (names_of netlist.now timing.now stimulus.now proof.now)
+        given bytes
+        → design_of_files given.netlist given.timing given.stimulus ≡ Ok design
+        → 268435456 < length bytes
+        → Refuses 4 too_long (F.state files.new).started (S.written out.old) (S.written out.new)
+        result }
+    ensures state { CheckChanges (F.state files.old) (F.state files.new) (S.faults out.old)
+        (S.faults out.new) result }
+    ensures cut { (given : Given) (bytes : List ℕ)
+        → AreAll (F.state files.old).held (names_of netlist.now timing.now stimulus.now proof.now)
+        given bytes
         → result ≡ CheckStatus.WriteFault
         → WrotePart (IsAnswer given bytes) (S.written out.old) (S.written out.new) }
     ensures unread { WritesNothing result → Stays (S.written out.old) (S.written out.new) }
@@ -75,7 +103,8 @@ fn check_files<F: Files, S: Sink>(
 /// Writes the usage text.
 fn write_usage<S: Sink>(out: &mut S) -> CheckStatus
     ensures status { (result ≡ CheckStatus.Words) ⊎ (result ≡ CheckStatus.WriteFault) }
-    ensures whole { result ≡ CheckStatus.Words → Grows (S.written out.old) (S.written out.new) usage }
+    ensures whole { result ≡ CheckStatus.Words
+        → Grows (S.written out.old) (S.written out.new) usage }
     ensures prefix { GrowsByPrefix (S.written out.old) (S.written out.new) usage }
     ensures cause { OutExplains (S.faults out.old) (S.faults out.new) result }
 {
@@ -94,51 +123,73 @@ pub fn check<F: Files, S: Sink>(
 ) -> CheckStatus
     requires { (F.state files.old).started ≡ 0 }
     // The theorem: where it says yes, forward simulation of the circuit of the three files gives that value, whoever wrote the proof.
-    ensures holds { OnNames (λ names. (given : Given) → AreGiven (F.state files.old).held names given
+    ensures holds { OnNames (λ names. (given : Given)
+        → AreGiven (F.state files.old).held names given
         → result ≡ CheckStatus.Yes → Wrote (IsTrueOf given) (S.written out.old) (S.written out.new))
         (map (λ word. word.now) words.now) }
     // Each status, and what is written under it.
-    ensures yes { OnNames (λ names. (given : Given) (proof : List ℕ) → AreAll (F.state files.old).held names given proof
-        → result ≡ CheckStatus.Yes → Wrote (IsProved given proof) (S.written out.old) (S.written out.new))
+    ensures yes { OnNames (λ names. (given : Given) (proof : List ℕ)
+        → AreAll (F.state files.old).held names given proof
+        → result ≡ CheckStatus.Yes → Wrote (IsProved given proof) (S.written out.old)
+        (S.written out.new))
         (map (λ word. word.now) words.now) }
-    ensures no { OnNames (λ names. (given : Given) (proof : List ℕ) → AreAll (F.state files.old).held names given proof
-        → result ≡ CheckStatus.No → Wrote (IsUnproved given proof) (S.written out.old) (S.written out.new))
+    ensures no { OnNames (λ names. (given : Given) (proof : List ℕ)
+        → AreAll (F.state files.old).held names given proof
+        → result ≡ CheckStatus.No → Wrote (IsUnproved given proof) (S.written out.old)
+        (S.written out.new))
         (map (λ word. word.now) words.now) }
-    ensures refused { OnNames (λ names. (given : Given) (proof : List ℕ) → AreAll (F.state files.old).held names given proof
-        → result ≡ CheckStatus.Refused → Wrote (IsRefused given proof) (S.written out.old) (S.written out.new))
+    ensures refused { OnNames (λ names. (given : Given) (proof : List ℕ)
+        → AreAll (F.state files.old).held names given proof
+        → result ≡ CheckStatus.Refused → Wrote (IsRefused given proof) (S.written out.old)
+        (S.written out.new))
         (map (λ word. word.now) words.now) }
-    ensures words { result ≡ CheckStatus.Words → ¬ (length words.now ≡ 4) × Grows (S.written out.old) (S.written out.new) usage }
-    ensures state { CheckChanges (F.state files.old) (F.state files.new) (S.faults out.old) (S.faults out.new) result }
-    ensures cut { OnNames (λ names. (given : Given) (proof : List ℕ) → AreAll (F.state files.old).held names given proof
+    ensures words { result ≡ CheckStatus.Words
+        → ¬ (length words.now ≡ 4) × Grows (S.written out.old) (S.written out.new) usage }
+    ensures state { CheckChanges (F.state files.old) (F.state files.new) (S.faults out.old)
+        (S.faults out.new) result }
+    ensures cut { OnNames (λ names. (given : Given) (proof : List ℕ)
+        → AreAll (F.state files.old).held names given proof
         → result ≡ CheckStatus.WriteFault
         → WrotePart (IsAnswer given proof) (S.written out.old) (S.written out.new))
         (map (λ word. word.now) words.now) }
     ensures unread { WritesNothing result → Stays (S.written out.old) (S.written out.new) }
     // And where each comes, unless a fault, or a lack of memory, cuts the call off.
-    ensures proved { OnNames (λ names. (given : Given) (proof line : List ℕ) → AreAll (F.state files.old).held names given proof
+    ensures proved { OnNames (λ names. (given : Given) (proof line : List ℕ)
+        → AreAll (F.state files.old).held names given proof
         → IsProved given proof line → EndsAs CheckStatus.Yes result)
         (map (λ word. word.now) words.now) }
-    ensures unproved { OnNames (λ names. (given : Given) (proof line : List ℕ) → AreAll (F.state files.old).held names given proof
+    ensures unproved { OnNames (λ names. (given : Given) (proof line : List ℕ)
+        → AreAll (F.state files.old).held names given proof
         → IsUnproved given proof line → EndsAs CheckStatus.No result)
         (map (λ word. word.now) words.now) }
     ensures netlist_refused { OnNames (λ names. (refusal : FileRefusal) (first : List ℕ)
         → (F.state files.old).held names.netlist ≡ Some first → netlist_of first ≡ Err refusal
-        → Refuses 1 (refusal_text refusal) (F.state files.new).started (S.written out.old) (S.written out.new) result)
+        → Refuses 1 (refusal_text refusal) (F.state files.new).started (S.written out.old)
+        (S.written out.new) result)
         (map (λ word. word.now) words.now) }
     ensures timing_refused { OnNames (λ names. (refusal : FileRefusal) (first second : List ℕ)
-        → (F.state files.old).held names.netlist ≡ Some first → (F.state files.old).held names.timing ≡ Some second → first_two first second ≡ Err refusal
-        → Refuses 2 (refusal_text refusal) (F.state files.new).started (S.written out.old) (S.written out.new) result)
+        → (F.state files.old).held names.netlist ≡ Some first
+        → (F.state files.old).held names.timing ≡ Some second → first_two first second ≡ Err refusal
+        → Refuses 2 (refusal_text refusal) (F.state files.new).started (S.written out.old)
+        (S.written out.new) result)
         (map (λ word. word.now) words.now) }
-    ensures files_refused { OnNames (λ names. (refusal : FileRefusal) (given : Given) → AreGiven (F.state files.old).held names given
+    ensures files_refused { OnNames (λ names. (refusal : FileRefusal) (given : Given)
+        → AreGiven (F.state files.old).held names given
         → design_of_files given.netlist given.timing given.stimulus ≡ Err refusal
-        → Refuses 3 (refusal_text refusal) (F.state files.new).started (S.written out.old) (S.written out.new) result)
+        → Refuses 3 (refusal_text refusal) (F.state files.new).started (S.written out.old)
+        (S.written out.new) result)
         (map (λ word. word.now) words.now) }
-    ensures proof_refused { OnNames (λ names. (design : Joined) (given : Given) (proof : List ℕ) → AreAll (F.state files.old).held names given proof
-        → design_of_files given.netlist given.timing given.stimulus ≡ Ok design → 268435456 < length proof
-        → Refuses 4 too_long (F.state files.new).started (S.written out.old) (S.written out.new) result)
+    ensures proof_refused { OnNames (λ names. (design : Joined) (given : Given) (proof : List ℕ)
+        → AreAll (F.state files.old).held names given proof
+        → design_of_files given.netlist given.timing given.stimulus ≡ Ok design
+        → 268435456 < length proof
+        → Refuses 4 too_long (F.state files.new).started (S.written out.old) (S.written out.new)
+        result)
         (map (λ word. word.now) words.now) }
-    ensures other_words { ¬ (length words.now ≡ 4) → (result ≡ CheckStatus.Words) ⊎ (result ≡ CheckStatus.WriteFault) }
-    ensures usage_part { ¬ (length words.now ≡ 4) → GrowsByPrefix (S.written out.old) (S.written out.new) usage }
+    ensures other_words { ¬ (length words.now ≡ 4)
+        → (result ≡ CheckStatus.Words) ⊎ (result ≡ CheckStatus.WriteFault) }
+    ensures usage_part { ¬ (length words.now ≡ 4)
+        → GrowsByPrefix (S.written out.old) (S.written out.new) usage }
     ensures no_files { ¬ (length words.now ≡ 4) → files.new ≡ files.old }
     ensures made { SameMade (F.made files.old) (F.made files.new) }
 {

@@ -54,7 +54,8 @@ fn verdict_of(alloc: Global, design: &Design, text: &[u8]) -> Result<Verdict, Ou
 pub fn judge<S: Sink>(alloc: Global, design: &Design, text: &[u8], out: &mut S) -> CheckStatus
     requires { length text.now ≤ 268435456 }
     ensures judged { Judged design.now text.now (S.written out.old) (S.written out.new) result }
-    ensures holds { result ≡ CheckStatus.Yes → Wrote (IsTrue design.now) (S.written out.old) (S.written out.new) }
+    ensures holds { result ≡ CheckStatus.Yes → Wrote (IsTrue design.now) (S.written out.old)
+        (S.written out.new) }
     ensures cause { OutExplains (S.faults out.old) (S.faults out.new) result }
 {
     let Ok(verdict) = verdict_of(alloc, design, text) else {

@@ -129,7 +129,8 @@ impl<T: Drop> ReadyQueue<T> {
         ensures handed_back { IfErr result (λ refused. refused ≡ item) }
         ensures refused { OnErr result (pushed_by pass.new ≡ pushed_by pass.old) }
         ensures full { OnErr result (HeldBeside (capacity_of self.now) pass.old) }
-        ensures full_of_own { IsOnly pass.old → OnErr result (Lacks (capacity_of self.now) pass.old) }
+        ensures full_of_own { IsOnly pass.old
+            → OnErr result (Lacks (capacity_of self.now) pass.old) }
     {
         self.queue.push_as::<Pushed, R>(rt, &mut pass.pass, item)
     }
@@ -138,13 +139,15 @@ impl<T: Drop> ReadyQueue<T> {
     pub fn pop<R: Wait>(&self, rt: &R, pass: &mut QueuePass<T>) -> Option<T>
         requires { IsPassOf self.now pass.old }
         ensures of_queue { IsPassOf self.now pass.new }
-        ensures popped { IfSome result (λ item. popped_by pass.new ≡ popped_by pass.old ++ item ∷ []) }
+        ensures popped { IfSome result (λ item. popped_by pass.new ≡ popped_by
+            pass.old ++ item ∷ []) }
         ensures pushed { pushed_by pass.new ≡ pushed_by pass.old }
         ensures only { IsOnly pass.old → IsOnly pass.new }
 
         ensures none { IfNone result (popped_by pass.new ≡ popped_by pass.old) }
         ensures empty { IfNone result (HeldBeside 0 pass.old) }
-        ensures all_own_popped { IsOnly pass.old → IfNone result (IsPermutation (pushed_by pass.old) (popped_by pass.old)) }
+        ensures all_own_popped { IsOnly pass.old
+            → IfNone result (IsPermutation (pushed_by pass.old) (popped_by pass.old)) }
     {
         self.queue.pop_as::<Popped, R>(rt, &mut pass.pass)
     }

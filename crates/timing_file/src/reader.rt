@@ -38,7 +38,8 @@ fn fault(cause: TimingCause, line: u32) -> Result<(), TimingFault>
 /// Whether the subject is seen for the first time. It is seen from now on.
 fn is_first<'a>(seen: &mut HashSet<Subject<'a>>, subject: Subject<'a>) -> Result<bool, TimingFault>
     ensures first { IfOk result (λ first. first ≡ not (was_seen seen.old.keys subject.entry)) }
-    ensures added { IfOk result (λ first. OnTrue first (AddsSubject seen.old.keys seen.new.keys subject.entry)) }
+    ensures added { IfOk result (λ first. OnTrue first
+        (AddsSubject seen.old.keys seen.new.keys subject.entry)) }
     ensures err { IfErr result (λ fault. fault ≡ out_of_memory) }
 {
     Ok(seen.insert(subject)?)
@@ -50,7 +51,8 @@ fn take_stated<'a>(
     number: u32,
     entry: Entry<'a>,
 ) -> Result<(), TimingFault>
-    ensures { ReadsEntry reader.old reader.new number (Option.Some (entry_seen entry.entry)) result }
+    ensures { ReadsEntry reader.old reader.new number (Option.Some (entry_seen entry.entry))
+        result }
 {
     if !is_first(&mut reader.seen, entry.subject())? {
         return fault(TimingCause::Twice, number);

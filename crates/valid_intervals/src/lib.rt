@@ -80,7 +80,8 @@ impl Span {
     /// The times that both have, where there is one.
     pub fn meet(self, other: Span) -> Option<Span>
         ensures some { IfSome result (λ span. span ≡ spans.meet self other) }
-        ensures none { IsNone result ↔ ((spans.meet self other).stop ≤ (spans.meet self other).start) }
+        ensures none { IsNone result ↔ ((spans.meet self other).stop
+            ≤ (spans.meet self other).start) }
     {
         Span::new(self.start.max(other.start), self.end.min(other.end))
     }

@@ -26,9 +26,11 @@ pub fn read_vcd(alloc: Global, text: &[u8]) -> Result<Option<WireList>, OutOfMem
     ensures wires { IfOk result (λ read. IfSome read (λ wires. AreWires wires)) }
     ensures found { IfOk result (λ read. IfSome read (λ wires. text.now ≡ vcd_of wires)) }
     // The wires of which the text is the dump are read.
-    ensures only { (wires : List WireRecord) → AreWires wires → text.now ≡ vcd_of wires → IfOk result (λ read. read ≡ Some wires) }
+    ensures only { (wires : List WireRecord) → AreWires wires → text.now ≡ vcd_of wires
+        → IfOk result (λ read. read ≡ Some wires) }
     // Nothing is read only where the text is no dump.
-    ensures none { IfOk result (λ read. IfNone read ((wires : List WireRecord) → AreWires wires → text.now ≢ vcd_of wires)) }
+    ensures none { IfOk result (λ read. IfNone read
+        ((wires : List WireRecord) → AreWires wires → text.now ≢ vcd_of wires)) }
 {
     let Some(wires) = wires_in(alloc, text)? else {
         return Ok(None);

@@ -152,7 +152,8 @@ impl Wire {
 
     // One change more.
     pub(crate) fn push(&mut self, run: Run) -> Result<(), OutOfMemory>
-        ensures { OnOk result (self.new ≡ record self.old { changes = self.old.changes ++ run ∷ [] }) }
+        ensures { OnOk result (self.new ≡ record self.old
+            { changes = self.old.changes ++ run ∷ [] }) }
     {
         self.changes.push(run)?;
         Ok(())
@@ -186,11 +187,13 @@ pub fn wire_of(
     ensures answered { (c : Circuit) (s : ℕ) → c.horizon ≡ horizon → runs.now ≡ wave c s start stop
         → IfOk result (λ wire. wire ≡ answered name.now c s start stop) }
     // Such a wire can stand in a dump.
-    ensures sound { (c : Circuit) (s : ℕ) → runs.now ≡ wave c s start stop → IsTrue (text.is_name name.now)
+    ensures sound { (c : Circuit) (s : ℕ) → runs.now ≡ wave c s start stop
+        → IsTrue (text.is_name name.now)
         → IfOk result (λ wire. IsTrue (wires.is_wire wire)) }
     // Whatever the runs are, this is the wire: x before the window, the runs, and x from the window's end on, each at its
     // time, where neighbours of one value are one change.
-    ensures runs { IfOk result (λ wire. wire ≡ record { name = name.now; changes = maximal_runs (framed start stop runs.now) }) }
+    ensures runs { IfOk result (λ wire. wire ≡ record
+        { name = name.now; changes = maximal_runs (framed start stop runs.now) }) }
 {
     let name = name.to_vec(alloc)?;
     let points = framed_runs(alloc, start, stop, runs.as_slice())?;

@@ -74,7 +74,8 @@ fn push_changes(events: &mut Vec<Event>, code: u8, changes: &[Run]) -> Result<()
 
 fn push_vars(text: &mut Vec<u8>, wires: &[Wire]) -> Result<(), OutOfMemory>
     requires { length wires.now ≤ 64 }
-    ensures { OnOk result (text.new.items ≡ text.old.items ++ flat_map ended (var_lines first_code wires.now)) }
+    ensures { OnOk result (text.new.items ≡ text.old.items ++ flat_map ended
+        (var_lines first_code wires.now)) }
 {
     let mut code = b'!';
     for wire in wires {

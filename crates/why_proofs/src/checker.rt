@@ -68,7 +68,13 @@ fn check_cells(
     cells: &[CellLine],
 ) -> Result<Checked, OutOfMemory>
     requires { length cells.now ≤ 268435456 }
-    ensures { let p : Proof = record { name = name.now; time = time; value = value; cells = cells.now } in IfOk result (IsJudged design.now p) }
+    ensures { let p : Proof = record {
+      name = name.now;
+      time = time;
+      value = value;
+      cells =
+          cells.now;
+    } in IfOk result (IsJudged design.now p) }
 {
     let mut known = KnownCells::new(alloc);
     for (place, line) in cells.iter().enumerate() {

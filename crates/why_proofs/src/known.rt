@@ -41,8 +41,11 @@ impl KnownCells {
 
     /// The cell that covers the point: of those of its signal that begin no later, the last is the only one that can.
     fn find(&self, p: Point) -> Option<Cell>
-        ensures cell { (c : Circuit) → IsCircuit c → AreTrueCells c (get point_cmp self.now.cells) → IfSome result (λ cell. cell ≡ cell_at c p) }
-        ensures line { (c : Circuit) (lines : List SignalCell) → IsCircuit c → AreTrueCells c (get point_cmp self.now.cells) → IsIndexOf lines (get point_cmp self.now.cells)
+        ensures cell { (c : Circuit) → IsCircuit c → AreTrueCells c (get point_cmp self.now.cells)
+            → IfSome result (λ cell. cell ≡ cell_at c p) }
+        ensures line { (c : Circuit) (lines : List SignalCell) → IsCircuit c
+            → AreTrueCells c (get point_cmp self.now.cells)
+            → IsIndexOf lines (get point_cmp self.now.cells)
             → result ≡ line_at lines p.signal p.time }
     {
         let (first, cell) = self.cells.range(..=p).next_back()?;
@@ -58,7 +61,8 @@ impl KnownCells {
         requires point { IsPoint design.now.circuit p }
         requires cells { AreTrueCells design.now.circuit (get point_cmp self.now.cells) }
         ensures cell { IfSome result (λ cell. cell ≡ cell_at design.now.circuit p) }
-        ensures answer { (lines : List SignalCell) → IsIndexOf lines (get point_cmp self.now.cells) → result ≡ answer design.now.circuit lines p.signal p.time }
+        ensures answer { (lines : List SignalCell) → IsIndexOf lines (get point_cmp self.now.cells)
+            → result ≡ answer design.now.circuit lines p.signal p.time }
     {
         design.facts();
         match design.base(p.signal, p.time) {
@@ -73,7 +77,8 @@ impl KnownCells {
         requires looking { IsLooking design.now.circuit walk.now }
         requires cells { AreTrueCells design.now.circuit (get point_cmp self.now.cells) }
         ensures looks { IfSome result (LooksOn design.now.circuit walk.now) }
-        ensures known { (lines : List SignalCell) → IsIndexOf lines (get point_cmp self.now.cells) → Hears design.now.circuit (answer design.now.circuit lines) walk.now result }
+        ensures known { (lines : List SignalCell) → IsIndexOf lines (get point_cmp self.now.cells)
+            → Hears design.now.circuit (answer design.now.circuit lines) walk.now result }
     {
         match walk.next_source(design) {
             None => Some(walk.see(design, None)),
@@ -89,7 +94,8 @@ impl KnownCells {
         requires point { IsPoint design.now.circuit p }
         requires evaluable { IsEvaluable design.now.circuit p.signal p.time }
         requires cells { AreTrueCells design.now.circuit (get point_cmp self.now.cells) }
-        ensures rules { (lines : List SignalCell) → IsIndexOf lines (get point_cmp self.now.cells) → Rules design.now.circuit (answer design.now.circuit lines) p result }
+        ensures rules { (lines : List SignalCell) → IsIndexOf lines (get point_cmp self.now.cells)
+            → Rules design.now.circuit (answer design.now.circuit lines) p result }
         ensures cell { IfSome result (λ cell. cell ≡ cell_at design.now.circuit p) }
     {
         design.facts();
@@ -108,7 +114,8 @@ impl KnownCells {
     /// The cell that a line says, where the known cells justify it.
     fn judge(&self, design: &Design, line: &CellLine) -> Option<Cell>
         requires { AreTrueCells design.now.circuit (get point_cmp self.now.cells) }
-        ensures judged { (lines : List SignalCell) → IsIndexOf lines (get point_cmp self.now.cells) → Judges design.now.circuit lines line.now result }
+        ensures judged { (lines : List SignalCell) → IsIndexOf lines (get point_cmp self.now.cells)
+            → Judges design.now.circuit lines line.now result }
         ensures said { IfSome result (λ cell. line.now.cell ≡ cell) }
         ensures cell { IfSome result (IsTrueCell design.now.circuit (place_of line.now)) }
     {
@@ -130,9 +137,12 @@ impl KnownCells {
 
     /// Adds a cell at its first time.
     fn insert(&mut self, p: Point, cell: Cell) -> Result<(), OutOfMemory>
-        ensures cells { (c : Circuit) → AreTrueCells c (get point_cmp self.old.cells) → IsTrueCell c p cell → OnOk result (AreTrueCells c (get point_cmp self.new.cells)) }
-        ensures lines { (c : Circuit) (lines : List SignalCell) (x : SignalCell) → AreTrueCells c (get point_cmp self.old.cells) → IsTrueCell c p cell
-            → IsIndexOf lines (get point_cmp self.old.cells) → x.cell ≡ cell → place_of x ≡ p → OnOk result (IsIndexOf (lines ++ x ∷ []) (get point_cmp self.new.cells)) }
+        ensures cells { (c : Circuit) → AreTrueCells c (get point_cmp self.old.cells)
+            → IsTrueCell c p cell → OnOk result (AreTrueCells c (get point_cmp self.new.cells)) }
+        ensures lines { (c : Circuit) (lines : List SignalCell) (x : SignalCell)
+            → AreTrueCells c (get point_cmp self.old.cells) → IsTrueCell c p cell
+            → IsIndexOf lines (get point_cmp self.old.cells) → x.cell ≡ cell → place_of x ≡ p
+            → OnOk result (IsIndexOf (lines ++ x ∷ []) (get point_cmp self.new.cells)) }
     {
         self.cells.insert(p, cell)?;
         Ok(())
@@ -141,9 +151,11 @@ impl KnownCells {
     /// Accepts a line that the known cells justify, and answers whether they do.
     pub fn accept(&mut self, design: &Design, line: &CellLine) -> Result<bool, OutOfMemory>
         requires { AreTrueCells design.now.circuit (get point_cmp self.old.cells) }
-        ensures cells { OnOk result (AreTrueCells design.now.circuit (get point_cmp self.new.cells)) }
+        ensures cells { OnOk result (AreTrueCells design.now.circuit
+            (get point_cmp self.new.cells)) }
         ensures judged { (lines : List SignalCell) → IsIndexOf lines (get point_cmp self.old.cells)
-            → IfOk result (λ yes. Accepts design.now.circuit lines line.now (get point_cmp self.new.cells) yes) }
+            → IfOk result (λ yes. Accepts design.now.circuit lines line.now
+            (get point_cmp self.new.cells) yes) }
     {
         let Some(cell) = self.judge(design, line) else {
             return Ok(false);
@@ -160,7 +172,9 @@ impl KnownCells {
     pub fn claimed(&self, design: &Design, name: &[u8], time: u32, value: Value) -> Option<u32>
         requires { AreTrueCells design.now.circuit (get point_cmp self.now.cells) }
         ensures { (lines : List SignalCell) → IsIndexOf lines (get point_cmp self.now.cells)
-            → let p : Proof = record { name = name.now; time = time; value = value; cells = lines } in MatchOption result ((s : ℕ) → IsClaimed design.now p s → ⊥) (IsClaimed design.now p) }
+            → let p : Proof = record { name = name.now; time = time; value = value; cells = lines }
+            in MatchOption result ((s : ℕ) → IsClaimed design.now p s → ⊥)
+            (IsClaimed design.now p) }
     {
         design.facts();
         let signal = design.netlist().id_of(name)?;

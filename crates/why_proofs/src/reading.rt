@@ -23,7 +23,8 @@ pub fn claim_of(text: &[u8]) -> Option<(&[u8], u32, Value, &[u8])>
 
 /// The cell lines up to the first line that is none.
 pub fn cells_of(alloc: Global, text: &[u8]) -> Result<(Vec<CellLine>, &[u8]), OutOfMemory>
-    ensures { IfOk result (λ read. (read.0.items, read.1.now) ≡ cells_at (length text.now) text.now) }
+    ensures { IfOk result (λ read. (read.0.items, read.1.now) ≡ cells_at (length text.now)
+        text.now) }
 {
     let mut cells = Vec::new(alloc);
     let mut rest = text;

@@ -86,7 +86,8 @@ impl Walk {
     /// Whether the look is over: one pin has decided, or none is left.
     pub fn is_done(&self, design: &Design) -> bool
         requires { IsWalk design.now.circuit self.now }
-        ensures { result ≡ nat_eq self.now.looked (length (looked_at design.now.circuit self.now.point)) }
+        ensures { result ≡ nat_eq self.now.looked
+            (length (looked_at design.now.circuit self.now.point)) }
     {
         design.facts();
         let (_, pins) = design.gate_of(self.point.signal);
@@ -113,7 +114,8 @@ impl Walk {
     pub fn see(&self, design: &Design, heard: Option<Cell>) -> Walk
         requires walk { IsWalk design.now.circuit self.now }
         requires looking { IsLooking design.now.circuit self.now }
-        requires heard { heard ≡ cell_there design.now.circuit (next_point design.now.circuit self.now) }
+        requires heard { heard ≡ cell_there design.now.circuit
+            (next_point design.now.circuit self.now) }
         ensures { LooksOn design.now.circuit self.now result }
     {
         design.facts();

@@ -68,7 +68,8 @@ impl WindowWalk {
         ensures time { OnOk result (self.new.time ≡ cell.span.stop) }
         ensures runs { let point : RunRecord = record { time = self.old.time; value = cell.value }
             in OnOk result (self.new.runs ≡ with_point self.old.runs point) }
-        ensures walked { (c : Circuit) (s : ℕ) → IsWalked c s self.old → cell ≡ cells.cell_at c (cells.point_at s self.old.time)
+        ensures walked { (c : Circuit) (s : ℕ) → IsWalked c s self.old
+            → cell ≡ cells.cell_at c (cells.point_at s self.old.time)
             → OnOk result (IsWalked c s self.new) }
         ensures err { OnErr result (self.new ≡ self.old) }
     {
@@ -81,7 +82,8 @@ impl WindowWalk {
     pub fn into_runs(self) -> Runs
         ensures runs { result ≡ self.runs }
         ensures wave { (c : Circuit) (s : ℕ) → IsCircuit c → IsWalked c s self
-            → self.stop ≤ self.time → self.stop ≤ c.horizon + 1 → result ≡ wave c s self.start self.stop }
+            → self.stop ≤ self.time → self.stop ≤ c.horizon + 1
+            → result ≡ wave c s self.start self.stop }
     {
         self.runs
     }

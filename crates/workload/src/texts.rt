@@ -46,7 +46,8 @@ fn put_inputs(text: &mut Vec<u8>, many: u32) -> Result<(), OutOfMemory>
 
 fn put_gates(text: &mut Vec<u8>, draws: &mut Draws, many: u32) -> Result<(), OutOfMemory>
     requires { draws.old.made ≡ 0 }
-    ensures text { OnOk result (text.new.items ≡ text.old.items ++ lines_of (texts.gate_line draws.old.seed) many) }
+    ensures text { OnOk result (text.new.items ≡ text.old.items ++ lines_of
+        (texts.gate_line draws.old.seed) many) }
     ensures seed { draws.new.seed ≡ draws.old.seed }
     ensures made { OnOk result (draws.new.made ≡ many) }
 {
@@ -82,7 +83,8 @@ pub fn stimulus_text(alloc: Global, draws: &mut Draws) -> Result<Vec<u8>, OutOfM
 fn put_settings(text: &mut Vec<u8>, draws: &mut Draws, many: u32) -> Result<(), OutOfMemory>
     requires made { draws.old.made ≡ 200000 }
     requires many { many ≤ 1000000 }
-    ensures text { OnOk result (text.new.items ≡ text.old.items ++ lines_of (texts.setting_line draws.old.seed) many) }
+    ensures text { OnOk result (text.new.items ≡ text.old.items ++ lines_of
+        (texts.setting_line draws.old.seed) many) }
     ensures seed { draws.new.seed ≡ draws.old.seed }
     ensures made { OnOk result (draws.new.made ≡ 200000 + many) }
 {
@@ -106,7 +108,8 @@ pub fn script_text(alloc: Global, draws: &mut Draws) -> Result<Vec<u8>, OutOfMem
 fn put_queries(text: &mut Vec<u8>, draws: &mut Draws, many: u32) -> Result<(), OutOfMemory>
     requires made { draws.old.made ≡ 360016 }
     requires many { many ≤ 1000000 }
-    ensures { OnOk result (text.new.items ≡ text.old.items ++ lines_of (texts.query_line draws.old.seed) many) }
+    ensures { OnOk result (text.new.items ≡ text.old.items ++ lines_of
+        (texts.query_line draws.old.seed) many) }
 {
     for number in 0..many {
         let place = draws.next() % LAYER;
