@@ -1,36 +1,41 @@
 #!/usr/bin/env python3
 """Refuses the program one allocation after another, and looks at how it ends and at what it has written by then.
 
-    bench/refused_memory/run.py [--first N] [--last N] [--step N] [--enough N] [--jobs N] [--session NAME]..
+    bench/refused_memory/run.py [--first N] [--last N] [--most N] [--rest] [--jobs N] [--every | --session NAME ..]
 
-Sessions of tests/sessions with evictions, budgets, first times, explanations, stuck signals and dumps are run by `rt try`, with one worker
-and one shard where they name no other number, so that each has one text of its replies, its journal and its dumps. First the session is run
-as it is: it must write what its row says, and that is the whole text. Then it is run with `--fail-alloc N` for N from the first to the last
-in these steps. Each run must end with status 6, and then the replies, the journal and each dump are a prefix of the whole text; or with
-status 0, and then they are all of it. Where so many runs in a row have ended with status 0, the program makes no further allocation that
-could be refused, and the session is done.
+Sessions of tests/sessions with evictions, budgets, first times, explanations, stuck signals and dumps are run by the program of this
+repository with one worker, and one shard where they name no other number, so that each has one text of its replies, its journal and its
+dumps. refuse.c stands before the C library's allocator: it counts the program's allocations (malloc and realloc, which makes a block
+grow), and refuses one. First the session is run as it is: it must write what its row says, and that is the whole text. Then it is run
+anew for each allocation, which is refused; with `--rest` those that follow it are refused too. Of a session with more than `--most`
+allocations each so many-th is tried. Each run must end with status 6, and
+then the replies, the journal and each dump are a prefix of the whole text; or with status 0, and then they are all of it. What of the
+journal ends with a whole section must be read as a legal journal, each section the one of the whole run.
 
-`rt try` proves nothing and builds the program anew for each run, so a run takes as long as that, and `--jobs` of them stand beside one
-another. A line for each session tells what was found; each run that is not as it must be has a line of its own, and the status is then 1.
-Bad use has a line and status 2."""
+A line for each session tells what was found; each run that is not as it must be has a line of its own, and the status is then 1. Bad use
+has a line and status 2."""
 from __future__ import annotations
 
 import argparse
+import io
 import os
 import re
 import shutil
 import subprocess
 import sys
 import tempfile
+import time
 from concurrent.futures import ThreadPoolExecutor
 from dataclasses import dataclass
 from typing import NoReturn
 
 TOP = os.path.dirname(os.path.dirname(os.path.dirname(os.path.abspath(__file__))))
-sys.path.insert(0, os.path.join(TOP, "tools"))
+sys.path[:0] = [os.path.join(TOP, "tools"), os.path.join(TOP, "python")]
+from backsim.errors import FormatError  # noqa: E402
+from backsim.formats.journal import collect, events_of  # noqa: E402
+from backsim.legality import judge  # noqa: E402
 from session_rows import FILES, all_sessions, dumps_of  # noqa: E402
 
-CRATE = os.path.join(TOP, "crates", "backsim")
 SESSIONS = (
     "each kind of line in one session, over a memo of two cells",
     "a memo with room for one cell",
@@ -40,8 +45,7 @@ SESSIONS = (
     "stuck: a budget that does not suffice in the session's memo",
     "three dumps at most, each under a name of its own",
 )
-# The last line that rt writes to standard error, where the program came to its end.
-ENDED = re.compile(r"^run=ended status=(\d+) .*proved=no\n\Z", re.M)
+OUT_OF_MEMORY = "backsim: out of memory\n"
 
 
 class Words(argparse.ArgumentParser):
@@ -54,74 +58,82 @@ class Words(argparse.ArgumentParser):
 
 @dataclass(frozen=True)
 class Run:
-    """How a run ended, and its replies, its journal and its dumps by name, and the whole text of each. The status is none where rt
-    says of no end."""
+    """How a run ended, what it wrote to standard error, its replies, its journal and its dumps by name, and how many allocations it asked
+    for."""
 
-    status: int | None
-    texts: dict[str, str]
-    whole: dict[str, str]
+    status: int
     said: str
+    texts: dict[str, str]
+    allocations: int
 
-    def ending(self) -> str:
-        if self.status is not None:
-            return f"it ends with status {self.status}"
-        return "it comes to no end: " + (self.said.strip().splitlines() or ["rt says nothing"])[-1]
-
-    def faults(self) -> list[str]:
-        """What is not as it must be where an allocation may have been refused."""
+    def faults(self, whole: dict[str, str]) -> list[str]:
+        """What is not as it must be where an allocation may have been refused; the whole texts are those of the run without."""
+        found = []
         if self.status == 0:
-            return [f"status 0, and {name} is not the whole text" for name, text in self.whole.items() if self.texts[name] != text]
-        if self.status == 6:
-            pairs = ((name, text.startswith(self.texts[name])) for name, text in self.whole.items())
-            return [f"status 6, and {name} is no prefix of the whole text" for name, is_prefix in pairs if not is_prefix]
-        return [self.ending()]
+            found += [f"status 0, and {name} is not the whole text" for name, text in whole.items() if self.texts[name] != text]
+        elif self.status == 6:
+            found += [f"status 6, and {name} is no prefix of the whole text" for name, text in whole.items() if not text.startswith(self.texts[name])]
+        else:
+            found.append(f"it ends with status {self.status}")
+        if self.said != (OUT_OF_MEMORY if self.status == 6 else ""):
+            found.append(f"status {self.status}, and standard error is {self.said!r}")
+        return found + self.journal_faults(whole["journal"])
+
+    def journal_faults(self, whole: str) -> list[str]:
+        """What is wrong with the sections of the journal that are whole."""
+        text = self.texts["journal"]
+        ends = [match.end() for match in re.finditer(r"^end\n", text, re.M)]
+        if not ends:
+            return []
+        try:
+            judge(events_of(lines_of(text[:ends[-1]]), "journal"), "journal")
+            sections = collect(events_of(lines_of(text[:ends[-1]]), "journal")).sections
+        except FormatError as error:
+            return [f"the whole sections of the journal are none: {error}"]
+        expected = collect(events_of(lines_of(whole), "journal")).sections[:len(sections)]
+        return [] if sections == expected else ["a section of the journal is not the one of the whole run"]
+
+
+def lines_of(text: str) -> io.BytesIO:
+    return io.BytesIO(text.encode("latin-1"))
 
 
 @dataclass(frozen=True)
 class Session:
     name: str
     row: dict[str, str]
+    program: str
+    refuser: str
 
     def words(self) -> list[str]:
         """Those of the row, with one worker, and one shard where it does not name their number."""
         words = re.sub(r"--workers\s+\S+", "", self.row.get("words", "")).split()
         return [*words, "--workers", "1", *([] if "--shards" in words else ["--shards", "1"])]
 
-    def in_folder(self, text: str, folder: str) -> str:
-        """The text of a script or of replies, in which the dumps have names in the folder."""
-        for name in dumps_of(self.row):
-            text = re.sub(rf"^(vcd (?:taken )?){re.escape(name)}(?=\s)", rf"\g<1>{folder}/{name}", text, flags=re.M)
-        return text
-
-    def run(self, refused: int | None, journal: str) -> Run:
-        """Runs the session, where a number is given with this allocation refused; the whole journal is this text."""
+    def run(self, refused: str = "") -> Run:
+        """Runs the session in a folder of its own, with this allocation refused."""
         with tempfile.TemporaryDirectory(prefix="refused_memory_") as folder:
-            os.chmod(folder, 0o777)  # whoever rt runs the program as makes files here
-            data: list[str] = []
             for file in FILES:
                 write(os.path.join(folder, file), self.row.get(file, ""))
-                data += ["--data", f"{file}={folder}/{file}"]
-            write(os.path.join(folder, "script"), self.in_folder(self.row.get("script", ""), folder))
-            fail = [] if refused is None else ["--fail-alloc", str(refused)]
-            words = ["rt", "try", *fail, *data, "--", *FILES, f"{folder}/journal", *self.words()]
-            with open(os.path.join(folder, "script"), "rb") as script:
-                ran = subprocess.run(words, cwd=CRATE, stdin=script, capture_output=True)
-            said = ran.stderr.decode("latin-1")
-            ended = ENDED.search(said)
-            whole = {"replies": self.in_folder(self.row.get("replies", ""), folder), "journal": journal, **dumps_of(self.row)}
-            texts = {name: read(os.path.join(folder, name)) for name in whole}
-            texts["replies"] = ran.stdout.decode("latin-1")
-            return Run(int(ended[1]) if ended else None, texts, whole, said)
+            environment = {"LD_PRELOAD": self.refuser, "REFUSED": refused, "ALLOCATIONS": os.path.join(folder, "allocations")}
+            ran = subprocess.run([self.program, *FILES, "journal", *self.words()], cwd=folder, env=environment,
+                                 input=self.row.get("script", "").encode(), capture_output=True)
+            texts = {name: read(os.path.join(folder, name)) for name in ("journal", *dumps_of(self.row))}
+            allocations = read(os.path.join(folder, "allocations"))
+        texts["replies"] = ran.stdout.decode("latin-1")
+        return Run(ran.returncode, ran.stderr.decode("latin-1"), texts, int(allocations or 0))
 
-    def journal(self) -> str:
-        """The whole journal: what the session writes where nothing is refused. All that its row says must be written then."""
-        run = self.run(None, self.row.get("journal", ""))
-        if run.status != 0:
-            sys.exit(f"refused_memory: {self.name}: with nothing refused, {run.ending()}")
-        for name, text in run.whole.items():
-            if run.texts[name] != text and (name != "journal" or "journal" in self.row):
-                sys.exit(f"refused_memory: {self.name}: with nothing refused, {name} is not that of the row:\n{run.texts[name]}")
-        return run.texts["journal"]
+    def whole(self) -> Run:
+        """What the session writes where nothing is refused. All that its row says must be written then."""
+        run = self.run()
+        expected = {"replies": self.row.get("replies", ""), **dumps_of(self.row)}
+        if "journal" in self.row:
+            expected["journal"] = self.row["journal"]
+        wrong = [name for name, text in expected.items() if run.texts[name] != text]
+        if run.status or wrong or not run.allocations:
+            sys.exit(f"refused_memory: {self.name}: with nothing refused, status {run.status}, {run.allocations} allocations, and not as its "
+                     f"row says: {', '.join(wrong) or 'nothing'}")
+        return run
 
 
 def write(path: str, text: str) -> None:
@@ -139,25 +151,24 @@ def read(path: str) -> str:
 
 def try_session(session: Session, chosen: argparse.Namespace) -> bool:
     """Tries the allocations of a session, and tells what was found. Whether all is as it must be."""
-    journal = session.journal()
-    refused = served = wrong = in_a_row = 0
-    lengths: set[tuple[int, ...]] = set()
-    number = chosen.first
+    began = time.monotonic()
+    whole = session.whole()
+    last = min(chosen.last, whole.allocations)
+    numbers = range(chosen.first, last + 1, max(1, -(-(last + 1 - chosen.first) // chosen.most)))
+    ended = {0: 0, 6: 0}
+    wrong = 0
+    ends: set[tuple[int, ...]] = set()
     with ThreadPoolExecutor(chosen.jobs) as pool:
-        while number <= chosen.last and in_a_row < chosen.enough:
-            numbers = range(number, min(chosen.last + 1, number + chosen.jobs * chosen.step), chosen.step)
-            for place, run in zip(numbers, pool.map(lambda it: session.run(it, journal), numbers)):
-                faults = run.faults()
-                for fault in faults:
-                    print(f"{session.name}: allocation {place}: {fault}", flush=True)
-                wrong += bool(faults)
-                served += run.status == 0
-                refused += run.status == 6
-                in_a_row = in_a_row + 1 if run.status == 0 else 0
-                lengths.add(tuple(len(text) for text in run.texts.values()))
-            number = numbers[-1] + chosen.step
-    end = "" if in_a_row >= chosen.enough else f"; not tried from {number} on"
-    print(f"{session.name}: {refused} runs end with 6, {served} with 0, {wrong} are wrong; {len(lengths)} different ends of what is written{end}", flush=True)
+        for number, run in zip(numbers, pool.map(lambda it: session.run(f"{it}.." if chosen.rest else f"{it}"), numbers)):
+            faults = run.faults(whole.texts)
+            for fault in faults:
+                print(f"{session.name}: allocation {number} of {whole.allocations}: {fault}", flush=True)
+            wrong += bool(faults)
+            if run.status in ended:
+                ended[run.status] += 1
+            ends.add(tuple(len(text) for text in run.texts.values()))
+    print(f"{session.name}: {len(numbers)} of {whole.allocations} allocations refused, {ended[6]} runs end with 6, {ended[0]} with 0, "
+          f"{wrong} are wrong; {len(ends)} different ends of what is written; {time.monotonic() - began:.1f} s", flush=True)
     return not wrong
 
 
@@ -171,10 +182,11 @@ def count(text: str) -> int:
 def parse(words: list[str]) -> argparse.Namespace:
     parser = Words(prog="refused_memory", description="Refuses the program one allocation after another.", allow_abbrev=False)
     parser.add_argument("--first", metavar="N", type=count, default=1, help="the first allocation to refuse (1)")
-    parser.add_argument("--last", metavar="N", type=count, default=100000, help="the last one (100000)")
-    parser.add_argument("--step", metavar="N", type=count, default=1, help="from one to the next (1)")
-    parser.add_argument("--enough", metavar="N", type=count, default=10, help="a session is done after so many runs in a row with status 0 (10)")
+    parser.add_argument("--last", metavar="N", type=count, default=10 ** 9, help="the last one (that of the whole run)")
+    parser.add_argument("--most", metavar="N", type=count, default=1000, help="at most so many of each session, spread over all (1000)")
+    parser.add_argument("--rest", action="store_true", help="refuse those that follow it too")
     parser.add_argument("--jobs", metavar="N", type=count, default=1, help="how many runs stand beside one another (1)")
+    parser.add_argument("--every", action="store_true", help="every session of tests/sessions that ends with status 0")
     parser.add_argument("--session", metavar="NAME", action="append", help="a session of tests/sessions in place of those that are named here; may come again")
     chosen = parser.parse_args(words)
     if chosen.first > chosen.last:
@@ -185,15 +197,20 @@ def parse(words: list[str]) -> argparse.Namespace:
 def main(words: list[str]) -> int:
     chosen = parse(words)
     rows = dict(all_sessions(TOP))
-    names = chosen.session or list(SESSIONS)
+    every = [name for name, row in rows.items() if row.get("status", "0").strip() == "0"]
+    names = every if chosen.every else chosen.session or list(SESSIONS)
     for name in names:
-        if name not in rows or rows[name].get("status", "0") != "0":
+        if name not in every:
             sys.stderr.write(f"refused_memory: no session of tests/sessions has the name {name} and status 0\n")
             return 2
-    if shutil.which("rt") is None:
-        sys.stderr.write("refused_memory: there is no command rt on PATH\n")
+    if shutil.which("cc") is None:
+        sys.stderr.write("refused_memory: there is no command cc on PATH\n")
         return 2
-    right = [try_session(Session(name, rows[name]), chosen) for name in names]
+    program = subprocess.run([os.path.join(TOP, "tools", "program"), "backsim"], check=True, capture_output=True, text=True).stdout.strip()
+    with tempfile.TemporaryDirectory(prefix="refused_memory_") as folder:
+        refuser = os.path.join(folder, "refuse.so")
+        subprocess.run(["cc", "-O2", "-Wall", "-shared", "-fPIC", "-o", refuser, os.path.join(TOP, "bench", "refused_memory", "refuse.c")], check=True)
+        right = [try_session(Session(name, rows[name], program, refuser), chosen) for name in names]
     return 0 if all(right) else 1
 
 

@@ -1,16 +1,16 @@
 """Many questions at once."""
 from __future__ import annotations
 
+from itertools import islice
 from types import TracebackType
 from typing import TYPE_CHECKING, Any, Generic, TypeVar
 
 from . import questions
 from .errors import UsageError
-from .exchange import CHUNK, Asked
+from .exchange import CHUNK, Questions
 from .formats.script import Line
-from .outcomes import SessionError
 from .questions import Question
-from .values import Answer, At, Budget, First, Past, Proof, Stuck, Unknown, Wave
+from .values import At, Budget, First, Past, Proof, Stuck, Unknown, Wave
 
 if TYPE_CHECKING:
     from .session import Session
@@ -50,8 +50,7 @@ class Batch:
         self._session = session
         self._pending: list[Pending[Any]] = []
         self._lines: list[Line] = []
-        self._sent: list[Asked] = []
-        self._got: list[Answer] = []
+        self._asked: Questions | None = None
         self.results: list[Any] = []
 
     def __enter__(self) -> Batch:
@@ -63,11 +62,11 @@ class Batch:
 
     def ask(self) -> list[Any]:
         """Asks what was not asked yet, and gives the answers in the order of the questions; `results` has them too."""
-        self._send(True)
-        pending, self._pending = self._pending, []
-        answers, self._got, self._sent = iter(self._got), [], []
+        asked = self._send(True)
+        pending, self._pending, self._asked = self._pending, [], None
+        answers = iter(asked.answers())
         for one in pending:
-            one._answer = one._question.answer([next(answers) for _ in one._question.lines])
+            one._answer = one._question.answer(list(islice(answers, len(one._question.lines))))
             one._is_answered = True
         self.results += [one._answer for one in pending]
         return self.results
@@ -80,17 +79,13 @@ class Batch:
             self._send(False)
         return pending
 
-    def _send(self, ends: bool) -> None:
-        """Sends the lines that were added, and reads the answers to those that were sent before; where all have ended, to all."""
+    def _send(self, ends: bool) -> Questions:
+        """Sends the lines that were added."""
+        if self._asked is None:
+            self._asked = self._session._questions()
         lines, self._lines = self._lines, []
-        self._sent.append(self._session._send(lines, ends))
-        try:
-            for asked in self._sent[-2:] if ends else self._sent[-2:-1]:
-                self._got += self._session._answers(asked)
-        except SessionError as error:
-            lines = [line for asked in self._sent for line in asked.lines]
-            error.answered = tuple(zip(lines, self._got))
-            raise
+        self._asked.send(lines, ends)
+        return self._asked
 
     def wave(self, name: str, start: int, stop: int, budget: int | None = None) -> Pending[Wave]:
         """As `Session.wave`."""

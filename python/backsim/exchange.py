@@ -2,10 +2,11 @@
 from __future__ import annotations
 
 from collections import deque
-from collections.abc import Iterable, Iterator
+from collections.abc import Callable, Iterable, Iterator
 from dataclasses import dataclass, field, replace
 
 from .errors import UsageError
+from .formats.replies import Reply, usual_answer
 from .formats.script import BadScriptLine, Go, Line
 from .outcomes import SessionError
 from .program import Conversation
@@ -27,8 +28,10 @@ class Exchange:
     """Sends lines and reads answers. Whatever is read, the answers to what was sent before it are read first and kept; so answers may
     be left for later, or for ever."""
 
-    def __init__(self, conversation: Conversation) -> None:
+    def __init__(self, conversation: Conversation, answer_of: Callable[[Reply], Answer]) -> None:
+        """`answer_of` gives the answer of a reply that is not a plain value or waveform."""
         self._conversation = conversation
+        self._answer_of = answer_of
         self._ended: SessionError | UsageError | None = None
         self._left: deque[Asked] = deque()
         self._count = 0
@@ -39,18 +42,13 @@ class Exchange:
         read once more was sent. SessionError, or UsageError, where the session has ended."""
         if self._ended is not None:
             raise self._ended
-        asked = Asked([])
-        texts: list[str] = []
-        for line in lines:
-            text = str(line)
-            self._count += 1
-            if isinstance(line, BadScriptLine):
-                line = replace(line, number=self._count, text=text.replace("\n", " "))
-                text = line.text
-            if line.has_reply:
-                asked.lines.append(line)
-            self._is_open = line.is_item
-            texts.append(text)
+        sent = [self._numbered(line, number) if isinstance(line, BadScriptLine) else line
+                for number, line in enumerate(lines, self._count + 1)]
+        asked = Asked([line for line in sent if line.has_reply])
+        texts = list(map(str, sent))
+        if sent:
+            self._count += len(sent)
+            self._is_open = sent[-1].is_item
         if ends and self._is_open:
             self._count += 1
             self._is_open = False
@@ -61,21 +59,40 @@ class Exchange:
             self._left.append(asked)
         return asked
 
+    @staticmethod
+    def _numbered(line: BadScriptLine, number: int) -> BadScriptLine:
+        """The line as one line of this number in what is sent."""
+        return replace(line, number=number, text=line.text.replace("\n", " "))
+
     def answers(self, asked: Asked) -> Iterator[Answer]:
         """The answers to what was sent, one after another. SessionError where the session ends before."""
-        for place in range(len(asked.lines)):
+        place = 0
+        while place < len(asked.lines):
             while len(asked.answers) <= place:
                 self._read()
-            yield asked.answers[place]
+            came = asked.answers[place:]
+            place += len(came)
+            yield from came
 
-    def _read(self) -> None:
-        """Reads the next answer, and keeps it where it belongs."""
+    def take(self) -> None:
+        """Reads the answers that have come, without waiting for others where the program takes what is sent to it."""
+        while self._left and self._ended is None:
+            try:
+                if not self._read(waits=self._conversation.is_behind):
+                    return
+            except SessionError:
+                # it is raised to who waits for an answer, or sends more
+                return
+
+    def _read(self, waits: bool = True) -> bool:
+        """Reads the next answers, and keeps them where they belong; whether some came."""
         if self._ended is not None:
             raise self._ended
         asked = self._left[0]
+        left = asked.lines[len(asked.answers):]
         try:
-            reply = self._conversation.reply_to(asked.lines[len(asked.answers)])
-            if reply is None:
+            came = self._conversation.replies_to(left, usual_answer, self._answer_of, waits)
+            if not came and waits:
                 raise self._conversation.error_of(self._conversation.finish())
         except SessionError as error:
             self._ended = error
@@ -83,9 +100,10 @@ class Exchange:
         except KeyboardInterrupt:
             self.stop()
             raise
-        asked.answers.append(reply.answer)
-        if len(asked.answers) == len(asked.lines):
+        asked.answers += came
+        if len(came) == len(left):
             self._left.popleft()
+        return bool(came)
 
     def close(self) -> None:
         """Ends the session. SessionError where it does not end well, and did not end before."""
@@ -100,3 +118,32 @@ class Exchange:
         if self._ended is None:
             self._ended = UsageError("the session was ended")
             self._conversation.kill()
+
+
+class Questions:
+    """Lines that are sent while others are made, and their answers. SessionError where the session ends before all are there; its
+    `answered` has the pairs of a line and its answer that had come."""
+
+    def __init__(self, exchange: Exchange) -> None:
+        self._exchange = exchange
+        self._sent: list[Asked] = []
+
+    def send(self, lines: Iterable[Line], ends: bool = False) -> None:
+        """Sends the lines, and reads the answers that have come. Where `ends` is true all answers can be had then."""
+        try:
+            self._sent.append(self._exchange.send(lines, ends))
+        except SessionError as error:
+            self._tell(error)
+            raise
+        self._exchange.take()
+
+    def answers(self) -> list[Answer]:
+        """The answers to all that was sent, in order."""
+        try:
+            return [answer for asked in self._sent for answer in self._exchange.answers(asked)]
+        except SessionError as error:
+            self._tell(error)
+            raise
+
+    def _tell(self, error: SessionError) -> None:
+        error.answered = tuple(pair for asked in self._sent for pair in zip(asked.lines, asked.answers))

@@ -8,9 +8,11 @@ from pathlib import Path
 from typing import Any
 
 from . import causes
-from .errors import BacksimError, reason_of
-from .values import Refusal
+from .errors import BacksimError, UsageError, reason_of, type_of_path
+from .values import Budget, Past, Refusal, Unknown
 
+# a fault may pass: a read or a write failed, or memory ran out; above 128 a signal ended the program
+_PASSING = (3, 4, 6)
 FAULTS = {3: "could not be read", 4: "could not be written", 5: "could not be opened, created or finished"}
 _ENDS = {0: "the program ended before all was answered", 1: "the program does not take these words", 6: "the program ran out of memory",
          7: "the program could not be built"}
@@ -26,6 +28,12 @@ class SessionError(BacksimError):
         super().__init__(text)
         self.status = status
         self.answered: tuple[tuple[Any, Any], ...] = ()
+
+
+class TooDear(BacksimError):
+    """A budget did not suffice for what a command asked."""
+
+    status = 1
 
 
 class Refused(SessionError):
@@ -84,3 +92,22 @@ def ended(status: int, said: Sequence[str]) -> SessionError:
     text = f"the program was ended by signal {status - _SIGNALS}" if status > _SIGNALS else f"the program ended with status {status}"
     shown = f": {' '.join(said)}" if said and status != 6 else ""
     return SessionError(f"backsim: {_ENDS.get(status, text)}{shown}", status or 1)
+
+
+def may_pass(status: int) -> bool:
+    """Whether the program ended by a fault after which it may be tried again."""
+    return status in _PASSING or status > _SIGNALS
+
+
+def no_value_of(answer: Unknown | Past | Budget, netlist: type_of_path, stimulus: type_of_path, what: str,
+                horizon: str = "") -> BacksimError:
+    """The error of a command that asked for `what`, a signal or a signal at a time, and got no value; `horizon` says more of a time that
+    is after it."""
+    match answer:
+        case Unknown():
+            near = f"; near it: {', '.join(answer.nearest)}" if answer.nearest else ""
+            return UsageError(f"{netlist}: there is no signal {answer.name}{near}")
+        case Past():
+            return UsageError(f"{stimulus}: the time {answer.stop - 1} is after the horizon{horizon}")
+        case Budget():
+            return TooDear(f"{answer.budget} evaluations did not suffice for {what}; --budget allows more")

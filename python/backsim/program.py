@@ -5,23 +5,30 @@ for ever, whatever the length of a batch."""
 from __future__ import annotations
 
 import os
+import re
 import select
 import shutil
 import subprocess
 import sys
-from collections.abc import Sequence
+from collections.abc import Callable, Sequence
 from dataclasses import dataclass
 from pathlib import Path
+from typing import TypeVar
 
 from .errors import FormatError, UsageError, reason_of, type_of_path
-from .formats.replies import Reply, first_line, fits, reply_of, shown, usual_answer
+from .formats.replies import LONG, Reply, first_line, fits, reply_of, shown
 from .formats.script import Line
 from .outcomes import FAULTS, Fault, Refused, SessionError, ended
 from .values import Refusal
 
 TOP = Path(__file__).resolve().parents[2]
+T = TypeVar("T")
 _CHUNK = 1 << 16
-_LONG = (b"wave ", b"stuck ", b"why ")
+_MOST_QUEUED = 1 << 20
+_END = b"\nend\n"
+# a long reply; one that is not whole, and so the rest; another reply; and one that is not whole
+_REPLIES = re.compile(rb"(?:wave|stuck|why) [^\n]*\n(?:[^\n]*\n)*?end\n|(?s:(?:wave|stuck|why) .*)|[^\n]*\n|[^\n]+\Z")
+_NOT_BUILT = 7
 _PLACES = {"netlist": 0, "timing": 1, "stimulus": 2, "journal": 3}
 
 
@@ -61,8 +68,24 @@ def find_program(given: type_of_path | None = None) -> str:
     return found
 
 
+def looked_up(given: type_of_path | None = None) -> str:
+    """As `find_program`, but for the launcher of the repository the program that it would run, which it finds by looking at all sources,
+    and builds where there is none. Whoever starts several processes has it look once. SessionError where the program can't be built."""
+    found = find_program(given)
+    if found != str(TOP / "backsim"):
+        return found
+    try:
+        ran = subprocess.run([TOP / "tools" / "program", "backsim"], stdin=subprocess.DEVNULL, stdout=subprocess.PIPE, check=False)
+    except OSError:
+        return found
+    if ran.returncode:
+        raise ended(_NOT_BUILT, ())
+    return os.fsdecode(ran.stdout).removesuffix("\n")
+
+
 class Conversation:
-    """A process of the program over three files and a journal. `send` queues lines, `next_reply` reads a reply, `finish` ends it."""
+    """A process of the program over three files and a journal. `send` queues lines, `replies_to` and `next_reply` read replies, `finish`
+    ends it."""
 
     def __init__(self, files: Sequence[type_of_path], options: Options = Options(), program: type_of_path | None = None) -> None:
         self.files = [os.fspath(path) for path in files]
@@ -84,10 +107,12 @@ class Conversation:
         self._is_writing = False
         self._ends_input = False
         self._got = bytearray()
-        self._place = 0
+        self._searched = 0
+        self._whole: list[bytes] = []
         self._errors = b""
         self._open = {self._out, self._err}
         self._count = 0
+        self._failure: SessionError | None = None
         self.refusal: Refusal | None = None
         self._refusal_text = b""
 
@@ -135,13 +160,15 @@ class Conversation:
             self._in = -1
             self._process.stdin.close()  # type: ignore[union-attr]
 
-    def _step(self) -> None:
-        """Waits until a pipe is ready, and reads or writes it."""
-        for pipe, _ in self._poll.poll():
+    def _step(self, waits: bool = True) -> bool:
+        """Reads and writes the pipes that are ready, where it is to wait once one is; whether one was."""
+        ready = self._poll.poll(None if waits else 0)
+        for pipe, _ in ready:
             if pipe == self._in:
                 self._write()
             else:
                 self._read(pipe)
+        return bool(ready)
 
     def _read(self, pipe: int) -> None:
         try:
@@ -164,63 +191,86 @@ class Conversation:
                 print(line.decode("utf-8", "replace"), file=sys.stderr, flush=True)
         self._errors = b"".join(line + b"\n" for line in lines if line.startswith(b"backsim: ")) + rest
 
-    def next_bytes(self) -> bytes | None:
-        """The bytes of the next reply, or None where the output has ended."""
-        if self._place > _CHUNK:
-            del self._got[:self._place]
-            self._place = 0
-        head = self._find(b"\n", self._place)
-        if head is None:
-            return None
-        end = head + 1
-        if self._got.startswith(_LONG, self._place):
-            last = self._find(b"\nend\n", head)
-            if last is None:
-                return None
-            end = last + 5
-        reply = bytes(self._got[self._place:end])
-        self._place = end
-        return reply
+    @property
+    def is_behind(self) -> bool:
+        """Whether the program has not taken much of what was sent."""
+        return len(self._queue) > _MOST_QUEUED
 
-    def _find(self, mark: bytes, start: int) -> int | None:
-        """Where the mark comes next, with reading on until it is there; None where the output ends before it."""
-        while (found := self._got.find(mark, start)) < 0:
-            if self._out not in self._open:
-                return None
-            start = max(start, len(self._got) - len(mark) + 1)
-            self._step()
-        return found
+    def _next_texts(self, most: int, waits: bool = True) -> list[bytes]:
+        """The bytes of the next replies: those that have come, at most so many, where it is to wait with the first. There is none where
+        the output has ended."""
+        while not self._whole and self._out in self._open and self._step(waits):
+            self._divide()
+        texts, self._whole = self._whole[:most], self._whole[most:]
+        return texts
+
+    def _divide(self) -> None:
+        """Divides what was read into replies, as far as these are whole."""
+        if self._searched:
+            # of a long reply that has begun only what is new is searched for its end
+            found = self._got.find(_END, max(0, self._searched - len(_END)))
+            if found < 0:
+                self._searched = len(self._got)
+                return
+            self._whole.append(bytes(self._got[:found + len(_END)]))
+            del self._got[:found + len(_END)]
+        texts = _REPLIES.findall(self._got)
+        rest = b""
+        if texts and not texts[-1].endswith(_END if texts[-1].startswith(LONG) else b"\n"):
+            rest = texts.pop()
+        self._whole += texts
+        self._got = bytearray(rest)
+        self._searched = len(rest) if rest.startswith(LONG) else 0
 
     def next_reply(self) -> Reply | None:
         """The next reply, or None where the output has ended. A refusal is no reply: it is kept, and the output has ended."""
-        data = self.next_bytes()
-        return None if data is None else self._reply_of(data)
+        for text in self._next_texts(1):
+            line = self._count + 1
+            self._count += text.count(b"\n")
+            return self._reply_of(text, line)
+        return None
 
-    def _reply_of(self, data: bytes) -> Reply | None:
-        reply = reply_of(data, self._count + 1)
-        self._count += data.count(b"\n")
+    def _reply_of(self, text: bytes, line: int = 1) -> Reply | None:
+        reply = reply_of(text, line)
         if isinstance(reply.answer, Refusal):
-            self.refusal, self._refusal_text = reply.answer, reply.text
+            self.refusal, self._refusal_text = reply.answer, text
             return None
         return reply
 
-    def reply_to(self, line: Line) -> Reply | None:
-        """The next reply, which is one to the line; None where the output has ended. SessionError, with the program ended, where the
-        reply is one to another line."""
-        data = self.next_bytes()
-        if data is None:
-            return None
-        answer = usual_answer(line, data)
-        if answer is not None:
-            self._count += data.count(b"\n")
-            return Reply(self._count, answer, data)
+    def replies_to(self, lines: Sequence[Line], usual: Callable[[Line, bytes], T | None], other: Callable[[Reply], T],
+                   waits: bool = True) -> list[T]:
+        """What `usual` makes of the replies to the first of the lines, those that have come; of a reply of which it makes None, `other`
+        does. There is none where the output has ended, or none has come and it is not to wait. SessionError, with the program ended,
+        in the place of a reply that is one to another line."""
+        if self._failure is not None:
+            raise self._failure
+        if self.refusal is not None:
+            return []
+        made: list[T] = []
+        for line, text in zip(lines, self._next_texts(len(lines), waits)):
+            one = usual(line, text)
+            if one is None:
+                try:
+                    reply = self._reply_to(line, text)
+                except SessionError as error:
+                    self.kill()
+                    self._failure = error
+                    break
+                if reply is None:
+                    break
+                one = other(reply)
+            made.append(one)
+        if self._failure is not None and not made:
+            raise self._failure
+        return made
+
+    def _reply_to(self, line: Line, text: bytes) -> Reply | None:
+        """The reply, where it is one to the line; None of a refusal."""
         try:
-            reply = self._reply_of(data)
+            reply = self._reply_of(text)
         except FormatError as error:
-            self.kill()
             raise SessionError(f"backsim: to `{shown(line)}` {error.cause}", 1) from None
         if reply is not None and not fits(line, reply.answer):
-            self.kill()
             raise SessionError(f"backsim: `{first_line(reply)}` is no reply to `{shown(line)}`", 1)
         return reply
 
@@ -231,7 +281,8 @@ class Conversation:
         while self._open:
             self._step()
             self._got.clear()
-            self._place = 0
+            self._searched = 0
+        self._whole.clear()
         status = self._process.wait()
         self._close_pipes()
         return 128 - status if status < 0 else status
@@ -253,7 +304,9 @@ class Conversation:
         self._open.clear()
 
     def error_of(self, status: int) -> SessionError:
-        """The exception for the status with which the program ended."""
+        """The exception for the status with which the program ended, or for the reply for which it was ended."""
+        if self._failure is not None:
+            return self._failure
         said = self._errors.decode("utf-8", "replace").strip().splitlines()
         if self.refusal is not None:
             place = _PLACES.get(self.refusal.file)

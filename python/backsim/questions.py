@@ -2,8 +2,8 @@
 from __future__ import annotations
 
 from collections.abc import Callable, Sequence
-from dataclasses import dataclass
-from typing import Any, Generic, TypeVar
+from functools import lru_cache
+from typing import Any, Generic, NamedTuple, TypeVar
 
 from . import buses
 from .errors import UsageError
@@ -12,11 +12,13 @@ from .formats.text import is_name
 from .values import Answer, At, Budget, First, Past, Proof, Stuck, Unknown, Wave
 
 T = TypeVar("T", covariant=True)
+_NO_VALUE = (Unknown, Past, Budget)
+# names come again and again
+_is_name = lru_cache(1 << 16)(is_name)
 Bits = Callable[[str], tuple[str, ...]]
 
 
-@dataclass(frozen=True, slots=True)
-class Question(Generic[T]):
+class Question(NamedTuple, Generic[T]):
     """Lines that are asked, and what makes the answer of their answers, where each has a value."""
 
     lines: tuple[Line, ...]
@@ -25,7 +27,7 @@ class Question(Generic[T]):
     def answer(self, answers: Sequence[Answer]) -> T | Unknown | Past | Budget:
         """The answer; the first of the lines' that is no value, where there is one."""
         for answer in answers:
-            if isinstance(answer, (Unknown, Past, Budget)):
+            if type(answer) in _NO_VALUE:
                 return answer
         return self.combine(answers)
 
@@ -37,15 +39,19 @@ def _only(answers: Sequence[Any]) -> Any:
 def wave(bits_of: Bits, name: str, start: int, stop: int, budget: int | None) -> Question[Wave]:
     """Asks for the waveform in a window; `bits_of` gives the bits that a name stands for."""
     bits = _checked(bits_of, name, (start, stop), budget)
-    lines = tuple(WaveLine(bit, start, stop, budget) for bit in bits)
-    return Question(lines, _only if bits == (name,) else lambda waves: buses.wave_of(name, waves))
+    if bits == (name,):
+        return Question((WaveLine(name, start, stop, budget),), _only)
+    lines = tuple([WaveLine(bit, start, stop, budget) for bit in bits])
+    return Question(lines, lambda waves: buses.wave_of(name, waves))
 
 
 def at(bits_of: Bits, name: str, time: int, budget: int | None) -> Question[At]:
     """Asks for the value at a time."""
     bits = _checked(bits_of, name, (time,), budget)
-    lines = tuple(AtLine(bit, time, budget) for bit in bits)
-    return Question(lines, _only if bits == (name,) else lambda answers: At(name, time, "".join(each.value for each in answers)))
+    if bits == (name,):
+        return Question((AtLine(name, time, budget),), _only)
+    lines = tuple([AtLine(bit, time, budget) for bit in bits])
+    return Question(lines, lambda answers: At(name, time, "".join(each.value for each in answers)))
 
 
 def first(bits_of: Bits, name: str, value: str | int, start: int, stop: int, budget: int | None) -> Question[First]:
@@ -86,7 +92,7 @@ def stuck(bits_of: Bits, site: str, value: str | int, name: str, start: int, sto
 
 def _checked(bits_of: Bits, name: str, times: tuple[int, ...], budget: int | None) -> tuple[str, ...]:
     """The bits of the name, where a line can ask for it at these times with this budget; else UsageError."""
-    if not isinstance(name, str) or not is_name(name):
+    if not isinstance(name, str) or not _is_name(name):
         raise UsageError(f"{name!r} is no name: it may have no blank and none of (, ), comma, = and #")
     for time in times:
         if not isinstance(time, int) or not 0 <= time <= MOST_TIME:

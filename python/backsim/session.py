@@ -21,13 +21,13 @@ from typing import Any, TypeVar
 from . import buses, questions
 from .batch import Batch
 from .errors import FormatError, UsageError, type_of_path
-from .exchange import CHUNK, Asked, Exchange
+from .exchange import CHUNK, Asked, Exchange, Questions
 from .formats.netlist import Netlist, read_netlist, write_netlist
+from .formats.replies import Reply
 from .formats.script import MOST_CELLS, Line, StatsLine, Trim, VcdLine
 from .formats.stimulus import Stimulus, write_stimulus
 from .formats.text import is_name
 from .formats.timing import Timing, write_timing
-from .outcomes import SessionError
 from .program import Conversation, Options
 from .questions import Question
 from .values import Answer, At, Budget, Dump, First, Past, Proof, Stats, Stuck, Trimmed, Unknown, Wave
@@ -66,7 +66,7 @@ class Session:
                      _path_of(stimulus, write_stimulus, self._folder / "stimulus")]
             self._netlist_path = files[0]
             self.journal = os.fspath(journal if journal is not None else self._folder / "journal")
-            self._exchange = Exchange(Conversation([*files, self.journal], options, program))
+            self._exchange = Exchange(Conversation([*files, self.journal], options, program), self._answer_of)
             self.stats()
         except BaseException:
             self._stop()
@@ -172,13 +172,12 @@ class Session:
     def ask(self, lines: Iterable[Line]) -> list[Answer]:
         """The answers to lines of a script (`backsim.formats.script`), in order. `go` lines have none. SessionError where the session
         ends before; its `answered` has the pairs of a line and its answer that had come."""
-        got: list[tuple[Line, Answer]] = []
-        try:
-            got.extend(self.ask_each(lines))
-        except SessionError as error:
-            error.answered = tuple(got)
-            raise
-        return [answer for _, answer in got]
+        asked = self._questions()
+        source = iter(lines)
+        while len(chunk := list(islice(source, CHUNK))) == CHUNK:
+            asked.send(chunk)
+        asked.send(chunk, ends=True)
+        return asked.answers()
 
     def ask_each(self, lines: Iterable[Line]) -> Iterator[tuple[Line, Answer]]:
         """Each line with its answer, while the program goes on with those that follow. A caller that has enough may go away."""
@@ -187,24 +186,25 @@ class Session:
         while True:
             chunk = list(islice(source, CHUNK))
             is_last = len(chunk) < CHUNK
-            asked = self._send(chunk, is_last)
+            asked = self._open().send(chunk, is_last)
             for each in (before, asked if is_last else None):
                 if each is not None:
-                    yield from zip(each.lines, self._answers(each))
+                    yield from zip(each.lines, self._open().answers(each))
             if is_last:
                 return
             before = asked
 
-    def _send(self, lines: Iterable[Line], ends: bool) -> Asked:
+    def _open(self) -> Exchange:
         if self._exchange is None:
             raise UsageError("the session is closed")
-        return self._exchange.send(lines, ends)
+        return self._exchange
 
-    def _answers(self, asked: Asked) -> Iterator[Answer]:
-        if self._exchange is None:
-            raise UsageError("the session is closed")
-        for answer in self._exchange.answers(asked):
-            yield Unknown(answer.name, self.nearest(answer.name)) if isinstance(answer, Unknown) else answer
+    def _questions(self) -> Questions:
+        return Questions(self._open())
+
+    def _answer_of(self, reply: Reply) -> Answer:
+        answer = reply.answer
+        return Unknown(answer.name, self.nearest(answer.name)) if isinstance(answer, Unknown) else answer
 
     def nearest(self, name: str) -> tuple[str, ...]:
         """At most three names of the netlist that are like the name, the most alike first."""

@@ -14,13 +14,33 @@ LOGIC = ("0", "1", "x", "z")
 
 
 @dataclass(frozen=True, slots=True)
-class Wave:
+class _OfSignal:
+    """What is said of the signal of this name."""
+
+    name: str
+
+
+@dataclass(frozen=True, slots=True)
+class _InWindow(_OfSignal):
+    """What is said of a signal in a window."""
+
+    start: int
+    stop: int
+
+
+@dataclass(frozen=True, slots=True)
+class _AtTime(_OfSignal):
+    """That a signal has the value at the time."""
+
+    time: int
+    value: str
+
+
+@dataclass(frozen=True, slots=True)
+class Wave(_InWindow):
     """The waveform of a signal in a window. `changes` holds (time, value) for each maximal run, the first at `start`; it is empty
     where the window is. Of a bus each value is a word of 0, 1, x and z, the leftmost bit first."""
 
-    name: str
-    start: int
-    stop: int
     changes: tuple[tuple[int, str], ...]
 
     def value_at(self, time: int) -> str:
@@ -41,19 +61,14 @@ def _time_of(change: tuple[int, str]) -> int:
 
 
 @dataclass(frozen=True, slots=True)
-class At:
+class At(_AtTime):
     """The value of a signal at one time."""
-
-    name: str
-    time: int
-    value: str
 
 
 @dataclass(frozen=True, slots=True)
-class First:
+class First(_OfSignal):
     """The first time of a window at which a signal has a value; `time` is None where there is none."""
 
-    name: str
     value: str
     start: int
     stop: int
@@ -71,12 +86,9 @@ class ProofCell:
 
 
 @dataclass(frozen=True, slots=True)
-class Proof:
+class Proof(_AtTime):
     """Why the signal has the value at the time: cells, each of which follows from those before it (docs/meaning/RULES.md)."""
 
-    name: str
-    time: int
-    value: str
     cells: tuple[ProofCell, ...]
 
 
@@ -90,27 +102,21 @@ class Stuck:
 
 
 @dataclass(frozen=True, slots=True)
-class Unknown:
+class Unknown(_OfSignal):
     """The netlist has no signal of this name. `nearest` lists names of the netlist that are like it, the most alike first."""
 
-    name: str
     nearest: tuple[str, ...] = field(default=(), compare=False)
 
 
 @dataclass(frozen=True, slots=True)
-class Past:
+class Past(_InWindow):
     """The window ends after the horizon: `stop` may be at most the horizon plus 1."""
-
-    name: str
-    start: int
-    stop: int
 
 
 @dataclass(frozen=True, slots=True)
-class Budget:
+class Budget(_OfSignal):
     """So many evaluations did not suffice; nothing is said of the value."""
 
-    name: str
     budget: int
 
 

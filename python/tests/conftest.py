@@ -11,21 +11,21 @@ from pathlib import Path
 import pytest
 
 TOP = Path(__file__).resolve().parents[2]
-BUILT = TOP / "crates" / "backsim" / "out" / "backsim"
-CHECKER = TOP / "crates" / "backsim_check" / "out" / "backsim_check"
 
 
-def _program(variable: str, built: Path) -> str | None:
-    named = os.environ.get(variable)
+def _program(name: str) -> str | None:
+    """The program that the environment names, else the one that was built in this repository, else that of dist/."""
+    named = os.environ.get(name.upper())
     if named:
         return shutil.which(named)
-    return str(built) if built.is_file() else None
+    places = TOP / "crates" / name / "out" / name, TOP / "dist" / "x86_64-linux" / name
+    return next((str(place) for place in places if place.is_file()), None)
 
 
 @pytest.fixture(scope="session")
 def program() -> str:
-    """The program: that of $BACKSIM, or the one that is built in this repository."""
-    found = _program("BACKSIM", BUILT)
+    """The program: that of $BACKSIM, or the one of this repository."""
+    found = _program("backsim")
     if found is None:
         pytest.skip("the program is not built, and BACKSIM does not name it")
     return found
@@ -33,9 +33,9 @@ def program() -> str:
 
 @pytest.fixture(scope="session")
 def checker(program: str) -> str:
-    """The checker of proofs, beside the program or built in this repository."""
+    """The checker of proofs, beside the program or of this repository."""
     beside = Path(program).with_name("backsim_check")
-    found = _program("BACKSIM_CHECK", beside if beside.is_file() else CHECKER)
+    found = str(beside) if beside.is_file() and "BACKSIM_CHECK" not in os.environ else _program("backsim_check")
     if found is None:
         pytest.skip("backsim_check is not built, and BACKSIM_CHECK does not name it")
     return found

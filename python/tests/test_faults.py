@@ -14,7 +14,7 @@ from backsim.faults import asking
 from backsim.faults import bundle as bundle_of
 from backsim.faults.collapse import collapse
 from backsim.faults.lists import read_faults, text_of
-from backsim.faults.model import Fault, Lines, Site, outputs_reached
+from backsim.faults.model import Fault, Lines, Site
 from backsim.formats.netlist import parse_netlist
 from backsim.main import main
 from conftest import TOP
@@ -75,9 +75,17 @@ def test_branches_are_those_of_what_is_read_in_several_places() -> None:
     assert found == ["a /0", "a->y /0", "a->(output) /0", "b /0", "b->y(1) /0", "b->y(2) /0", "y /0"]
 
 
-def test_only_outputs_in_the_fan_out_are_reached() -> None:
-    netlist = parse_netlist(b"INPUT(a)\nINPUT(b)\nOUTPUT(y)\nOUTPUT(z)\ny = NOT(a)\nq = DFF(y)\nz = AND(q, b)\nn = NOT(b)\n", "n")
-    assert outputs_reached(netlist) == {"a": ("y", "z"), "b": ("z",), "y": ("y", "z"), "z": ("z",), "q": ("z",), "n": ()}
+def test_only_outputs_in_the_fan_out_are_asked(write, tmp_path) -> None:
+    netlist = write("n", "INPUT(a)\nINPUT(b)\nOUTPUT(y)\nOUTPUT(z)\ny = NOT(a)\nq = DFF(y)\nz = AND(q, b)\nn = NOT(b)\n")
+    words = ["faults", netlist, write("t", "clock 3 10\n"), write("patterns", "01\n11\n"), "--period", 10, "--stems", "--uncollapsed"]
+    assert main([*map(str, words), "--write", str(tmp_path / "bundle")]) == 0
+    asked: dict[str, set[str]] = {}
+    for line in (tmp_path / "bundle" / "1.script").read_text().splitlines():
+        if line.startswith("stuck "):
+            _, site, _, output, *_ = line.split()
+            asked.setdefault(site, set()).add(output)
+    # a and y reach z through the flip-flop q; n reaches nothing
+    assert asked == {"a": {"y", "z"}, "b": {"z"}, "y": {"y", "z"}, "z": {"z"}, "q": {"z"}}
 
 
 def test_lists_come_back(tmp_path: Path) -> None:

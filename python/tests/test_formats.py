@@ -18,7 +18,7 @@ from backsim.formats.vcd import read_vcd
 from backsim.legality import judge
 from sessions import sessions
 
-SESSIONS = {name: texts for name, texts in sessions().items() if "--work" not in texts.get("words", b"").decode()}
+SESSIONS = sessions()
 REFUSED = re.compile(rb"refused (netlist|timing|stimulus) line ([0-9]+) cause ([0-9]+)\n")
 
 

@@ -11,7 +11,9 @@ import time
 from pathlib import Path
 
 import pytest
+from backsim.commands import run as run_command
 from backsim.formats.script import parse_script
+from backsim.main import main
 from backsim.parts import divide, text_of, with_every_go
 from conftest import TOP
 
@@ -142,7 +144,7 @@ def test_lines_about_the_whole_session_are_not_divided(line: str, example, tools
     assert not (tmp_path / "parts").exists()
 
 
-def test_what_memo_would_have_held_all(program: str, tools, write) -> None:
+def test_what_memo_would_have_held_all(program: str, tools, write, monkeypatch, capsys) -> None:
     """The end and the middle of a chain of twelve inverters are asked by turns over a memo of one cell: every evaluation but the first
     of each point is of one that was let go. Each inverter has one cell."""
     netlist = write("netlist", "INPUT(n0)\n" + "".join(f"n{place + 1} = NOT(n{place})\n" for place in range(12)))
@@ -154,6 +156,10 @@ def test_what_memo_would_have_held_all(program: str, tools, write) -> None:
     assert run.stderr.endswith(b"--shards 1 --cells 12 would have held all\n")
     run = tools("run", *files, script, "--shards", 1, "--cells", 12, "--workers", 1, "--program", program)
     assert (run.returncode, run.stderr) == (0, b"")
+    # a journal that is too long to be read for this is not read
+    monkeypatch.setattr(run_command, "_MOST_READ", 100)
+    assert main(["run", *map(str, files), str(script), "--shards", "1", "--cells", "1", "--workers", "1", "--program", program]) == 0
+    assert "cells were evicted, for" in capsys.readouterr().err
 
 
 def test_parts_keep_numbers_and_order() -> None:

@@ -166,6 +166,15 @@ def test_a_batch_of_any_length_ends(example) -> None:
     assert len(answers) == count and len(set(answers)) == 1
 
 
+def test_a_reply_of_many_pieces_among_others(program: str) -> None:
+    """y is 1 from 1 on, an instant after en is 0, and turns at each instant from 4 on, an instant after en is 1."""
+    netlist = parse_netlist(b"INPUT(en)\nOUTPUT(y)\ny = NAND(en, y)\n", "netlist")
+    changes = ((0, "x"), (1, "1"), *((time, "01"[time % 2]) for time in range(4, 20_001)))
+    with Session(netlist, Timing(default=1), Stimulus(20_000, {"en": [(0, "0"), (3, "1")]}), program=program) as session:
+        lines = [AtLine("y", 7), WaveLine("y", 0, 20_001), AtLine("y", 2), WaveLine("y", 5, 5), AtLine("y", 8)]
+        assert session.ask(lines) == [At("y", 7, "1"), Wave("y", 0, 20_001, changes), At("y", 2, "1"), Wave("y", 5, 5, ()), At("y", 8, "0")]
+
+
 def test_answers_come_one_by_one_and_may_be_left(example) -> None:
     with Session(*example("c17"), program=STAND_IN) as session:
         lines = [AtLine("22", time) for time in range(11)] + [Go()]

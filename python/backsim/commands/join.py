@@ -8,7 +8,7 @@ from pathlib import Path
 
 from ..errors import FormatError, UsageError
 from ..formats.replies import Reply, pairs, read_replies_of
-from ..formats.script import Line, read_script
+from ..formats.script import read_script
 from ..values import Budget, Refusal
 
 HELP = "joins the replies to the parts of a script, byte for byte those of one session"

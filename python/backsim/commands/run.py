@@ -2,6 +2,7 @@
 from __future__ import annotations
 
 import argparse
+import os
 import sys
 import tempfile
 from collections.abc import Sequence
@@ -10,16 +11,15 @@ from pathlib import Path
 
 from ..arguments import add_files, add_memo, add_program, count_of, opened
 from ..bars import Bar
-from ..errors import FormatError
+from ..errors import FormatError, type_of_path
 from ..evaluations import Tail
 from ..formats.script import SCRIPT_LIMIT, Line, parse_script
 from ..outcomes import Refused, SessionError
 from ..parts import check_divisible
 from ..plans import PLANS, Plan
-from ..profile import Profile, profile_of
 from ..program import Options, find_program
 from ..running import Files, Run
-from ..values import Budget
+from ..values import Stats
 
 HELP = "runs a script, in one process or several, and writes its replies"
 EXAMPLE = """\
@@ -28,6 +28,7 @@ EXAMPLE = """\
   backsim-tools run chip.bench chip.timing chip.stim questions.script --jobs 16 --plan slurm"""
 _MOST_JOBS = 1024
 _MOST_TOLD = 20
+_MOST_READ = 4_000_000
 
 
 def add_arguments(parser: argparse.ArgumentParser) -> None:
@@ -73,13 +74,12 @@ def _serve(session: Run, lines: Sequence[Line]) -> int:
     spent: list[int] = []
     answered = 0
     try:
-        with closing(session.pairs()) as pairs, Bar(total, "lines", Tail(session.journals).count) as bar:
-            for line, reply in pairs:
-                sys.stdout.buffer.write(reply.text)
-                answered += 1
-                bar.add()
-                if isinstance(reply.answer, Budget):
-                    spent.append(line.number)
+        with closing(session.pieces()) as pieces, Bar(total, "lines", Tail(session.journals).count) as bar:
+            for piece in pieces:
+                sys.stdout.buffer.write(piece.text)
+                answered += piece.count
+                bar.add(piece.count)
+                spent += piece.spent
     except Refused as refused:
         sys.stdout.buffer.write(refused.reply)
         raise
@@ -100,11 +100,19 @@ def _tell(session: Run, spent: Sequence[int]) -> None:
     stats = session.stats()
     # a point is evaluated again only where a cell was evicted between
     if stats.fills and 2 * stats.evictions > stats.fills:
-        _tell_repeats([profile_of(path) for path in session.journals])
+        _tell_repeats(session.journals, stats)
 
 
-def _tell_repeats(profiles: Sequence[Profile]) -> None:
-    """Where more than half of the evaluations came again, says which memo would have held all."""
+def _tell_repeats(journals: Sequence[type_of_path], stats: Stats) -> None:
+    """Where more than half of the evaluations came again, says which memo would have held all. Journals that it would take longer to
+    read than it took to run are left to who keeps them."""
+    if sum(os.path.getsize(path) for path in journals) > _MOST_READ:
+        _say(f"{stats.evictions} cells were evicted, for {stats.fills} evaluations, so points may have been evaluated again; of a "
+             "journal that --journal keeps, `backsim-tools journal FILE --profile` says which memo would hold all")
+        return
+    # read here, since few runs need it
+    from ..profile import profile_of
+    profiles = [profile_of(path) for path in journals]
     fills, again = sum(profile.fills for profile in profiles), sum(profile.again for profile in profiles)
     if 2 * again <= fills:
         return

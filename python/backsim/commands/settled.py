@@ -5,9 +5,7 @@ import argparse
 
 from ..arguments import add_files
 from ..errors import FormatError
-from ..formats.netlist import read_netlist
-from ..formats.stimulus import read_stimulus
-from ..formats.timing import read_timing
+from ..formats.circuit import read_files
 from ..settling import settle
 
 HELP = "says whether the gates have settled before each clock edge"
@@ -25,9 +23,7 @@ def add_arguments(parser: argparse.ArgumentParser) -> None:
 
 
 def run(arguments: argparse.Namespace) -> int:
-    netlist = read_netlist(arguments.netlist)
-    timing = read_timing(arguments.timing, netlist)
-    stimulus = read_stimulus(arguments.stimulus, netlist)
+    netlist, timing, stimulus = read_files(arguments.netlist, arguments.timing, arguments.stimulus)
     try:
         found = settle(netlist, timing, stimulus)
     except ValueError as cycle:

@@ -5,12 +5,10 @@ import argparse
 from pathlib import Path
 
 from ..convert.output import add_output, whole_text
-from ..convert.verilog import Circuit, questions_of, with_dump, with_questions
+from ..convert.verilog import Source, questions_of, with_dump, with_questions
 from ..errors import UsageError
-from ..formats.netlist import read_netlist
+from ..formats.circuit import read_files
 from ..formats.script import read_script
-from ..formats.stimulus import read_stimulus
-from ..formats.timing import read_timing
 
 HELP = "writes a circuit with its stimulus as one Verilog file, which answers a script or dumps all signals, for another simulator"
 EXAMPLE = """  backsim-tools to-verilog c17.bench c17.timing c17.stim c17.script -o c17.v
@@ -36,9 +34,7 @@ def add_arguments(parser: argparse.ArgumentParser) -> None:
 def run(arguments: argparse.Namespace) -> int:
     if (arguments.script is None) == (arguments.dump is None):
         raise UsageError("backsim-tools to-verilog: either a SCRIPT or --dump VCD is wanted")
-    netlist = read_netlist(arguments.netlist)
-    timing, stimulus = read_timing(arguments.timing, netlist), read_stimulus(arguments.stimulus, netlist)
-    circuit = Circuit(netlist, timing, stimulus, arguments.primitives)
+    circuit = Source(*read_files(arguments.netlist, arguments.timing, arguments.stimulus), arguments.primitives)
     if arguments.dump is not None:
         lines = with_dump(circuit, arguments.dump)
     else:

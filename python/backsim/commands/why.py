@@ -3,18 +3,19 @@ from __future__ import annotations
 
 import argparse
 import sys
-from collections.abc import Sequence
 from pathlib import Path
 
-from ..errors import BacksimError, FormatError, UsageError
+from ..errors import FormatError, UsageError
 from ..formats.replies import Reply, read_replies_of
+from ..outcomes import no_value_of
 from ..pictures.explain import Explanation, explain
 from ..pictures.files import form_of, write_picture
 from ..pictures.graph import FORMS, dot_text, picture_of
 from ..pictures.page import page_of
 from ..pictures.rules import Design, read_design
+from ..pictures.words import listed
 from ..session import Session
-from ..values import Budget, Past, Proof, Unknown
+from ..values import Proof
 
 HELP = "an explanation as a graph over time (SVG, PNG or DOT), and as a page in which one goes from a signal to its causes"
 EXAMPLE = """\
@@ -73,22 +74,9 @@ def _explanation_of(design: Design, arguments: argparse.Namespace) -> Explanatio
         raise UsageError("say NAME and TIME of what is to be explained, or --proof FILE")
     with Session(arguments.netlist, arguments.timing, arguments.stimulus) as session:
         answer = session.why(arguments.name, arguments.time, arguments.budget)
-    match answer:
-        case Proof():
-            return explain(design, answer, "the session's reply")
-        case Unknown():
-            near = f"; near it: {', '.join(answer.nearest)}" if answer.nearest else ""
-            raise UsageError(f"{arguments.netlist}: there is no signal {answer.name}{near}")
-        case Past():
-            raise UsageError(f"{arguments.stimulus}: the time {arguments.time} is after the horizon, {design.stimulus.horizon}")
-        case Budget():
-            raise TooDear(f"{answer.budget} evaluations did not suffice for {answer.name} at {arguments.time}; --budget allows more")
-
-
-class TooDear(BacksimError):
-    """The session's budget did not suffice."""
-
-    status = 1
+    if isinstance(answer, Proof):
+        return explain(design, answer, "the session's reply")
+    raise no_value_of(answer, arguments.netlist, arguments.stimulus, f"{answer.name} at {arguments.time}", f", {design.stimulus.horizon}")
 
 
 def _chosen(path: Path, name: str | None, time: int | None) -> Reply:
@@ -99,13 +87,9 @@ def _chosen(path: Path, name: str | None, time: int | None) -> Reply:
         return fitting[0]
     if not proofs:
         raise FormatError(path, None, "no reply to a `why` line is in this file")
-    raise UsageError(f"{path}: name one explanation by NAME and TIME; there are {_listed(fitting or proofs)}")
+    claims = [f"{reply.answer.name} {reply.answer.time}" for reply in fitting or proofs if isinstance(reply.answer, Proof)]
+    raise UsageError(f"{path}: name one explanation by NAME and TIME; there are {listed(claims)}")
 
 
 def _is_wanted(answer: object, name: str | None, time: int | None) -> bool:
     return isinstance(answer, Proof) and name in (None, answer.name) and time in (None, answer.time)
-
-
-def _listed(replies: Sequence[Reply], most: int = 8) -> str:
-    claims = [f"{reply.answer.name} {reply.answer.time}" for reply in replies[:most] if isinstance(reply.answer, Proof)]
-    return ", ".join(claims) + (f" and {len(replies) - most} more" if len(replies) > most else "")

@@ -9,9 +9,9 @@ from collections.abc import Iterable, Iterator, Sequence
 from dataclasses import dataclass
 
 from ..errors import FormatError, type_of_path
-from ..formats.netlist import Gate, Kind, Netlist
+from ..formats.circuit import Circuit
+from ..formats.netlist import Gate, Kind
 from ..formats.script import AtLine, FirstLine, Go, Line, WaveLine
-from ..formats.stimulus import Stimulus
 from ..formats.timing import Timing
 
 _JOIN = {Kind.AND: "&", Kind.OR: "|", Kind.XOR: "^", Kind.NAND: "&", Kind.NOR: "|", Kind.XNOR: "^"}
@@ -21,13 +21,9 @@ Question = WaveLine | AtLine | FirstLine
 
 
 @dataclass(frozen=True, slots=True)
-class Circuit:
-    """What is written: a netlist, the timing and the stimulus that fit it, and whether gates are Verilog's primitives, which are
-    faster and whose delays are inertial."""
+class Source(Circuit):
+    """What is written: a circuit, and whether its gates are Verilog's primitives, which are faster and whose delays are inertial."""
 
-    netlist: Netlist
-    timing: Timing
-    stimulus: Stimulus
     has_primitives: bool = False
 
 
@@ -42,7 +38,7 @@ def quoted(text: str, is_format: bool = False) -> str:
     return text.replace("%", "%%") if is_format else text
 
 
-def questions_of(lines: Iterable[Line], circuit: Circuit, path: type_of_path) -> list[Question]:
+def questions_of(lines: Iterable[Line], circuit: Source, path: type_of_path) -> list[Question]:
     """The questions of a script, if Verilog can answer all of them. FormatError at the first line that is none of `wave`, `at`,
     `first` and `go`, asks a name that is no signal, or goes past the horizon."""
     found: list[Question] = []
@@ -60,7 +56,7 @@ def questions_of(lines: Iterable[Line], circuit: Circuit, path: type_of_path) ->
     return found
 
 
-def with_questions(circuit: Circuit, questions: Sequence[Question]) -> Iterator[str]:
+def with_questions(circuit: Source, questions: Sequence[Question]) -> Iterator[str]:
     """The lines of the file that answers the questions on standard output, with the number of the question's line before each line
     of a reply. The run ends after the last question; with `+line=N` it answers the one of line N alone, and ends after it."""
     yield from _circuit(circuit)
@@ -71,14 +67,14 @@ def with_questions(circuit: Circuit, questions: Sequence[Question]) -> Iterator[
     yield "endmodule"
 
 
-def with_dump(circuit: Circuit, file: str) -> Iterator[str]:
+def with_dump(circuit: Source, file: str) -> Iterator[str]:
     """The lines of the file that dumps all signals, in the scope `circuit` and with 10 ticks to a unit, up to the horizon."""
     yield from _circuit(circuit)
     yield f'initial begin $dumpfile("{quoted(file)}"); $dumpvars(1, circuit); #{circuit.stimulus.horizon}.8 $finish; end'
     yield "endmodule"
 
 
-def _circuit(circuit: Circuit) -> Iterator[str]:
+def _circuit(circuit: Source) -> Iterator[str]:
     gates = circuit.netlist.gates.values()
     yield "`timescale 1ns / 100ps"
     yield r"module \delay() (output reg y, input a); parameter D = 1; always @(a) y <= #D a; endmodule"
@@ -108,7 +104,7 @@ def _module(kind: Kind, count: int) -> str:
             f"always @({' or '.join(pins)}) y <= #D {_function(kind, pins)}; endmodule")
 
 
-def _gate(gate: Gate, circuit: Circuit) -> Iterator[str]:
+def _gate(gate: Gate, circuit: Source) -> Iterator[str]:
     delays = [circuit.timing.delay(gate, place) for place in range(len(gate.pins))]
     own, read = identifier(gate.name), [identifier(pin) for pin in gate.pins]
     if len(set(delays)) > 1:
@@ -141,7 +137,7 @@ def _clocks(timing: Timing) -> Iterator[str]:
             yield f"reg {own}; initial #{clock.first}.5 forever begin {own}= 1'b1; #0.1 {own}= 1'b0; #{clock.period - 1}.9; end"
 
 
-def _settings(circuit: Circuit) -> Iterator[str]:
+def _settings(circuit: Source) -> Iterator[str]:
     inputs = circuit.netlist.inputs
     if not inputs:
         return

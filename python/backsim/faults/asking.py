@@ -14,7 +14,7 @@ from concurrent.futures import FIRST_EXCEPTION, ThreadPoolExecutor, wait
 from ..errors import BacksimError, type_of_path
 from ..formats.replies import first_line, fits
 from ..formats.script import SCRIPT_LIMIT, Line, StatsLine
-from ..program import Conversation, Options
+from ..program import Conversation, Options, looked_up
 from ..values import Answer, Budget
 from .collapse import FaultClass
 from .plan import Good, Outcome, Plan
@@ -116,6 +116,7 @@ def solve(plan: Plan, own: FaultClass, good: Good, ask: Callable[[Sequence[Line]
 def solve_all(plan: Plan, files: Sequence[type_of_path], jobs: int, program: type_of_path | None = None,
               told: Callable[[], None] = lambda: None) -> tuple[Good, dict[FaultClass, Outcome]]:
     """What comes of each class, by so many sessions beside one another. `told` is called when a class is done."""
+    program = looked_up(program)
     askers = [Asker(files, program) for _ in range(jobs)]
     free: queue.SimpleQueue[Asker] = queue.SimpleQueue()
     for asker in askers:

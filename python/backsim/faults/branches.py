@@ -12,6 +12,7 @@ from dataclasses import dataclass, replace
 from itertools import count
 
 from ..errors import UsageError
+from ..formats.circuit import Circuit
 from ..formats.netlist import Gate, Kind, Netlist
 from ..formats.stimulus import Stimulus
 from ..formats.text import NAME_LIMIT
@@ -22,12 +23,9 @@ MOST_HORIZON = MOST_TIME // 2 - 1
 
 
 @dataclass(frozen=True, slots=True)
-class Made:
-    """The three files of a circuit that the command asks, the signal of each site, and by what its times are multiplied."""
+class Made(Circuit):
+    """The circuit that the command asks, the signal of each site, and by what its times are multiplied."""
 
-    netlist: Netlist
-    timing: Timing
-    stimulus: Stimulus
     signals: dict[Site, str]
     scale: int
 

@@ -5,28 +5,17 @@ from collections.abc import Iterable, Iterator
 from dataclasses import dataclass, field
 from typing import Union
 
-from ..errors import FormatError, reason_of, type_of_path
+from ..errors import FormatError, type_of_path
 from .proof import plain_number
+from .text import opened
 
 MOST_END = 2_000_002
 MOST_SHARDS = 64
 
 
 @dataclass(frozen=True, slots=True)
-class Told:
-    """A stored cell was told to the query of a line."""
-
-    query: int
-    signal: int
-    time: int
-    start: int
-    end: int
-    value: str
-
-
-@dataclass(frozen=True, slots=True)
-class Claim:
-    """A point, a signal at a time, was claimed for the query of a line."""
+class _OfPoint:
+    """What became of a point, a signal at a time, for the query of a line."""
 
     query: int
     signal: int
@@ -34,15 +23,27 @@ class Claim:
 
 
 @dataclass(frozen=True, slots=True)
-class Fill:
-    """A point was evaluated, with this cell."""
+class _OfCell(_OfPoint):
+    """With the cell that covers the point."""
 
-    query: int
-    signal: int
-    time: int
     start: int
     end: int
     value: str
+
+
+@dataclass(frozen=True, slots=True)
+class Told(_OfCell):
+    """A stored cell was told to the query."""
+
+
+@dataclass(frozen=True, slots=True)
+class Claim(_OfPoint):
+    """The point was claimed for the query."""
+
+
+@dataclass(frozen=True, slots=True)
+class Fill(_OfCell):
+    """The point was evaluated, with this cell."""
 
 
 @dataclass(frozen=True, slots=True)
@@ -54,21 +55,14 @@ class Evict:
 
 
 @dataclass(frozen=True, slots=True)
-class Drop:
-    """A claim was given up."""
-
-    query: int
-    signal: int
-    time: int
+class Drop(_OfPoint):
+    """The claim was given up."""
 
 
 @dataclass(frozen=True, slots=True)
-class Spent:
-    """A query was refused a point for its budget, when it held `held` claims."""
+class Spent(_OfPoint):
+    """The query was refused the point for its budget, when it held `held` claims."""
 
-    query: int
-    signal: int
-    time: int
     held: int
 
 
@@ -77,27 +71,9 @@ ENTRY_TYPES: dict[str, tuple[type, int]] = {
     "told": (Told, 6), "claim": (Claim, 3), "fill": (Fill, 6), "evict": (Evict, 2), "drop": (Drop, 3), "spent": (Spent, 4)}
 
 
-@dataclass(slots=True)
-class Section:
-    """A `batch`, a `trim` or a `held` section, its number counted from 1 over all, and the entries of each shard in order."""
-
-    kind: str
-    number: int
-    shards: list[list[Entry]] = field(default_factory=list)
-
-
-@dataclass(slots=True)
-class Journal:
-    """The head, the count of shards and the capacity of each, and the sections in order."""
-
-    shards: int
-    cells: int
-    sections: list[Section] = field(default_factory=list)
-
-
 @dataclass(frozen=True, slots=True)
 class Head:
-    """The first line."""
+    """The first line: the count of shards and the capacity of each."""
 
     shards: int
     cells: int
@@ -105,7 +81,7 @@ class Head:
 
 @dataclass(frozen=True, slots=True)
 class SectionBegin:
-    """The line `batch K`, `trim K` or `held K`."""
+    """The line `batch K`, `trim K` or `held K`. Sections are counted from 1 over all kinds."""
 
     kind: str
     number: int
@@ -124,6 +100,20 @@ class SectionEnd:
 
 
 Event = Union[Head, SectionBegin, ShardBegin, SectionEnd, Entry]
+
+
+@dataclass(frozen=True, slots=True)
+class Section(SectionBegin):
+    """A section with the entries of each shard in order."""
+
+    shards: list[list[Entry]] = field(default_factory=list)
+
+
+@dataclass(frozen=True, slots=True)
+class Journal(Head):
+    """The whole: the head, and the sections in order."""
+
+    sections: list[Section] = field(default_factory=list)
 
 
 def entry_of(words: list[str]) -> Entry | None:
@@ -146,11 +136,8 @@ def entry_of(words: list[str]) -> Entry | None:
 def read_events(path: type_of_path) -> Iterator[tuple[int, Event]]:
     """The lines of a journal one after another, each with its number, so that a journal of any length can be gone through.
     FormatError at the first line that is not of the grammar, and after the last where the journal breaks off."""
-    try:
-        with open(path, "rb") as stream:
-            yield from events_of(stream, path)
-    except (OSError, ValueError) as error:
-        raise FormatError(path, None, reason_of(error)) from None
+    with opened(path) as stream:
+        yield from events_of(stream, path)
 
 
 def events_of(lines: Iterable[bytes], path: type_of_path) -> Iterator[tuple[int, Event]]:

@@ -3,14 +3,15 @@ from __future__ import annotations
 
 from collections.abc import Callable, Iterable, Iterator
 from dataclasses import dataclass
+from operator import lt
 from typing import BinaryIO
 
-from ..errors import FormatError, reason_of, type_of_path
+from ..errors import FormatError, type_of_path
 from ..values import (LOGIC, Answer, At, BadLine, Budget, Dump, First, Past, Proof, ProofCell, Refusal, Stats, Stuck, Trimmed,
                       Unknown, Wave)
 from .proof import cell_of, claim_of, plain_number
 from .script import USUAL_BUDGET, AtLine, BadScriptLine, FirstLine, Line, StatsLine, StuckLine, Trim, VcdLine, WaveLine, WhyLine
-from .text import is_name
+from .text import is_name, opened
 
 
 @dataclass(frozen=True, slots=True)
@@ -204,39 +205,51 @@ def reply_of(data: bytes, line: int, path: type_of_path = "replies") -> Reply:
     return next(ReplyReader(lines, path, line - 1))
 
 
-def usual_answer(line: Line, data: bytes) -> Answer | None:
+def usual_answer(line: Line, text: bytes) -> Answer | None:
     """The answer to an `at` or a `wave` line, where the bytes are the value or the waveform that it asks for; None where they are not,
     or the line is another: then they are read as any reply is. Nearly all replies are of these two forms, and a session reads them by
     the ten thousand, so here they are compared with what the line leads one to expect."""
     if type(line) is AtLine:
-        head = f"at {line.name} {line.time} ".encode("latin-1")
-        value = _VALUES.get(data[len(head):]) if data.startswith(head) else None
+        value = _value_of(line, text)
         return None if value is None else At(line.name, line.time, value)
     if type(line) is WaveLine and line.start < line.stop:
-        head = f"wave {line.name} {line.start} {line.stop}\n".encode("latin-1")
-        words = data[len(head):-4].split() if data.startswith(head) else []
+        head = f"{line.head}\n".encode()
+        if not text.startswith(head):
+            return None
+        words = text[len(head):-4].split()
         values = tuple(map(_LETTERS.get, words[1::2]))
         try:
-            times = list(map(int, words[::2]))
+            times = tuple(map(int, words[::2]))
         except ValueError:
             return None
         if len(times) == len(values) and times and None not in values and (
-                times[0] == line.start and times[-1] < line.stop and sorted(set(times)) == times):
+                times[0] == line.start and times[-1] < line.stop and all(map(lt, times, times[1:]))):
             return Wave(line.name, line.start, line.stop, tuple(zip(times, values)))  # type: ignore[arg-type]
     return None
 
 
+def is_value(line: Line, text: bytes) -> bool:
+    """Whether the bytes are the value that an `at` line asks for, or begin as the waveform that a `wave` line asks for."""
+    if type(line) is AtLine:
+        return _value_of(line, text) is not None
+    return type(line) is WaveLine and text.startswith(f"{line.head}\n".encode())
+
+
+def _value_of(line: AtLine, text: bytes) -> str | None:
+    head = f"at {line.name} {line.time} ".encode()
+    return _VALUES.get(text[len(head):]) if text.startswith(head) else None
+
+
 _LETTERS = {value.encode(): value for value in LOGIC}
 _VALUES = {letter + b"\n": value for letter, value in _LETTERS.items()}
+# how replies begin that end with a line `end`; the others have one line
+LONG = (b"wave ", b"stuck ", b"why ")
 
 
 def read_replies_of(path: type_of_path) -> Iterator[Reply]:
     """The replies of a file. FormatError also where it can't be read."""
-    try:
-        with open(path, "rb") as stream:
-            yield from read_replies(stream, path)
-    except (OSError, ValueError) as error:
-        raise FormatError(path, None, reason_of(error)) from None
+    with opened(path) as stream:
+        yield from read_replies(stream, path)
 
 
 def fits(line: Line, answer: Answer) -> bool:

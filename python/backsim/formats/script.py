@@ -1,12 +1,13 @@
 """The script: the lines of questions that a session reads (docs/use/FORMATS.md, The script)."""
 from __future__ import annotations
 
+import re
 from collections.abc import Iterable, Iterator
 from dataclasses import dataclass
 from typing import ClassVar, TextIO, Union
 
 from ..errors import FormatError, type_of_path
-from .text import is_name, lines_of, logic_of, number_of, read_bytes, words_of
+from .text import NAME, is_name, lines_of, logic_of, number_of, read_bytes, words_of
 
 SCRIPT_LIMIT = 16 * 1024 * 1024
 LINE_LIMIT = 4096
@@ -19,18 +20,40 @@ MOST_BUDGETS = 1_000_000
 MOST_LENGTHS = 4_000_000
 
 
-@dataclass(frozen=True, slots=True, kw_only=True)
+@dataclass(slots=True, unsafe_hash=True, kw_only=True)
 class _Line:
-    """`number` counts the lines of the script from 1, `text` is the line as it stands there, without its line feed."""
+    """`number` counts the lines of the script from 1, `text` is the line as it stands there, without its line feed. No line is changed
+    once it is made; it is not frozen, since that takes four times as long to make, and they are made by the ten thousand."""
 
     number: int = 0
     text: str = ""
-    # whether the line has a reply, and whether it is an item of a batch (else it is served by itself)
+    # the line's first word; whether it has a reply, and whether it is an item of a batch (else it is served by itself)
+    word: ClassVar[str]
     has_reply: ClassVar[bool] = True
     is_item: ClassVar[bool] = False
 
+    @property
+    def head(self) -> str:
+        """The line without its budget: its word, and what it states in order."""
+        stated = (str(getattr(self, name)) for name in self.__match_args__ if name != "budget")
+        return " ".join([self.word, *stated])
 
-@dataclass(frozen=True, slots=True)
+    def __str__(self) -> str:
+        """The line as a session takes it."""
+        budget = getattr(self, "budget", None)
+        return self.head if budget is None else f"{self.head} {budget}"
+
+
+@dataclass(slots=True, unsafe_hash=True)
+class _PointLine(_Line):
+    """Asks about `name` at `time`."""
+
+    name: str
+    time: int
+    budget: int | None = None
+
+
+@dataclass(slots=True, unsafe_hash=True)
 class WaveLine(_Line):
     """Asks for the waveform of `name` from `start` up to, and not with, `stop`."""
 
@@ -38,26 +61,28 @@ class WaveLine(_Line):
     start: int
     stop: int
     budget: int | None = None
-    is_item: ClassVar[bool] = True
+    word = "wave"
+    is_item = True
 
-    def __str__(self) -> str:
-        return f"wave {self.name} {self.start} {self.stop}{_tail(self.budget)}"
+    # as in general, but such lines are asked by the ten thousand
+    @property
+    def head(self) -> str:
+        return f"wave {self.name} {self.start} {self.stop}"
 
 
-@dataclass(frozen=True, slots=True)
-class AtLine(_Line):
+@dataclass(slots=True, unsafe_hash=True)
+class AtLine(_PointLine):
     """Asks for the value of `name` at `time`."""
 
-    name: str
-    time: int
-    budget: int | None = None
-    is_item: ClassVar[bool] = True
+    word = "at"
+    is_item = True
 
-    def __str__(self) -> str:
-        return f"at {self.name} {self.time}{_tail(self.budget)}"
+    @property
+    def head(self) -> str:
+        return f"at {self.name} {self.time}"
 
 
-@dataclass(frozen=True, slots=True)
+@dataclass(slots=True, unsafe_hash=True)
 class FirstLine(_Line):
     """Asks for the first time from `start` up to, and not with, `stop` at which `name` has the value."""
 
@@ -66,24 +91,17 @@ class FirstLine(_Line):
     start: int
     stop: int
     budget: int | None = None
-
-    def __str__(self) -> str:
-        return f"first {self.name} {self.value} {self.start} {self.stop}{_tail(self.budget)}"
+    word = "first"
 
 
-@dataclass(frozen=True, slots=True)
-class WhyLine(_Line):
+@dataclass(slots=True, unsafe_hash=True)
+class WhyLine(_PointLine):
     """Asks why `name` has the value that it has at `time`."""
 
-    name: str
-    time: int
-    budget: int | None = None
-
-    def __str__(self) -> str:
-        return f"why {self.name} {self.time}{_tail(self.budget)}"
+    word = "why"
 
 
-@dataclass(frozen=True, slots=True)
+@dataclass(slots=True, unsafe_hash=True)
 class StuckLine(_Line):
     """Asks for the waveform of `name` where `site` has the value `0` or `1` at all times."""
 
@@ -93,64 +111,51 @@ class StuckLine(_Line):
     start: int
     stop: int
     budget: int | None = None
-
-    def __str__(self) -> str:
-        return f"stuck {self.site} {self.value} {self.name} {self.start} {self.stop}{_tail(self.budget)}"
+    word = "stuck"
 
 
-@dataclass(frozen=True, slots=True)
+@dataclass(slots=True, unsafe_hash=True)
 class Go(_Line):
     """Runs the pending batch."""
 
-    has_reply: ClassVar[bool] = False
-
-    def __str__(self) -> str:
-        return "go"
+    word = "go"
+    has_reply = False
 
 
-@dataclass(frozen=True, slots=True)
+@dataclass(slots=True, unsafe_hash=True)
 class Trim(_Line):
     """Evicts the least recent cells of every shard until at most `cells` are left in each."""
 
     cells: int
-
-    def __str__(self) -> str:
-        return f"trim {self.cells}"
+    word = "trim"
 
 
-@dataclass(frozen=True, slots=True)
+@dataclass(slots=True, unsafe_hash=True)
 class StatsLine(_Line):
     """Asks for the counts of the session."""
 
-    def __str__(self) -> str:
-        return "stats"
+    word = "stats"
 
 
-@dataclass(frozen=True, slots=True)
+@dataclass(slots=True, unsafe_hash=True)
 class VcdLine(_Line):
     """Asks for a dump of the last batch in this file."""
 
     file: str
-
-    def __str__(self) -> str:
-        return f"vcd {self.file}"
+    word = "vcd"
 
 
-@dataclass(frozen=True, slots=True)
+@dataclass(slots=True, unsafe_hash=True)
 class BadScriptLine(_Line):
     """A line that has none of the forms, or a number above its limit, or more than 4,096 bytes."""
 
-    is_item: ClassVar[bool] = True
+    is_item = True
 
     def __str__(self) -> str:
         return self.text
 
 
 Line = Union[WaveLine, AtLine, FirstLine, WhyLine, StuckLine, Go, Trim, StatsLine, VcdLine, BadScriptLine]
-
-
-def _tail(budget: int | None) -> str:
-    return "" if budget is None else f" {budget}"
 
 
 def read_script(path: type_of_path) -> list[Line]:
@@ -167,13 +172,28 @@ def parse_script(data: bytes) -> Iterator[Line]:
             yield parsed
 
 
+# `at` and `wave` lines with one blank between words, and numbers below every limit
+_AT = re.compile(rf"at ({NAME.pattern}) ([0-9]{{1,9}})(?: ([0-9]{{1,5}}))?")
+_WAVE = re.compile(rf"wave ({NAME.pattern}) ([0-9]{{1,9}}) ([0-9]{{1,9}})(?: ([0-9]{{1,5}}))?")
+
+
+def _number(digits: str | None) -> int | None:
+    return None if digits is None else int(digits)
+
+
 def parse_line(line: bytes, number: int) -> Line | None:
     """The line, given without its line feed; None where it is blank."""
-    words, text = words_of(line), line.decode("latin-1")
-    if len(line) <= LINE_LIMIT and not words:
-        return None
+    text = line.decode("latin-1")
+    if len(line) > LINE_LIMIT:
+        return BadScriptLine(number=number, text=text)
+    # nearly all lines of a long script are such, and are read so in less than half of the time
+    if (usual := _AT.fullmatch(text)) is not None:
+        return AtLine(usual[1], int(usual[2]), _number(usual[3]), number=number, text=text)
+    if (usual := _WAVE.fullmatch(text)) is not None:
+        return WaveLine(usual[1], int(usual[2]), int(usual[3]), _number(usual[4]), number=number, text=text)
+    words = words_of(line)
     try:
-        return _form_of(words if len(line) <= LINE_LIMIT else (), number, text)
+        return _form_of(words, number, text) if words else None
     except _NoForm:
         return BadScriptLine(number=number, text=text)
 

@@ -8,7 +8,7 @@ from typing import TextIO
 from .. import causes
 from ..errors import FormatError, type_of_path
 from .netlist import Netlist
-from .text import Row, is_name, logic_of, number_of, read_bytes, rows_of
+from .text import Row, is_name, logic_of, number_of, read_for, rows_of
 
 MOST_TIME = 1_000_000
 
@@ -35,10 +35,7 @@ class Stimulus:
 
 def read_stimulus(path: type_of_path, netlist: Netlist | None = None) -> Stimulus:
     """The stimulus of a file. FormatError where the program refuses the file, or, with a netlist, a row of it for that netlist."""
-    stimulus = parse_stimulus(read_bytes(path), str(path))
-    if netlist is not None:
-        check_stimulus(stimulus, netlist, str(path))
-    return stimulus
+    return read_for(netlist, path, parse_stimulus, check_stimulus)
 
 
 def parse_stimulus(data: bytes, path: str) -> Stimulus:

@@ -2,8 +2,10 @@
 from __future__ import annotations
 
 import re
-from collections.abc import Iterator
+from collections.abc import Callable, Iterator
+from contextlib import contextmanager
 from dataclasses import dataclass
+from typing import BinaryIO, TypeVar
 
 from ..errors import FormatError, reason_of, type_of_path
 
@@ -11,6 +13,8 @@ FILE_LIMIT = 64 * 1024 * 1024
 NAME_LIMIT = 255
 NAME = re.compile(r"[^\x00-\x20\x7f-\U0010ffff(),=#]+")
 DIGITS = re.compile(r"[0-9]+")
+T = TypeVar("T")
+N = TypeVar("N")
 _BLANKS = bytes.maketrans(b"\t\r", b"  ")
 
 
@@ -22,16 +26,31 @@ class Row:
     words: tuple[str, ...]
 
 
-def read_bytes(path: type_of_path, limit: int = FILE_LIMIT) -> bytes:
-    """The file's bytes. FormatError where it can't be read, or has more than `limit` bytes."""
+@contextmanager
+def opened(path: type_of_path) -> Iterator[BinaryIO]:
+    """The file, open for reading. FormatError where it can't be opened, or read."""
     try:
         with open(path, "rb") as file:
-            data = file.read(limit + 1)
+            yield file
     except (OSError, ValueError) as error:
         raise FormatError(path, None, reason_of(error)) from None
+
+
+def read_bytes(path: type_of_path, limit: int = FILE_LIMIT) -> bytes:
+    """The file's bytes. FormatError where it can't be read, or has more than `limit` bytes."""
+    with opened(path) as file:
+        data = file.read(limit + 1)
     if len(data) > limit:
         raise FormatError(path, None, f"the file has more than {limit} bytes")
     return data
+
+
+def read_for(netlist: N | None, path: type_of_path, parse: Callable[[bytes, str], T], check: Callable[[T, N, str], None]) -> T:
+    """What `parse` makes of the bytes of a file, where `check` lets it stand for the netlist; it is not asked where there is none."""
+    made = parse(read_bytes(path), str(path))
+    if netlist is not None:
+        check(made, netlist, str(path))
+    return made
 
 
 def lines_of(data: bytes) -> list[bytes]:

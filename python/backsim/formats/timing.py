@@ -7,7 +7,7 @@ from typing import Any, TextIO
 from .. import causes
 from ..errors import FormatError, type_of_path
 from .netlist import MOST_PINS_OF_A_GATE, Gate, Kind, Netlist, kind_of
-from .text import is_name, number_of, read_bytes, rows_of
+from .text import is_name, number_of, read_for, rows_of
 
 MOST_TIME = 1_000_000
 INITIALS = ("0", "1", "x")
@@ -59,10 +59,7 @@ class Timing:
 
 def read_timing(path: type_of_path, netlist: Netlist | None = None) -> Timing:
     """The timing of a file. FormatError where the program refuses the file, or, with a netlist, a row of it for that netlist."""
-    timing = parse_timing(read_bytes(path), str(path))
-    if netlist is not None:
-        check_timing(timing, netlist, str(path))
-    return timing
+    return read_for(netlist, path, parse_timing, check_timing)
 
 
 def parse_timing(data: bytes, path: str) -> Timing:

@@ -9,9 +9,9 @@ from collections.abc import Sequence
 from dataclasses import dataclass
 
 from ..errors import type_of_path
-from ..formats.netlist import Gate, Kind, Netlist, read_netlist
-from ..formats.stimulus import Stimulus, read_stimulus
-from ..formats.timing import Clock, Timing, read_timing
+from ..formats.circuit import Circuit, read_files
+from ..formats.netlist import Gate, Kind
+from ..formats.timing import Clock
 
 _DECIDING = {Kind.AND: "0", Kind.NAND: "0", Kind.OR: "1", Kind.NOR: "1", Kind.XOR: "xz", Kind.XNOR: "xz"}
 _NEGATING = (Kind.NAND, Kind.NOR, Kind.XNOR, Kind.NOT)
@@ -63,12 +63,8 @@ def _has_unknown(values: Sequence[str]) -> bool:
 
 
 @dataclass(frozen=True, slots=True)
-class Design:
-    """The three files of a circuit."""
-
-    netlist: Netlist
-    timing: Timing
-    stimulus: Stimulus
+class Design(Circuit):
+    """A circuit with what its rules say of points."""
 
     def delays(self, gate: Gate) -> tuple[int, ...]:
         """The delay of each pin of a gate or flip-flop."""
@@ -110,5 +106,4 @@ class Design:
 
 def read_design(netlist: type_of_path, timing: type_of_path, stimulus: type_of_path) -> Design:
     """The design of three files. FormatError where the program refuses one of them, with its line and cause."""
-    read = read_netlist(netlist)
-    return Design(read, read_timing(timing, read), read_stimulus(stimulus, read))
+    return Design(*read_files(netlist, timing, stimulus))

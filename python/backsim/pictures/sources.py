@@ -5,23 +5,19 @@ from collections.abc import Mapping, Sequence
 from pathlib import Path
 
 from ..buses import bits_of, matching
-from ..errors import BacksimError, FormatError, UsageError
+from ..errors import FormatError, UsageError
 from ..formats.netlist import read_netlist
 from ..formats.replies import read_replies_of
 from ..formats.stimulus import read_stimulus
 from ..formats.vcd import Changes, Variable, Vcd, read_vcd
+from ..outcomes import no_value_of
 from ..session import Session
-from ..values import At, Budget, Past, Stuck, Unknown, Wave
+from ..values import At, Stuck, Wave
 from .rows import Row, bus_row, row_of
+from .words import listed
 
 
 _WILD = set("*?")
-
-
-class TooDear(BacksimError):
-    """The session's budget did not suffice for a wave."""
-
-    status = 1
 
 
 def rows_of_replies(path: Path) -> list[Row]:
@@ -57,7 +53,7 @@ def chosen(rows: Sequence[Row], names: Sequence[str], path: Path, known: Sequenc
         else:
             labels = matching(name, by_label)
             if not labels:
-                raise FormatError(path, None, f"no wave of {name} is in this file; there are {_listed(known or list(by_label))}")
+                raise FormatError(path, None, f"no wave of {name} is in this file; there are {listed(known or list(by_label))}")
             found += [by_label[label] for label in labels]
     return list(dict.fromkeys(found))
 
@@ -117,16 +113,9 @@ def rows_of_session(files: Sequence[str], names: Sequence[str], start: int | Non
         batch.ask()
     rows = []
     for name, answer in zip(wanted, (one.result() for one in pending)):
-        match answer:
-            case Wave():
-                rows.append(Row(name, (answer,)))
-            case Unknown():
-                near = f"; near it: {', '.join(answer.nearest)}" if answer.nearest else ""
-                raise UsageError(f"{files[0]}: there is no signal {answer.name}{near}")
-            case Past():
-                raise UsageError(f"{files[2]}: the time {end - 1} is after the horizon")
-            case Budget():
-                raise TooDear(f"{answer.budget} evaluations did not suffice for {answer.name}; --budget allows more")
+        if not isinstance(answer, Wave):
+            raise no_value_of(answer, files[0], files[2], answer.name)
+        rows.append(Row(name, (answer,)))
     return rows
 
 
@@ -140,7 +129,3 @@ def _without_patterns(path: str, names: Sequence[str]) -> list[str]:
             raise UsageError(f"{path}: no signal is of the pattern {name}")
         found += labels
     return list(dict.fromkeys(found))
-
-
-def _listed(labels: Sequence[str], most: int = 8) -> str:
-    return ", ".join(labels[:most]) + (f" and {len(labels) - most} more" if len(labels) > most else "")

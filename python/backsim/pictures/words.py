@@ -7,6 +7,11 @@ from .explain import Edge, Node
 from .rules import Role, decides
 
 
+def listed(labels: Sequence[str], most: int = 8) -> str:
+    """The labels, of more than `most` the first and a count."""
+    return ", ".join(labels[:most]) + (f" and {len(labels) - most} more" if len(labels) > most else "")
+
+
 def times_of(node: Node) -> str:
     """The times of a cell, as `t = 4` or `4 ≤ t < 9`."""
     return f"t = {node.start}" if node.end == node.start + 1 else f"{node.start} ≤ t < {node.end}"
