@@ -6,8 +6,8 @@ set -euo pipefail
 here=$(cd "$(dirname "$0")" && pwd)
 . "$here/../common.sh"
 begin "$here"
-copy_crates "$copy/repository" backsim_io gate_values valid_intervals cell_store
-echo "cell_store_time: backsim_io gate_values valid_intervals cell_store" >>"$copy/repository/crates.txt"
+copy_crates "$copy/repository" owned_text gate_values valid_intervals cell_store
+echo "cell_store_time: owned_text gate_values valid_intervals cell_store" >>"$copy/repository/crates.txt"
 program=$copy/repository/crates/cell_store_time
 mkdir -p "$program/src" "$program/specs" "$program/proofs/put" "$program/proofs/put_all"
 cp "$here/program.txt" "$program/src/main.rt"
