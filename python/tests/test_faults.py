@@ -326,7 +326,7 @@ def test_a_thousand_gates_against_a_forward_fault_simulation(tools, tmp_path, pr
 
 
 def test_the_page_has_this_table(tools, write) -> None:
-    page = (TOP / "docs" / "use" / "FAULTS.md").read_text()
+    page = (TOP / "docs" / "use" / "GUIDE.md").read_text()
     run = tools("faults", *C17, TOP / "examples/c17/patterns.txt", "--period", 10, env={"BACKSIM": STAND_IN})
     assert run.returncode == 0
     assert run.stdout.decode() in page
