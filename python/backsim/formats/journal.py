@@ -6,6 +6,7 @@ from dataclasses import dataclass, field
 from typing import Union
 
 from ..errors import FormatError, type_of_path
+from ..values import LOGIC
 from .proof import plain_number
 from .text import opened
 
@@ -127,7 +128,7 @@ def entry_of(words: list[str]) -> Entry | None:
         return None
     if is_cell:
         _, _, _, start, end = numbers
-        if words[-1] not in ("0", "1", "x", "z") or not start < end <= MOST_END:  # type: ignore[operator]
+        if words[-1] not in LOGIC or not start < end <= MOST_END:  # type: ignore[operator]
             return None
         return kind(*numbers, words[-1])
     return kind(*numbers)
