@@ -2,7 +2,6 @@
 from __future__ import annotations
 
 import os
-from pathlib import Path
 
 type_of_path = str | os.PathLike[str]
 
@@ -45,11 +44,3 @@ def reason_of(error: OSError | ValueError) -> str:
     if isinstance(error, OSError) and error.strerror:
         return error.strerror
     return str(error) or type(error).__name__
-
-
-def no_such(path: type_of_path) -> bool:
-    """Whether there is nothing at the path."""
-    try:
-        return not Path(path).exists()
-    except (OSError, ValueError):
-        return True

@@ -4,12 +4,13 @@ from __future__ import annotations
 
 import os
 from collections.abc import Sequence
-from pathlib import Path
-from typing import Any
+from typing import TYPE_CHECKING, Any
 
 from . import causes
-from .errors import BacksimError, UsageError, reason_of, type_of_path
-from .values import Budget, Past, Refusal, Unknown
+from .errors import BacksimError, reason_of
+
+if TYPE_CHECKING:
+    from .values import Refusal
 
 # a fault may pass: a read or a write failed, or memory ran out; above 128 a signal ended the program
 _PASSING = (3, 4, 6)
@@ -28,12 +29,6 @@ class SessionError(BacksimError):
         super().__init__(text)
         self.status = status
         self.answered: tuple[tuple[Any, Any], ...] = ()
-
-
-class TooDear(BacksimError):
-    """A budget did not suffice for what a command asked."""
-
-    status = 1
 
 
 class Refused(SessionError):
@@ -78,8 +73,8 @@ def _reason_of(path: str, place: str) -> str:
     """Why the system does not give the file, where that can still be seen."""
     try:
         if place == "journal":
-            folder = Path(path).parent
-            return "it is a folder" if Path(path).is_dir() else "" if os.access(folder, os.W_OK) else f"no file can be made in {folder}"
+            folder = os.path.dirname(path) or "."
+            return "it is a folder" if os.path.isdir(path) else "" if os.access(folder, os.W_OK) else f"no file can be made in {folder}"
         with open(path, "rb") as file:
             file.read(1)
     except (OSError, ValueError) as error:
@@ -97,17 +92,3 @@ def ended(status: int, said: Sequence[str]) -> SessionError:
 def may_pass(status: int) -> bool:
     """Whether the program ended by a fault after which it may be tried again."""
     return status in _PASSING or status > _SIGNALS
-
-
-def no_value_of(answer: Unknown | Past | Budget, netlist: type_of_path, stimulus: type_of_path, what: str,
-                horizon: str = "") -> BacksimError:
-    """The error of a command that asked for `what`, a signal or a signal at a time, and got no value; `horizon` says more of a time that
-    is after it."""
-    match answer:
-        case Unknown():
-            near = f"; near it: {', '.join(answer.nearest)}" if answer.nearest else ""
-            return UsageError(f"{netlist}: there is no signal {answer.name}{near}")
-        case Past():
-            return UsageError(f"{stimulus}: the time {answer.stop - 1} is after the horizon{horizon}")
-        case Budget():
-            return TooDear(f"{answer.budget} evaluations did not suffice for {what}; --budget allows more")

@@ -1,9 +1,10 @@
 """The commands of `backsim-tools`, a module each, imported when one is asked for."""
 from __future__ import annotations
 
-import pkgutil
+import os
 
 
 def listed() -> tuple[str, ...]:
     """The names of the commands, in order."""
-    return tuple(sorted(module.name.replace("_", "-") for module in pkgutil.iter_modules(__path__) if not module.name.startswith("_")))
+    modules = (name.removesuffix(".py") for name in os.listdir(os.path.dirname(__file__)) if name.endswith(".py"))
+    return tuple(sorted(module.replace("_", "-") for module in modules if not module.startswith("_")))

@@ -7,7 +7,7 @@ from pathlib import Path
 
 from ..errors import FormatError, UsageError
 from ..formats.replies import Reply, read_replies_of
-from ..outcomes import no_value_of
+from ..no_value import no_value_of
 from ..pictures.explain import Explanation, explain
 from ..pictures.files import form_of, write_picture
 from ..pictures.graph import FORMS, dot_text, picture_of

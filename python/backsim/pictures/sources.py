@@ -10,7 +10,7 @@ from ..formats.netlist import read_netlist
 from ..formats.replies import read_replies_of
 from ..formats.stimulus import read_stimulus
 from ..formats.vcd import Changes, Variable, Vcd, read_vcd
-from ..outcomes import no_value_of
+from ..no_value import no_value_of
 from ..session import Session
 from ..values import At, Stuck, Wave
 from .rows import Row, bus_row, row_of
