@@ -1,9 +1,10 @@
 """Plans: the commands that run the parts of a script on more machines, and join their replies."""
 from __future__ import annotations
 
+import os
 import shlex
 import shutil
-from collections.abc import Callable, Sequence
+from collections.abc import Sequence
 from dataclasses import dataclass
 
 from .program import TOP
@@ -35,10 +36,10 @@ class Plan:
 
 def tool() -> list[str]:
     """The words that begin a command of this package."""
-    launcher = TOP / "backsim-tools"
+    launcher = os.path.join(TOP, "backsim-tools")
     if shutil.which("backsim-tools"):
         return ["backsim-tools"]
-    return [str(launcher)] if launcher.is_file() else ["python3", "-m", "backsim"]
+    return [launcher] if os.path.isfile(launcher) else ["python3", "-m", "backsim"]
 
 
 def parallel(plan: Plan) -> str:
@@ -57,5 +58,3 @@ def slurm(plan: Plan) -> str:
     log = shlex.quote(f"{plan.folder}/%a.log")
     return "\n".join([plan.split(), f"sbatch --wait --array=1-{plan.parts} --output={log} --wrap {shlex.quote(command)}", plan.join()])
 
-
-PLANS: dict[str, Callable[[Plan], str]] = {"parallel": parallel, "slurm": slurm}

@@ -1,7 +1,7 @@
 """Finds the program, starts it, and talks to it through its pipes.
 
 A `Conversation` has one process. It writes what is queued while it reads, in one loop, so that neither side can wait for the other
-for ever, whatever the length of a batch."""
+for ever, whatever the length of a batch. What reads replies is imported with the first that is none of the usual ones."""
 from __future__ import annotations
 
 import os
@@ -11,45 +11,48 @@ import shutil
 import subprocess
 import sys
 from collections.abc import Callable, Sequence
-from dataclasses import dataclass
-from pathlib import Path
-from typing import TypeVar
+from typing import TYPE_CHECKING, NamedTuple, TypeVar
 
 from .errors import FormatError, UsageError, reason_of, type_of_path
-from .formats.replies import LONG, Reply, first_line, fits, reply_of, shown
-from .formats.script import Line
 from .outcomes import FAULTS, Fault, Refused, SessionError, ended
-from .values import Refusal
+from .parts import TextLine
 
-TOP = Path(__file__).resolve().parents[2]
+if TYPE_CHECKING:
+    from .formats.replies import Reply
+    from .formats.script import Line
+    from .values import Refusal
+
+TOP = os.path.realpath(os.path.join(__file__, *[os.pardir] * 3))
+L = TypeVar("L", "Line", TextLine)
 T = TypeVar("T")
 _CHUNK = 1 << 16
 _MOST_QUEUED = 1 << 20
 _END = b"\nend\n"
+# how replies begin that end with a line `end`; the others have one line
+_LONG = (b"wave ", b"stuck ", b"why ")
 # a long reply; one that is not whole, and so the rest; another reply; and one that is not whole
 _REPLIES = re.compile(rb"(?:wave|stuck|why) [^\n]*\n(?:[^\n]*\n)*?end\n|(?s:(?:wave|stuck|why) .*)|[^\n]*\n|[^\n]+\Z")
 _NOT_BUILT = 7
 _PLACES = {"netlist": 0, "timing": 1, "stimulus": 2, "journal": 3}
 
 
-@dataclass(frozen=True, slots=True)
-class Options:
+class Options(NamedTuple):
     """The options of a session; None leaves one out. Workers and shards are 1 to 64, cells (of each shard) 1 to 65,536."""
 
     workers: int | None = None
     shards: int | None = None
     cells: int | None = None
 
-    def __post_init__(self) -> None:
-        for name, most in (("workers", 64), ("shards", 64), ("cells", 65_536)):
-            number = getattr(self, name)
-            if number is not None and not 1 <= number <= most:
-                raise UsageError(f"{name} must be from 1 to {most}, and not {number}")
-
     def words(self) -> list[str]:
-        """The options as words of a command."""
-        given = {"--workers": self.workers, "--shards": self.shards, "--cells": self.cells}
-        return [word for name, number in given.items() if number is not None for word in (name, str(number))]
+        """The options as words of a command. UsageError where a number is out of its range."""
+        words: list[str] = []
+        for name, number, most in zip(self._fields, self, (64, 64, 65_536)):
+            if number is None:
+                continue
+            if not 1 <= number <= most:
+                raise UsageError(f"{name} must be from 1 to {most}, and not {number}")
+            words += [f"--{name}", str(number)]
+        return words
 
 
 def find_program(given: type_of_path | None = None) -> str:
@@ -61,8 +64,7 @@ def find_program(given: type_of_path | None = None) -> str:
         if found is None:
             raise UsageError(f"{os.fspath(named)}: there is no program of this name")
         return found
-    launcher = TOP / "backsim"
-    found = str(launcher) if launcher.is_file() and os.access(launcher, os.X_OK) else shutil.which("backsim")
+    found = shutil.which(os.path.join(TOP, "backsim")) or shutil.which("backsim")
     if found is None:
         raise UsageError("the program backsim is not found: name it by the environment variable BACKSIM")
     return found
@@ -72,10 +74,11 @@ def looked_up(given: type_of_path | None = None) -> str:
     """As `find_program`, but for the launcher of the repository the program that it would run, which it finds by looking at all sources,
     and builds where there is none. Whoever starts several processes has it look once. SessionError where the program can't be built."""
     found = find_program(given)
-    if found != str(TOP / "backsim"):
+    if found != os.path.join(TOP, "backsim"):
         return found
     try:
-        ran = subprocess.run([TOP / "tools" / "program", "backsim"], stdin=subprocess.DEVNULL, stdout=subprocess.PIPE, check=False)
+        tool = os.path.join(TOP, "tools", "program")
+        ran = subprocess.run([tool, "backsim"], stdin=subprocess.DEVNULL, stdout=subprocess.PIPE, check=False)
     except OSError:
         return found
     if ran.returncode:
@@ -216,11 +219,11 @@ class Conversation:
             del self._got[:found + len(_END)]
         texts = _REPLIES.findall(self._got)
         rest = b""
-        if texts and not texts[-1].endswith(_END if texts[-1].startswith(LONG) else b"\n"):
+        if texts and not texts[-1].endswith(_END if texts[-1].startswith(_LONG) else b"\n"):
             rest = texts.pop()
         self._whole += texts
         self._got = bytearray(rest)
-        self._searched = len(rest) if rest.startswith(LONG) else 0
+        self._searched = len(rest) if rest.startswith(_LONG) else 0
 
     def next_reply(self) -> Reply | None:
         """The next reply, or None where the output has ended. A refusal is no reply: it is kept, and the output has ended."""
@@ -231,13 +234,15 @@ class Conversation:
         return None
 
     def _reply_of(self, text: bytes, line: int = 1) -> Reply | None:
+        from .formats.replies import reply_of
+        from .values import Refusal
         reply = reply_of(text, line)
         if isinstance(reply.answer, Refusal):
             self.refusal, self._refusal_text = reply.answer, text
             return None
         return reply
 
-    def replies_to(self, lines: Sequence[Line], usual: Callable[[Line, bytes], T | None], other: Callable[[Reply], T],
+    def replies_to(self, lines: Sequence[L], usual: Callable[[L, bytes], T | None], other: Callable[[Reply], T],
                    waits: bool = True) -> list[T]:
         """What `usual` makes of the replies to the first of the lines, those that have come; of a reply of which it makes None, `other`
         does. There is none where the output has ended, or none has come and it is not to wait. SessionError, with the program ended,
@@ -264,14 +269,16 @@ class Conversation:
             raise self._failure
         return made
 
-    def _reply_to(self, line: Line, text: bytes) -> Reply | None:
+    def _reply_to(self, line: Line | TextLine, text: bytes) -> Reply | None:
         """The reply, where it is one to the line; None of a refusal."""
+        from .formats.replies import first_line, fits, shown
+        asked = line.parsed() if isinstance(line, TextLine) else line
         try:
             reply = self._reply_of(text)
         except FormatError as error:
-            raise SessionError(f"backsim: to `{shown(line)}` {error.cause}", 1) from None
-        if reply is not None and not fits(line, reply.answer):
-            raise SessionError(f"backsim: `{first_line(reply)}` is no reply to `{shown(line)}`", 1)
+            raise SessionError(f"backsim: to `{shown(asked)}` {error.cause}", 1) from None
+        if reply is not None and not fits(asked, reply.answer):
+            raise SessionError(f"backsim: `{first_line(reply)}` is no reply to `{shown(asked)}`", 1)
         return reply
 
     def finish(self) -> int:

@@ -4,6 +4,7 @@ from __future__ import annotations
 import subprocess
 import sys
 
+import backsim
 import pytest
 from backsim import commands
 from backsim.main import main
@@ -55,3 +56,18 @@ def test_a_reader_that_goes_away_ends_a_command_quietly(tmp_path) -> None:
 def test_the_launcher_runs_the_package_of_the_checkout(tmp_path) -> None:
     run = subprocess.run([TOP / "backsim-tools", "journal", TOP / "examples/c17/c17.journal"], cwd=tmp_path, capture_output=True, text=True)
     assert (run.returncode, run.stdout, run.stderr) == (0, "legal: 15 entries in 2 sections\n", "")
+
+
+def test_every_name_of_the_package_is_found() -> None:
+    assert {name: getattr(backsim, name).__name__ for name in backsim.__all__ if name != "Answer"} == {
+        name: name for name in backsim.__all__ if name != "Answer"}
+    assert backsim.values.Wave is backsim.Wave
+    with pytest.raises(AttributeError):
+        backsim.nothing
+
+
+def test_a_run_begins_before_what_reads_replies_is_imported() -> None:
+    words = [sys.executable, "-c", "import backsim.commands.run, sys; print(*sys.modules)"]
+    imported = subprocess.run(words, capture_output=True, text=True, cwd=TOP / "python").stdout.split()
+    assert "backsim.running" in imported
+    assert {"dataclasses", "backsim.values", "backsim.formats.script", "backsim.formats.replies"}.isdisjoint(imported)

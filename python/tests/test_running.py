@@ -12,9 +12,8 @@ from pathlib import Path
 
 import pytest
 from backsim.commands import run as run_command
-from backsim.formats.script import parse_script
 from backsim.main import main
-from backsim.parts import divide, text_of, with_every_go
+from backsim.parts import divide, text_lines, text_of, with_every_go
 from conftest import TOP
 
 STAND_IN = str(Path(__file__).with_name("stand_in.py"))
@@ -163,7 +162,7 @@ def test_what_memo_would_have_held_all(program: str, tools, write, monkeypatch, 
 
 
 def test_parts_keep_numbers_and_order() -> None:
-    lines = list(parse_script(b"at a 1\n\nat b 2\ngo\nbad\n# nothing\nat c 3"))
+    lines = list(text_lines(b"at a 1\n\nat b 2\ngo\nbad\n# nothing\nat c 3"))
     parts = divide(lines, 2)
     assert [[line.number for line in part] for part in parts] == [[1, 3, 4], [5, 7]] or [
         [line.number for line in part] for part in parts] == [[1, 3], [4, 5, 7]]

@@ -9,6 +9,7 @@ from pathlib import Path
 from ..errors import FormatError, UsageError
 from ..formats.replies import Reply, pairs, read_replies_of
 from ..formats.script import read_script
+from ..parts import told_of_budgets
 from ..values import Budget, Refusal
 
 HELP = "joins the replies to the parts of a script, byte for byte those of one session"
@@ -47,6 +48,5 @@ def run(arguments: argparse.Namespace) -> int:
         sys.stdout.buffer.write(reply.text)
     spent = sorted(number for number, reply in answered.items() if isinstance(reply.answer, Budget))
     if spent:
-        print(f"lines answered by their budget: {' '.join(map(str, spent))}; one session of the whole script may answer such a line by "
-              "more, from what other lines evaluated", file=sys.stderr)
+        print(told_of_budgets(spent), file=sys.stderr)
     return 0

@@ -4,22 +4,17 @@ from __future__ import annotations
 import argparse
 import os
 import sys
-import tempfile
 from collections.abc import Sequence
-from contextlib import closing
-from pathlib import Path
+from contextlib import AbstractContextManager, closing, nullcontext
 
 from ..arguments import add_files, add_memo, add_program, count_of, opened
 from ..bars import Bar
-from ..errors import FormatError, type_of_path
+from ..errors import type_of_path
 from ..evaluations import Tail
-from ..formats.script import SCRIPT_LIMIT, Line, parse_script
 from ..outcomes import Refused, SessionError
-from ..parts import check_divisible
-from ..plans import PLANS, Plan
+from ..parts import TextLine, check_divisible, read_lines, told_of_budgets
 from ..program import Options, find_program
-from ..running import Files, Run
-from ..values import Stats
+from ..running import Counts, Files, Run
 
 HELP = "runs a script, in one process or several, and writes its replies"
 EXAMPLE = """\
@@ -27,7 +22,6 @@ EXAMPLE = """\
   backsim-tools run c17.bench c17.timing c17.stim c17.script --jobs 4 --shards 64 > replies
   backsim-tools run chip.bench chip.timing chip.stim questions.script --jobs 16 --plan slurm"""
 _MOST_JOBS = 1024
-_MOST_TOLD = 20
 _MOST_READ = 4_000_000
 
 
@@ -38,7 +32,9 @@ def add_arguments(parser: argparse.ArgumentParser) -> None:
     parser.add_argument("--jobs", metavar="N", type=count_of(1, _MOST_JOBS), default=1,
                         help="divide the script over N processes; the replies are those of one session")
     add_memo(parser)
-    parser.add_argument("--plan", choices=sorted(PLANS), help="run nothing, and print the commands that do it by GNU parallel or Slurm")
+    # the functions of `plans`
+    parser.add_argument("--plan", choices=("parallel", "slurm"),
+                        help="run nothing, and print the commands that do it by GNU parallel or Slurm")
     parser.add_argument("--parts", metavar="FOLDER", default="parts", help="the folder that a plan makes for its parts (parts)")
     add_program(parser)
 
@@ -46,29 +42,30 @@ def add_arguments(parser: argparse.ArgumentParser) -> None:
 def run(arguments: argparse.Namespace) -> int:
     is_divided = arguments.jobs > 1 or arguments.plan is not None
     options = Options(arguments.workers or (1 if is_divided else None), arguments.shards, arguments.cells)
-    lines = _lines_of(arguments.script)
+    with opened(arguments.script) as stream:
+        lines = read_lines(stream, arguments.script)
     if is_divided:
         check_divisible(lines, arguments.script)
     if arguments.plan:
+        from .. import plans
         names = [arguments.netlist, arguments.timing, arguments.stimulus]
-        plan = Plan(find_program(arguments.program), names, options.words(), arguments.script, arguments.jobs, arguments.parts)
-        print(PLANS[arguments.plan](plan))
+        plan = plans.Plan(find_program(arguments.program), names, options.words(), arguments.script, arguments.jobs, arguments.parts)
+        print(getattr(plans, arguments.plan)(plan))
         return 0
-    with tempfile.TemporaryDirectory(prefix="backsim") as folder:
-        journal = arguments.journal or Path(folder) / "journal"
-        files = Files(arguments.netlist, arguments.timing, arguments.stimulus, journal)
+    with _folder(arguments.journal) as folder:
+        files = Files(arguments.netlist, arguments.timing, arguments.stimulus, arguments.journal or os.path.join(folder, "journal"))
         return _serve(Run(files, lines, options, arguments.jobs, arguments.program), lines)
 
 
-def _lines_of(path: str) -> list[Line]:
-    with opened(path) as stream:
-        data = stream.read(SCRIPT_LIMIT + 1)
-    if len(data) > SCRIPT_LIMIT:
-        raise FormatError(path, None, "the script has more than 16 MiB, which a session refuses")
-    return list(parse_script(data))
+def _folder(journal: str | None) -> AbstractContextManager[str]:
+    """The folder of a journal that is not kept."""
+    if journal:
+        return nullcontext("")
+    from tempfile import TemporaryDirectory
+    return TemporaryDirectory(prefix="backsim")
 
 
-def _serve(session: Run, lines: Sequence[Line]) -> int:
+def _serve(session: Run, lines: Sequence[TextLine]) -> int:
     """Writes the replies, and then what is to be said of the run."""
     total = sum(line.has_reply for line in lines)
     spent: list[int] = []
@@ -77,8 +74,8 @@ def _serve(session: Run, lines: Sequence[Line]) -> int:
         with closing(session.pieces()) as pieces, Bar(total, "lines", Tail(session.journals).count) as bar:
             for piece in pieces:
                 sys.stdout.buffer.write(piece.text)
-                answered += piece.count
-                bar.add(piece.count)
+                answered += piece.size
+                bar.add(piece.size)
                 spent += piece.spent
     except Refused as refused:
         sys.stdout.buffer.write(refused.reply)
@@ -94,16 +91,14 @@ def _tell(session: Run, spent: Sequence[int]) -> None:
     if session.restarts:
         _say(f"{session.restarts} times a part was run again after a fault")
     if spent and len(session.journals) > 1:
-        shown = " ".join(map(str, spent[:_MOST_TOLD])) + (" .." if len(spent) > _MOST_TOLD else "")
-        _say(f"lines answered by their budget: {shown}; one session of the whole script may answer such a line by more, from what other "
-             "lines evaluated")
+        _say(told_of_budgets(spent))
     stats = session.stats()
     # a point is evaluated again only where a cell was evicted between
     if stats.fills and 2 * stats.evictions > stats.fills:
         _tell_repeats(session.journals, stats)
 
 
-def _tell_repeats(journals: Sequence[type_of_path], stats: Stats) -> None:
+def _tell_repeats(journals: Sequence[type_of_path], stats: Counts) -> None:
     """Where more than half of the evaluations came again, says which memo would have held all. Journals that it would take longer to
     read than it took to run are left to who keeps them."""
     if sum(os.path.getsize(path) for path in journals) > _MOST_READ:

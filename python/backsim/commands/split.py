@@ -6,8 +6,8 @@ from pathlib import Path
 
 from ..arguments import count_of
 from ..errors import FormatError, reason_of
-from ..formats.script import read_script
-from ..parts import check_divisible, divide, text_of, with_every_go
+from ..formats.text import opened
+from ..parts import check_divisible, divide, read_lines, text_of, with_every_go
 
 HELP = "divides a script into parts that different sessions answer"
 EXAMPLE = """\
@@ -27,7 +27,8 @@ def add_arguments(parser: argparse.ArgumentParser) -> None:
 
 
 def run(arguments: argparse.Namespace) -> int:
-    lines = read_script(arguments.script)
+    with opened(arguments.script) as stream:
+        lines = read_lines(stream, arguments.script)
     check_divisible(lines, arguments.script)
     folder = Path(arguments.folder)
     try:

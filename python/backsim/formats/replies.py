@@ -228,13 +228,6 @@ def usual_answer(line: Line, text: bytes) -> Answer | None:
     return None
 
 
-def is_value(line: Line, text: bytes) -> bool:
-    """Whether the bytes are the value that an `at` line asks for, or begin as the waveform that a `wave` line asks for."""
-    if type(line) is AtLine:
-        return _value_of(line, text) is not None
-    return type(line) is WaveLine and text.startswith(f"{line.head}\n".encode())
-
-
 def _value_of(line: AtLine, text: bytes) -> str | None:
     head = f"at {line.name} {line.time} ".encode()
     return _VALUES.get(text[len(head):]) if text.startswith(head) else None
@@ -242,8 +235,6 @@ def _value_of(line: AtLine, text: bytes) -> str | None:
 
 _LETTERS = {value.encode(): value for value in LOGIC}
 _VALUES = {letter + b"\n": value for letter, value in _LETTERS.items()}
-# how replies begin that end with a line `end`; the others have one line
-LONG = (b"wave ", b"stuck ", b"why ")
 
 
 def read_replies_of(path: type_of_path) -> Iterator[Reply]:

@@ -7,10 +7,8 @@ from dataclasses import dataclass
 from typing import ClassVar, TextIO, Union
 
 from ..errors import FormatError, type_of_path
-from .text import NAME, is_name, lines_of, logic_of, number_of, read_bytes, words_of
+from .text import LINE_LIMIT, NAME, SCRIPT_LIMIT, is_name, lines_of, logic_of, number_of, read_bytes, words_of
 
-SCRIPT_LIMIT = 16 * 1024 * 1024
-LINE_LIMIT = 4096
 MOST_TIME = 4_294_967_294
 MOST_BUDGET = 500_000
 USUAL_BUDGET = 50_000

@@ -4,22 +4,23 @@ from __future__ import annotations
 import re
 from collections.abc import Callable, Iterator
 from contextlib import contextmanager
-from dataclasses import dataclass
-from typing import BinaryIO, TypeVar
+from typing import BinaryIO, NamedTuple, TypeVar
 
 from ..errors import FormatError, reason_of, type_of_path
 
 FILE_LIMIT = 64 * 1024 * 1024
+SCRIPT_LIMIT = 16 * 1024 * 1024
+LINE_LIMIT = 4096
 NAME_LIMIT = 255
-NAME = re.compile(r"[^\x00-\x20\x7f-\U0010ffff(),=#]+")
+# from ! to ~, without ( ) , = and #
+NAME = re.compile(r"[!\"$-'*+\--<>-~]+")
 DIGITS = re.compile(r"[0-9]+")
 T = TypeVar("T")
 N = TypeVar("N")
 _BLANKS = bytes.maketrans(b"\t\r", b"  ")
 
 
-@dataclass(frozen=True, slots=True)
-class Row:
+class Row(NamedTuple):
     """A line that isn't blank: its number, counted from 1, and its words without the comment."""
 
     number: int
