@@ -1,13 +1,14 @@
 #!/usr/bin/env python3
 """What the Python package adds to the program: sessions of 10,000 questions, and scripts that are divided over processes. Prints the
-shortest of five times each (of three with jobs), taken in turn, in seconds; all replies must be the same, or the script ends with
-status 1.
+shortest of five times each (with jobs of nine for `outputs`, and of three), taken in turn, in seconds; all replies must be the same, or
+the script ends with status 1.
 
     bench/python/run.py [session] [jobs]
 
 - session: `Session` asks 10,000 questions, four values to one wave of 20 instants, of c17, and of 100 layers of 20 gates (the circuit of
   bench/icarus/generate.py) at times near one another; beside the program with the same script. Neither has Python's start in it.
-- jobs: scripts about 100 layers of 200 gates by the program, and by `backsim-tools run` with 1, 2 and 4 processes of one worker each.
+- jobs: scripts about 100 layers of 200 gates by the program, and by `backsim-tools run`, in the Python that runs this script, with 1, 2
+  and 4 processes of one worker each.
   `outputs` asks each gate of the last layer at one time; `by output` asks each at sixteen times, one gate after another, and `by time`
   asks the same, one time after another; `longer` does so for 50 times. The counts of evaluations are those of all processes."""
 from __future__ import annotations
@@ -111,7 +112,10 @@ def jobs(folder: Path) -> None:
     longer = [f"at g99_{place} {at} 15000\n" for at in range(150, 950, 16) for place in range(200)]
     for name, lines in (("by output", by_output), ("by time", by_time), ("longer", longer)):
         (folder / f"{name}.script").write_text("".join(lines))
-    environment = os.environ | {"BACKSIM": PROGRAM}
+    # compiled modules are kept, as they are where a command has run before
+    environment = os.environ | {"BACKSIM": PROGRAM, "PYTHONPATH": str(TOP / "python")}
+    environment.pop("PYTHONDONTWRITEBYTECODE", None)
+    tools = [sys.executable, "-m", "backsim"]
 
     def by_program(script: Path, *words: str) -> Callable[[], None]:
         def way() -> None:
@@ -122,7 +126,7 @@ def jobs(folder: Path) -> None:
     def by_run(script: Path, count: int) -> Callable[[], None]:
         def way() -> None:
             with open(folder / f"{count}", "wb") as replies:
-                subprocess.run([TOP / "backsim-tools", "run", *files, script, "--jobs", str(count), "--workers", "1", "--journal",
+                subprocess.run([*tools, "run", *files, script, "--jobs", str(count), "--workers", "1", "--journal",
                                 folder / f"journal{count}"], stdout=replies, stderr=subprocess.DEVNULL, env=environment, check=True)
         return way
 
@@ -132,12 +136,12 @@ def jobs(folder: Path) -> None:
 
     (folder / "empty.script").write_text("")
     empty, start = shortest(by_program(folder / "empty.script", "--workers", "1"),
-                            lambda: subprocess.run([TOP / "backsim-tools", "--help"], stdout=subprocess.DEVNULL, check=True) and None)
-    print(f"jobs: an empty script {empty:.3f}, `backsim-tools --help` {start:.3f}", flush=True)
+                            lambda: subprocess.run([sys.executable, "-c", ""], check=True) and None, runs=9)
+    print(f"jobs: an empty script {empty:.3f}, Python alone {start:.3f}", flush=True)
     for name in ("outputs", "by output", "by time", "longer"):
         script = folder / f"{name}.script"
         ways = [by_program(script, "--workers", "1"), by_program(script), *(by_run(script, count) for count in (1, 2, 4))]
-        one, four, *runs = shortest(*ways, runs=3)
+        one, four, *runs = shortest(*ways, runs=9 if name == "outputs" else 3)
         for count in (1, 2, 4):
             same((folder / f"{count}").read_bytes(), (folder / "whole").read_bytes(), f"{count} jobs")
         shown = ", ".join(f"{count} jobs {took:.3f} ({fills(count)} evaluations)" for count, took in zip((1, 2, 4), runs))
