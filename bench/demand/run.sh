@@ -16,8 +16,7 @@ for program in plain forward generate; do
 done
 "$work/generate" "$work" 7
 cp "$here"/loop.* "$work/"
-# this builds the program where it is not built yet
-"$top/backsim" "$work"/loop.{bench,timing,stim} "$work/journal" <"$work/loop.script" >/dev/null
+own=$("$top/tools/program" backsim)
 TIMEFORMAT="  %R s, of the processor %U s"
 
 serve() {
@@ -30,7 +29,7 @@ serve() {
 for _ in 1 2 3 4 5; do
     for session in loop workload; do
         serve plain $session "$work/plain" "$work/$session.bench" "$work/$session.stim"
-        serve backsim $session "$top/crates/backsim/out/backsim" "$work/$session".{bench,timing,stim} "$work/journal"
+        serve backsim $session "$own" "$work/$session".{bench,timing,stim} "$work/journal"
         cmp "$work/$session.plain" "$work/$session.backsim"
     done
 done

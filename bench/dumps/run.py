@@ -14,6 +14,7 @@ import tempfile
 import time
 
 TOP = os.path.dirname(os.path.dirname(os.path.dirname(os.path.abspath(__file__))))
+PROGRAM = subprocess.run([os.path.join(TOP, "tools", "program"), "backsim"], check=True, stdout=subprocess.PIPE, text=True).stdout.strip()
 WIRES, LENGTH, STEP, HORIZON = 64, 62500, 14880, 1000000
 
 
@@ -36,7 +37,7 @@ def session(folder, script):
     for _ in range(3):
         begun = time.monotonic()
         with open(os.path.join(folder, script)) as source, open(os.path.join(folder, "replies"), "w") as target:
-            child = subprocess.Popen([os.path.join(TOP, "crates/backsim/out/backsim"), "n", "t", "s", "j"], cwd=folder, stdin=source, stdout=target)
+            child = subprocess.Popen([PROGRAM, "n", "t", "s", "j"], cwd=folder, stdin=source, stdout=target)
             _, status, usage = os.wait4(child.pid, 0)
         if status:
             sys.exit(f"the session ended with {status}")

@@ -27,7 +27,7 @@ from generate import main as generate
 
 HERE = os.path.dirname(os.path.abspath(__file__))
 TOP = os.path.dirname(os.path.dirname(HERE))
-PROGRAM = os.path.join(TOP, "crates/backsim/out/backsim")
+PROGRAM = subprocess.run([os.path.join(TOP, "tools", "program"), "backsim"], check=True, stdout=subprocess.PIPE, text=True).stdout.strip()
 EXAMPLE = os.path.join(TOP, "examples/from_verilog")
 LONG = 60  # seconds; what takes longer is run once, and else three times
 
@@ -175,10 +175,6 @@ def example(work):
 
 
 def main(widths):
-    # this builds the program where it is not built yet
-    c17 = os.path.join(TOP, "examples/c17/c17")
-    subprocess.run([os.path.join(TOP, "backsim"), *(f"{c17}.{kind}" for kind in ("bench", "timing", "stim")), os.devnull],
-                   check=True, stdin=subprocess.DEVNULL)
     print("Wall times in seconds; the shortest of three, of what takes more than a minute one.\n")
     print("| circuit | horizon | asked | compilation | transport | primitives | BACKSIM | ratio |")
     print("|---|---|---|---|---|---|---|---|", flush=True)

@@ -23,7 +23,7 @@ from backsim import Stuck  # noqa: E402
 from backsim.formats.replies import read_replies  # noqa: E402
 from generate import main as generate  # noqa: E402
 
-PROGRAM = os.path.join(TOP, "crates/backsim/out/backsim")
+PROGRAM = subprocess.run([os.path.join(TOP, "tools", "program"), "backsim"], check=True, stdout=subprocess.PIPE, text=True).stdout.strip()
 LAYERS, SITES, PLAIN, START, STOP = 100, 100, 10, 970, 991
 
 

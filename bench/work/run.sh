@@ -8,11 +8,8 @@ set -euo pipefail
 here=$(cd "$(dirname "$0")" && pwd)
 . "$here/../common.sh"
 begin "$here"
-own=$top/crates/backsim/out/backsim
+own=$("$top/tools/program" backsim)
 [ $# -gt 0 ] || set -- 7
-
-# this builds the program where it is not built yet
-"$top/backsim" --work "$1" "$copy/journal" </dev/null >/dev/null
 
 # best COMMAND..: the shortest of five times, in microseconds; what the command writes goes to $copy/line.
 best() {

@@ -13,7 +13,7 @@ set -euo pipefail
 here=$(cd "$(dirname "$0")" && pwd)
 . "$here/../common.sh"
 begin "$here"
-own=$top/crates/backsim/out/backsim
+own=$("$top/tools/program" backsim)
 shards=${SHARDS:-8}
 rustc --edition 2021 -O -o "$copy/generate" "$here/../demand/generate.rs"
 "$copy/generate" "$copy" 7
@@ -21,9 +21,6 @@ for i in $(seq 0 15); do
     echo "wave g99_$((125 * i)) 90000 90100 62500"
 done >"$copy/apart.script"
 : >"$copy/empty.script"
-
-# this builds the program where it is not built yet
-"$top/backsim" "$copy"/workload.{bench,timing,stim} "$copy/journal" <"$copy/empty.script" >/dev/null
 
 # best SCRIPT COMMAND..: the shortest of five times, in microseconds; the replies go to $copy/replies.
 best() {
