@@ -63,8 +63,8 @@ def text_lines(data: bytes) -> Iterator[TextLine]:
 def told_of_budgets(numbers: Sequence[int]) -> str:
     """What is said of the lines with these numbers, which were answered by their budget."""
     shown = " ".join(map(str, numbers[:_MOST_TOLD])) + (" .." if len(numbers) > _MOST_TOLD else "")
-    return (f"lines answered by their budget: {shown}; one session of the whole script may answer such a line by more, from what other lines "
-            "evaluated")
+    return (f"lines answered by their budget: {shown}; one session of the whole script may answer such a line by more, from what other "
+            "lines evaluated")
 
 
 def divide(lines: Sequence[TextLine], parts: int) -> list[list[TextLine]]:
