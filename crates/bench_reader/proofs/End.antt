@@ -12,11 +12,11 @@ use Rattle.gate_values.specs.Spelling.{kind_of_word}
 use Rattle.bench_reader.specs.declared.netlist.Definition.{Definition}
 use Rattle.bench_reader.specs.declared.netlist.Definition.TheVariants.{Missing, Input, Gate}
 use Rattle.bench_reader.specs.declared.fault.BenchCause.TheVariants.{Undefined}
-use Rattle.bench_lines.specs.Lines.{Line}
-use Rattle.bench_lines.specs.Lines as line
+use Rattle.bench_reader.specs.Lines.{Line}
+use Rattle.bench_reader.specs.Lines as line
 use Rattle.bench_reader.specs.Netlists.{names, names_in, pins_in, outputs_in, defined_in, is_among, is_defined, place, number, NetlistDriver, Primary, Driven, driver_by, driver_of, driven_by, undefined_from}
 use Rattle.bench_reader.specs.inner.KeptNetlists.{driver}
-use Rattle.bench_reader.specs.inner.Reading.{Knows, Numbered, Tells, FirstNamed, first_missing}
+use Rattle.bench_reader.specs.inner.Reading.{Knows, Tells, first_missing}
 use Rattle.bench_reader.specs.inner.Reading as reading
 use Rattle.bench_reader.proofs.Places.{same_bytes, same_names, Extends, all_extends, present_place, present_lt, found_at, is_among_at, among_all, names_distinct}
 use Rattle.bench_reader.proofs.Rows.{undriven, no_gates, left_false, right_false, defined_told}

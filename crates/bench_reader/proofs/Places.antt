@@ -10,7 +10,7 @@ use Rattle.std.proofs.lemmas.List.Sums.{fold-append}
 use Rattle.std.proofs.lemmas.Slice.Eq.{bytes_eq-Decides}
 use Rattle.std.proofs.Math.Bool.{or-false, or-true}
 use Rattle.indexmap.specs.IndexSet.{insert_key, insert_all}
-use Rattle.bench_lines.specs.Lines.{Line}
+use Rattle.bench_reader.specs.Lines.{Line}
 use Rattle.bench_reader.specs.Netlists.{place, is_among, names, names_in}
 use Rattle.bench_reader.specs.inner.Reading.{Numbered}
 

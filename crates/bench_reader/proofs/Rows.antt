@@ -12,8 +12,8 @@ use Rattle.gate_values.specs.declared.Kind.{Kind}
 use Rattle.gate_values.specs.Spelling.{kind_of_word}
 use Rattle.bench_reader.specs.declared.netlist.Definition.{Definition}
 use Rattle.bench_reader.specs.declared.netlist.Definition.TheVariants.{Missing, Input, Gate}
-use Rattle.bench_lines.specs.Lines.{Line}
-use Rattle.bench_lines.specs.Lines as line
+use Rattle.bench_reader.specs.Lines.{Line}
+use Rattle.bench_reader.specs.Lines as line
 use Rattle.bench_reader.specs.Netlists.{names, names_in, pins_in, gates_in, defined_in, drives, is_among, place}
 use Rattle.bench_reader.specs.inner.Reading.{Tells, FirstNamed, padded, is_gate, is_defined, is_gate_at, is_defined_at}
 use Rattle.bench_reader.proofs.Places.{Distinct, Extends, all_extends, present_place, present_lt, absent_place, found_at, other_at, names_distinct, grown, among_all, same_bytes}

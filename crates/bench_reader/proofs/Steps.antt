@@ -13,8 +13,8 @@ use Rattle.bench_reader.specs.declared.netlist.Definition.{Definition}
 use Rattle.bench_reader.specs.declared.netlist.Definition.TheVariants.{Missing, Input, Gate}
 use Rattle.bench_reader.specs.declared.reader.Reader.{Reader}
 use Rattle.bench_reader.specs.declared.fault.BenchCause.TheVariants.{UnknownKind, PinCount, NameLong, Twice, TooMany}
-use Rattle.bench_lines.specs.Lines.{Line}
-use Rattle.bench_lines.specs.Lines as line
+use Rattle.bench_reader.specs.Lines.{Line}
+use Rattle.bench_reader.specs.Lines as line
 use Rattle.bench_reader.specs.Netlists.{names, pins_in, outputs_in, gates_in, defined_in, is_among, is_long, place, exceeds, is_crowded, miscounts, cause_of, cause_of_names}
 use Rattle.bench_reader.specs.inner.Reading.{Knows, HasRead, Numbered, padded, is_gate_at, is_defined_at}
 use Rattle.bench_reader.proofs.Places.{same_bytes, is_among_new, all_extends, numbered_kept, numbered_all, numbered_more, number_step, among_all, present_place, place_new}

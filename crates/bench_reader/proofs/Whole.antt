@@ -12,7 +12,7 @@ use Rattle.gate_values.specs.Gates.{is_unary}
 use Rattle.bench_reader.specs.declared.netlist.Definition.{Definition}
 use Rattle.bench_reader.specs.declared.netlist.Definition.TheVariants.{Missing, Input, Gate}
 use Rattle.bench_reader.specs.declared.reader.Reader.{Reader}
-use Rattle.bench_lines.specs.Lines.{Line}
+use Rattle.bench_reader.specs.Lines.{Line}
 use Rattle.bench_reader.specs.Netlists.{is_among, place, NetlistDriver, pins_of, IsNetlistDriver}
 use Rattle.bench_reader.specs.inner.KeptNetlists.{driver, pin_count, FitsRows, IsKeptName}
 use Rattle.bench_reader.specs.inner.Reading.{HasRead, IsSoundReading, Numbered}

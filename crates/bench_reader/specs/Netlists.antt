@@ -1,5 +1,5 @@
 -- What a netlist in the `.bench` form says, or its first fault.
-use Rattle.std.specs.Prelude.{◌≡◌, ℕ, ◌+◌, ◌<◌, ◌≤◌, IsTrue, Bool, false, not, ◌&&◌, ◌||◌, ◌==◌, nat_eq, nat_lt, List, [], ◌∷◌, ◌++◌, length, map, find, get_or, position, sum_by, Option, Some, None, Result, Ok, Err, if◌then◌else◌, ◌⊎◌}
+use Rattle.std.specs.Prelude.{◌≡◌, ℕ, ◌+◌, ◌<◌, ◌≤◌, IsTrue, Bool, false, not, ◌&&◌, ◌||◌, ◌==◌, nat_eq, nat_lt, List, [], ◌∷◌, ◌++◌, length, map, find, get_or, position, sum_by, Option, Some, None, Result, Ok, if◌then◌else◌}
 use Rattle.std.specs.List.{All, list_all, list_any, flat_map, position_or_len}
 use Rattle.std.specs.Str.{bytes_eq}
 use Rattle.indexmap.specs.IndexSet.{insert_all}
@@ -9,8 +9,9 @@ use Rattle.gate_values.specs.Spelling.{kind_of_word}
 use Rattle.text_rules.specs.Text.{lines}
 use Rattle.bench_reader.specs.declared.fault.BenchCause.{BenchCause}
 use Rattle.bench_reader.specs.declared.fault.BenchCause.TheVariants.{Syntax, UnknownKind, PinCount, Twice, Undefined, NameLong, TooMany, OutOfMemory}
-use Rattle.bench_reader.specs.declared.fault.BenchFault.{BenchFault}
-use Rattle.bench_lines.specs.Lines.{Line, Blank, Malformed, Input, Output, Gate, line_of}
+use Rattle.line_faults.specs.declared.causes.LineFault.{LineFault}
+use Rattle.line_faults.specs.Faults.{at_line, at_no_line, first_fault, unless_fault}
+use Rattle.bench_reader.specs.Lines.{Line, Blank, Malformed, Input, Output, Gate, line_of}
 
 -- the names of a line, from left to right
 abbrev pub names_in : Line → List (List ℕ)
@@ -100,26 +101,16 @@ cause_of before (Input name) = cause_of_names before (Input name) (is_among (fla
 cause_of before (Output name) = cause_of_names before (Output name) false
 cause_of before (Gate name word pins) = cause_of_gate before name word pins (kind_of_word word)
 
--- a cause on a line, else a later line's fault
-abbrev pub fault_at : Option BenchCause → ℕ → Option BenchFault → Option BenchFault
-fault_at None line later = later
-fault_at (Some cause) line later = Some (record { cause = cause; line = line })
-
--- the first line with a cause
-abbrev pub first_fault : List Line → List Line → Option BenchFault
-first_fault before [] = None
-first_fault before (line ∷ later) = fault_at (cause_of before line) (length before + 1) (first_fault (before ++ line ∷ []) later)
-
 -- an INPUT or gate line defines the name
 abbrev pub is_defined : List Line → List ℕ → Bool
 is_defined all name = is_among (flat_map defined_in all) name
 
 -- the first line, counted from n, with a pin or output that no line of all defines
-abbrev pub undefined_from : List Line → ℕ → List Line → Option BenchFault
+abbrev pub undefined_from : List Line → ℕ → List Line → Option (LineFault BenchCause)
 undefined_from all n [] = None
 undefined_from all n (line ∷ later) =
     if list_all (is_defined all) (pins_in line ++ outputs_in line) then undefined_from all (n + 1) later
-    else Some (record { cause = Undefined; line = n })
+    else Some (at_line n Undefined)
 
 -- what drives a signal: the outside, or a gate or flip-flop of this kind with these pins
 pub data NetlistDriver : Type 0 where
@@ -188,23 +179,14 @@ content_of all = record {
   outputs = insert_all nat_eq [] (map (number all) (flat_map outputs_in all));
 }
 
-abbrev pub unless_fault : Option BenchFault → Result Content BenchFault → Result Content BenchFault
-unless_fault None said = said
-unless_fault (Some fault) said = Err fault
-
 -- the first line at fault, else the first with an undefined name, else what the lines say
-abbrev pub of_lines : List Line → Result Content BenchFault
-of_lines all = unless_fault (first_fault [] all) (unless_fault (undefined_from all 1 all) (Ok (content_of all)))
+abbrev pub of_lines : List Line → Result Content (LineFault BenchCause)
+of_lines all = unless_fault (first_fault cause_of [] all) (unless_fault (undefined_from all 1 all) (Ok (content_of all)))
 
 -- what a text says: its netlist, or why it is refused
-unfoldable pub bench_of : List ℕ → Result Content BenchFault
+unfoldable pub bench_of : List ℕ → Result Content (LineFault BenchCause)
 bench_of text = of_lines (map line_of (lines text))
 
 -- the one fault that says nothing of the text
-abbrev pub out_of_memory : BenchFault
-out_of_memory = record { cause = OutOfMemory; line = 0 }
-
--- What a call answered, seen by view, is this, unless memory ran out.
-abbrev pub AnswersNetlist : {X : Type 0} → (X → Content) → Result X BenchFault → Result Content BenchFault → Type 0
-AnswersNetlist view (Ok x) said = said ≡ Ok (view x)
-AnswersNetlist view (Err fault) said = (fault ≡ out_of_memory) ⊎ (said ≡ Err fault)
+abbrev pub out_of_memory : LineFault BenchCause
+out_of_memory = at_no_line OutOfMemory

@@ -2,3 +2,4 @@ pub mod TextLists
 pub mod Chains
 pub mod KeptNetlists
 pub mod Reading
+pub mod Views

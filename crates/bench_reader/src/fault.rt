@@ -4,7 +4,7 @@ ghost use Rattle.std.specs.Prelude.{◌≡◌};
 ghost use Rattle.bench_reader.specs.Causes.{cause_number};
 ghost use Rattle.bench_reader.specs.declared.fault.BenchCause.TheVariants.{OutOfMemory};
 
-use std::alloc::{AllocError, AllocFailed};
+use line_faults::{LineCause, LineFault};
 
 /// What is wrong with a netlist.
 #[derive(Clone, Copy, Debug, PartialEq, Eq)]
@@ -46,32 +46,13 @@ impl BenchCause {
     }
 }
 
+impl LineCause for BenchCause {
+    ghost memory = { OutOfMemory };
+
+    fn out_of_memory() -> BenchCause {
+        BenchCause::OutOfMemory
+    }
+}
+
 /// A netlist's first fault.
-#[derive(Clone, Copy, Debug, PartialEq, Eq)]
-pub struct BenchFault {
-    pub cause: BenchCause,
-    /// The line at fault, counted from 1; 0 where memory ran out.
-    pub line: u32,
-}
-
-impl From<AllocError> for BenchFault {
-    ghost from_gives = { λ _ e. e ≡ record { cause = OutOfMemory; line = 0 } };
-
-    fn from(_e: AllocError) -> BenchFault {
-        BenchFault {
-            cause: BenchCause::OutOfMemory,
-            line: 0,
-        }
-    }
-}
-
-impl<T: Drop> From<AllocFailed<T>> for BenchFault {
-    ghost from_gives = { λ _ e. e ≡ record { cause = OutOfMemory; line = 0 } };
-
-    fn from(_e: AllocFailed<T>) -> BenchFault {
-        BenchFault {
-            cause: BenchCause::OutOfMemory,
-            line: 0,
-        }
-    }
-}
+pub type BenchFault = LineFault<BenchCause>;

@@ -17,6 +17,10 @@
 //! the line that defines it, a gate may have itself among its pins, and an
 //! INPUT or OUTPUT line may be said again. Lines may stand in any order.
 //!
+//! A line has the form that its tokens say (`specs/Lines.antt`). INPUT and
+//! OUTPUT take one name, a list has any length, and the kind is any name there:
+//! which kinds there are and how many pins they take is tested after it.
+//!
 //! [`read_bench`] reads a whole file. Its one clause says that the answer is
 //! `bench_of` of the text (`specs/Netlists.antt`): the netlist, or the first
 //! line at fault with its cause. A line's cause is a fact about the line and
@@ -48,6 +52,7 @@
 
 mod chains;
 mod fault;
+mod form;
 mod names;
 mod netlist;
 mod reader;

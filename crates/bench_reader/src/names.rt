@@ -4,7 +4,7 @@ ghost use Rattle.std.specs.Prelude.{◌≡◌, ◌+◌, ◌++◌, ◌<◌, ◌�
 ghost use Rattle.std.specs.Str.{bytes_eq};
 ghost use Rattle.indexmap.specs.IndexSet.{insert_key, insert_all};
 ghost use Rattle.bench_reader.specs.Netlists.{out_of_memory, place};
-ghost use Rattle.bench_lines.specs.Views.{each_now};
+ghost use Rattle.bench_reader.specs.Views.{each_now};
 
 use crate::chains::{Chains, bucket_of, seek};
 use crate::fault::BenchFault;

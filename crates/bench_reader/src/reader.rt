@@ -1,22 +1,23 @@
 //! Reading the lines one after another.
 
-ghost use Rattle.std.specs.Prelude.{◌≡◌, ◌+◌, ◌≤◌, ℕ, false, List, [], ◌∷◌, length, map, Err, OnOk, IfOk, IfErr};
+ghost use Rattle.std.specs.Prelude.{◌≡◌, ◌+◌, ◌≤◌, ℕ, false, List, [], ◌∷◌, length, OnOk, IfErr};
 ghost use Rattle.std.specs.List.{list_any};
-ghost use Rattle.bench_lines.specs.Lines.{Input, Output, Gate, line_of};
-ghost use Rattle.bench_reader.specs.Netlists.{out_of_memory, bench_of, AnswersNetlist};
+ghost use Rattle.bench_reader.specs.Lines.{Input, Output, Gate};
+ghost use Rattle.bench_reader.specs.Netlists.{out_of_memory, bench_of};
 ghost use Rattle.bench_reader.specs.Netlists as netlists;
-ghost use Rattle.bench_reader.specs.inner.Reading.{IsSoundReading, Takes, ReadsAll, CountsPins, padded, first_missing, is_gate_at, is_defined_at};
-ghost use Rattle.text_rules.specs.Text.{lines};
-ghost use Rattle.bench_lines.specs.Views.{view, each_now};
+ghost use Rattle.bench_reader.specs.inner.Reading.{IsRead, IsSoundReading, Takes, CountsPins, padded, first_missing, is_gate_at, is_defined_at};
+ghost use Rattle.bench_reader.specs.Views.{view, each_now};
+ghost use Rattle.bench_reader.specs.declared.fault.BenchCause.TheVariants.{OutOfMemory};
+ghost use Rattle.line_faults.specs.Faults.{Answers};
 
 use crate::fault::{BenchCause, BenchFault};
+use crate::form::{Form, form_of};
 use crate::names::Names;
 use crate::netlist::{Definition, Netlist};
-use bench_lines::{Form, form_of};
 use gate_values::Kind;
 use indexmap::IndexSet;
+use line_faults::{LineReader, fault, read_lines};
 use std::alloc::Global;
-use text_rules::next_line;
 
 /// What the lines so far say: the names in the order of first appearance, a row for each, the pins
 /// of all gates in the order of the text, and the outputs.
@@ -81,12 +82,6 @@ fn is_any_long(name: &[u8], pins: &[&[u8]]) -> bool
     is_long(name) || is_any_pin_long(pins)
 }
 
-fn fault(cause: BenchCause, line: u32) -> Result<(), BenchFault>
-    ensures { result ≡ Err (record { cause = cause; line = line }) }
-{
-    Err(BenchFault { cause, line })
-}
-
 /// Adds rows for new names, which this line is the first to name.
 fn add_rows(rows: &mut Vec<Definition>, names: &Names, line: u32) -> Result<(), BenchFault>
     requires { length rows.old.items ≤ length names.now }
@@ -99,10 +94,7 @@ fn add_rows(rows: &mut Vec<Definition>, names: &Names, line: u32) -> Result<(), 
 
 impl Reader {
     fn new(alloc: Global) -> Reader
-        ensures names { result.names ≡ [] }
-        ensures rows { result.rows.items ≡ [] }
-        ensures pins { result.pins.items ≡ [] }
-        ensures outputs { result.outputs.keys ≡ [] }
+        ensures { IsRead [] result }
     {
         Reader {
             names: Names::new(alloc),
@@ -216,7 +208,7 @@ impl Reader {
     }
 
     /// Takes one line.
-    fn take(&mut self, alloc: Global, line: u32, form: Form) -> Result<(), BenchFault>
+    fn take_form(&mut self, alloc: Global, line: u32, form: Form) -> Result<(), BenchFault>
         requires sound { IsSoundReading self.old }
         ensures sound { OnOk result (IsSoundReading self.new) }
         ensures steps { Takes self.old (view form.entry) line self.new result }
@@ -233,22 +225,23 @@ impl Reader {
     }
 }
 
-/// Reads every line.
-fn read_lines(alloc: Global, text: &[u8]) -> Result<Reader, BenchFault>
-    requires { length text.now ≤ 67108864 }
-    ensures sound { IfOk result IsSoundReading }
-    ensures lines { ReadsAll (map line_of (lines text.now)) result }
-{
-    let mut reader = Reader::new(alloc);
-    let mut rest = text;
-    let mut number: u32 = 0;
-    while !rest.is_empty() {
-        let (line, later) = next_line(rest);
-        number += 1;
-        reader.take(alloc, number, form_of(alloc, line)?)?;
-        rest = later;
+impl<'a> LineReader<'a> for Reader {
+    ghost use Rattle.bench_reader.specs.Lines as forms;
+    ghost use Rattle.bench_reader.specs.inner.Reading as reading;
+
+    type Cause = BenchCause;
+
+    ghost Line = { forms.Line };
+
+    ghost line_of = { forms.line_of };
+
+    ghost cause_of = { netlists.cause_of };
+
+    ghost has_read = { reading.IsRead };
+
+    fn take(&mut self, alloc: Global, number: u32, line: &'a [u8]) -> Result<(), BenchFault> {
+        self.take_form(alloc, number, form_of(alloc, line)?)
     }
-    Ok(reader)
 }
 
 /// The line that first names a signal that is defined nowhere.
@@ -269,9 +262,9 @@ fn missing_line(rows: &[Definition]) -> Option<u32>
 /// name, row and pin; a line at fault may want memory for a list as long as the line.
 pub fn read_bench(alloc: Global, text: &[u8]) -> Result<Netlist, BenchFault>
     requires { length text.now ≤ 67108864 }
-    ensures { AnswersNetlist (λ netlist. netlist) result (bench_of text.now) }
+    ensures { Answers OutOfMemory result (bench_of text.now) }
 {
-    let reader = read_lines(alloc, text)?;
+    let reader = read_lines(alloc, Reader::new(alloc), text)?;
     match missing_line(&reader.rows) {
         Some(line) => Err(BenchFault {
             cause: BenchCause::Undefined,

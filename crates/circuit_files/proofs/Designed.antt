@@ -2,15 +2,16 @@
 use Rattle.std.proofs.Common.{◌≡◌, ℕ, ◌<◌, ◌≤◌, ◌⊎◌, inl, inr, List, length, Option, Some, Result, Ok, Err, refl, sym, ap, subst, ◌∙◌}
 use Rattle.std.specs.Prelude.{IfSome}
 use Rattle.std.proofs.lemmas.Bool.{le-leb, lt-leb}
+use Rattle.line_faults.specs.declared.causes.LineFault.{LineFault}
 use Rattle.bench_reader.specs.Netlists as netlists
 use Rattle.bench_reader.specs.Netlists.{bench_of}
-use Rattle.bench_reader.specs.declared.fault.BenchFault.{BenchFault}
+use Rattle.bench_reader.specs.declared.fault.BenchCause.{BenchCause}
 use Rattle.timing_file.specs.Timing as timings
 use Rattle.timing_file.specs.Timing.{timing_of}
-use Rattle.timing_file.specs.declared.TimingFault.{TimingFault}
+use Rattle.timing_file.specs.declared.TimingCause.{TimingCause}
 use Rattle.stimulus_file.specs.Stimulus as stimuli
 use Rattle.stimulus_file.specs.Stimulus.{stimulus_of}
-use Rattle.stimulus_file.specs.declared.StimulusFault.{StimulusFault}
+use Rattle.stimulus_file.specs.declared.StimulusCause.{StimulusCause}
 use Rattle.timing_file.specs.Causes as timing
 use Rattle.stimulus_file.specs.Causes as stimulus
 use Rattle.design.specs.Join.{design_of}
@@ -107,7 +108,7 @@ netlist_stops a (Unread file) says = tt
 netlist_stops a (NotOpened file) says = tt
 netlist_stops a OutOfMemory says = tt
 
-pub netlist_refused : (a items text : List ℕ) (fault : BenchFault) → limited Netlist a ≡ Ok items → text ≡ items → (fault ≡ netlists.out_of_memory) ⊎ (bench_of text ≡ Err fault) → (fault ≡ netlists.out_of_memory) ⊎ (netlist_of a ≡ Err (refused_netlist fault))
+pub netlist_refused : (a items text : List ℕ) (fault : LineFault BenchCause) → limited Netlist a ≡ Ok items → text ≡ items → (fault ≡ netlists.out_of_memory) ⊎ (bench_of text ≡ Err fault) → (fault ≡ netlists.out_of_memory) ⊎ (netlist_of a ≡ Err (refused_netlist fault))
 unfolding netlist_of
 netlist_refused a items text fault fits same (inl gone) = inl gone
 netlist_refused a items text fault fits same (inr e) = inr (rw (fits, sym same, e) refl)
@@ -124,7 +125,7 @@ timing_stops b (Unread file) says = tt
 timing_stops b (NotOpened file) says = tt
 timing_stops b OutOfMemory says = tt
 
-pub timing_refused : (b items text : List ℕ) (fault : TimingFault) → limited Timing b ≡ Ok items → text ≡ items → (fault ≡ timing.out_of_memory) ⊎ (timing_of text ≡ Err fault) → (fault ≡ timing.out_of_memory) ⊎ (delays_of b ≡ Err (refused_timing fault))
+pub timing_refused : (b items text : List ℕ) (fault : LineFault TimingCause) → limited Timing b ≡ Ok items → text ≡ items → (fault ≡ timing.out_of_memory) ⊎ (timing_of text ≡ Err fault) → (fault ≡ timing.out_of_memory) ⊎ (delays_of b ≡ Err (refused_timing fault))
 unfolding delays_of
 timing_refused b items text fault fits same (inl gone) = inl gone
 timing_refused b items text fault fits same (inr e) = inr (rw (fits, sym same, e) refl)
@@ -141,7 +142,7 @@ stimulus_stops d (Unread file) says = tt
 stimulus_stops d (NotOpened file) says = tt
 stimulus_stops d OutOfMemory says = tt
 
-pub stimulus_refused : (d items text : List ℕ) (fault : StimulusFault) → limited Stimulus d ≡ Ok items → text ≡ items → (fault ≡ stimulus.out_of_memory) ⊎ (stimulus_of text ≡ Err fault) → (fault ≡ stimulus.out_of_memory) ⊎ (settings_of d ≡ Err (refused_stimulus fault))
+pub stimulus_refused : (d items text : List ℕ) (fault : LineFault StimulusCause) → limited Stimulus d ≡ Ok items → text ≡ items → (fault ≡ stimulus.out_of_memory) ⊎ (stimulus_of text ≡ Err fault) → (fault ≡ stimulus.out_of_memory) ⊎ (settings_of d ≡ Err (refused_stimulus fault))
 unfolding settings_of
 stimulus_refused d items text fault fits same (inl gone) = inl gone
 stimulus_refused d items text fault fits same (inr e) = inr (rw (fits, sym same, e) refl)

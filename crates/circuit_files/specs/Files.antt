@@ -1,17 +1,18 @@
--- The design that three files make, or what is refused.
+-- The design of three files, or the refusal.
 use Rattle.std.specs.Prelude.{ℕ, ◌+◌, nat_le, List, length, Result, Ok, Err, if◌then◌else◌}
+use Rattle.line_faults.specs.declared.causes.LineFault.{LineFault}
 use Rattle.bench_reader.specs.Netlists as netlists
 use Rattle.bench_reader.specs.Netlists.{bench_of}
 use Rattle.bench_reader.specs.Causes.{cause_number}
-use Rattle.bench_reader.specs.declared.fault.BenchFault.{BenchFault}
+use Rattle.bench_reader.specs.declared.fault.BenchCause.{BenchCause}
 use Rattle.timing_file.specs.Timing as timings
 use Rattle.timing_file.specs.Timing.{timing_of}
 use Rattle.timing_file.specs.Causes as timing
-use Rattle.timing_file.specs.declared.TimingFault.{TimingFault}
+use Rattle.timing_file.specs.declared.TimingCause.{TimingCause}
 use Rattle.stimulus_file.specs.Stimulus as stimuli
 use Rattle.stimulus_file.specs.Stimulus.{stimulus_of}
 use Rattle.stimulus_file.specs.Causes as stimulus
-use Rattle.stimulus_file.specs.declared.StimulusFault.{StimulusFault}
+use Rattle.stimulus_file.specs.declared.StimulusCause.{StimulusCause}
 use Rattle.design.specs.Join.{design_of}
 use Rattle.design.specs.Joined.{Joined}
 use Rattle.design.specs.Causes as join
@@ -23,14 +24,14 @@ use Rattle.circuit_files.specs.declared.refusal.CircuitFile.TheVariants.{Netlist
 use Rattle.circuit_files.specs.declared.refusal.FileRefusal.{FileRefusal}
 use Rattle.circuit_files.specs.declared.refusal.FileRefusal.TheVariants.{TooLong, Line}
 
--- what is refused for a fault: the line, and the number of its cause
-abbrev pub refused_netlist : BenchFault → FileRefusal
+-- the refusal of a fault: the line, and the number of its cause
+abbrev pub refused_netlist : LineFault BenchCause → FileRefusal
 refused_netlist fault = Line Netlist fault.line (cause_number fault.cause)
 
-abbrev pub refused_timing : TimingFault → FileRefusal
+abbrev pub refused_timing : LineFault TimingCause → FileRefusal
 refused_timing fault = Line Timing fault.line (timing.number_of fault.cause)
 
-abbrev pub refused_stimulus : StimulusFault → FileRefusal
+abbrev pub refused_stimulus : LineFault StimulusCause → FileRefusal
 refused_stimulus fault = Line Stimulus fault.line (stimulus.number_of fault.cause)
 
 abbrev pub file_of : JoinFile → CircuitFile
@@ -41,12 +42,12 @@ file_of files.Stimulus = Stimulus
 abbrev pub refused_join : JoinFault → FileRefusal
 refused_join fault = Line (file_of fault.file) fault.line (join.number_of fault.cause + 10)
 
--- what was made, or the refusal of its fault
+-- the result, or the refusal of its fault
 abbrev pub or_refusal : {A E : Type 0} → (E → FileRefusal) → Result A E → Result A FileRefusal
 or_refusal refusal (Ok a) = Ok a
 or_refusal refusal (Err fault) = Err (refusal fault)
 
--- the first refusal ends all that follows
+-- a refusal ends the chain
 infixl 10 ◌>>=◌
 abbrev pub ◌>>=◌ : {A B : Type 0} → Result A FileRefusal → (A → Result B FileRefusal) → Result B FileRefusal
 Ok a >>= next = next a
@@ -56,7 +57,7 @@ Err refusal >>= next = Err refusal
 abbrev pub limited : CircuitFile → List ℕ → Result (List ℕ) FileRefusal
 limited file bytes = if nat_le (length bytes) 67108864 then Ok bytes else Err (TooLong file)
 
--- what each file says: its limit comes first, then its reader
+-- the content of each file: its length is checked first, then its lines
 unfoldable pub netlist_of : List ℕ → Result netlists.Content FileRefusal
 netlist_of bytes = limited Netlist bytes >>= λ text. or_refusal refused_netlist (bench_of text)
 
@@ -66,7 +67,8 @@ delays_of bytes = limited Timing bytes >>= λ text. or_refusal refused_timing (t
 unfoldable pub settings_of : List ℕ → Result stimuli.Content FileRefusal
 settings_of bytes = limited Stimulus bytes >>= λ text. or_refusal refused_stimulus (stimulus_of text)
 
--- the design of a netlist, a timing file and a stimulus file, which are read in this order and joined: what a file refuses comes before all of the later files
+-- the design of a netlist, a timing file and a stimulus file, read in this order and joined: the refusal of a file comes before all of the
+-- later files
 unfoldable pub design_of_files : List ℕ → List ℕ → List ℕ → Result Joined FileRefusal
 design_of_files netlist timing stimulus = do
   content ← netlist_of netlist

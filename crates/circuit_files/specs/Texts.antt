@@ -1,4 +1,4 @@
--- The line that tells of a refusal.
+-- The line that reports a refusal.
 use Rattle.std.specs.Prelude.{ℕ, List, ◌++◌, codes}
 use Rattle.std.specs.Fmt.{decimal}
 use Rattle.circuit_files.specs.declared.refusal.CircuitFile.{CircuitFile}

@@ -1,20 +1,21 @@
 //! The design of a circuit, read from its three files.
 //!
-//! [`read_design`] reads a netlist, a timing file and a stimulus by their names, in this order, each parsed before the next is
-//! opened, and joins them. It is what every program that takes a circuit begins with.
+//! [`read_design`] reads a netlist, a timing file and a stimulus by their names, in this order. It parses each before it opens the
+//! next, and joins them. Every program that takes a circuit begins with this call.
 //!
-//! What callers may rely on:
+//! Guarantees:
 //!
-//! - The design is the one that the definitions of the three formats and of their join make of the files' bytes
-//!   (`specs/Files`, `design_of_files`).
-//! - What is refused is the first refusal in this order: the netlist's length, then its first fault; the same of the timing file,
-//!   and of the stimulus; then the first row that does not join. Whatever the files behind a refused one hold, or that one of them
-//!   is missing, does not hide its refusal: no file behind a refused one is opened (`specs/Stops`).
-//! - A fault comes only where its count rose, or stands at its last value, and how many files were opened tells which file it is of.
-//!   Nothing else of the files changes (`specs/Changes`).
-//! - [`FileRefusal::text`] is the line that tells of a refusal (`specs/Texts`).
+//! - The design is the one that the definitions of the three formats and of their join make of the files' bytes (`specs/Files`,
+//!   `design_of_files`).
+//! - The first refusal is returned, in this order: the netlist's length, then its first fault; the same for the timing file, and for
+//!   the stimulus; then the first row that does not join. No file after a refused one is opened, so a later file never hides a
+//!   refusal, even if it is missing (`specs/Stops`).
+//! - A fault is returned only if its count rose, or stands at its greatest value. The number of opened files tells which file had
+//!   the fault. Nothing else of the files changes (`specs/Changes`).
+//! - [`FileRefusal::text`] is the line that reports a refusal (`specs/Texts`).
 //!
-//! It holds one file's text at a time beside what was made of the files before, and takes the time of the readers and of the join.
+//! The call holds the text of one file at a time, and what was made of the files before. It takes the time of the readers and of the
+//! join.
 //!
 //! ```text
 //! match read_design(rt.alloc(), "c17.bench", "c17.timing", "c17.stim", &mut files) {

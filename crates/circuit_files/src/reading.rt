@@ -18,7 +18,7 @@ use timing_file::read_timing;
 
 const FILE_LIMIT: u32 = 67_108_864;
 
-/// Reads the three files, in this order, and joins them. Each is parsed before the next is opened.
+/// Reads the three files, in this order, and joins them. Parses each before it opens the next.
 pub fn read_design<F: Files>(
     alloc: Global,
     netlist: &str,
@@ -27,7 +27,7 @@ pub fn read_design<F: Files>(
     files: &mut F,
 ) -> Result<Design, FilesStop>
     requires { (F.state files.old).started ≡ 0 }
-    // Of all three files: the design that they make, or the refusal. Of the first or the first two: their refusal, whatever comes behind.
+    // For all three files: their design, or the refusal. For the first, or the first two: their refusal, whatever the later files hold.
     ensures design { (first second third : List ℕ)
         → (F.state files.old).held netlist.now ≡ Some first
         → (F.state files.old).held timing.now ≡ Some second

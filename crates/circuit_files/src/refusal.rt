@@ -1,4 +1,4 @@
-//! What is refused of a file, and the line that tells of it.
+//! What is refused of a file, and the line that reports it.
 
 ghost use Rattle.std.specs.Prelude.{◌≡◌, IfOk, string_bytes};
 ghost use Rattle.circuit_files.specs.Texts.{name_of, refusal_text};
@@ -14,7 +14,7 @@ pub enum CircuitFile {
 }
 
 impl CircuitFile {
-    /// The name of the file in what a program prints.
+    /// The name of the file in messages.
     pub fn name(self) -> &'static str
         ensures { result.now ≡ name_of self }
     {
@@ -26,12 +26,12 @@ impl CircuitFile {
     }
 }
 
-/// What is refused, and why.
+/// A refusal and its cause.
 #[derive(Clone, Copy, Debug, PartialEq, Eq)]
 pub enum FileRefusal {
     /// The file has more bytes than its limit.
     TooLong(CircuitFile),
-    /// A line, counted from 1, and the number of its cause. Of a file that ends too early the line is 0.
+    /// A line, counted from 1, and the number of its cause. The line is 0 if the file ends too early.
     Line {
         file: CircuitFile,
         line: u32,
@@ -40,7 +40,7 @@ pub enum FileRefusal {
 }
 
 impl FileRefusal {
-    /// The line that tells of it.
+    /// The line that reports the refusal.
     pub fn text(&self, alloc: Global) -> Result<String, AllocError>
         ensures { IfOk result (λ text. string_bytes text ≡ refusal_text self.now) }
     {

@@ -19,14 +19,14 @@ use timing_file::{TimingCause, TimingFault};
 pub enum FilesStop {
     /// A file is too long or has a line at fault, or a row does not join.
     Refused(FileRefusal),
-    /// The file couldn't be opened: the count of file faults rose.
+    /// The file could not be opened: the count of file faults rose.
     NotOpened(CircuitFile),
     /// A read of the file failed: the count of read faults rose.
     Unread(CircuitFile),
     OutOfMemory,
 }
 
-/// A line of a file is refused.
+/// The refusal of a line of a file.
 fn refused(file: CircuitFile, line: u32, cause: u32) -> FilesStop
     ensures quiet { IsQuiet result }
     ensures stop { result ≡ FilesStop.Refused (FileRefusal.Line file line cause) }

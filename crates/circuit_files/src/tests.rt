@@ -6,7 +6,7 @@ use owned_text::Text;
 use std::alloc::Global;
 use std::test::Fail;
 
-/// What is held under the names `n`, `t` and `s`; a name with no bytes isn't held.
+/// The content under the names `n`, `t` and `s`. A name without bytes has no file.
 #[derive(Clone, Copy)]
 struct Held {
     netlist: &'static str,

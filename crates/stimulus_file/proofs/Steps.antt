@@ -1,5 +1,5 @@
 -- What the reader knows after one more line.
-use Rattle.std.proofs.Common.{◌≡◌, ℕ, ◌+◌, ◌&&◌, ◌||◌, Bool, true, false, not, cond, eqb, List, [], ◌∷◌, ◌++◌, length, Option, Some, None, refl, sym, ap, subst, ◌∙◌, append_assoc, arith, is_none, is_some}
+use Rattle.std.proofs.Common.{◌≡◌, ℕ, ◌+◌, ◌&&◌, ◌||◌, Bool, true, false, not, cond, eqb, List, [], ◌∷◌, ◌++◌, length, Option, Some, None, refl, sym, ap, subst, ◌∙◌, is_none, is_some}
 use Rattle.std.specs.Prelude.{option_to_list}
 use Rattle.std.specs.List.{list_all, list_any, flat_map}
 use Rattle.std.specs.Str.{bytes_eq}
@@ -9,20 +9,12 @@ use Rattle.std.proofs.lemmas.Grind.{flat_map-append}
 use Rattle.std.proofs.lemmas.List.{append-nil}
 use Rattle.std.proofs.lemmas.List.Folds.{list_all-append, list_any-append}
 use Rattle.gate_values.specs.declared.Value.{Value}
+use Rattle.line_faults.proofs.Rows.{rows-push}
 use Rattle.stimulus_file.specs.declared.SetRow.{SetRow}
 use Rattle.stimulus_file.specs.declared.reader.Reader.{Reader}
 use Rattle.stimulus_file.specs.Forms.{Line, Blank, Horizon, Setting}
-use Rattle.stimulus_file.specs.Stimulus.{is_blank, is_horizon, sets, cause_of, stated, row_of, rows_from}
+use Rattle.stimulus_file.specs.Stimulus.{is_blank, is_horizon, sets, cause_of, stated, row_of, rows_of}
 use Rattle.stimulus_file.specs.inner.Reading.{HasRead, key_eq}
-
-pub rows-append : (n : ℕ) (a b : List Line) → rows_from n (a ++ b) ≡ rows_from n a ++ rows_from (n + length a) b
-rows-append n [] b = ap (λ (k : ℕ). rows_from k b) (omega arith)
-rows-append n (x ∷ a) b =
-    let k : (n + 1) + length a ≡ n + length (x ∷ a) = omega arith in
-    ap (λ (l : List SetRow). row_of n x ++ l) (rows-append (n + 1) a b ∙ ap (λ (k : ℕ). rows_from (n + 1) a ++ rows_from k b) k) ∙ sym (append_assoc (row_of n x) (rows_from (n + 1) a) (rows_from (n + length (x ∷ a)) b))
-
-pub rows-push : (before : List Line) (line : Line) → rows_from 1 (before ++ line ∷ []) ≡ rows_from 1 before ++ row_of (1 + length before) line
-rows-push before line = rows-append 1 before (line ∷ []) ∙ ap (λ (l : List SetRow). rows_from 1 before ++ l) (append-nil (row_of (1 + length before) line))
 
 pub none_is : {X : Type 0} (o : Option X) → is_some o ≡ false → o ≡ None
 none_is None h = refl
@@ -41,7 +33,7 @@ horizon_step before r h read none =
         horizon = flat_map-append stated before (Horizon (Some h) ∷ []) ∙ ap (λ (l : List ℕ). l ++ h ∷ []) (read.horizon ∙ ap option_to_list none-is);
         blank = list_all-append is_blank before (Horizon (Some h) ∷ []) ∙ and-false (list_all is_blank before);
         horizon_line = list_any-append is_horizon before (Horizon (Some h) ∷ []) ∙ or-true (list_any is_horizon before);
-        rows = read.rows ∙ sym (rows-push before (Horizon (Some h)) ∙ append-nil (rows_from 1 before));
+        rows = read.rows ∙ sym (rows-push row_of before (Horizon (Some h)) (length before + 1) refl ∙ append-nil (rows_of before));
         seen = λ q. read.seen q ∙ sym (list_any-append (sets q.0.now q.1) before (Horizon (Some h) ∷ []) ∙ or-false (list_any (sets q.0.now q.1) before));
       },
     )
@@ -52,7 +44,7 @@ blank_step before r read = record {
   horizon = flat_map-append stated before (Blank ∷ []) ∙ append-nil (flat_map stated before) ∙ read.horizon;
   blank = list_all-append is_blank before (Blank ∷ []) ∙ and-true (list_all is_blank before) ∙ read.blank;
   horizon_line = list_any-append is_horizon before (Blank ∷ []) ∙ or-false (list_any is_horizon before) ∙ read.horizon_line;
-  rows = read.rows ∙ sym (rows-push before Blank ∙ append-nil (rows_from 1 before));
+  rows = read.rows ∙ sym (rows-push row_of before Blank (length before + 1) refl ∙ append-nil (rows_of before));
   seen = λ q. read.seen q ∙ sym (list_any-append (sets q.0.now q.1) before (Blank ∷ []) ∙ or-false (list_any (sets q.0.now q.1) before));
 }
 
@@ -75,14 +67,13 @@ pub setting_step : (before : List Line) (r new : Reader) (key : Bor (List ℕ) �
     → (cause_of before (Setting name (Some t) value) ≡ None) × HasRead (before ++ Setting name (Some t) value ∷ []) new
 setting_step before r new key name t line value read line-is n-is t-is some same fresh seen rows =
     let horizon : list_all is_blank before ≡ false = read.blank ∙ some in
-    let unset : list_any (sets name t) before ≡ false = is_set_before before r key name t read n-is t-is false fresh in
-    let line-is' : 1 + length before ≡ line = omega arith in (
+    let unset : list_any (sets name t) before ≡ false = is_set_before before r key name t read n-is t-is false fresh in (
       rw (horizon, unset) refl,
       record {
         horizon = flat_map-append stated before (Setting name (Some t) value ∷ []) ∙ append-nil (flat_map stated before) ∙ read.horizon ∙ ap option_to_list (sym same);
         blank = list_all-append is_blank before (Setting name (Some t) value ∷ []) ∙ and-false (list_all is_blank before) ∙ sym some ∙ ap is_none (sym same);
         horizon_line = list_any-append is_horizon before (Setting name (Some t) value ∷ []) ∙ or-false (list_any is_horizon before) ∙ read.horizon_line ∙ ap is_some (sym same);
-        rows = rows ∙ ap (λ (l : List SetRow). l ++ record { line = line; name = name; time = t; value = value } ∷ []) read.rows ∙ sym (rows-push before (Setting name (Some t) value) ∙ ap (λ (k : ℕ). rows_from 1 before ++ record { line = k; name = name; time = t; value = value } ∷ []) line-is');
+        rows = rows ∙ ap (λ (l : List SetRow). l ++ record { line = line; name = name; time = t; value = value } ∷ []) read.rows ∙ sym (rows-push row_of before (Setting name (Some t) value) line line-is);
         seen = λ q. seen q ∙ ap (λ (b : Bool). cond (key_eq key q) true b) (read.seen q) ∙ joined (key_eq key q) (list_any (sets q.0.now q.1) before)
             ∙ sym (list_any-append (sets q.0.now q.1) before (Setting name (Some t) value ∷ []) ∙ ap (λ (b : Bool). list_any (sets q.0.now q.1) before || (b || false)) (sym (key-is q)));
       },
@@ -90,14 +81,6 @@ setting_step before r new key name t line value read line-is n-is t-is some same
   where
     key-is : (q : Bor (List ℕ) × ℕ) → key_eq key q ≡ (bytes_eq name q.0.now && eqb t q.1)
     key-is q = ap (λ (x : List ℕ). bytes_eq x q.0.now && eqb key.1 q.1) n-is ∙ ap (λ (x : ℕ). bytes_eq name q.0.now && eqb x q.1) t-is
-
-pub not_false : (b : Bool) → not b ≡ false → b ≡ true
-not_false true h = refl
-not_false false h = absurd cc
-
-pub not_true : (b : Bool) → not b ≡ true → b ≡ false
-not_true true h = absurd cc
-not_true false h = refl
 
 pub states : {X : Type 0} (o : Option X) (b : Bool) → is_some o ≡ not b → b ≡ false → is_none o ≡ false
 states o b h e = ap not h ∙ ap (λ (x : Bool). not (not x)) e

@@ -11,10 +11,13 @@ use Rattle.text_rules.specs.declared.Amount.{Amount}
 use Rattle.text_rules.specs.declared.Amount.TheVariants.{NoNumber, Above, Within}
 use Rattle.text_rules.specs.Text.{amount, content, is_name, lines, words}
 use Rattle.text_rules.proofs.Digits.{within}
-use Rattle.stimulus_file.specs.declared.StimulusFault.{StimulusFault}
+use Rattle.line_faults.specs.declared.causes.LineFault.{LineFault}
+use Rattle.line_faults.specs.Faults.{first_fault, unless_fault}
+use Rattle.line_faults.specs.Rows.{rows_from}
+use Rattle.stimulus_file.specs.declared.StimulusCause.{StimulusCause}
 use Rattle.stimulus_file.specs.declared.SetRow.{SetRow}
 use Rattle.stimulus_file.specs.Forms.{Line, Blank, Other, Horizon, Setting, horizon_of_amount, setting_of_parts, by_words, line_of}
-use Rattle.stimulus_file.specs.Stimulus.{Content, stated, row_of, rows_from, horizon_of, with_horizon, unless_fault, first_fault, stimulus_of}
+use Rattle.stimulus_file.specs.Stimulus.{Content, stated, cause_of, row_of, rows_of, horizon_of, with_horizon, stimulus_of}
 use Rattle.stimulus_file.specs.Ranges.{IsStimulus}
 
 abbrev IsTime : ℕ → Type 0
@@ -64,9 +67,9 @@ row_of-within n (Horizon horizon) h = All-nil IsRow
 row_of-within n (Setting name None value) h = All-nil IsRow
 row_of-within n (Setting name (Some t) value) h = All-cons IsRow _ [] h (All-nil IsRow)
 
-rows-within : (n : ℕ) (all : List (List ℕ)) → All IsRow (rows_from n (map line_of all))
+rows-within : (n : ℕ) (all : List (List ℕ)) → All IsRow (rows_from row_of n (map line_of all))
 rows-within n [] = All-nil IsRow
-rows-within n (line ∷ all) = All-append IsRow (row_of n (line_of line)) (rows_from (n + 1) (map line_of all)) (row_of-within n (line_of line) (line-within line)) (rows-within (n + 1) all)
+rows-within n (line ∷ all) = All-append IsRow (row_of n (line_of line)) (rows_from row_of (n + 1) (map line_of all)) (row_of-within n (line_of line) (line-within line)) (rows-within (n + 1) all)
 
 stated-within : (line : Line) → IsLine line → All IsTime (stated line)
 stated-within Blank h = All-nil IsTime
@@ -86,11 +89,11 @@ first-within (t ∷ l) h = All-head IsTime t l h
 -- what a file says is in its ranges
 pub stimulus-within : (text : List ℕ) (c : Content) → stimulus_of text ≡ Ok c → IsStimulus c
 unfolding stimulus_of
-stimulus-within text c h = cases (first_fault [] (map line_of (lines text))) (horizon_of (map line_of (lines text))) (first-within (flat_map stated (map line_of (lines text))) (horizons-within (lines text))) h
+stimulus-within text c h = cases (first_fault cause_of [] (map line_of (lines text))) (horizon_of (map line_of (lines text))) (first-within (flat_map stated (map line_of (lines text))) (horizons-within (lines text))) h
   where
-    cases : (fault : Option StimulusFault) (horizon : Option ℕ) → IfSome horizon IsTime → unless_fault fault (with_horizon horizon (rows_from 1 (map line_of (lines text)))) ≡ Ok c → IsStimulus c
+    cases : (fault : Option (LineFault StimulusCause)) (horizon : Option ℕ) → IfSome horizon IsTime → unless_fault fault (with_horizon horizon (rows_of (map line_of (lines text)))) ≡ Ok c → IsStimulus c
     cases None None g h = absurd cc
     cases None (Some t) g h =
-        let same : record { horizon = t; sets = rows_from 1 (map line_of (lines text)) } ≡ c = cc in
+        let same : record { horizon = t; sets = rows_of (map line_of (lines text)) } ≡ c = cc in
         subst IsStimulus same (record { horizon = g; sets = rows-within 1 (lines text) })
     cases (Some fault) horizon g h = absurd cc

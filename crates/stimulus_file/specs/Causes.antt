@@ -1,8 +1,9 @@
 -- The causes of a refusal.
 use Rattle.std.specs.Prelude.{ℕ}
+use Rattle.line_faults.specs.declared.causes.LineFault.{LineFault}
+use Rattle.line_faults.specs.Faults.{at_no_line}
 use Rattle.stimulus_file.specs.declared.StimulusCause.{StimulusCause}
 use Rattle.stimulus_file.specs.declared.StimulusCause.TheVariants.{Syntax, NoHorizon, Range, Twice, OutOfMemory}
-use Rattle.stimulus_file.specs.declared.StimulusFault.{StimulusFault}
 
 -- the number that is printed for a cause
 abbrev pub number_of : StimulusCause → ℕ
@@ -12,5 +13,5 @@ number_of Range = 3
 number_of Twice = 4
 number_of OutOfMemory = 5
 
-abbrev pub out_of_memory : StimulusFault
-out_of_memory = record { cause = OutOfMemory; line = 0 }
+abbrev pub out_of_memory : LineFault StimulusCause
+out_of_memory = at_no_line OutOfMemory

@@ -1,13 +1,14 @@
 -- What a stimulus file says, or its first line at fault.
-use Rattle.std.specs.Prelude.{◌≡◌, ℕ, ◌+◌, Bool, true, false, ◌&&◌, ◌==◌, List, [], ◌∷◌, ◌++◌, length, map, Option, Some, None, Result, Ok, Err, if◌then◌else◌, ◌⊎◌, slice_get}
+use Rattle.std.specs.Prelude.{ℕ, Bool, true, false, ◌&&◌, ◌==◌, List, [], ◌∷◌, map, Option, Some, None, Result, Ok, Err, if◌then◌else◌, slice_get}
 use Rattle.std.specs.List.{list_all, list_any, flat_map}
 use Rattle.std.specs.Str.{bytes_eq}
 use Rattle.text_rules.specs.Text.{lines}
+use Rattle.line_faults.specs.declared.causes.LineFault.{LineFault}
+use Rattle.line_faults.specs.Faults.{at_no_line, first_fault, unless_fault}
+use Rattle.line_faults.specs.Rows.{rows_from}
 use Rattle.stimulus_file.specs.declared.StimulusCause.{StimulusCause}
 use Rattle.stimulus_file.specs.declared.StimulusCause.TheVariants.{Syntax, NoHorizon, Range, Twice}
-use Rattle.stimulus_file.specs.declared.StimulusFault.{StimulusFault}
 use Rattle.stimulus_file.specs.declared.SetRow.{SetRow}
-use Rattle.stimulus_file.specs.Causes.{out_of_memory}
 use Rattle.stimulus_file.specs.Forms.{Line, Blank, Other, Horizon, Setting, line_of}
 
 -- what the file says: the horizon, and the settings in the order of their lines
@@ -44,15 +45,6 @@ cause_of before (Horizon (Some h)) = if list_any is_horizon before then Some Twi
 cause_of before (Setting name None value) = if list_all is_blank before then Some NoHorizon else Some Range
 cause_of before (Setting name (Some t) value) = if list_all is_blank before then Some NoHorizon else (if list_any (sets name t) before then Some Twice else None)
 
-abbrev pub fault_at : Option StimulusCause → ℕ → Option StimulusFault → Option StimulusFault
-fault_at None line later = later
-fault_at (Some cause) line later = Some (record { cause = cause; line = line })
-
--- the first line at fault among the later ones, after those before
-abbrev pub first_fault : List Line → List Line → Option StimulusFault
-first_fault before [] = None
-first_fault before (line ∷ later) = fault_at (cause_of before line) (length before + 1) (first_fault (before ++ line ∷ []) later)
-
 -- the horizon that a line states
 abbrev pub stated : Line → List ℕ
 stated Blank = []
@@ -69,31 +61,21 @@ row_of n (Horizon h) = []
 row_of n (Setting name None value) = []
 row_of n (Setting name (Some t) value) = record { line = n; name = name; time = t; value = value } ∷ []
 
--- the rows of lines of which the first has the number n
-abbrev pub rows_from : ℕ → List Line → List SetRow
-rows_from n [] = []
-rows_from n (line ∷ more) = row_of n line ++ rows_from (n + 1) more
+-- the rows of all lines, the first of which has the number 1
+abbrev pub rows_of : List Line → List SetRow
+rows_of all = rows_from row_of 1 all
 
 abbrev pub horizon_of : List Line → Option ℕ
 horizon_of all = slice_get (flat_map stated all) 0
 
 -- a file without a horizon is refused at line 0
-abbrev pub with_horizon : Option ℕ → List SetRow → Result Content StimulusFault
-with_horizon None rows = Err (record { cause = NoHorizon; line = 0 })
+abbrev pub with_horizon : Option ℕ → List SetRow → Result Content (LineFault StimulusCause)
+with_horizon None rows = Err (at_no_line NoHorizon)
 with_horizon (Some h) rows = Ok (record { horizon = h; sets = rows })
 
-abbrev pub unless_fault : Option StimulusFault → Result Content StimulusFault → Result Content StimulusFault
-unless_fault None content = content
-unless_fault (Some fault) content = Err fault
-
-abbrev pub of_lines : List Line → Result Content StimulusFault
-of_lines all = unless_fault (first_fault [] all) (with_horizon (horizon_of all) (rows_from 1 all))
+abbrev pub of_lines : List Line → Result Content (LineFault StimulusCause)
+of_lines all = unless_fault (first_fault cause_of [] all) (with_horizon (horizon_of all) (rows_of all))
 
 -- the content of a stimulus file, or its first line at fault
-unfoldable pub stimulus_of : List ℕ → Result Content StimulusFault
+unfoldable pub stimulus_of : List ℕ → Result Content (LineFault StimulusCause)
 stimulus_of text = of_lines (map line_of (lines text))
-
--- the answer is this one, unless memory ran out
-abbrev pub AnswersStimulus : Result Content StimulusFault → Result Content StimulusFault → Type 0
-AnswersStimulus (Ok content) said = said ≡ Ok content
-AnswersStimulus (Err fault) said = (fault ≡ out_of_memory) ⊎ (said ≡ Err fault)

@@ -33,9 +33,9 @@ mod form;
 mod reader;
 
 use gate_values::Value;
-use owned_text::{OutOfMemory, Text};
+use line_faults::{LineCause, LineFault};
+use owned_text::Text;
 pub use reader::read_stimulus;
-use std::alloc::{AllocError, AllocFailed};
 use std::marker::Model;
 
 /// Why a line of the file is refused, in the order in which the causes of one
@@ -71,56 +71,19 @@ impl StimulusCause {
     }
 }
 
-/// The first line at fault. Lines are numbered from 1; where the file has no
-/// line that isn't blank, and where memory ran out, the line is 0.
-#[derive(Clone, Copy, Debug, PartialEq, Eq)]
-pub struct StimulusFault {
-    pub cause: StimulusCause,
-    pub line: u32,
-}
+impl LineCause for StimulusCause {
+    ghost use Rattle.stimulus_file.specs.declared.StimulusCause.TheVariants.{OutOfMemory};
 
-impl StimulusFault {
-    ghost use Rattle.stimulus_file.specs.Causes.{out_of_memory};
+    ghost memory = { OutOfMemory };
 
-    fn out_of_memory() -> StimulusFault
-        ensures { result ≡ out_of_memory }
-    {
-        StimulusFault {
-            cause: StimulusCause::OutOfMemory,
-            line: 0,
-        }
+    fn out_of_memory() -> StimulusCause {
+        StimulusCause::OutOfMemory
     }
 }
 
-impl From<AllocError> for StimulusFault {
-    ghost use Rattle.stimulus_file.specs.Causes.{out_of_memory};
-
-    ghost from_gives = { λ _ fault. fault ≡ out_of_memory };
-
-    fn from(_: AllocError) -> StimulusFault {
-        StimulusFault::out_of_memory()
-    }
-}
-
-impl<T: Drop> From<AllocFailed<T>> for StimulusFault {
-    ghost use Rattle.stimulus_file.specs.Causes.{out_of_memory};
-
-    ghost from_gives = { λ _ fault. fault ≡ out_of_memory };
-
-    fn from(_: AllocFailed<T>) -> StimulusFault {
-        StimulusFault::out_of_memory()
-    }
-}
-
-impl From<OutOfMemory> for StimulusFault {
-    ghost use Rattle.stimulus_file.specs.Causes.{out_of_memory};
-
-    ghost from_gives = { λ _ fault. fault ≡ out_of_memory };
-
-    fn from(_: OutOfMemory) -> StimulusFault {
-        StimulusFault::out_of_memory()
-    }
-}
+/// The first line at fault. A file that has no line that isn't blank is refused
+/// at line 0.
+pub type StimulusFault = LineFault<StimulusCause>;
 
 /// A `set` line: from `time` on the input `name` has `value`. `time` is at most
 /// 1,000,000.

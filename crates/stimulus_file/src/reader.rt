@@ -1,18 +1,19 @@
 //! Reading the lines one after the other.
 
-ghost use Rattle.std.specs.Prelude.{◌≡◌, ◌≤◌, Err, Some, length, map};
-ghost use Rattle.text_rules.specs.Text.{lines};
-ghost use Rattle.stimulus_file.specs.Forms.{Setting, Horizon, line_of};
-ghost use Rattle.stimulus_file.specs.Stimulus.{AnswersStimulus, stimulus_of};
-ghost use Rattle.stimulus_file.specs.inner.Reading.{Reads, ReadsAll, line_seen};
+ghost use Rattle.std.specs.Prelude.{◌≤◌, Some, length};
+ghost use Rattle.line_faults.specs.Faults.{Answers};
+ghost use Rattle.stimulus_file.specs.declared.StimulusCause.TheVariants.{OutOfMemory};
+ghost use Rattle.stimulus_file.specs.Forms.{Setting, Horizon};
+ghost use Rattle.stimulus_file.specs.Stimulus.{stimulus_of};
+ghost use Rattle.stimulus_file.specs.inner.Reading.{Reads, line_seen};
 
 use crate::form::{Form, form_of};
 use crate::{SetRow, Stimulus, StimulusCause, StimulusFault};
 use gate_values::Value;
+use line_faults::{LineReader, fault, read_lines};
 use owned_text::Text;
 use std::alloc::Global;
 use std::collections::HashSet;
-use text_rules::next_line;
 
 /// What is known after some lines. The names in `seen` lie in the text.
 #[derive(Drop)]
@@ -22,20 +23,11 @@ pub struct Reader<'a> {
     pub seen: HashSet<(&'a [u8], u32)>,
 }
 
-fn fault(cause: StimulusCause, line: u32) -> Result<(), StimulusFault>
-    ensures { result ≡ Err (record { cause = cause; line = line }) }
-{
-    Err(StimulusFault { cause, line })
-}
-
 fn take_horizon(reader: &mut Reader, number: u32, horizon: u32) -> Result<(), StimulusFault>
     ensures { Reads reader.old reader.new number (Horizon (Some horizon)) result }
 {
     if reader.horizon.is_some() {
-        return Err(StimulusFault {
-            cause: StimulusCause::Twice,
-            line: number,
-        });
+        return fault(StimulusCause::Twice, number);
     }
     reader.horizon = Some(horizon);
     Ok(())
@@ -52,16 +44,10 @@ fn take_setting<'a>(
     ensures { Reads reader.old reader.new number (Setting name.entry.now (Some time) value) result }
 {
     if reader.horizon.is_none() {
-        return Err(StimulusFault {
-            cause: StimulusCause::NoHorizon,
-            line: number,
-        });
+        return fault(StimulusCause::NoHorizon, number);
     }
     if !reader.seen.insert((name, time))? {
-        return Err(StimulusFault {
-            cause: StimulusCause::Twice,
-            line: number,
-        });
+        return fault(StimulusCause::Twice, number);
     }
     let name = Text::from_bytes(alloc, name)?;
     reader.sets.push(SetRow {
@@ -73,7 +59,7 @@ fn take_setting<'a>(
     Ok(())
 }
 
-fn take<'a>(
+fn take_form<'a>(
     alloc: Global,
     reader: &mut Reader<'a>,
     number: u32,
@@ -99,32 +85,37 @@ fn take<'a>(
     }
 }
 
-fn take_all<'a>(alloc: Global, text: &'a [u8]) -> Result<Reader<'a>, StimulusFault>
-    requires { length text.now ≤ 67108864 }
-    ensures { ReadsAll (map line_of (lines text.entry.now)) result }
-{
-    let mut reader = Reader {
-        horizon: None,
-        sets: Vec::new(alloc),
-        seen: HashSet::new(alloc),
-    };
-    let mut rest = text;
-    let mut number: u32 = 0;
-    while !rest.is_empty() {
-        let (line, later) = next_line(rest);
-        number += 1;
-        take(alloc, &mut reader, number, form_of(line))?;
-        rest = later;
+impl<'a> LineReader<'a> for Reader<'a> {
+    ghost use Rattle.stimulus_file.specs.Forms as forms;
+    ghost use Rattle.stimulus_file.specs.Stimulus as content;
+    ghost use Rattle.stimulus_file.specs.inner.Reading as reading;
+
+    type Cause = StimulusCause;
+
+    ghost Line = { forms.Line };
+
+    ghost line_of = { forms.line_of };
+
+    ghost cause_of = { content.cause_of };
+
+    ghost has_read = { reading.HasRead };
+
+    fn take(&mut self, alloc: Global, number: u32, line: &'a [u8]) -> Result<(), StimulusFault> {
+        take_form(alloc, self, number, form_of(line))
     }
-    Ok(reader)
 }
 
 /// What the file says, or its first line at fault.
 pub fn read_stimulus(alloc: Global, text: &[u8]) -> Result<Stimulus, StimulusFault>
     requires { length text.now ≤ 67108864 }
-    ensures { AnswersStimulus result (stimulus_of text.now) }
+    ensures { Answers OutOfMemory result (stimulus_of text.now) }
 {
-    let reader = take_all(alloc, text)?;
+    let empty = Reader {
+        horizon: None,
+        sets: Vec::new(alloc),
+        seen: HashSet::new(alloc),
+    };
+    let reader = read_lines(alloc, empty, text)?;
     match reader.horizon {
         None => Err(StimulusFault {
             cause: StimulusCause::NoHorizon,

@@ -1,6 +1,6 @@
 -- What the reader knows after one more line.
-use Rattle.std.proofs.Common.{◌≡◌, ℕ, ◌+◌, ◌&&◌, ◌||◌, Bool, true, false, not, List, [], ◌∷◌, ◌++◌, length, Option, Some, None, refl, sym, ap, subst, ◌∙◌, append_assoc, arith, inl, inr, ◌⊎◌}
-use Rattle.std.specs.Prelude.{slice_get, Result, Ok, Err}
+use Rattle.std.proofs.Common.{◌≡◌, ℕ, ◌+◌, ◌&&◌, ◌||◌, Bool, true, false, List, [], ◌∷◌, ◌++◌, length, Option, Some, None, refl, sym, ap, subst, ◌∙◌, inl, inr}
+use Rattle.std.specs.Prelude.{slice_get, Result}
 use Rattle.std.specs.Bool.{OnTrue}
 use Rattle.std.specs.List.{list_all, list_any, flat_map}
 use Rattle.std.proofs.Math.Bool.{and-false, and-true, or-true, or-false}
@@ -10,7 +10,11 @@ use Rattle.std.proofs.lemmas.List.Concat.{flat_map-cons}
 use Rattle.std.proofs.lemmas.List.Folds.{list_all-append, list_any-append}
 use Rattle.gate_values.specs.declared.Kind.{Kind}
 use Rattle.flip_flops.specs.declared.Clock.{Clock}
-use Rattle.timing_file.specs.declared.TimingFault.{TimingFault}
+use Rattle.line_faults.specs.declared.causes.LineFault.{LineFault}
+use Rattle.line_faults.specs.Reading.{Steps}
+use Rattle.line_faults.proofs.Rows.{rows-push}
+use Rattle.timing_file.specs.declared.TimingCause.{TimingCause}
+use Rattle.timing_file.specs.declared.TimingCause.TheVariants.{OutOfMemory}
 use Rattle.timing_file.specs.declared.TimingRow.{TimingRow}
 use Rattle.timing_file.specs.declared.ClockRow.{ClockRow}
 use Rattle.timing_file.specs.declared.entry.Subject.{Subject}
@@ -18,21 +22,9 @@ use Rattle.timing_file.specs.declared.reader.Reader.{Reader}
 use Rattle.timing_file.specs.Forms.{Entry, CommonClock, NamedClock, Default, DefaultOf, DelayOf, InitOf, PinOf, ClockedBy, Line, Blank, Version, Plain, Versioned}
 use Rattle.timing_file.specs.Subjects.{same_subject, subject_of}
 use Rattle.timing_file.specs.Subjects as subjects
-use Rattle.timing_file.specs.Timing.{Content, Statement, clock_stated, default_stated, kind_stated, row_of, clock_row_of, is_blank, is_version, cause_of, cause_of_entry, content_from, is_repeated, statements_at, statements_from}
+use Rattle.timing_file.specs.Timing.{Content, Statement, clock_stated, default_stated, kind_stated, row_of, clock_row_of, is_blank, is_version, cause_of, cause_of_entry, content_from, is_repeated, statements_at, statements_of}
 use Rattle.timing_file.specs.inner.Views.{is_alike, subject_seen}
-use Rattle.timing_file.specs.Causes.{out_of_memory}
-use Rattle.timing_file.specs.inner.Reading.{HasRead, IsStatement, Steps, StepsEntry, with_entry}
-
-pub statements-append : (n : ℕ) (a b : List Line) → statements_from n (a ++ b) ≡ statements_from n a ++ statements_from (n + length a) b
-statements-append n [] b = ap (λ (k : ℕ). statements_from k b) (omega arith)
-statements-append n (x ∷ a) b =
-    let k : (n + 1) + length a ≡ n + length (x ∷ a) = omega arith in
-    ap (λ (l : List Statement). statements_at n x ++ l) (statements-append (n + 1) a b ∙ ap (λ (k : ℕ). statements_from (n + 1) a ++ statements_from k b) k) ∙ sym (append_assoc (statements_at n x) (statements_from (n + 1) a) (statements_from (n + length (x ∷ a)) b))
-
-pub statements-push : (before : List Line) (line : Line) (n : ℕ) → length before + 1 ≡ n → statements_from 1 (before ++ line ∷ []) ≡ statements_from 1 before ++ statements_at n line
-statements-push before line n is =
-    let k : 1 + length before ≡ n = omega (arith, is) in
-    statements-append 1 before (line ∷ []) ∙ ap (λ (l : List Statement). statements_from 1 before ++ l) (append-nil (statements_at (1 + length before) line)) ∙ ap (λ (k : ℕ). statements_from 1 before ++ statements_at k line) k
+use Rattle.timing_file.specs.inner.Reading.{HasRead, IsStatement, StepsEntry, with_entry}
 
 -- the five lists that a content is made of
 abbrev clocks_in : List Statement → List Clock
@@ -123,7 +115,7 @@ content-push all n e h = cases e h ∙ sym (joined (record { line = n; entry = e
 -- a blank line
 pub blank_step : (before : List Line) (r : Reader) → HasRead before r → HasRead (before ++ Blank ∷ []) r
 blank_step before r read =
-    let same : statements_from 1 (before ++ Blank ∷ []) ≡ statements_from 1 before = statements-push before Blank (length before + 1) refl ∙ append-nil (statements_from 1 before) in
+    let same : statements_of (before ++ Blank ∷ []) ≡ statements_of before = rows-push statements_at before Blank (length before + 1) refl ∙ append-nil (statements_of before) in
     record {
       blank = list_all-append is_blank before (Blank ∷ []) ∙ and-true (list_all is_blank before) ∙ read.blank;
       version = list_any-append is_version before (Blank ∷ []) ∙ or-false (list_any is_version before) ∙ read.version;
@@ -137,7 +129,7 @@ blank_gives before r line is read = subst (λ (l : Line). (cause_of before l ≡
 -- the line `version 2`
 pub version_step : (before : List Line) (r : Reader) → HasRead before r → r.is_empty ≡ true → (cause_of before Version ≡ None) × HasRead (before ++ Version ∷ []) (record r { is_empty = false; is_version_2 = true })
 version_step before r read empty =
-    let same : statements_from 1 (before ++ Version ∷ []) ≡ statements_from 1 before = statements-push before Version (length before + 1) refl ∙ append-nil (statements_from 1 before) in (
+    let same : statements_of (before ++ Version ∷ []) ≡ statements_of before = rows-push statements_at before Version (length before + 1) refl ∙ append-nil (statements_of before) in (
       rw (read.blank, empty) refl,
       record {
         blank = list_all-append is_blank before (Version ∷ []) ∙ and-false (list_all is_blank before);
@@ -150,8 +142,8 @@ version_step before r read empty =
 -- whether the subject of an entry was seen
 pub repeated : (before : List Line) (r : Reader) (key : Subject) (e : Entry) → HasRead before r → subject_seen key ≡ subject_of e → (b : Bool) → list_any (is_alike key) r.seen.keys ≡ b → is_repeated before e ≡ b
 repeated before r key e read key-is b h =
-    let seen : list_any (λ s. same_subject (subject_seen key) (subject_of s.entry)) (statements_from 1 before) ≡ b = sym (read.seen key) ∙ h in
-    subst (λ (x : subjects.Subject). list_any (λ s. same_subject x (subject_of s.entry)) (statements_from 1 before) ≡ b) key-is seen
+    let seen : list_any (λ s. same_subject (subject_seen key) (subject_of s.entry)) (statements_of before) ≡ b = sym (read.seen key) ∙ h in
+    subst (λ (x : subjects.Subject). list_any (λ s. same_subject x (subject_of s.entry)) (statements_of before) ≡ b) key-is seen
 
 or_last : (a b : Bool) → (a || b) ≡ (b || (a || false))
 or_last true true = refl
@@ -172,45 +164,32 @@ pub stated_step : (before : List Line) (line : Line) (r new : Reader) (key : Sub
 stated_step before line r new key e n is read count key-is fresh grows stated filled same_version =
     let unrepeated : is_repeated before e ≡ false = repeated before r key e read key-is false fresh in
     let at = at_line n line e is in
-    let more : statements_from 1 (before ++ line ∷ []) ≡ statements_from 1 before ++ record { line = n; entry = e } ∷ [] = statements-push before line n count ∙ ap (λ (l : List Statement). statements_from 1 before ++ l) at.0 in (
+    let more : statements_of (before ++ line ∷ []) ≡ statements_of before ++ record { line = n; entry = e } ∷ [] = rows-push statements_at before line n count ∙ ap (λ (l : List Statement). statements_of before ++ l) at.0 in (
       rw unrepeated refl,
       record {
         blank = list_all-append is_blank before (line ∷ []) ∙ ap (λ (b : Bool). list_all is_blank before && (b && true)) at.1 ∙ and-false (list_all is_blank before) ∙ sym filled;
         version = list_any-append is_version before (line ∷ []) ∙ ap (λ (b : Bool). list_any is_version before || (b || false)) at.2 ∙ or-false (list_any is_version before) ∙ read.version ∙ sym same_version;
-        content = stated ∙ ap (λ (c : Content). with_entry c n e) read.content ∙ content-push (statements_from 1 before) n e unrepeated ∙ ap content_from (sym more);
-        seen = λ q. grows q ∙ ap (λ (b : Bool). is_alike q key || b) (read.seen q) ∙ or_last (is_alike q key) (list_any (λ s. same_subject (subject_seen q) (subject_of s.entry)) (statements_from 1 before))
-            ∙ ap (λ (x : subjects.Subject). list_any (λ s. same_subject (subject_seen q) (subject_of s.entry)) (statements_from 1 before) || (same_subject (subject_seen q) x || false)) key-is
-            ∙ sym (ap (list_any (λ s. same_subject (subject_seen q) (subject_of s.entry))) more ∙ list_any-append (λ s. same_subject (subject_seen q) (subject_of s.entry)) (statements_from 1 before) (record { line = n; entry = e } ∷ []));
+        content = stated ∙ ap (λ (c : Content). with_entry c n e) read.content ∙ content-push (statements_of before) n e unrepeated ∙ ap content_from (sym more);
+        seen = λ q. grows q ∙ ap (λ (b : Bool). is_alike q key || b) (read.seen q) ∙ or_last (is_alike q key) (list_any (λ s. same_subject (subject_seen q) (subject_of s.entry)) (statements_of before))
+            ∙ ap (λ (x : subjects.Subject). list_any (λ s. same_subject (subject_seen q) (subject_of s.entry)) (statements_of before) || (same_subject (subject_seen q) x || false)) key-is
+            ∙ sym (ap (list_any (λ s. same_subject (subject_seen q) (subject_of s.entry))) more ∙ list_any-append (λ s. same_subject (subject_seen q) (subject_of s.entry)) (statements_of before) (record { line = n; entry = e } ∷ []));
       },
     )
-
-pub not_false : (b : Bool) → not b ≡ false → b ≡ true
-not_false true h = refl
-not_false false h = absurd cc
-
-pub not_true : (b : Bool) → not b ≡ true → b ≡ false
-not_true true h = absurd cc
-not_true false h = refl
 
 pub on_true : (P : Type 0) (b : Bool) → b ≡ true → OnTrue b P → P
 on_true P true e p = p
 on_true P false e p = absurd cc
 
-pub entry_steps : (before : List Line) (line : Line) (o p : Option Entry) (n : ℕ) (r : Reader) (answer : Result (Unit {0}) TimingFault) → o ≡ p → (IsStatement line p → StepsEntry before line p n r answer) → IsStatement line o → StepsEntry before line o n r answer
+pub entry_steps : (before : List Line) (line : Line) (o p : Option Entry) (n : ℕ) (r : Reader) (answer : Result (Unit {0}) (LineFault TimingCause)) → o ≡ p → (IsStatement line p → StepsEntry before line p n r answer) → IsStatement line o → StepsEntry before line o n r answer
 entry_steps before line o p n r answer same steps is = subst (λ (x : Option Entry). StepsEntry before line x n r answer) (sym same) (steps (subst (λ (x : Option Entry). IsStatement line x) same is))
 
+abbrev pub StepsLine : List Line → Line → ℕ → Reader → Result (Unit {0}) (LineFault TimingCause) → Type 0
+StepsLine before line n r answer = Steps OutOfMemory (cause_of before line) (HasRead (before ++ line ∷ []) r) n answer
+
 -- a line of every file is answered as its entry is
-pub plain_steps : (before : List Line) (line : Line) (o : Option Entry) (n : ℕ) (r : Reader) (answer : Result (Unit {0}) TimingFault) → line ≡ Plain o → ((l : Line) → IsStatement l o → StepsEntry before l o n r answer) → Steps before line n r answer
-plain_steps before line o n r (Ok x) is steps = subst (λ (l : Line). Steps before l n r (Ok x)) (sym is) (steps (Plain o) (inl refl))
-plain_steps before line o n r (Err fault) is steps = subst (λ (l : Line). Steps before l n r (Err fault)) (sym is) (steps (Plain o) (inl refl))
+pub plain_steps : (before : List Line) (line : Line) (o : Option Entry) (n : ℕ) (r : Reader) (answer : Result (Unit {0}) (LineFault TimingCause)) → line ≡ Plain o → ((l : Line) → IsStatement l o → StepsEntry before l o n r answer) → StepsLine before line n r answer
+plain_steps before line o n r answer is steps = subst (λ (l : Line). StepsLine before l n r answer) (sym is) (steps (Plain o) (inl refl))
 
 -- and so is a line of a file of version 2 in such a file
-pub versioned_steps : (before : List Line) (line : Line) (o : Option Entry) (n : ℕ) (r : Reader) (answer : Result (Unit {0}) TimingFault) → list_any is_version before ≡ true → line ≡ Versioned o → ((l : Line) → IsStatement l o → StepsEntry before l o n r answer) → Steps before line n r answer
-versioned_steps before line o n r (Ok x) has is steps =
-    let p = steps (Versioned o) (inr refl) in
-    subst (λ (l : Line). Steps before l n r (Ok x)) (sym is) (rw has p.0, p.1)
-versioned_steps before line o n r (Err fault) has is steps = subst (λ (l : Line). Steps before l n r (Err fault)) (sym is) (refused (steps (Versioned o) (inr refl)))
-  where
-    refused : (fault ≡ out_of_memory) ⊎ (cause_of_entry before o ≡ Some fault.cause) × (fault.line ≡ n) → (fault ≡ out_of_memory) ⊎ (cause_of before (Versioned o) ≡ Some fault.cause) × (fault.line ≡ n)
-    refused (inl memory) = inl memory
-    refused (inr p) = inr (rw has p.0, p.1)
+pub versioned_steps : (before : List Line) (line : Line) (o : Option Entry) (n : ℕ) (r : Reader) (answer : Result (Unit {0}) (LineFault TimingCause)) → list_any is_version before ≡ true → line ≡ Versioned o → ((l : Line) → IsStatement l o → StepsEntry before l o n r answer) → StepsLine before line n r answer
+versioned_steps before line o n r answer has is steps = subst (λ (l : Line). StepsLine before l n r answer) (sym is) (rw has (steps (Versioned o) (inr refl)))

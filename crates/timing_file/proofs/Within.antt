@@ -15,14 +15,17 @@ use Rattle.text_rules.specs.declared.Amount.{Amount}
 use Rattle.text_rules.specs.declared.Amount.TheVariants.{NoNumber, Above, Within}
 use Rattle.text_rules.specs.Text.{amount, content, is_name, lines, words}
 use Rattle.text_rules.proofs.Digits.{within}
-use Rattle.timing_file.specs.declared.TimingFault.{TimingFault}
+use Rattle.line_faults.specs.declared.causes.LineFault.{LineFault}
+use Rattle.line_faults.specs.Faults.{first_fault, unless_fault}
+use Rattle.line_faults.specs.Rows.{rows_from}
+use Rattle.timing_file.specs.declared.TimingCause.{TimingCause}
 use Rattle.timing_file.specs.declared.TimingRow.{TimingRow}
 use Rattle.timing_file.specs.declared.ClockRow.{ClockRow}
 use Rattle.timing_file.specs.declared.form.Reading.{Reading}
 use Rattle.timing_file.specs.declared.form.Reading.TheVariants.{NotNumbers, Outside, Inside}
 use Rattle.timing_file.specs.Forms.{Entry, CommonClock, NamedClock, Default, DefaultOf, DelayOf, InitOf, PinOf, ClockedBy, Line, Blank, Other, Version, Plain, Versioned, from_least, number_in, both, as_clock, delay_in, clock_in, pin_in, plain, versioned, version_line, default_line, default_of_kind, default_of_line, common_clock_line, delay_line, init_to, init_line, clocked_line, named_clock_line, pin_line, two_words, three_words, four_words, by_words, line_of}
 use Rattle.timing_file.specs.Subjects.{same_kind}
-use Rattle.timing_file.specs.Timing.{Content, Statement, clock_stated, default_stated, kind_stated, row_of, clock_row_of, kind_delay, default_of, stated_at, statements_at, statements_from, content_from, content_of, first_fault, unless_fault, timing_of}
+use Rattle.timing_file.specs.Timing.{Content, Statement, clock_stated, default_stated, kind_stated, row_of, clock_row_of, kind_delay, default_of, cause_of, stated_at, statements_at, statements_of, content_from, content_of, timing_of}
 use Rattle.timing_file.specs.Ranges.{IsDelay, IsWithin, IsTiming}
 
 abbrev IsRead : {T : Type 0} → (T → Type 0) → Reading T → Type 0
@@ -172,9 +175,9 @@ at-within n Version h = All-nil (λ s. IsEntry s.entry)
 at-within n (Plain entry) h = stated-within n entry h
 at-within n (Versioned entry) h = stated-within n entry h
 
-statements-within : (n : ℕ) (all : List (List ℕ)) → All (λ s. IsEntry s.entry) (statements_from n (map line_of all))
+statements-within : (n : ℕ) (all : List (List ℕ)) → All (λ s. IsEntry s.entry) (rows_from statements_at n (map line_of all))
 statements-within n [] = All-nil (λ s. IsEntry s.entry)
-statements-within n (line ∷ all) = All-append (λ s. IsEntry s.entry) (statements_at n (line_of line)) (statements_from (n + 1) (map line_of all)) (at-within n (line_of line) (line-within line)) (statements-within (n + 1) all)
+statements-within n (line ∷ all) = All-append (λ s. IsEntry s.entry) (statements_at n (line_of line)) (rows_from statements_at (n + 1) (map line_of all)) (at-within n (line_of line) (line-within line)) (statements-within (n + 1) all)
 
 flat_map-within : {Y : Type 0} (f : Statement → List Y) (P : Y → Type 0) → ((s : Statement) → IsEntry s.entry → All P (f s)) → (all : List Statement) → All (λ s. IsEntry s.entry) all → All P (flat_map f all)
 flat_map-within f P each [] h = All-nil P
@@ -258,10 +261,10 @@ content-within all h = record {
 -- what a file says is in its ranges
 pub timing-within : (text : List ℕ) (c : Content) → timing_of text ≡ Ok c → IsTiming c
 unfolding timing_of
-timing-within text c h = cases (first_fault [] (map line_of (lines text))) h
+timing-within text c h = cases (first_fault cause_of [] (map line_of (lines text))) h
   where
-    cases : (o : Option TimingFault) → unless_fault o (content_of (map line_of (lines text))) ≡ Ok c → IsTiming c
-    cases None h = let same : content_of (map line_of (lines text)) ≡ c = cc in subst IsTiming same (content-within (statements_from 1 (map line_of (lines text))) (statements-within 1 (lines text)))
+    cases : (o : Option (LineFault TimingCause)) → unless_fault o (Ok (content_of (map line_of (lines text)))) ≡ Ok c → IsTiming c
+    cases None h = let same : content_of (map line_of (lines text)) ≡ c = cc in subst IsTiming same (content-within (statements_of (map line_of (lines text))) (statements-within 1 (lines text)))
     cases (Some fault) h = absurd cc
 
 kind_delay-within : (kind : Kind) (kinds : List (Kind × ℕ)) → All IsKind kinds → IfSome (kind_delay kind kinds) IsDelay

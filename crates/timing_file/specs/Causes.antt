@@ -1,8 +1,9 @@
 -- The causes of a refusal.
 use Rattle.std.specs.Prelude.{ℕ}
+use Rattle.line_faults.specs.declared.causes.LineFault.{LineFault}
+use Rattle.line_faults.specs.Faults.{at_no_line}
 use Rattle.timing_file.specs.declared.TimingCause.{TimingCause}
 use Rattle.timing_file.specs.declared.TimingCause.TheVariants.{Syntax, Range, Twice, OutOfMemory}
-use Rattle.timing_file.specs.declared.TimingFault.{TimingFault}
 
 -- the number that is printed for a cause
 abbrev pub number_of : TimingCause → ℕ
@@ -11,5 +12,5 @@ number_of Range = 2
 number_of Twice = 3
 number_of OutOfMemory = 4
 
-abbrev pub out_of_memory : TimingFault
-out_of_memory = record { cause = OutOfMemory; line = 0 }
+abbrev pub out_of_memory : LineFault TimingCause
+out_of_memory = at_no_line OutOfMemory

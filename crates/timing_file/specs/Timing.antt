@@ -1,16 +1,17 @@
 -- What a timing file says, or its first line at fault.
-use Rattle.std.specs.Prelude.{◌≡◌, ℕ, ◌+◌, Bool, true, false, List, [], ◌∷◌, ◌++◌, length, map, Option, Some, None, Result, Ok, Err, if◌then◌else◌, ◌⊎◌, slice_get, unwrap_or}
+use Rattle.std.specs.Prelude.{ℕ, Bool, true, false, List, [], ◌∷◌, map, Option, Some, None, Result, Ok, if◌then◌else◌, slice_get, unwrap_or}
 use Rattle.std.specs.List.{list_all, list_any, flat_map}
 use Rattle.gate_values.specs.declared.Kind.{Kind}
 use Rattle.flip_flops.specs.declared.Clock.{Clock}
 use Rattle.text_rules.specs.Text.{lines}
+use Rattle.line_faults.specs.declared.causes.LineFault.{LineFault}
+use Rattle.line_faults.specs.Faults.{first_fault, unless_fault}
+use Rattle.line_faults.specs.Rows.{rows_from}
 use Rattle.timing_file.specs.declared.TimingCause.{TimingCause}
 use Rattle.timing_file.specs.declared.TimingCause.TheVariants.{Syntax, Range, Twice}
-use Rattle.timing_file.specs.declared.TimingFault.{TimingFault}
 use Rattle.timing_file.specs.declared.TimingRow.{TimingRow}
 use Rattle.timing_file.specs.declared.TimingWhat.TheVariants.{Delay, Init, Pin, Clocked}
 use Rattle.timing_file.specs.declared.ClockRow.{ClockRow}
-use Rattle.timing_file.specs.Causes.{out_of_memory}
 use Rattle.timing_file.specs.Forms.{Entry, CommonClock, NamedClock, Default, DefaultOf, DelayOf, InitOf, PinOf, ClockedBy, Line, Blank, Other, Version, Plain, Versioned, line_of}
 use Rattle.timing_file.specs.Subjects.{same_kind, same_subject, subject_of}
 
@@ -46,10 +47,9 @@ statements_at n Version = []
 statements_at n (Plain entry) = stated_at n entry
 statements_at n (Versioned entry) = stated_at n entry
 
--- the statements of lines of which the first has the number n
-abbrev pub statements_from : ℕ → List Line → List Statement
-statements_from n [] = []
-statements_from n (line ∷ more) = statements_at n line ++ statements_from (n + 1) more
+-- the statements of all lines, the first of which has the number 1
+abbrev pub statements_of : List Line → List Statement
+statements_of all = rows_from statements_at 1 all
 
 abbrev pub is_blank : Line → Bool
 is_blank Blank = true
@@ -67,7 +67,7 @@ is_version (Versioned entry) = false
 
 -- an earlier statement has the subject of this entry
 abbrev pub is_repeated : List Line → Entry → Bool
-is_repeated before entry = list_any (λ s. same_subject (subject_of entry) (subject_of s.entry)) (statements_from 1 before)
+is_repeated before entry = list_any (λ s. same_subject (subject_of entry) (subject_of s.entry)) (statements_of before)
 
 abbrev pub cause_of_entry : List Line → Option Entry → Option TimingCause
 cause_of_entry before None = Some Range
@@ -80,15 +80,6 @@ cause_of before Other = Some Syntax
 cause_of before Version = if list_all is_blank before then None else Some Syntax
 cause_of before (Plain entry) = cause_of_entry before entry
 cause_of before (Versioned entry) = if list_any is_version before then cause_of_entry before entry else Some Syntax
-
-abbrev pub fault_at : Option TimingCause → ℕ → Option TimingFault → Option TimingFault
-fault_at None line later = later
-fault_at (Some cause) line later = Some (record { cause = cause; line = line })
-
--- the first line at fault among the later ones, after those before
-abbrev pub first_fault : List Line → List Line → Option TimingFault
-first_fault before [] = None
-first_fault before (line ∷ later) = fault_at (cause_of before line) (length before + 1) (first_fault (before ++ line ∷ []) later)
 
 abbrev pub clock_stated : Entry → List Clock
 clock_stated (CommonClock clock) = clock ∷ []
@@ -123,20 +114,11 @@ content_from all = record {
 }
 
 abbrev pub content_of : List Line → Content
-content_of all = content_from (statements_from 1 all)
+content_of all = content_from (statements_of all)
 
-abbrev pub unless_fault : Option TimingFault → Content → Result Content TimingFault
-unless_fault None content = Ok content
-unless_fault (Some fault) content = Err fault
-
-abbrev pub of_lines : List Line → Result Content TimingFault
-of_lines all = unless_fault (first_fault [] all) (content_of all)
+abbrev pub of_lines : List Line → Result Content (LineFault TimingCause)
+of_lines all = unless_fault (first_fault cause_of [] all) (Ok (content_of all))
 
 -- the content of a timing file, or its first line at fault
-unfoldable pub timing_of : List ℕ → Result Content TimingFault
+unfoldable pub timing_of : List ℕ → Result Content (LineFault TimingCause)
 timing_of text = of_lines (map line_of (lines text))
-
--- the answer is this one, unless memory ran out
-abbrev pub AnswersTiming : Result Content TimingFault → Result Content TimingFault → Type 0
-AnswersTiming (Ok content) said = said ≡ Ok content
-AnswersTiming (Err fault) said = (fault ≡ out_of_memory) ⊎ (said ≡ Err fault)

@@ -44,7 +44,6 @@
 #![tactic(auto)]
 
 ghost use Rattle.std.specs.Prelude.{◌≡◌};
-ghost use Rattle.timing_file.specs.Causes.{out_of_memory};
 ghost use Rattle.timing_file.specs.Timing as content;
 
 mod entry;
@@ -55,9 +54,9 @@ mod stated;
 use crate::stated::Stated;
 use flip_flops::Clock;
 use gate_values::{Kind, Value};
-use owned_text::{OutOfMemory, Text};
+use line_faults::{LineCause, LineFault};
+use owned_text::Text;
 pub use reader::read_timing;
-use std::alloc::{AllocError, AllocFailed};
 use std::marker::Model;
 
 /// Why a line of the file is refused, in the order in which the causes of one
@@ -90,54 +89,18 @@ impl TimingCause {
     }
 }
 
-/// The first line at fault. Lines are numbered from 1; where memory ran out the
-/// line is 0.
-#[derive(Clone, Copy, Debug, PartialEq, Eq)]
-pub struct TimingFault {
-    pub cause: TimingCause,
-    pub line: u32,
-}
+impl LineCause for TimingCause {
+    ghost use Rattle.timing_file.specs.declared.TimingCause.TheVariants.{OutOfMemory};
 
-impl TimingFault {
-    fn out_of_memory() -> TimingFault
-        ensures { result ≡ out_of_memory }
-    {
-        TimingFault {
-            cause: TimingCause::OutOfMemory,
-            line: 0,
-        }
+    ghost memory = { OutOfMemory };
+
+    fn out_of_memory() -> TimingCause {
+        TimingCause::OutOfMemory
     }
 }
 
-impl From<AllocError> for TimingFault {
-    ghost use Rattle.timing_file.specs.Causes.{out_of_memory};
-
-    ghost from_gives = { λ _ fault. fault ≡ out_of_memory };
-
-    fn from(_: AllocError) -> TimingFault {
-        TimingFault::out_of_memory()
-    }
-}
-
-impl<T: Drop> From<AllocFailed<T>> for TimingFault {
-    ghost use Rattle.timing_file.specs.Causes.{out_of_memory};
-
-    ghost from_gives = { λ _ fault. fault ≡ out_of_memory };
-
-    fn from(_: AllocFailed<T>) -> TimingFault {
-        TimingFault::out_of_memory()
-    }
-}
-
-impl From<OutOfMemory> for TimingFault {
-    ghost use Rattle.timing_file.specs.Causes.{out_of_memory};
-
-    ghost from_gives = { λ _ fault. fault ≡ out_of_memory };
-
-    fn from(_: OutOfMemory) -> TimingFault {
-        TimingFault::out_of_memory()
-    }
-}
+/// The first line at fault.
+pub type TimingFault = LineFault<TimingCause>;
 
 /// What a row says of its name.
 #[derive(Drop)]

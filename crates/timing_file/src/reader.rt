@@ -1,22 +1,22 @@
 //! Reading the lines one after the other.
 
-ghost use Rattle.std.specs.Prelude.{◌≡◌, ◌≤◌, Option, Err, IfOk, IfErr, not, length, map};
+ghost use Rattle.std.specs.Prelude.{◌≡◌, ◌≤◌, Option, IfOk, IfErr, not, length};
 ghost use Rattle.std.specs.Bool.{OnTrue};
-ghost use Rattle.text_rules.specs.Text.{lines};
+ghost use Rattle.line_faults.specs.Faults.{Answers};
+ghost use Rattle.timing_file.specs.declared.TimingCause.TheVariants.{OutOfMemory};
 ghost use Rattle.timing_file.specs.Causes.{out_of_memory};
-ghost use Rattle.timing_file.specs.Forms.{line_of};
 ghost use Rattle.timing_file.specs.Forms as forms;
-ghost use Rattle.timing_file.specs.Timing.{AnswersTiming, timing_of};
+ghost use Rattle.timing_file.specs.Timing.{timing_of};
 ghost use Rattle.timing_file.specs.inner.Views.{line_seen, stated_seen, entry_seen};
-ghost use Rattle.timing_file.specs.inner.Reading.{AddsSubject, Reads, ReadsAll, ReadsEntry, was_seen};
+ghost use Rattle.timing_file.specs.inner.Reading.{AddsSubject, Reads, ReadsEntry, was_seen};
 
 use crate::entry::{Entry, Subject};
 use crate::form::{Form, form_of};
 use crate::stated::Stated;
 use crate::{Timing, TimingCause, TimingFault};
+use line_faults::{LineReader, fault, read_lines};
 use std::alloc::Global;
 use std::collections::HashSet;
-use text_rules::next_line;
 
 /// What is known after some lines. The names in `seen` lie in the text.
 #[derive(Drop)]
@@ -27,12 +27,6 @@ pub struct Reader<'a> {
     pub is_version_2: bool,
     pub stated: Stated,
     pub seen: HashSet<Subject<'a>>,
-}
-
-fn fault(cause: TimingCause, line: u32) -> Result<(), TimingFault>
-    ensures { result ≡ Err (record { cause = cause; line = line }) }
-{
-    Err(TimingFault { cause, line })
 }
 
 /// Whether the subject is seen for the first time. It is seen from now on.
@@ -80,17 +74,14 @@ fn take_version(reader: &mut Reader, number: u32) -> Result<(), TimingFault>
     ensures { Reads reader.old reader.new number forms.Version result }
 {
     if !reader.is_empty {
-        return Err(TimingFault {
-            cause: TimingCause::Syntax,
-            line: number,
-        });
+        return fault(TimingCause::Syntax, number);
     }
     reader.is_empty = false;
     reader.is_version_2 = true;
     Ok(())
 }
 
-fn take<'a>(
+fn take_form<'a>(
     alloc: Global,
     reader: &mut Reader<'a>,
     number: u32,
@@ -113,32 +104,36 @@ fn take<'a>(
     }
 }
 
-fn take_all<'a>(alloc: Global, text: &'a [u8]) -> Result<Reader<'a>, TimingFault>
-    requires { length text.now ≤ 67108864 }
-    ensures { ReadsAll (map line_of (lines text.entry.now)) result }
-{
-    let mut reader = Reader {
-        is_empty: true,
-        is_version_2: false,
-        stated: Stated::new(alloc),
-        seen: HashSet::new(alloc),
-    };
-    let mut rest = text;
-    let mut number: u32 = 0;
-    while !rest.is_empty() {
-        let (line, later) = next_line(rest);
-        number += 1;
-        take(alloc, &mut reader, number, form_of(line))?;
-        rest = later;
+impl<'a> LineReader<'a> for Reader<'a> {
+    ghost use Rattle.timing_file.specs.Timing as content;
+    ghost use Rattle.timing_file.specs.inner.Reading as reading;
+
+    type Cause = TimingCause;
+
+    ghost Line = { forms.Line };
+
+    ghost line_of = { forms.line_of };
+
+    ghost cause_of = { content.cause_of };
+
+    ghost has_read = { reading.HasRead };
+
+    fn take(&mut self, alloc: Global, number: u32, line: &'a [u8]) -> Result<(), TimingFault> {
+        take_form(alloc, self, number, form_of(line))
     }
-    Ok(reader)
 }
 
 /// What the file says, or its first line at fault.
 pub fn read_timing(alloc: Global, text: &[u8]) -> Result<Timing, TimingFault>
     requires { length text.now ≤ 67108864 }
-    ensures { AnswersTiming result (timing_of text.now) }
+    ensures { Answers OutOfMemory result (timing_of text.now) }
 {
-    let reader = take_all(alloc, text)?;
+    let empty = Reader {
+        is_empty: true,
+        is_version_2: false,
+        stated: Stated::new(alloc),
+        seen: HashSet::new(alloc),
+    };
+    let reader = read_lines(alloc, empty, text)?;
     Ok(Timing::new(reader.stated))
 }

@@ -1,16 +1,19 @@
 -- What the reader knows between two lines.
-use Rattle.std.specs.Prelude.{◌≡◌, ℕ, ◌+◌, ◌-◌, ◌<◌, ◌≤◌, Bool, true, false, nat_eq, List, [], ◌∷◌, ◌++◌, length, map, take, drop, replicate, find, Option, Some, None, Result, Ok, Err, get_or, ◌⊎◌}
+use Rattle.std.specs.Prelude.{◌≡◌, ℕ, ◌+◌, ◌-◌, ◌<◌, ◌≤◌, Bool, true, false, nat_eq, List, [], ◌∷◌, ◌++◌, length, map, take, drop, replicate, find, Option, Some, None, Result, get_or}
 use Rattle.std.specs.List.{flat_map, list_all, list_any}
 use Rattle.indexmap.specs.IndexSet.{insert_all}
 use Rattle.gate_values.specs.declared.Kind.{Kind}
 use Rattle.gate_values.specs.Spelling.{kind_of_word}
-use Rattle.bench_reader.specs.declared.fault.BenchFault.{BenchFault}
+use Rattle.line_faults.specs.declared.causes.LineFault.{LineFault}
+use Rattle.line_faults.specs.Reading.{TakesLine}
+use Rattle.bench_reader.specs.declared.fault.BenchCause.{BenchCause}
+use Rattle.bench_reader.specs.declared.fault.BenchCause.TheVariants.{OutOfMemory}
 use Rattle.bench_reader.specs.declared.netlist.Definition.{Definition}
 use Rattle.bench_reader.specs.declared.netlist.Definition.TheVariants.{Missing, Input, Gate}
 use Rattle.bench_reader.specs.declared.reader.Reader.{Reader}
-use Rattle.bench_lines.specs.Lines.{Line}
-use Rattle.bench_lines.specs.Lines as line
-use Rattle.bench_reader.specs.Netlists.{names, pins_in, outputs_in, gates_in, defined_in, drives, is_among, is_long, place, miscounts, cause_of, first_fault, out_of_memory}
+use Rattle.bench_reader.specs.Lines.{Line}
+use Rattle.bench_reader.specs.Lines as line
+use Rattle.bench_reader.specs.Netlists.{names, pins_in, outputs_in, gates_in, defined_in, drives, is_among, is_long, place, miscounts, cause_of}
 use Rattle.bench_reader.specs.inner.KeptNetlists.{IsKeptNetlist}
 
 abbrev pub IsSoundReading : Reader → Type 0
@@ -98,18 +101,12 @@ abbrev pub HasRead : List Line → Reader → Type 0
 HasRead before r = Knows before r.names r.rows.items r.pins.items r.outputs.keys
 
 -- what the reader answers to a line
-abbrev pub ReadsStep : List Line → Line → ℕ → Reader → Result (Unit {0}) BenchFault → Type 0
-ReadsStep before line number r (Ok x) = (cause_of before line ≡ None) × HasRead (before ++ line ∷ []) r
-ReadsStep before line number r (Err fault) = (fault ≡ out_of_memory) ⊎ (cause_of before line ≡ Some fault.cause) × (fault.line ≡ number)
+abbrev pub Takes : Reader → Line → ℕ → Reader → Result (Unit {0}) (LineFault BenchCause) → Type 0
+Takes old line number new answer = TakesLine OutOfMemory cause_of HasRead old new number line answer
 
--- so it is whatever lines stood before this one, where this is its number
-abbrev pub Takes : Reader → Line → ℕ → Reader → Result (Unit {0}) BenchFault → Type 0
-Takes old line number new answer = (before : List Line) → HasRead before old → length before + 1 ≡ number → ReadsStep before line number new answer
-
--- what the reader answers to all lines
-abbrev pub ReadsAll : List Line → Result Reader BenchFault → Type 0
-ReadsAll all (Ok r) = (first_fault [] all ≡ None) × HasRead all r
-ReadsAll all (Err fault) = (fault ≡ out_of_memory) ⊎ (first_fault [] all ≡ Some fault)
+-- and its lists fit together
+abbrev pub IsRead : List Line → Reader → Type 0
+IsRead before r = IsSoundReading r × HasRead before r
 
 -- the kind is known, takes so many pins, and no name is too long
 pub record CountsPins (name word : List ℕ) (kind : Kind) (pins : List (List ℕ)) : Type 0 where

@@ -1,4 +1,4 @@
--- What only the proofs and the private functions of this crate speak of.
+-- Definitions for proofs and private functions.
 use Rattle.std.specs.Prelude.{◌≡◌, ◌+◌, ⊤, List, ℕ, Result, Ok, Err}
 use Rattle.backsim_io.specs.State.{FilesState, FileFault}
 use Rattle.circuit_files.specs.Changes.{Opened, OpenedThenUnread}
@@ -8,7 +8,7 @@ use Rattle.circuit_files.specs.declared.refusal.FileRefusal.{FileRefusal}
 use Rattle.circuit_files.specs.declared.stop.FilesStop.{FilesStop}
 use Rattle.circuit_files.specs.declared.stop.FilesStop.TheVariants.{Refused, NotOpened, Unread, OutOfMemory}
 
--- the answer of a text, which is seen as its bytes
+-- the result for a text, whose model is its bytes
 abbrev pub AnswersText : {T : Type 0} → (T → List ℕ) → Result T FilesStop → Result (List ℕ) FileRefusal → Type 0
 AnswersText bytes (Ok text) said = said ≡ Ok (bytes text)
 AnswersText bytes (Err stop) said = IsAnswerOf (Err stop) said
@@ -20,7 +20,7 @@ IsAt file (NotOpened met) = met ≡ file
 IsAt file (Unread met) = met ≡ file
 IsAt file OutOfMemory = ⊤
 
--- what reading one of the files changes
+-- the changes by reading one of the files
 abbrev pub TextStops : CircuitFile → FilesState → FilesState → FilesStop → Type 0
 TextStops file old new (Refused refusal) = Opened (before file + 1) old new
 TextStops file old new (NotOpened met) = FileFault old new

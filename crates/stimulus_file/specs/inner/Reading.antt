@@ -1,15 +1,17 @@
 -- What the reader knows between two lines.
-use Rattle.std.specs.Prelude.{◌≡◌, ℕ, ◌+◌, Bool, ◌&&◌, nat_eq, List, [], ◌∷◌, ◌++◌, length, Some, None, Result, Ok, Err, is_none, is_some, option_to_list, ◌⊎◌}
+use Rattle.std.specs.Prelude.{◌≡◌, ℕ, Bool, ◌&&◌, nat_eq, List, Result, is_none, is_some, option_to_list}
 use Rattle.std.specs.List.{list_all, list_any, flat_map}
 use Rattle.std.specs.Str.{bytes_eq}
 use Rattle.std.specs.Borrow.{Bor}
-use Rattle.stimulus_file.specs.declared.StimulusFault.{StimulusFault}
+use Rattle.line_faults.specs.declared.causes.LineFault.{LineFault}
+use Rattle.line_faults.specs.Reading.{TakesLine}
+use Rattle.stimulus_file.specs.declared.StimulusCause.{StimulusCause}
+use Rattle.stimulus_file.specs.declared.StimulusCause.TheVariants.{OutOfMemory}
 use Rattle.stimulus_file.specs.declared.form.Form.{Form}
 use Rattle.stimulus_file.specs.declared.form.Form.TheVariants as forms
 use Rattle.stimulus_file.specs.declared.reader.Reader.{Reader}
-use Rattle.stimulus_file.specs.Causes.{out_of_memory}
 use Rattle.stimulus_file.specs.Forms.{Line, Blank, Other, Horizon, Setting}
-use Rattle.stimulus_file.specs.Stimulus.{is_blank, is_horizon, sets, cause_of, first_fault, stated, rows_from}
+use Rattle.stimulus_file.specs.Stimulus.{is_blank, is_horizon, sets, cause_of, stated, rows_of}
 
 -- a form that was read, without where its name lies in memory
 abbrev pub line_seen : Form → Line
@@ -27,19 +29,9 @@ pub record HasRead (before : List Line) (r : Reader) : Type 0 where
   pub horizon : flat_map stated before ≡ option_to_list r.horizon
   pub blank : list_all is_blank before ≡ is_none r.horizon
   pub horizon_line : list_any is_horizon before ≡ is_some r.horizon
-  pub rows : r.sets.items ≡ rows_from 1 before
+  pub rows : r.sets.items ≡ rows_of before
   pub seen : (q : Bor (List ℕ) × ℕ) → list_any (key_eq q) r.seen.keys ≡ list_any (sets q.0.now q.1) before
 
 -- what the reader answers to a line
-abbrev pub Steps : List Line → Line → ℕ → Reader → Result (Unit {0}) StimulusFault → Type 0
-Steps before line number r (Ok x) = (cause_of before line ≡ None) × HasRead (before ++ line ∷ []) r
-Steps before line number r (Err fault) = (fault ≡ out_of_memory) ⊎ (cause_of before line ≡ Some fault.cause) × (fault.line ≡ number)
-
--- a reader that has read the lines before the one with this number answers to it so
-abbrev pub Reads : Reader → Reader → ℕ → Line → Result (Unit {0}) StimulusFault → Type 0
-Reads old new number line answer = (before : List Line) → HasRead before old → length before + 1 ≡ number → Steps before line number new answer
-
--- what the reader answers to all lines
-abbrev pub ReadsAll : List Line → Result Reader StimulusFault → Type 0
-ReadsAll all (Ok r) = (first_fault [] all ≡ None) × HasRead all r
-ReadsAll all (Err fault) = (fault ≡ out_of_memory) ⊎ (first_fault [] all ≡ Some fault)
+abbrev pub Reads : Reader → Reader → ℕ → Line → Result (Unit {0}) (LineFault StimulusCause) → Type 0
+Reads old new number line answer = TakesLine OutOfMemory cause_of HasRead old new number line answer

@@ -1,13 +1,15 @@
 -- What the reader knows between two lines.
-use Rattle.std.specs.Prelude.{◌≡◌, ℕ, ◌+◌, Bool, ◌||◌, List, [], ◌∷◌, ◌++◌, length, Option, Some, None, Result, Ok, Err, ◌⊎◌}
+use Rattle.std.specs.Prelude.{◌≡◌, ℕ, ◌+◌, Bool, ◌||◌, List, [], ◌∷◌, ◌++◌, length, Option, Some, Result, ◌⊎◌}
 use Rattle.std.specs.List.{list_all, list_any}
-use Rattle.timing_file.specs.declared.TimingFault.{TimingFault}
+use Rattle.line_faults.specs.declared.causes.LineFault.{LineFault}
+use Rattle.line_faults.specs.Reading.{Steps, TakesLine}
+use Rattle.timing_file.specs.declared.TimingCause.{TimingCause}
+use Rattle.timing_file.specs.declared.TimingCause.TheVariants.{OutOfMemory}
 use Rattle.timing_file.specs.declared.entry.Subject.{Subject}
 use Rattle.timing_file.specs.declared.reader.Reader.{Reader}
-use Rattle.timing_file.specs.Causes.{out_of_memory}
 use Rattle.timing_file.specs.Forms.{Entry, CommonClock, NamedClock, Default, DefaultOf, DelayOf, InitOf, PinOf, ClockedBy, Line, Plain, Versioned}
 use Rattle.timing_file.specs.Subjects.{same_subject, subject_of}
-use Rattle.timing_file.specs.Timing.{Content, clock_row_of, row_of, is_blank, is_version, cause_of, cause_of_entry, first_fault, content_of, statements_from}
+use Rattle.timing_file.specs.Timing.{Content, clock_row_of, row_of, is_blank, is_version, cause_of, cause_of_entry, content_of, statements_of}
 use Rattle.timing_file.specs.inner.Views.{is_alike, subject_seen}
 
 -- the content with one more statement, that of the line with the number n
@@ -34,31 +36,20 @@ pub record HasRead (before : List Line) (r : Reader) : Type 0 where
   pub blank : list_all is_blank before ≡ r.is_empty
   pub version : list_any is_version before ≡ r.is_version_2
   pub content : r.stated ≡ content_of before
-  pub seen : (q : Subject) → was_seen r.seen.keys q ≡ list_any (λ s. same_subject (subject_seen q) (subject_of s.entry)) (statements_from 1 before)
+  pub seen : (q : Subject) → was_seen r.seen.keys q ≡ list_any (λ s. same_subject (subject_seen q) (subject_of s.entry)) (statements_of before)
 
 -- the line is of a form with this entry
 abbrev pub IsStatement : Line → Option Entry → Type 0
 IsStatement line entry = (line ≡ Plain entry) ⊎ (line ≡ Versioned entry)
 
 -- what the reader answers to the entry of a line that the file may have
-abbrev pub StepsEntry : List Line → Line → Option Entry → ℕ → Reader → Result (Unit {0}) TimingFault → Type 0
-StepsEntry before line entry number r (Ok x) = (cause_of_entry before entry ≡ None) × HasRead (before ++ line ∷ []) r
-StepsEntry before line entry number r (Err fault) = (fault ≡ out_of_memory) ⊎ (cause_of_entry before entry ≡ Some fault.cause) × (fault.line ≡ number)
-
--- what the reader answers to a line
-abbrev pub Steps : List Line → Line → ℕ → Reader → Result (Unit {0}) TimingFault → Type 0
-Steps before line number r (Ok x) = (cause_of before line ≡ None) × HasRead (before ++ line ∷ []) r
-Steps before line number r (Err fault) = (fault ≡ out_of_memory) ⊎ (cause_of before line ≡ Some fault.cause) × (fault.line ≡ number)
+abbrev pub StepsEntry : List Line → Line → Option Entry → ℕ → Reader → Result (Unit {0}) (LineFault TimingCause) → Type 0
+StepsEntry before line entry number r answer = Steps OutOfMemory (cause_of_entry before entry) (HasRead (before ++ line ∷ []) r) number answer
 
 -- a reader that has read the lines before the one with this number answers to its entry so
-abbrev pub ReadsEntry : Reader → Reader → ℕ → Option Entry → Result (Unit {0}) TimingFault → Type 0
+abbrev pub ReadsEntry : Reader → Reader → ℕ → Option Entry → Result (Unit {0}) (LineFault TimingCause) → Type 0
 ReadsEntry old new number entry answer = (before : List Line) (line : Line) → HasRead before old → length before + 1 ≡ number → IsStatement line entry → StepsEntry before line entry number new answer
 
 -- and to the line so
-abbrev pub Reads : Reader → Reader → ℕ → Line → Result (Unit {0}) TimingFault → Type 0
-Reads old new number line answer = (before : List Line) → HasRead before old → length before + 1 ≡ number → Steps before line number new answer
-
--- what the reader answers to all lines
-abbrev pub ReadsAll : List Line → Result Reader TimingFault → Type 0
-ReadsAll all (Ok r) = (first_fault [] all ≡ None) × HasRead all r
-ReadsAll all (Err fault) = (fault ≡ out_of_memory) ⊎ (first_fault [] all ≡ Some fault)
+abbrev pub Reads : Reader → Reader → ℕ → Line → Result (Unit {0}) (LineFault TimingCause) → Type 0
+Reads old new number line answer = TakesLine OutOfMemory cause_of HasRead old new number line answer

@@ -11,7 +11,7 @@ pub returns-in-None : goal.returns-in-None
 returns-in-None c = inr (said c.args.text.now c.in_ok-reader.reader _ c.in_ok-reader.ensures c.in-None.is)
 
 pub returns-in-Some : goal.returns-in-Some
-returns-in-Some c = said c.args.text.now c.in_ok-reader.reader _ c.in_ok-reader.ensures c.in-Some.is ∙ ap Ok (sym c.new.ensures)
+returns-in-Some c = said c.args.text.now c.in_ok-reader.reader _ c.in_ok-reader.ensures c.in-Some.is ∙ ap Ok (sym c.new-in-Some.ensures)
 
-pub new-requires : goal.new-requires
-new-requires c = stimulus-within c.args.text.now _ (said c.args.text.now c.in_ok-reader.reader _ c.in_ok-reader.ensures c.in-Some.is)
+pub new-requires-in-Some : goal.new-requires-in-Some
+new-requires-in-Some c = stimulus-within c.args.text.now _ (said c.args.text.now c.in_ok-reader.reader _ c.in_ok-reader.ensures c.in-Some.is)

@@ -2,7 +2,7 @@ use Rattle.std.proofs.Common.{◌≡◌, ℕ, List, length, true, false, inr, re
 use Rattle.std.specs.Borrow.{Bor}
 use Rattle.std.proofs.lemmas.List.{length-map}
 use Rattle.bench_reader.specs.Netlists.{miscounts}
-use Rattle.bench_lines.specs.Views.{each_now}
+use Rattle.bench_reader.specs.Views.{each_now}
 use Rattle.bench_reader.proofs.Steps.{gate_unknown, gate_miscounts, gate_cause, gate_long}
 use Rattle.bench_reader.proofs.reader.Reader.take_gate.Goals as goal
 

@@ -1,7 +1,7 @@
 use Rattle.std.proofs.Common.{◌≡◌, ◌++◌, ◌∷◌, [], length, true, false, inr, refl, sym, ap, ◌∙◌, arith}
 use Rattle.std.specs.List.{flat_map, sum_by}
 use Rattle.bench_reader.specs.declared.netlist.Definition.TheVariants as Held
-use Rattle.bench_lines.specs.Lines.{Input}
+use Rattle.bench_reader.specs.Lines.{Input}
 use Rattle.bench_reader.specs.Netlists.{is_long, is_among, is_crowded, gates_in}
 use Rattle.bench_reader.specs.inner.KeptNetlists.{pin_count}
 use Rattle.bench_reader.proofs.Rows.{all_names}

@@ -1,5 +1,5 @@
 use Rattle.std.proofs.Common.{◌≡◌, ◌++◌, ◌∷◌, [], length, true, false, inr, refl, sym, ◌∙◌}
-use Rattle.bench_lines.specs.Lines.{Output}
+use Rattle.bench_reader.specs.Lines.{Output}
 use Rattle.bench_reader.specs.Netlists.{is_long, is_crowded}
 use Rattle.bench_reader.proofs.Rows.{all_names}
 use Rattle.bench_reader.proofs.Steps.{crowd, pins_none, output_crowds, knows_output}

@@ -1,10 +1,10 @@
 use Rattle.std.proofs.Common.{◌≡◌, ◌≤◌, ◌+◌, ◌++◌, [], ◌∷◌, length, true, false, refl, inr, sym, ap, ◌∙◌, arith, length-append}
 use Rattle.std.specs.List.{flat_map, sum_by}
 use Rattle.bench_reader.specs.declared.netlist.Definition.TheVariants as Held
-use Rattle.bench_lines.specs.Lines.{Gate}
+use Rattle.bench_reader.specs.Lines.{Gate}
 use Rattle.bench_reader.specs.Netlists.{is_among, is_crowded, defined_in}
 use Rattle.bench_reader.specs.inner.KeptNetlists.{pin_count}
-use Rattle.bench_lines.specs.Views.{each_now}
+use Rattle.bench_reader.specs.Views.{each_now}
 use Rattle.bench_reader.proofs.Rows.{all_names}
 use Rattle.bench_reader.proofs.Steps.{definition_known, keys_of, id_stays, crowd, pins_some, gate_cause, gate_twice, gate_crowds, knows_gate}
 use Rattle.std.proofs.lemmas.List.{length-map}
