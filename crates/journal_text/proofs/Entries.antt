@@ -1,16 +1,15 @@
 -- An entry that is read is spelled so, and what is spelled so is read.
-use Rattle.std.proofs.Common.{◌≡◌, ℕ, zero, suc, ◌+◌, ◌-◌, ◌<◌, ◌≤◌, Bool, true, false, cond, List, [], ◌∷◌, ◌++◌, length, Option, Some, None, refl, sym, ap, subst, ◌∙◌, append_assoc, length-append, arith, ◌⊎◌, inl, inr}
-use Rattle.std.specs.Prelude.{flat_map, codes}
-use Rattle.std.specs.List.{AllByRecursion}
-use Rattle.valid_intervals.specs.declared.Cell.{Cell}
-use Rattle.valid_intervals.specs.declared.Point.{Point}
+use Rattle.std.proofs.Common.{◌≡◌, ℕ, ◌+◌, List, ◌++◌, Option, Some, None, refl, sym, ap, subst, ◌∙◌, append_assoc, ◌⊎◌, inl, inr}
+use Rattle.std.specs.Prelude.{codes}
 use Rattle.journal_meaning.specs.declared.Entry.{Entry}
 use Rattle.journal_meaning.specs.declared.Entry.TheVariants.{Told, Claimed, Filled, Evicted, Dropped, Spent}
-use Rattle.journal_text.specs.Spelling.{field, point, cell, line_feed, entry_line}
-use Rattle.journal_text.specs.Written.{IsNumber, IsPoint, IsCell, IsEntry}
-use Rattle.journal_text.specs.inner.Reading.{◌>>=◌, behind, after_word, field_at, point_at, cell_at, told_at, claimed_at, filled_at, evicted_at, dropped_at, spent_at, entry_at, put_first, entries_at}
-use Rattle.journal_text.proofs.Numbers.{EndsNumber}
-use Rattle.journal_text.proofs.Fields.{bind_some, some_is, after_takes, field_takes, field_again, point_takes, point_again, cell_takes, cell_again}
+use Rattle.text_fields.specs.Spelling.{field}
+use Rattle.journal_text.specs.Spelling.{point, cell, line_feed, entry_line}
+use Rattle.journal_text.specs.Written.{IsEntry}
+use Rattle.text_fields.specs.Reading.{◌>>=◌, after_word, field_at}
+use Rattle.journal_text.specs.inner.Reading.{behind, point_at, cell_at, told_at, claimed_at, filled_at, evicted_at, dropped_at, spent_at, entry_at}
+use Rattle.text_fields.proofs.Fields.{bind_some, some_is, after_takes, field_takes}
+use Rattle.journal_text.proofs.Fields.{point_takes, cell_takes}
 
 -- a word, or what else there may be
 pub behind_some : {A : Type 0} (o : Option (List ℕ)) (read : List ℕ → Option A) (other : Option A) (y : A) → behind o read other ≡ Some y → ((r : List ℕ) × (o ≡ Some r) × (read r ≡ Some y)) ⊎ (other ≡ Some y)

@@ -1,16 +1,19 @@
 -- The shards of a section are read as they are spelled.
-use Rattle.std.proofs.Common.{◌≡◌, ℕ, zero, suc, ◌+◌, ◌<◌, ◌≤◌, ◌^◌, Bool, true, false, cond, eqb, eq-eqb, List, [], ◌∷◌, ◌++◌, length, Option, Some, None, refl, sym, ap, subst, ◌∙◌, append_assoc, append-nil, length-append, arith, ◌⊎◌, inl, inr}
+use Rattle.std.proofs.Common.{◌≡◌, ℕ, zero, suc, ◌+◌, ◌<◌, ◌≤◌, ◌^◌, true, cond, eqb, eq-eqb, List, [], ◌∷◌, ◌++◌, length, Option, Some, None, refl, sym, ap, subst, ◌∙◌, append_assoc, append-nil, arith, inl, inr}
 use Rattle.std.proofs.lemmas.Bool.{eqb-true}
 use Rattle.std.proofs.lemmas.Option.{cond_some}
 use Rattle.std.specs.Prelude.{flat_map, codes}
 use Rattle.std.specs.List.{AllByRecursion}
 use Rattle.journal_meaning.specs.declared.Entry.{Entry}
-use Rattle.journal_text.specs.Spelling.{field, line_feed, entry_line, shard_lines}
-use Rattle.journal_text.specs.Written.{IsNumber, IsEntry}
-use Rattle.journal_text.specs.inner.Reading.{◌>>=◌, behind, after_word, field_at, entry_at, entries_at, shard_at, shards_at}
-use Rattle.journal_text.proofs.Fields.{bind_some, some_is, after_takes, field_takes, field_again}
+use Rattle.text_fields.specs.Spelling.{field, IsNumber}
+use Rattle.journal_text.specs.Spelling.{line_feed, entry_line, shard_lines}
+use Rattle.journal_text.specs.Written.{IsEntry}
+use Rattle.text_fields.specs.Reading.{◌>>=◌, after_word, field_at}
+use Rattle.journal_text.specs.inner.Reading.{behind, entry_at, entries_at, shard_at, shards_at}
+use Rattle.text_fields.proofs.Fields.{bind_some, some_is, after_takes, field_takes, field_again}
 use Rattle.journal_text.proofs.Entries.{behind_some}
-use Rattle.journal_text.proofs.Lines.{entries_takes, entries_again}
+use Rattle.text_fields.proofs.Items.{AreRead, items_take, items_again}
+use Rattle.journal_text.proofs.Lines.{spelling}
 
 shard_takes : (i : ℕ) (text : List ℕ) (es : List Entry) (rest : List ℕ) → shard_at i text ≡ Some (es, rest) → (text ≡ field i ++ (line_feed ++ (flat_map entry_line es ++ rest))) × AllByRecursion IsEntry es
 unfolding shard_at
@@ -20,9 +23,9 @@ shard_takes i text es rest e =
     let is = cond_some (eqb number.0 i) (entries_at (length r) r) (es, rest) last in
     let a = field_takes text number.0 number.1 one in
     let b = after_takes line_feed number.1 r two in
-    let c = entries_takes (length r) r in
-    let c' = subst (λ (read : List Entry × List ℕ). (r ≡ flat_map entry_line read.0 ++ read.1) × AllByRecursion IsEntry read.0) is.1 c in
-    (a.0 ∙ ap (λ (n : ℕ). field n ++ number.1) (eqb-true number.0 i is.0) ∙ ap (λ (l : List ℕ). field i ++ l) (b ∙ ap (λ (l : List ℕ). line_feed ++ l) c'.0), c'.1)
+    let c = items_take spelling (length r) r (omega arith) in
+    let c' = subst (AreRead entry_at entry_line IsEntry r) is.1 c in
+    (a.0 ∙ ap (λ (n : ℕ). field n ++ number.1) (eqb-true number.0 i is.0) ∙ ap (λ (l : List ℕ). field i ++ l) (b ∙ ap (λ (l : List ℕ). line_feed ++ l) c'.spelled), c'.items)
 
 shard_again : (i : ℕ) (es : List Entry) (rest : List ℕ) → IsNumber i → AllByRecursion IsEntry es → entry_at rest ≡ None → shard_at i (field i ++ (line_feed ++ (flat_map entry_line es ++ rest))) ≡ Some (es, rest)
 unfolding shard_at
@@ -30,7 +33,7 @@ shard_again i es rest small are stop =
     let text : List ℕ = flat_map entry_line es ++ rest in
     let number = field_again i (line_feed ++ text) small refl in
     let same : eqb i i ≡ true = eq-eqb i i refl in
-    let entries : entries_at (length text) text ≡ (es, rest) = entries_again (length text) es rest are stop (omega arith) in
+    let entries : entries_at (length text) text ≡ (es, rest) = items_again spelling (length text) es rest are stop (omega arith) in
     rw (number, same) (ap Some entries)
 
 -- ---- the shards from a number on

@@ -1,5 +1,5 @@
 -- A section that is read is spelled so, and what is spelled so is read.
-use Rattle.std.proofs.Common.{◌≡◌, ℕ, zero, suc, ◌+◌, ◌-◌, ◌<◌, ◌≤◌, ◌^◌, Bool, true, false, cond, ◌&&◌, ltb, lt-ltb, ltb-true, List, [], ◌∷◌, ◌++◌, length, drop, Option, Some, None, refl, sym, ap, subst, ◌∙◌, append_assoc, length-append, arith, inl, inr}
+use Rattle.std.proofs.Common.{◌≡◌, ℕ, ◌+◌, ◌-◌, ◌<◌, ◌≤◌, true, cond, ◌&&◌, ltb, lt-ltb, ltb-true, List, [], ◌∷◌, ◌++◌, length, drop, Option, Some, None, refl, sym, ap, subst, ◌∙◌, append_assoc, length-append, arith, inl, inr}
 use Rattle.std.proofs.lemmas.Option.{cond_some}
 use Rattle.std.proofs.lemmas.List.{drop_at}
 use Rattle.std.specs.Prelude.{flat_map, codes}
@@ -8,13 +8,15 @@ use Rattle.journal_meaning.specs.declared.Entry.{Entry}
 use Rattle.journal_text.specs.declared.sections.SectionKind.{SectionKind}
 use Rattle.journal_text.specs.declared.sections.SectionKind.TheVariants.{Batch, Trim, Held}
 use Rattle.journal_text.specs.declared.sections.Section.{Section}
-use Rattle.journal_text.specs.Spelling.{field, line_feed, entry_line, shard_lines, kind_word, section_lines, head_line, journal_lines}
-use Rattle.journal_text.specs.Written.{IsNumber, IsEntry, IsNumbered, IsSection, most_shards}
-use Rattle.journal_text.specs.inner.Reading.{◌>>=◌, behind, after_word, field_at, entry_at, shards_at, kind_at, section_at}
-use Rattle.journal_text.proofs.Numbers.{and_both}
-use Rattle.journal_text.proofs.Fields.{bind_some, some_is, after_takes, field_takes, field_again}
+use Rattle.text_fields.specs.Spelling.{field, IsNumber}
+use Rattle.journal_text.specs.Spelling.{line_feed, shard_lines, kind_word, section_lines, head_line, journal_lines}
+use Rattle.journal_text.specs.Written.{IsNumbered, IsSection, most_shards}
+use Rattle.text_fields.specs.Reading.{◌>>=◌, after_word, field_at}
+use Rattle.journal_text.specs.inner.Reading.{entry_at, shards_at, kind_at, section_at}
+use Rattle.text_fields.proofs.Numbers.{and_both}
+use Rattle.text_fields.proofs.Fields.{bind_some, some_is, after_takes, field_takes, field_again}
 use Rattle.journal_text.proofs.Entries.{behind_some}
-use Rattle.journal_text.proofs.Shards.{Shards, shards_takes, shards_again}
+use Rattle.journal_text.proofs.Shards.{shards_takes, shards_again}
 
 -- ---- the kind
 

@@ -1,17 +1,14 @@
 -- The text of a journal. Words are divided by one space, and every line ends with a line feed.
-use Rattle.std.specs.Prelude.{ℕ, ◌+◌, List, [], ◌∷◌, ◌++◌, flat_map, codes, decimal}
+use Rattle.std.specs.Prelude.{ℕ, ◌+◌, List, [], ◌∷◌, ◌++◌, flat_map, codes}
 use Rattle.gate_values.specs.Spelling.{byte_of_value}
 use Rattle.valid_intervals.specs.declared.Cell.{Cell}
 use Rattle.valid_intervals.specs.declared.Point.{Point}
 use Rattle.journal_meaning.specs.declared.Entry.{Entry}
 use Rattle.journal_meaning.specs.declared.Entry.TheVariants.{Told, Claimed, Filled, Evicted, Dropped, Spent}
+use Rattle.text_fields.specs.Spelling.{field}
 use Rattle.journal_text.specs.declared.sections.SectionKind.{SectionKind}
 use Rattle.journal_text.specs.declared.sections.SectionKind.TheVariants.{Batch, Trim, Held}
 use Rattle.journal_text.specs.declared.sections.Section.{Section}
-
--- a number after a space, with no leading zero
-abbrev pub field : ℕ → List ℕ
-field n = 32 ∷ decimal n
 
 -- SIGNAL TIME
 abbrev pub point : Point → List ℕ

@@ -1,18 +1,15 @@
 -- Which sections have a text.
-use Rattle.std.specs.Prelude.{ℕ, ◌<◌, ◌≤◌, ◌^◌, ◌≡◌, [], ◌∷◌, length}
+use Rattle.std.specs.Prelude.{ℕ, ◌<◌, ◌≤◌, length}
 use Rattle.std.specs.List.{AllByRecursion}
 use Rattle.valid_intervals.specs.declared.Cell.{Cell}
 use Rattle.valid_intervals.specs.declared.Point.{Point}
 use Rattle.valid_intervals.specs.Spans.{IsSpan}
 use Rattle.journal_meaning.specs.declared.Entry.{Entry}
 use Rattle.journal_meaning.specs.declared.Entry.TheVariants.{Told, Claimed, Filled, Evicted, Dropped, Spent}
+use Rattle.text_fields.specs.Spelling.{IsNumber}
 use Rattle.journal_text.specs.declared.sections.SectionKind.{SectionKind}
 use Rattle.journal_text.specs.declared.sections.SectionKind.TheVariants.{Batch, Trim, Held}
 use Rattle.journal_text.specs.declared.sections.Section.{Section}
-
--- at most 4,294,967,295
-abbrev pub IsNumber : ℕ → Type 0
-IsNumber n = n < 2 ^ 32
 
 abbrev pub IsPoint : Point → Type 0
 IsPoint p = IsNumber p.signal × IsNumber p.time

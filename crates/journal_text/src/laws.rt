@@ -1,8 +1,8 @@
 //! What follows for every list of sections. The functions carry these laws as their contracts, and do nothing.
 ghost use Rattle.journal_text.specs.Laws.{OneSection, OneJournal};
 
-/// No text begins with the texts of two sections. So what [`crate::section_text`] writes is read again by
-/// [`crate::read_section`], whatever follows it, and is read as nothing else.
+/// No text begins with the texts of two sections. So [`crate::read_section`] reads the text of a section,
+/// whatever follows it, as nothing else.
 pub fn one_section()
     ensures { OneSection }
 {}

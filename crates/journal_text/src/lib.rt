@@ -27,16 +27,18 @@
 //! text of a value, and `specs/Written` says which sections have a text: START lies below END, which is at
 //! most 2,000,002; the section's number is at least 1; a section has 1 to 64 shards, and a held one has 1.
 //!
-//! What callers may rely on: [`section_text`] writes exactly that text. [`read_section`] reads exactly the
-//! section whose text stands at the front of the bytes, and nothing only where no section's text stands
+//! What callers may rely on: [`head_text`], [`entry_text`] and [`push_entry`] write exactly the lines of this
+//! grammar. A section is written as a whole by `session_loop`, a piece at a time. [`read_section`] reads exactly
+//! the section whose text stands at the front of the bytes, and nothing only where no section's text stands
 //! there. [`one_section`] and [`one_journal`] say that no text is that of two. Whether the entries are legal
 //! is not this crate's matter: every list of entries is written and read.
 //!
-//! Writing and reading take time in proportion to the text, and memory for the result alone.
+//! Numbers and values are written and read by `text_fields`. Writing and reading take time in proportion to
+//! the text, and memory for the result alone.
 //!
 //! ```text
-//! let text = section_text(alloc, &section)?;
-//! let read = read_section(alloc, &text)?;     // Some((section, text.len()))
+//! push_entry(&mut text, &Entry::Claimed { q, p })?;
+//! let read = read_section(alloc, &text)?;     // Some((section, len))
 //! ```
 //!
 //! [`Entry`]: journal_meaning::Entry
@@ -52,4 +54,4 @@ mod writing;
 pub use laws::{one_journal, one_section};
 pub use reading::read_section;
 pub use sections::{EntryList, EntryLists, Section, SectionKind};
-pub use writing::{entry_text, head_text, push_entry, section_text};
+pub use writing::{entry_text, head_text, push_entry};

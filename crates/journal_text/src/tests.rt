@@ -1,27 +1,27 @@
-use crate::{SectionKind, entry_text, head_text, read_section, section_text};
+use crate::{entry_text, head_text, push_entry, read_section};
 use gate_values::Value;
 use journal_meaning::Entry;
 use std::alloc::Global;
 use std::test::Fail;
 use valid_intervals::{Cell, Point, Span};
 
-/// Whether the text is that of a section, which is written so again.
+/// Whether the text is that of a section, whose entries are written so again in front of its end.
 fn reads_back(alloc: Global, text: &[u8]) -> bool {
     let Ok(Some((section, len))) = read_section(alloc, text) else {
         return false;
     };
-    let shards = section.shards.as_slice().len();
-    let most = match section.kind {
-        SectionKind::Held => 1,
-        _ => 64,
-    };
-    if len != text.len() || section.number == 0 || shards == 0 || shards > most {
+    let mut end = Vec::new(alloc);
+    for entries in section.shards.as_slice() {
+        for entry in entries.as_slice() {
+            if push_entry(&mut end, entry).is_err() {
+                return false;
+            }
+        }
+    }
+    if end.extend_from_slice(b"end\n").is_err() {
         return false;
     }
-    match section_text(alloc, &section) {
-        Ok(again) => again.as_slice() == text,
-        Err(_) => false,
-    }
+    len == text.len() && text.ends_with(end.as_slice())
 }
 
 #[test]

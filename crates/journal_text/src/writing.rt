@@ -1,13 +1,11 @@
-//! Writing a section.
-ghost use Rattle.std.specs.Prelude.{◌≡◌, ◌++◌, ◌≤◌, ◌<◌, ◌^◌, [], ◌∷◌, length, OnOk, IfOk, flat_map, codes};
-ghost use Rattle.journal_text.specs.Spelling.{field, point, cell, entry_line, shard_lines, kind_word, section_lines, head_line};
-ghost use Rattle.journal_text.specs.Written.{IsNumbered};
+//! Writing the head and the entries.
+ghost use Rattle.std.specs.Prelude.{◌≡◌, ◌++◌, OnOk, IfOk};
+ghost use Rattle.journal_text.specs.Spelling.{point, cell, entry_line, head_line};
 
-use crate::{EntryList, EntryLists, Section, SectionKind};
-use itoa::Buffer;
 use journal_meaning::Entry;
 use owned_text::OutOfMemory;
 use std::alloc::{AllocError, Global};
+use text_fields::push_field;
 use valid_intervals::{Cell, Point};
 
 /// The first line of a journal: how many shards there are, and how many cells each may store.
@@ -29,56 +27,6 @@ pub fn entry_text(alloc: Global, entry: &Entry) -> Result<Vec<u8>, OutOfMemory>
     let mut text = Vec::new(alloc);
     push_entry(&mut text, entry)?;
     Ok(text)
-}
-
-/// The lines of a section.
-pub fn section_text(alloc: Global, section: &Section) -> Result<Vec<u8>, OutOfMemory>
-    requires { IsNumbered section.now }
-    ensures { IfOk result (λ text. text.items ≡ section_lines section.now) }
-{
-    let mut text = Vec::from_slice(alloc, kind_text(section.kind))?;
-    push_field(&mut text, section.number)?;
-    text.push(b'\n')?;
-    push_shards(&mut text, &section.shards)?;
-    text.extend_from_slice(b"end\n")?;
-    Ok(text)
-}
-
-/// The word of a kind of section.
-fn kind_text(kind: SectionKind) -> &'static [u8]
-    ensures { result.now ≡ kind_word kind }
-{
-    match kind {
-        SectionKind::Batch => b"batch",
-        SectionKind::Trim => b"trim",
-        SectionKind::Held => b"held",
-    }
-}
-
-/// Writes the line of each shard and its entries at the end of the text.
-fn push_shards(text: &mut Vec<u8>, shards: &EntryLists) -> Result<(), OutOfMemory>
-    requires { length shards.now ≤ 64 }
-    ensures { OnOk result (text.new.items ≡ text.old.items ++ shard_lines 0 shards.now) }
-{
-    let mut number = 0u32;
-    for entries in shards.as_slice() {
-        text.extend_from_slice(b"shard")?;
-        push_field(text, number)?;
-        text.push(b'\n')?;
-        push_entries(text, entries)?;
-        number += 1;
-    }
-    Ok(())
-}
-
-/// Writes the lines of entries at the end of the text.
-fn push_entries(text: &mut Vec<u8>, entries: &EntryList) -> Result<(), OutOfMemory>
-    ensures { OnOk result (text.new.items ≡ text.old.items ++ flat_map entry_line entries.now) }
-{
-    for entry in entries.as_slice() {
-        push_entry(text, entry)?;
-    }
-    Ok(())
 }
 
 /// Writes the line of an entry at the end of the text.
@@ -141,13 +89,4 @@ fn push_cell(text: &mut Vec<u8>, c: &Cell) -> Result<(), AllocError>
     text.push(b' ')?;
     text.push(c.value.byte())?;
     Ok(())
-}
-
-/// Writes a number after a blank.
-fn push_field(text: &mut Vec<u8>, n: u32) -> Result<(), AllocError>
-    ensures { OnOk result (text.new.items ≡ text.old.items ++ field n) }
-{
-    let mut buffer = Buffer::new();
-    text.push(b' ')?;
-    text.extend_from_slice(buffer.format(n).as_bytes())
 }

@@ -1,4 +1,4 @@
--- What is answered of a proof, where three files make a design and the proof is not too long.
+-- The answer to a proof that is not too long, if three files make a design.
 use Rattle.std.specs.Prelude.{◌≡◌, ◌≤◌, ◌⊎◌, ⊤, ℕ, List, length, position, Some, Ok}
 use Rattle.std.specs.Str.{bytes_eq}
 use Rattle.backsim_io.specs.Counts.{Grows, GrowsByPrefix}
@@ -15,7 +15,7 @@ use Rattle.proof_check.specs.Texts.{yes_line, no_line, bad_line}
 use Rattle.proof_check.specs.declared.status.CheckStatus.{CheckStatus}
 use Rattle.proof_check.specs.declared.status.CheckStatus.TheVariants.{Yes, Words, Refused, ReadFault, WriteFault, FileFault, OutOfMemory, No}
 
--- Of a design and a text, whoever wrote it.
+-- On a design and a text, whoever wrote it.
 
 -- the text is that of a justified proof, and the line says what it claims
 pub record IsYes (d : Joined) (text line : List ℕ) : Type 0 where
@@ -25,7 +25,7 @@ pub record IsYes (d : Joined) (text line : List ℕ) : Type 0 where
   pub justified : IsJustifiedProof d proof signal
   pub line_is : line ≡ yes_line proof.name proof.time proof.value
 
--- the text is that of a proof, and the line tells its first line that is not justified
+-- the text is that of a proof, and the line reports its first line that is not justified
 pub record IsNo (d : Joined) (text line : List ℕ) : Type 0 where
   pub proof : Proof
   pub number : ℕ
@@ -33,13 +33,13 @@ pub record IsNo (d : Joined) (text line : List ℕ) : Type 0 where
   pub unjustified : IsUnjustified d proof number
   pub line_is : line ≡ no_line number
 
--- the text is that of no proof, and the line tells the first line at which no proof's text goes on
+-- the text is that of no proof, and the line reports the first line that continues no proof
 pub record IsBad (text line : List ℕ) : Type 0 where
   pub number : ℕ
   pub broken : IsBroken text number
   pub line_is : line ≡ bad_line number
 
--- the line says of a signal of the design which value it has at a time in forward simulation
+-- the line states the value of a signal of the design at a time in forward simulation
 pub record IsTrue (d : Joined) (line : List ℕ) : Type 0 where
   pub name : List ℕ
   pub time : ℕ
@@ -50,7 +50,7 @@ pub record IsTrue (d : Joined) (line : List ℕ) : Type 0 where
   pub within : time ≤ d.circuit.horizon
   pub holds : value d.circuit signal time ≡ v
 
--- Of four files.
+-- On four files.
 
 -- the three files make a design, and this holds of it
 pub record OfDesign (given : Given) (says : Joined → Type 0) : Type 0 where
@@ -68,7 +68,7 @@ IsProved given proof line = IsShort proof × OfDesign given (λ d. IsYes d proof
 abbrev pub IsUnproved : Given → (proof line : List ℕ) → Type 0
 IsUnproved given proof line = IsShort proof × OfDesign given (λ d. IsNo d proof line ⊎ IsBad proof line)
 
--- whoever wrote the proof
+-- the line is true in the design of the three files, whoever wrote the proof
 abbrev pub IsTrueOf : Given → (line : List ℕ) → Type 0
 IsTrueOf given line = OfDesign given (λ d. IsTrue d line)
 
@@ -80,15 +80,15 @@ pub record Wrote (such : List ℕ → Type 0) (out new_out : List ℕ → Type 0
   pub is : such line
   pub written : Grows out new_out line
 
--- a part of such a line at most
+-- at most a part of such a line
 pub record WrotePart (such : List ℕ → Type 0) (out new_out : List ℕ → Type 0) : Type 0 where
   pub line : List ℕ
   pub is : such line
   pub written : GrowsByPrefix out new_out line
 
--- How a call ends.
+-- The end of a call.
 
--- by a fault, or for want of memory
+-- by a fault or for lack of memory
 abbrev pub IsCut : CheckStatus → Type 0
 IsCut ReadFault = ⊤
 IsCut WriteFault = ⊤
@@ -99,11 +99,11 @@ IsCut Words = ⊥
 IsCut Refused = ⊥
 IsCut No = ⊥
 
--- with this status, unless it is cut off
+-- with this status, unless a fault or a lack of memory ends the call
 abbrev pub EndsAs : CheckStatus → CheckStatus → Type 0
 EndsAs due status = (status ≡ due) ⊎ IsCut status
 
--- by a fault of the files, or for want of memory
+-- by a fault of the files or for lack of memory
 abbrev pub WritesNothing : CheckStatus → Type 0
 WritesNothing ReadFault = ⊤
 WritesNothing FileFault = ⊤

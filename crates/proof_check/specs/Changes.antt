@@ -1,17 +1,17 @@
--- What a call changes of the files and of the count of faults of the sink, by the status that it ends with.
+-- What a call changes of the files and of the sink's count of faults, by its status.
 use Rattle.std.specs.Prelude.{ℕ, ◌≡◌, ◌≤◌, ◌<◌}
 use Rattle.backsim_io.specs.State.{FilesState, Rises}
 use Rattle.circuit_files.specs.Changes.{Opened, OpenedUpTo, OpenedThenMissing, OpenedThenUnread}
 use Rattle.proof_check.specs.declared.status.CheckStatus.{CheckStatus}
 use Rattle.proof_check.specs.declared.status.CheckStatus.TheVariants.{Yes, Words, Refused, ReadFault, WriteFault, FileFault, OutOfMemory, No}
 
--- one of so many files could not be opened; those before it were
+-- one of this many files could not be opened; those before it were
 pub record MissingOf (all : ℕ) (old new : FilesState) : Type 0 where
   pub many : ℕ
   pub within : many < all
   pub missing : OpenedThenMissing many old new
 
--- one of so many files could not be read, the last that was opened
+-- one of this many files could not be read, the last that was opened
 pub record UnreadOf (all : ℕ) (old new : FilesState) : Type 0 where
   pub many : ℕ
   pub within : many ≤ all

@@ -1,4 +1,4 @@
--- What a call is given.
+-- The input of a call.
 use Rattle.std.specs.Prelude.{◌≡◌, ⊤, ℕ, List, [], ◌∷◌, Option, Some}
 
 -- the names of the four files
@@ -11,7 +11,7 @@ pub record Names : Type 0 where
 abbrev pub names_of : (netlist timing stimulus proof : List ℕ) → Names
 names_of netlist timing stimulus proof = record { netlist = netlist; timing = timing; stimulus = stimulus; proof = proof }
 
--- what is said where there are four words; of other words nothing is said
+-- what holds if there are four words; otherwise nothing is claimed
 abbrev pub OnNames : (Names → Type 0) → List (List ℕ) → Type 0
 OnNames says [] = ⊤
 OnNames says (netlist ∷ []) = ⊤
@@ -26,13 +26,13 @@ pub record Given : Type 0 where
   pub timing : List ℕ
   pub stimulus : List ℕ
 
--- these are held under the first three names
+-- the files with the first three names have these bytes
 pub record AreGiven (held : List ℕ → Option (List ℕ)) (names : Names) (given : Given) : Type 0 where
   pub netlist : held names.netlist ≡ Some given.netlist
   pub timing : held names.timing ≡ Some given.timing
   pub stimulus : held names.stimulus ≡ Some given.stimulus
 
--- so are they, and the bytes of the proof under the fourth
+-- the same, and the fourth file has the bytes of the proof
 pub record AreAll (held : List ℕ → Option (List ℕ)) (names : Names) (given : Given) (proof : List ℕ) : Type 0 where
   pub circuit : AreGiven held names given
   pub proof_is : held names.proof ≡ Some proof

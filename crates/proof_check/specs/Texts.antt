@@ -1,7 +1,8 @@
 -- The lines that are written.
 use Rattle.std.specs.Prelude.{ℕ, List, ◌++◌, codes, decimal}
 use Rattle.gate_values.specs.declared.Value.{Value}
-use Rattle.why_proofs.specs.Spelling.{field, last_field}
+use Rattle.text_fields.specs.Spelling.{field}
+use Rattle.why_proofs.specs.Spelling.{last_field}
 
 abbrev pub usage : List ℕ
 usage = codes "usage: backsim_check NETLIST TIMING STIMULUS PROOF\n"

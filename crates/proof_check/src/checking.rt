@@ -22,7 +22,7 @@ use backsim_io::{Files, Sink, write_all};
 use std::alloc::Global;
 use why_proofs::verdicts_are_fixed;
 
-/// Checks the proof of the fourth file against the circuit of the other three.
+/// Checks the proof in the fourth file against the circuit of the other three.
 fn check_files<F: Files, S: Sink>(
     alloc: Global,
     netlist: &str,
@@ -114,7 +114,7 @@ fn write_usage<S: Sink>(out: &mut S) -> CheckStatus
     }
 }
 
-/// Checks a proof against a circuit: the words name its netlist, its timing file, its stimulus, and the proof.
+/// Checks a proof against a circuit. The words name its netlist, its timing file, its stimulus, and the proof.
 pub fn check<F: Files, S: Sink>(
     alloc: Global,
     words: &[&str],
@@ -122,12 +122,13 @@ pub fn check<F: Files, S: Sink>(
     out: &mut S,
 ) -> CheckStatus
     requires { (F.state files.old).started ≡ 0 }
-    // The theorem: where it says yes, forward simulation of the circuit of the three files gives that value, whoever wrote the proof.
+    // The theorem: if the line says yes, forward simulation of the circuit of the three files gives that value, whoever wrote the
+    // proof.
     ensures holds { OnNames (λ names. (given : Given)
         → AreGiven (F.state files.old).held names given
         → result ≡ CheckStatus.Yes → Wrote (IsTrueOf given) (S.written out.old) (S.written out.new))
         (map (λ word. word.now) words.now) }
-    // Each status, and what is written under it.
+    // Each status, and what is written with it.
     ensures yes { OnNames (λ names. (given : Given) (proof : List ℕ)
         → AreAll (F.state files.old).held names given proof
         → result ≡ CheckStatus.Yes → Wrote (IsProved given proof) (S.written out.old)
@@ -153,7 +154,7 @@ pub fn check<F: Files, S: Sink>(
         → WrotePart (IsAnswer given proof) (S.written out.old) (S.written out.new))
         (map (λ word. word.now) words.now) }
     ensures unread { WritesNothing result → Stays (S.written out.old) (S.written out.new) }
-    // And where each comes, unless a fault, or a lack of memory, cuts the call off.
+    // When each status comes, unless a fault or a lack of memory ends the call.
     ensures proved { OnNames (λ names. (given : Given) (proof line : List ℕ)
         → AreAll (F.state files.old).held names given proof
         → IsProved given proof line → EndsAs CheckStatus.Yes result)

@@ -1,4 +1,4 @@
-//! Judging a proof, and telling what it comes to.
+//! Judging a proof, and reporting the verdict.
 
 ghost use Rattle.std.specs.Prelude.{◌≡◌, ◌≤◌, length, IfOk};
 ghost use Rattle.proof_check.specs.Answers.{IsTrue, Wrote};
@@ -14,14 +14,14 @@ use owned_text::OutOfMemory;
 use std::alloc::Global;
 use why_proofs::{Checked, check_proof};
 
-/// A status, and the line that is written under it.
+/// A status, and the line that is written with it.
 #[derive(Drop)]
 struct Verdict {
     status: CheckStatus,
     line: Vec<u8>,
 }
 
-/// What is answered of a proof.
+/// The verdict on a proof.
 fn verdict_of(alloc: Global, design: &Design, text: &[u8]) -> Result<Verdict, OutOfMemory>
     requires { length text.now ≤ 268435456 }
     ensures { IfOk result (λ verdict. Gives design.now text.now verdict.status verdict.line.items) }
@@ -50,7 +50,7 @@ fn verdict_of(alloc: Global, design: &Design, text: &[u8]) -> Result<Verdict, Ou
     }
 }
 
-/// Judges a proof, and writes the line of its verdict.
+/// Judges a proof, and writes the line of the verdict.
 pub fn judge<S: Sink>(alloc: Global, design: &Design, text: &[u8], out: &mut S) -> CheckStatus
     requires { length text.now ≤ 268435456 }
     ensures judged { Judged design.now text.now (S.written out.old) (S.written out.new) result }
@@ -67,7 +67,7 @@ pub fn judge<S: Sink>(alloc: Global, design: &Design, text: &[u8], out: &mut S) 
     }
 }
 
-/// Ends a call that judged no proof. What it refused is told by a line.
+/// Ends a call that judged no proof. A refusal is reported by a line.
 pub fn end_stopped<S: Sink>(alloc: Global, stop: Stop, out: &mut S) -> CheckStatus
     ensures told { EndsWith stop (S.written out.old) (S.written out.new) result }
     ensures cause { OutExplains (S.faults out.old) (S.faults out.new) result }

@@ -12,7 +12,7 @@ pub const USAGE: &[u8] = b"usage: backsim_check NETLIST TIMING STIMULUS PROOF\n"
 
 pub const TOO_LONG: &[u8] = b"refused proof too long\n";
 
-/// What a justified proof claims: that the signal of this name has this value at this time.
+/// The claim of a justified proof: the signal of this name has this value at this time.
 pub fn yes_line(alloc: Global, name: &[u8], time: u32, value: Value) -> Result<Vec<u8>, OutOfMemory>
     ensures { IfOk result (λ line. line.items ≡ texts.yes_line name.now time value) }
 {

@@ -19,7 +19,7 @@ use std::alloc::Global;
 
 const PROOF_LIMIT: u32 = 268_435_456;
 
-/// What is refused.
+/// A refusal of a file or of the proof.
 #[derive(Clone, Copy, Debug, PartialEq, Eq)]
 pub enum Refusal {
     OfFiles(FileRefusal),
@@ -27,7 +27,7 @@ pub enum Refusal {
 }
 
 impl Refusal {
-    /// The line that tells of it.
+    /// The line that reports the refusal.
     pub fn line(self, alloc: Global) -> Result<Vec<u8>, OutOfMemory>
         ensures { IfOk result (λ line. line.items ≡ line_of self) }
     {
@@ -110,7 +110,7 @@ pub fn read_all<F: Files>(
     Ok((design, text))
 }
 
-/// The bytes of the proof, which is read behind the three files.
+/// The bytes of the proof, which is read after the three files.
 fn read_proof<F: Files>(alloc: Global, proof: &str, files: &mut F) -> Result<Vec<u8>, Stop>
     requires { (F.state files.old).started ≡ 3 }
     ensures text { (bytes : List ℕ) → (F.state files.old).held proof.now ≡ Some bytes

@@ -14,12 +14,12 @@ pub enum CheckStatus {
     Refused,
     /// A read of a file failed.
     ReadFault,
-    /// The line couldn't be written.
+    /// The line could not be written.
     WriteFault,
-    /// A file couldn't be opened.
+    /// A file could not be opened.
     FileFault,
     OutOfMemory,
-    /// The proof is not justified, or it is no proof.
+    /// The proof is not justified, or the text is no proof.
     No,
 }
 

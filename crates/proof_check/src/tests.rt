@@ -6,7 +6,7 @@ use owned_text::Text;
 use std::alloc::Global;
 use std::test::Fail;
 
-/// What is held under the names `n`, `t`, `s` and `p`; a name with no bytes isn't held.
+/// The content under the names `n`, `t`, `s` and `p`. A name without bytes has no file.
 #[derive(Clone, Copy)]
 struct Held {
     netlist: &'static str,
@@ -49,7 +49,8 @@ fn mem_files(alloc: Global, given: &Held, failing: &[u64]) -> Result<MemFiles, F
 fn proofs_are_answered(rt: HostRuntime) -> Result<(), Fail> {
     let rows = [
         (CHAIN, CheckStatus::Yes, "yes n3 6 1\n"),
-        // without its third line, with another value in its first, and cut before its last
+        // without its third line, with another value in its first line, and cut before its last
+        // line
         (
             Held {
                 proof: "why n3 6 1\ncell 2 1 11 1\ncell 1 3 11 1\nend\n",
@@ -74,7 +75,7 @@ fn proofs_are_answered(rt: HostRuntime) -> Result<(), Fail> {
             CheckStatus::No,
             "bad line 5\n",
         ),
-        // a netlist at fault, whatever stands behind
+        // a netlist at fault, whatever the later files hold
         (
             Held {
                 netlist: "INPUT(a)\nOUTPUT(y)\ny = AND(a, nowhere)\n",
@@ -104,7 +105,7 @@ fn proofs_are_answered(rt: HostRuntime) -> Result<(), Fail> {
 
 #[test]
 fn faults_cut_a_call_off(rt: HostRuntime) -> Result<(), Fail> {
-    // each file takes a call to open it, one for its bytes where it has any, and one for its end
+    // each file takes a call to open it, one for its bytes if it has any, and one for its end
     for (call, status) in [
         (0, CheckStatus::FileFault),
         (2, CheckStatus::ReadFault),

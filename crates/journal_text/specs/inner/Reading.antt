@@ -1,10 +1,6 @@
 -- How a text is read: each function gives what stands at the front of the bytes, and the bytes after it.
-use Rattle.std.specs.Prelude.{ℕ, zero, suc, ◌+◌, ◌-◌, ◌*◌, ◌^◌, Bool, ◌&&◌, ◌||◌, not, nat_lt, nat_le, ◌==◌, List, [], ◌∷◌, ◌++◌, length, slice_index_or, codes, Option, Some, None, if◌then◌else◌}
-use Rattle.std.specs.Option.{option_map_or}
-use Rattle.std.specs.Borrow.{Bor}
-use Rattle.std.specs.Char.{is_ascii_digit}
-use Rattle.gate_values.specs.declared.Value.{Value}
-use Rattle.gate_values.specs.declared.Value.TheVariants.{Zero, One, X, Z}
+use Rattle.std.specs.Prelude.{ℕ, zero, suc, ◌+◌, ◌&&◌, nat_lt, nat_le, ◌==◌, List, [], ◌∷◌, length, codes, Option, Some, None, if◌then◌else◌}
+use Rattle.text_fields.specs.Reading.{◌>>=◌, after_word, field_at, items_at, value_at}
 use Rattle.valid_intervals.specs.declared.Cell.{Cell}
 use Rattle.valid_intervals.specs.declared.Point.{Point}
 use Rattle.valid_intervals.specs.Spans.{from_to}
@@ -15,54 +11,11 @@ use Rattle.journal_text.specs.declared.sections.SectionKind.TheVariants.{Batch, 
 use Rattle.journal_text.specs.declared.sections.Section.{Section}
 use Rattle.journal_text.specs.Written.{most_shards}
 
--- what was read, without where the bytes after it lie
-abbrev pub read_is : {A : Type 0} → Option (A × Bor (List ℕ)) → Option (A × List ℕ)
-read_is (Some read) = Some (read.0, read.1.now)
-read_is None = None
-
-abbrev pub behind_is : Option (Bor (List ℕ)) → Option (List ℕ)
-behind_is (Some rest) = Some rest.now
-behind_is None = None
-
-infixl 10 ◌>>=◌
-abbrev pub ◌>>=◌ : {A B : Type 0} → Option A → (A → Option B) → Option B
-(Some x) >>= f = f x
-None >>= f = None
-
--- the bytes after a word
-abbrev pub after_word : List ℕ → List ℕ → Option (List ℕ)
-after_word [] text = Some text
-after_word (b ∷ word) [] = None
-after_word (b ∷ word) (c ∷ text) = if c == b then after_word word text else None
-
-abbrev pub digit_at : List ℕ → Option (ℕ × List ℕ)
-digit_at [] = None
-digit_at (c ∷ text) = if is_ascii_digit c then Some (c - 48, text) else None
-
--- the digits at the front, after digits of this value
-abbrev pub digits_at : ℕ → List ℕ → ℕ × List ℕ
-digits_at n [] = (n, [])
-digits_at n (c ∷ text) = if is_ascii_digit c then digits_at (10 * n + (c - 48)) text else (n, c ∷ text)
-
--- at least one digit, no leading zero, and at most 4,294,967,295
-abbrev pub is_number_at : List ℕ → ℕ × List ℕ → Bool
-is_number_at text read = nat_lt (length read.1) (length text) && (not (slice_index_or text 0 0 == 48) || nat_le (length text) (length read.1 + 1)) && nat_lt read.0 (2 ^ 32)
-
-unfoldable pub number_at : List ℕ → Option (ℕ × List ℕ)
-number_at text = if is_number_at text (digits_at 0 text) then Some (digits_at 0 text) else None
-
-unfoldable pub field_at : List ℕ → Option (ℕ × List ℕ)
-field_at text = after_word (32 ∷ []) text >>= number_at
-
 unfoldable pub point_at : List ℕ → Option (Point × List ℕ)
 point_at text = do
   signal ← field_at text
   time ← field_at signal.1
   Some (record { signal = signal.0; time = time.0 }, time.1)
-
-abbrev pub value_at : List ℕ → Option (Value × List ℕ)
-value_at [] = None
-value_at (b ∷ text) = if b == 48 then Some (Zero, text) else (if b == 49 then Some (One, text) else (if b == 120 then Some (X, text) else (if b == 122 then Some (Z, text) else None)))
 
 unfoldable pub cell_at : List ℕ → Option (Cell × List ℕ)
 cell_at text = do
@@ -132,12 +85,8 @@ entry_at text =
     behind (after_word (codes "spent") text) spent_at None)))))
 
 -- the entries at the front, at most so many
-abbrev pub put_first : Entry → List Entry × List ℕ → List Entry × List ℕ
-put_first entry read = (entry ∷ read.0, read.1)
-
 abbrev pub entries_at : ℕ → List ℕ → List Entry × List ℕ
-entries_at zero text = ([], text)
-entries_at (suc most) text = option_map_or (λ read. put_first read.0 (entries_at most read.1)) (entry_at text) ([], text)
+entries_at most text = items_at entry_at most text
 
 -- the rest of the line of the shard of this number, and its entries
 unfoldable pub shard_at : ℕ → List ℕ → Option (List Entry × List ℕ)

@@ -17,14 +17,14 @@ use Rattle.proof_check.specs.declared.reading.Refusal.TheVariants.{OfFiles, Proo
 use Rattle.proof_check.specs.declared.reading.Stop.{Stop}
 use Rattle.proof_check.specs.declared.reading.Stop.TheVariants.{Refused, NotOpened, Unread, OutOfMemory}
 
--- what a stop of the three files is
+-- the stop of the three files
 abbrev pub stop_of : FilesStop → Stop
 stop_of (files.Refused refusal) = Refused (OfFiles refusal)
 stop_of (files.NotOpened file) = NotOpened
 stop_of (files.Unread file) = Unread
 stop_of files.OutOfMemory = OutOfMemory
 
--- the line that tells of it
+-- the line that reports the refusal
 abbrev pub line_of : Refusal → List ℕ
 line_of (OfFiles refusal) = refusal_text refusal
 line_of ProofTooLong = too_long
@@ -40,7 +40,7 @@ abbrev pub ReadChanges : {T : Type 0} → FilesState → FilesState → Result T
 ReadChanges old new (Ok t) = Opened 4 old new
 ReadChanges old new (Err stop) = StopChanges old new stop
 
--- what reading the proof changes, behind the three files
+-- what reading the proof changes, after the three files
 abbrev pub ProofStops : FilesState → FilesState → Stop → Type 0
 ProofStops old new (Refused refusal) = Opened 4 old new
 ProofStops old new NotOpened = FileFault old new
@@ -51,14 +51,14 @@ abbrev pub ProofChanges : {T : Type 0} → FilesState → FilesState → Result 
 ProofChanges old new (Ok t) = Opened 4 old new
 ProofChanges old new (Err stop) = ProofStops old new stop
 
--- what is refused of these four files is refused rightly
+-- if these four files are refused, the refusal is right
 abbrev pub RefusesRight : Given → List ℕ → Stop → Type 0
 RefusesRight given proof (Refused refusal) = IsRefused given proof (line_of refusal)
 RefusesRight given proof NotOpened = ⊤
 RefusesRight given proof Unread = ⊤
 RefusesRight given proof OutOfMemory = ⊤
 
--- the first n files are refused with this line, unless a fault at one of them, or a lack of memory, came before; no file behind was opened
+-- the first n files are refused with this line, unless a fault at one of them or a lack of memory came before; no later file was opened
 abbrev pub StopsFirst : ℕ → List ℕ → (started : ℕ) → Stop → Type 0
 StopsFirst n line started (Refused refusal) = (line_of refusal ≡ line) × (started ≤ n)
 StopsFirst n line started NotOpened = started < n
@@ -69,23 +69,23 @@ abbrev pub RefusedFirst : {T : Type 0} → ℕ → List ℕ → (started : ℕ) 
 RefusedFirst n line started (Ok t) = ⊥
 RefusedFirst n line started (Err stop) = StopsFirst n line started stop
 
--- How a call ends.
+-- The end of a call.
 
--- the line of a refusal was written, or not wholly: the status says which
+-- the line of a refusal was written, or only a part of it: the status says which
 abbrev pub IsTold : List ℕ → (List ℕ → Type 0) → (List ℕ → Type 0) → CheckStatus → Type 0
 IsTold line out new_out statuses.Refused = Grows out new_out line
 IsTold line out new_out statuses.WriteFault = GrowsByPrefix out new_out line
 IsTold line out new_out statuses.OutOfMemory = Stays out new_out
 IsTold line out new_out _ = ⊥
 
--- a refusal is told; of another stop nothing is written
+-- a refusal is reported; for another stop nothing is written
 abbrev pub EndsWith : Stop → (List ℕ → Type 0) → (List ℕ → Type 0) → CheckStatus → Type 0
 EndsWith (Refused refusal) out new_out status = IsTold (line_of refusal) out new_out status
 EndsWith NotOpened out new_out status = (status ≡ statuses.FileFault) × Stays out new_out
 EndsWith Unread out new_out status = (status ≡ statuses.ReadFault) × Stays out new_out
 EndsWith OutOfMemory out new_out status = (status ≡ statuses.OutOfMemory) × Stays out new_out
 
--- the faults of the sink say whether the line was written
+-- the faults of the sink decide whether the line was written
 abbrev pub OutExplains : ℕ → ℕ → CheckStatus → Type 0
 OutExplains old new statuses.WriteFault = Rises old new
 OutExplains old new _ = new ≡ old

@@ -1,7 +1,7 @@
 -- The digits that are left go on with the number so far.
 use Rattle.std.proofs.Common.{◌≡◌, length}
-use Rattle.journal_text.specs.inner.Reading.{digits_at}
-use Rattle.journal_text.proofs.reading.digits_of.Given as goal
+use Rattle.text_fields.specs.Reading.{digits_at}
+use Rattle.text_fields.proofs.reading.digits_of.Given as goal
 
 abbrev pub invariant-loop-digit : goal.invariant-loop-digit
 invariant-loop-digit l = digits_at l.number l.rest ≡ digits_at 0 l.text

@@ -1,8 +1,7 @@
-use Rattle.std.proofs.Common.{rules, ◌≡◌, ◌+◌, ◌<◌, ◌≤◌, ◌^◌, ℕ, List, length, get_or, ap, arith}
-use Rattle.journal_text.specs.inner.Reading.{digits_at}
-use Rattle.journal_text.proofs.Numbers.{digits_shorter, number_wide, number_empty, number_zero, number_read}
-use Rattle.journal_text.proofs.reading.number_of.Goals.{else-len-gt1-via-then-len-gt1+else-text-eq48, else-len-gt1-via-else-len-gt1}
-use Rattle.journal_text.proofs.reading.number_of.Goals as goal
+use Rattle.std.proofs.Common.{rules, ℕ, List, length, ap, arith}
+use Rattle.text_fields.proofs.Numbers.{digits_shorter, number_wide, number_empty, number_zero, number_read}
+use Rattle.text_fields.proofs.reading.number_of.Goals.{else-len-gt1-via-then-len-gt1+else-text-eq48, else-len-gt1-via-else-len-gt1}
+use Rattle.text_fields.proofs.reading.number_of.Goals as goal
 
 pub returns-in_default : goal.returns-in_default
 returns-in_default c = number_wide c.args.text.now (search rules)

@@ -1,7 +1,7 @@
-use Rattle.std.proofs.Common.{rules, ◌≡◌, ◌+◌, ◌*◌, ◌<◌, ◌≤◌, ℕ, List, ap, arith, ◌^◌}
-use Rattle.journal_text.specs.inner.Reading.{digit_at, digits_at}
-use Rattle.journal_text.proofs.Numbers.{digit_read, digits_next, digits_at_ge}
-use Rattle.journal_text.proofs.reading.digits_of.Goals as goal
+use Rattle.std.proofs.Common.{rules, ◌≡◌, ◌+◌, ◌*◌, ℕ, List, ap, arith}
+use Rattle.text_fields.specs.inner.Reading.{digit_at}
+use Rattle.text_fields.proofs.Numbers.{digit_read, digits_next, digits_at_ge}
+use Rattle.text_fields.proofs.reading.digits_of.Goals as goal
 
 -- further digits only raise a value that is too great
 pub returns-in_default-checked_mul-clause-none : goal.returns-in_default-checked_mul-clause-none

@@ -1,6 +1,0 @@
-use Rattle.std.proofs.Common.{◌≡◌}
-use Rattle.journal_text.proofs.Fields.{after_strips}
-use Rattle.journal_text.proofs.reading.after.Goals as goal
-
-pub returns : goal.returns
-returns c = after_strips c.args.word.now c.args.text.now c.strip_prefix.result c.strip_prefix.ensures.cases
