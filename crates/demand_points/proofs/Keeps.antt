@@ -12,9 +12,9 @@ use Rattle.batch_meaning.specs.Lawful.{IsLawful, IsQueryOf}
 use Rattle.strand_meaning.specs.Strands.{Strand, IsStrand, next, heard, claimed, finished, rest}
 use Rattle.strand_meaning.proofs.Stacks.{heard-keeps, claimed-keeps, finished-keeps, length-heard, length-rest, fill-top}
 use Rattle.strand_meaning.proofs.Started.{started-right, query-within}
-use Rattle.demand_points.specs.declared.frame.Frame.{Frame}
+use Rattle.pin_walks.specs.declared.walk.PinWalk.{PinWalk}
 use Rattle.demand_points.specs.declared.parts.Parts.{Parts}
-use Rattle.demand_points.specs.inner.Frames.{shown}
+use Rattle.demand_points.specs.inner.Bases.{shown}
 use Rattle.demand_points.specs.Demands.{IsLastHeard, IsRootCell, itself}
 use Rattle.demand_points.specs.inner.Demands.{demand_of, strand_of, TakesStepTo, IsDemand}
 use Rattle.demand_points.proofs.PartLemmas.{steps-on}
@@ -89,10 +89,10 @@ fill-room b s is p h small =
 -- a new strand
 module _ (b : Batch) (l : IsLawful b) (number : ℕ) (q : Query) (from to budget charged : ℕ) (known : IsQueryOf b q) (root : from < to → IsRoot b.circuit (window_of q) from)
     (window : to ≤ q.to) (charge : charged ≤ budget) (most : budget ≤ q.budget) where
-  abbrev new_parts : List Frame → Parts
+  abbrev new_parts : List PinWalk → Parts
   new_parts st = record { number = number; query = q; from = from; to = to; budget = budget; root = from; stack = st; charged = charged; filled = 0; spent = false; last = None }
 
-  pub new-demand : (st : List Frame) → st ≡ [] → IsDemand b (new_parts st)
+  pub new-demand : (st : List PinWalk) → st ≡ [] → IsDemand b (new_parts st)
   new-demand st e =
       let within = query-within b l q known in
       let empty : IsDemand b (new_parts []) = record {
@@ -104,7 +104,7 @@ module _ (b : Batch) (l : IsLawful b) (number : ℕ) (q : Query) (from to budget
           within = within.window;
           since = omega arith;
           root = root;
-          frames = tt;
+          walks = tt;
           busy = λ h. absurd (omega (arith, h));
           last = refl;
         };

@@ -1,4 +1,3 @@
-pub mod FrameLemmas
 pub mod Lists
 pub mod PartLemmas
 pub mod Keeps

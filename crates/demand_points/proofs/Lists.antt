@@ -12,9 +12,9 @@ use Rattle.circuit_meaning.proofs.Cover.{cell-covers}
 use Rattle.circuit_meaning.proofs.Looking.{children-somes}
 use Rattle.strand_meaning.specs.Strands.{has_children, is_evaluable, asked_children, roots_from}
 use Rattle.strand_meaning.proofs.Stacks.{evaluable-true}
-use Rattle.demand_points.specs.declared.frame.Frame.{Frame}
-use Rattle.demand_points.specs.Frames.{looked_at, next_point, left_after, IsFrame, IsLooking, LooksOn, Advances}
-use Rattle.demand_points.specs.inner.Frames.{SkipsOn}
+use Rattle.pin_walks.specs.declared.walk.PinWalk.{PinWalk}
+use Rattle.pin_walks.specs.PinWalks.{looked_at, next_point, IsPinWalk, IsLooking, LooksOn}
+use Rattle.demand_points.specs.inner.Bases.{left_after, HearsBases, HearsBase}
 use Rattle.demand_points.specs.Demands.{roots_left}
 
 evaluable-bool : (t : ℕ) (d : Driver) → HasChildren t d → has_children t d ≡ true
@@ -39,14 +39,14 @@ drop-none [] = refl
 drop-none (x ∷ xs) = refl
 
 -- nothing is left once all is looked at, and everything before
-pub left-done : (c : Circuit) (f : Frame) → f.looked ≡ length (looked_at c f.point) → left_after c f.point f.looked ≡ []
+pub left-done : (c : Circuit) (f : PinWalk) → f.looked ≡ length (looked_at c f.point) → left_after c f.point f.looked ≡ []
 left-done c f h = ap (λ os. filter (is_evaluable c) (somes os)) (drop-all (looked_at c f.point) f.looked (omega arith))
 
 pub left-all : (c : Circuit) (p : Point) → left_after c p 0 ≡ asked_children c p
 unfolding asked_children
 left-all c p = ap (λ os. filter (is_evaluable c) (somes os)) (drop-none (looked_at c p)) ∙ ap (filter (is_evaluable c)) (sym (children-somes c p.signal p.time))
 
-module _ (c : Circuit) (f : Frame) (looking : IsLooking c f) where
+module _ (c : Circuit) (f : PinWalk) (looking : IsLooking c f) where
   after : List Point
   after = left_after c f.point (f.looked + 1)
 
@@ -64,31 +64,31 @@ module _ (c : Circuit) (f : Frame) (looking : IsLooking c f) where
   pub left-ask : (p : Point) → next_point c f ≡ Some p → IsEvaluable c p.signal p.time → left_after c f.point f.looked ≡ p ∷ left_after c f.point (f.looked + 1)
   left-ask p e h = next-left (Some p) e ∙ ap (λ b. cond b (p ∷ left_after c f.point (f.looked + 1)) (left_after c f.point (f.looked + 1))) (is-evaluable c p h)
 
-  module _ (g : Frame) (l : LooksOn c f g) where
+  module _ (g : PinWalk) (l : LooksOn c f g) where
     moved-left : left_after c g.point g.looked ≡ left_after c f.point (f.looked + 1)
     moved-left = ap (λ p. left_after c p g.looked) l.point ∙ ap (left_after c f.point) l.looked
 
-    pub skip-early : next_point c f ≡ None → SkipsOn c f g
-    skip-early e = record { looks = l; left = moved-left ∙ sym (left-early e) }
+    pub hears-early : next_point c f ≡ None → HearsBase c f g
+    hears-early e = record { looks = l; left = moved-left ∙ sym (left-early e) }
 
-    pub skip-base : (p : Point) → next_point c f ≡ Some p → (IsEvaluable c p.signal p.time → ⊥) → SkipsOn c f g
-    skip-base p e h = record { looks = l; left = moved-left ∙ sym (left-base p e h) }
+    pub hears-base : (p : Point) → next_point c f ≡ Some p → (IsEvaluable c p.signal p.time → ⊥) → HearsBase c f g
+    hears-base p e h = record { looks = l; left = moved-left ∙ sym (left-base p e h) }
 
     pub looked-left : left_after c g.point g.looked ≡ left_after c f.point (f.looked + 1)
     looked-left = moved-left
 
-pub advances-none : (c : Circuit) (f : Frame) → IsFrame c f → Advances c f f
-advances-none c f is = record { frame = is; point = refl; left = refl }
+pub hears-none : (c : Circuit) (f : PinWalk) → IsPinWalk c f → HearsBases c f f
+hears-none c f is = record { walk = is; point = refl; left = refl }
 
-pub advances-skip : (c : Circuit) (f g h : Frame) → Advances c f g → SkipsOn c g h → Advances c f h
-advances-skip c f g h a s = record { frame = s.looks.frame; point = s.looks.point ∙ a.point; left = s.left ∙ a.left }
+pub hears-more : (c : Circuit) (f g h : PinWalk) → HearsBases c f g → HearsBase c g h → HearsBases c f h
+hears-more c f g h a s = record { walk = s.looks.walk; point = s.looks.point ∙ a.point; left = s.left ∙ a.left }
 
 -- it comes nearer to its end
-pub skip-nearer : (c : Circuit) (g h : Frame) → SkipsOn c g h → length (looked_at c h.point) - h.looked < length (looked_at c g.point) - g.looked
-skip-nearer c g h s =
+pub hears-nearer : (c : Circuit) (g h : PinWalk) → HearsBase c g h → length (looked_at c h.point) - h.looked < length (looked_at c g.point) - g.looked
+hears-nearer c g h s =
     let same : length (looked_at c h.point) ≡ length (looked_at c g.point) = ap (λ p. length (looked_at c p)) s.looks.point in
     let more = s.looks.looked in
-    let within = s.looks.frame.looked in
+    let within = s.looks.walk.looked in
     omega arith
 
 -- the roots that are left

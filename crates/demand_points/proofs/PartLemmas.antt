@@ -17,14 +17,14 @@ use Rattle.strand_meaning.specs.declared.Next.TheVariants.{Ask, Fill, Drop, Done
 use Rattle.strand_meaning.specs.declared.Next as declared
 use Rattle.strand_meaning.specs.Strands as strands
 use Rattle.strand_meaning.specs.Strands.{Strand, ask_or, next, next_in, heard, claimed, dropped, finished, rest, asked_children}
-use Rattle.demand_points.specs.declared.frame.Frame.{Frame}
+use Rattle.pin_walks.specs.declared.walk.PinWalk.{PinWalk}
 use Rattle.demand_points.specs.declared.parts.Parts.{Parts}
 use Rattle.demand_points.specs.inner.Stacks.{IsTop}
-use Rattle.demand_points.specs.Frames.{cell_there, left_after, looked_at, next_point, IsPoint, IsFrame, IsLooking, IsReady, LooksOn, Advances}
-use Rattle.demand_points.specs.inner.Frames.{shown}
-use Rattle.demand_points.specs.inner.Demands.{window_in, root_point, strand_of, IsReadyIn, IsReadyAt, IsRootReady, WaitsFor, AreFrames, IsRunning, IsRootKnown, TakesStepTo}
+use Rattle.pin_walks.specs.PinWalks.{cell_there, looked_at, next_point, IsPoint, IsPinWalk, IsLooking, LooksOn}
+use Rattle.demand_points.specs.inner.Bases.{left_after, IsReady, HearsBases, shown}
+use Rattle.demand_points.specs.inner.Demands.{window_in, root_point, strand_of, IsReadyIn, IsReadyAt, IsRootReady, WaitsFor, AreWalks, IsRunning, IsRootKnown, TakesStepTo}
 use Rattle.demand_points.specs.Demands.{roots_left, IsAskedCell, itself}
-use Rattle.demand_points.proofs.FrameLemmas.{looking-below, next-among}
+use Rattle.pin_walks.proofs.PinWalkLemmas.{looking-below, next-among}
 use Rattle.demand_points.proofs.Lists.{left-done, left-all, left-ask, looked-left, no-roots, root-base, root-ask}
 
 get_or-default : {A : Type 0} (xs : List A) (k : ℕ) (d e : A) → k < length xs → get_or xs k d ≡ get_or xs k e
@@ -32,7 +32,7 @@ get_or-default [] k d e h = absurd (omega arith)
 get_or-default (x ∷ xs) zero d e h = refl
 get_or-default (x ∷ xs) (suc k) d e h = get_or-default xs k d e (omega arith)
 
--- the point that a pin of a frame reads is one of the circuit
+-- the point that a pin of a walk reads is one of the circuit
 source-within : (n h t : ℕ) (d : Driver) (k : ℕ) (p : Point) → IsDriver n h d → t ≤ h → k < length (pin_points_at t d) → get_or (pin_points_at t d) k None ≡ Some p → (p.signal < n) × (p.time ≤ h)
 source-within n h t (Input settings) k p ok le below e = absurd (omega arith)
 source-within n h t (Gate kind pins) k p ok le below e =
@@ -60,25 +60,25 @@ source-within n h t (Flop f) k p ok le below e = go (shown_edge f.clock f.delay 
         (subst (λ (y : Point). y.signal < n) same ok.pin, subst (λ (y : Point). y.time ≤ h) same (omega arith))
     go (Some x) w (suc j) b q = absurd (omega arith)
 
-source-point : (c : Circuit) → IsCircuit c → (f : Frame) (p : Point) → IsFrame c f → IsLooking c f → next_point c f ≡ Some p → IsPoint c p
+source-point : (c : Circuit) → IsCircuit c → (f : PinWalk) (p : Point) → IsPinWalk c f → IsLooking c f → next_point c f ≡ Some p → IsPoint c p
 source-point c ok f p is looking e =
     let k = source-within (length c.drivers) c.horizon f.point.time (driver c f.point.signal) f.looked p (driver_fits c ok f.point.signal) is.point.time (looking-below c ok f is looking) (sym (next-among c ok f is looking) ∙ e) in
     record { signal = k.0; time = k.1 }
 
 -- the top of a stack
-pub record HasTop (st : List Frame) (f : Frame) : Type 0 where
-  pub below : List Frame
+pub record HasTop (st : List PinWalk) (f : PinWalk) : Type 0 where
+  pub below : List PinWalk
   pub is : st ≡ f ∷ below
 
-pub top-below : (st : List Frame) (f : Frame) → IsTop st f → HasTop st f
+pub top-below : (st : List PinWalk) (f : PinWalk) → IsTop st f → HasTop st f
 top-below [] f h = absurd h
 top-below (g ∷ gs) f h = record { below = gs; is = ap (λ x. x ∷ gs) (sym h) }
 
-shown-is : (c : Circuit) (f g : Frame) → g.point ≡ f.point → left_after c g.point g.looked ≡ left_after c f.point f.looked → shown c g ≡ shown c f
+shown-is : (c : Circuit) (f g : PinWalk) → g.point ≡ f.point → left_after c g.point g.looked ≡ left_after c f.point f.looked → shown c g ≡ shown c f
 shown-is c f g p l = let at : Point → List Point → strands.Frame = λ x y. record { point = x; left = y } in ap (λ x. at x (left_after c g.point g.looked)) p ∙ ap (at f.point) l
 
 -- what a strand asks for, by what it is made of
-pub record IsAsked (c : Circuit) (s : Parts) (st : List Frame) (p : Point) : Type 0 where
+pub record IsAsked (c : Circuit) (s : Parts) (st : List PinWalk) (p : Point) : Type 0 where
   pub awake : s.spent ≡ false
   pub waits : WaitsFor c (root_point s) st p
   pub evaluable : IsEvaluable c p.signal p.time
@@ -89,10 +89,10 @@ module _ (c : Circuit) (ok : IsCircuit c) (s : Parts) (r : IsRunning c s) where
   stop-within = let a = r.window in let b = r.within in omega arith
 
   -- the next step, by the stack
-  step-root : (st : List Frame) → st ≡ [] → next_in s.spent (roots_left c (window_in s) s.root) (map (shown c) st) ≡ (if s.spent then Done else ask_or Done (roots_left c (window_in s) s.root))
+  step-root : (st : List PinWalk) → st ≡ [] → next_in s.spent (roots_left c (window_in s) s.root) (map (shown c) st) ≡ (if s.spent then Done else ask_or Done (roots_left c (window_in s) s.root))
   step-root st e = rw e refl
 
-  pub asked-in : (st : List Frame) (p : Point) → st ≡ s.stack → IsReadyIn c s st → next_in s.spent (roots_left c (window_in s) s.root) (map (shown c) st) ≡ Ask p → IsAsked c s st p
+  pub asked-in : (st : List PinWalk) (p : Point) → st ≡ s.stack → IsReadyIn c s st → next_in s.spent (roots_left c (window_in s) s.root) (map (shown c) st) ≡ Ask p → IsAsked c s st p
   asked-in [] p same ready h = go s.spent refl h
     where
       root-asked : (b : Bool) → s.spent ≡ b → b ≡ false → ask_or Done (roots_left c (window_in s) s.root) ≡ Ask p → IsAsked c s [] p
@@ -127,24 +127,24 @@ module _ (c : Circuit) (ok : IsCircuit c) (s : Parts) (r : IsRunning c s) where
   asked p ready h = asked-in s.stack p refl ready h
 
   -- a stack of the parts
-  frames-of : (f : Frame) (fs : List Frame) → s.stack ≡ f ∷ fs → AreFrames c (root_point s) (f ∷ fs)
-  frames-of f fs e = subst (AreFrames c (root_point s)) e r.frames
+  walks-of : (f : PinWalk) (fs : List PinWalk) → s.stack ≡ f ∷ fs → AreWalks c (root_point s) (f ∷ fs)
+  walks-of f fs e = subst (AreWalks c (root_point s)) e r.walks
 
-  count-of : (f : Frame) (fs : List Frame) → s.stack ≡ f ∷ fs → 0 < length s.stack
+  count-of : (f : PinWalk) (fs : List PinWalk) → s.stack ≡ f ∷ fs → 0 < length s.stack
   count-of f fs e = let k : length s.stack ≡ length (f ∷ fs) = ap length e in let l : length (f ∷ fs) ≡ suc (length fs) = refl in omega arith
 
-  pub top-frame : (f : Frame) (fs : List Frame) → s.stack ≡ f ∷ fs → IsFrame c f
-  top-frame f fs e = (frames-of f fs e).0
+  pub top-walk : (f : PinWalk) (fs : List PinWalk) → s.stack ≡ f ∷ fs → IsPinWalk c f
+  top-walk f fs e = (walks-of f fs e).0
 
-  -- another frame of the same point on top
-  with_frame : (f g : Frame) (fs : List Frame) → s.stack ≡ f ∷ fs → IsFrame c g → g.point ≡ f.point → IsRunning c (record s { stack = g ∷ fs })
-  with_frame f g fs e is same = record {
+  -- another walk of the same point on top
+  with_walk : (f g : PinWalk) (fs : List PinWalk) → s.stack ≡ f ∷ fs → IsPinWalk c g → g.point ≡ f.point → IsRunning c (record s { stack = g ∷ fs })
+  with_walk f g fs e is same = record {
     signal = r.signal;
     window = r.window;
     within = r.within;
     since = r.since;
     root = r.root;
-    frames = (is, subst (WaitsFor c (root_point s) fs) (sym same) (frames-of f fs e).1, (frames-of f fs e).2);
+    walks = (is, subst (WaitsFor c (root_point s) fs) (sym same) (walks-of f fs e).1, (walks-of f fs e).2);
     busy = λ _. r.busy (count-of f fs e);
     last = r.last;
   }
@@ -153,9 +153,9 @@ module _ (c : Circuit) (ok : IsCircuit c) (s : Parts) (r : IsRunning c s) where
   stacked st rs = record (strand_of c s) { stack = st; roots = rs }
 
   -- the top has heard base answers
-  pub moves-top : (f g : Frame) (fs : List Frame) → s.stack ≡ f ∷ fs → Advances c f g → TakesStepTo c itself s (record s { stack = g ∷ fs })
+  pub moves-top : (f g : PinWalk) (fs : List PinWalk) → s.stack ≡ f ∷ fs → HearsBases c f g → TakesStepTo c itself s (record s { stack = g ∷ fs })
   moves-top f g fs e a = record {
-    running = with_frame f g fs e a.frame a.point;
+    running = with_walk f g fs e a.walk a.point;
     number = refl;
     from = refl;
     to = refl;
@@ -163,19 +163,19 @@ module _ (c : Circuit) (ok : IsCircuit c) (s : Parts) (r : IsRunning c s) where
   }
 
   -- the next step, by the parts
-  abbrev step_by : Bool → List Frame → declared.Next
+  abbrev step_by : Bool → List PinWalk → declared.Next
   step_by b st = next_in b (roots_left c (window_in s) s.root) (map (shown c) st)
 
-  step-of : (b : Bool) (st : List Frame) → s.spent ≡ b → s.stack ≡ st → next (strand_of c s) ≡ step_by b st
+  step-of : (b : Bool) (st : List PinWalk) → s.spent ≡ b → s.stack ≡ st → next (strand_of c s) ≡ step_by b st
   step-of b st h e = ap (λ x. step_by x s.stack) h ∙ ap (step_by b) e
 
-  pub next-drop : (f : Frame) (fs : List Frame) → s.stack ≡ f ∷ fs → s.spent ≡ true → next (strand_of c s) ≡ Drop f.point
+  pub next-drop : (f : PinWalk) (fs : List PinWalk) → s.stack ≡ f ∷ fs → s.spent ≡ true → next (strand_of c s) ≡ Drop f.point
   next-drop f fs e h = step-of true (f ∷ fs) h e
 
-  pub next-fill : (f : Frame) (fs : List Frame) → s.stack ≡ f ∷ fs → s.spent ≡ false → f.looked ≡ length (looked_at c f.point) → next (strand_of c s) ≡ Fill f.point
+  pub next-fill : (f : PinWalk) (fs : List PinWalk) → s.stack ≡ f ∷ fs → s.spent ≡ false → f.looked ≡ length (looked_at c f.point) → next (strand_of c s) ≡ Fill f.point
   next-fill f fs e h d = step-of false (f ∷ fs) h e ∙ ap (ask_or (Fill f.point)) (left-done c f d)
 
-  pub next-ask : (f : Frame) (fs : List Frame) (p : Point) → s.stack ≡ f ∷ fs → s.spent ≡ false → IsLooking c f → next_point c f ≡ Some p → IsEvaluable c p.signal p.time → next (strand_of c s) ≡ Ask p
+  pub next-ask : (f : PinWalk) (fs : List PinWalk) (p : Point) → s.stack ≡ f ∷ fs → s.spent ≡ false → IsLooking c f → next_point c f ≡ Some p → IsEvaluable c p.signal p.time → next (strand_of c s) ≡ Ask p
   next-ask f fs p e h l src v = step-of false (f ∷ fs) h e ∙ ap (ask_or (Fill f.point)) (left-ask c f l p src v)
 
   pub next-root : s.stack ≡ [] → s.spent ≡ false → s.root < s.to → IsEvaluable c s.query.signal s.root → next (strand_of c s) ≡ Ask (root_point s)
@@ -191,11 +191,11 @@ module _ (c : Circuit) (ok : IsCircuit c) (s : Parts) (r : IsRunning c s) where
   ]
 
   -- a waiting stack asks
-  pub waits-ask : (p : Point) (st : List Frame) → s.stack ≡ st → s.spent ≡ false → WaitsFor c (root_point s) st p → IsEvaluable c p.signal p.time → s.root < s.to → next (strand_of c s) ≡ Ask p
+  pub waits-ask : (p : Point) (st : List PinWalk) → s.stack ≡ st → s.spent ≡ false → WaitsFor c (root_point s) st p → IsEvaluable c p.signal p.time → s.root < s.to → next (strand_of c s) ≡ Ask p
   waits-ask p [] e h w v l = next-root e h l (subst (λ (x : Point). IsEvaluable c x.signal x.time) w v) ∙ ap Ask (sym w)
   waits-ask p (f ∷ fs) e h w v l = next-ask f fs p e h w.0 w.1 v
 
-  pub waits-ready : (p : Point) (st : List Frame) → WaitsFor c (root_point s) st p → IsEvaluable c p.signal p.time → IsReadyIn c s st
+  pub waits-ready : (p : Point) (st : List PinWalk) → WaitsFor c (root_point s) st p → IsEvaluable c p.signal p.time → IsReadyIn c s st
   waits-ready p [] w v = λ _. subst (λ (x : Point). IsEvaluable c x.signal x.time) w v
   waits-ready p (f ∷ fs) w v = inr (w.0, (p, w.1, v))
 
@@ -216,7 +216,7 @@ module _ (c : Circuit) (ok : IsCircuit c) (s : Parts) (r : IsRunning c s) where
         within = r.within;
         since = omega arith;
         root = λ lt. subst (IsRoot c (window_of s.query)) (sym stop) (Next (r.root l) (omega (arith, lt, stop, a)));
-        frames = subst (AreFrames c (record { signal = s.query.signal; time = cell.span.stop })) (sym e) tt;
+        walks = subst (AreWalks c (record { signal = s.query.signal; time = cell.span.stop })) (sym e) tt;
         busy = λ h. let none : length s.stack ≡ 0 = ap length e in absurd (omega (arith, h, none));
         last = record { time = s.root; heard = r.root l; since = r.since; before = l; right = right; stop = refl };
       }
@@ -251,7 +251,7 @@ module _ (c : Circuit) (ok : IsCircuit c) (s : Parts) (r : IsRunning c s) where
             ∙ sym (ap (λ st. heard_by (map (shown c) st) w_roots) e ∙ ap (heard_by []) (root-ask c ok (window_in s) stop-within s.root l v));
       }
 
-  pub hears-top : (f g : Frame) (fs : List Frame) (p : Point) → s.stack ≡ f ∷ fs → IsAsked c s s.stack p → LooksOn c f g → TakesStepTo c heard s (record s { stack = g ∷ fs })
+  pub hears-top : (f g : PinWalk) (fs : List PinWalk) (p : Point) → s.stack ≡ f ∷ fs → IsAsked c s s.stack p → LooksOn c f g → TakesStepTo c heard s (record s { stack = g ∷ fs })
   hears-top f g fs p e a on =
       let w : WaitsFor c (root_point s) (f ∷ fs) p = subst (λ st. WaitsFor c (root_point s) st p) e a.waits in
       let w_roots = roots_left c (window_in s) s.root in
@@ -260,7 +260,7 @@ module _ (c : Circuit) (ok : IsCircuit c) (s : Parts) (r : IsRunning c s) where
       let left : left_after c g.point g.looked ≡ rest (left_after c f.point f.looked) = looked-left c f w.0 g on ∙ sym (ap rest (left-ask c f w.0 p w.1 a.evaluable)) in
       let top : shown c g ≡ at f.point (rest (left_after c f.point f.looked)) = ap (λ x. at x (left_after c g.point g.looked)) on.point ∙ ap (at f.point) left in
       record {
-        running = with_frame f g fs e on.frame on.point;
+        running = with_walk f g fs e on.walk on.point;
         number = refl;
         from = refl;
         to = refl;
@@ -268,18 +268,18 @@ module _ (c : Circuit) (ok : IsCircuit c) (s : Parts) (r : IsRunning c s) where
       }
 
   -- what the top is to hear
-  pub record IsHearing (f : Frame) (cell : Cell) : Type 0 where
-    pub frame : IsFrame c f
+  pub record IsHearing (f : PinWalk) (cell : Cell) : Type 0 where
+    pub walk : IsPinWalk c f
     pub looking : IsLooking c f
     pub heard : Some cell ≡ cell_there c (next_point c f)
 
-  pub hearing : (f : Frame) (fs : List Frame) (p : Point) (cell : Cell) → s.stack ≡ f ∷ fs → IsAsked c s s.stack p → cell ≡ cell_at c p → IsHearing f cell
+  pub hearing : (f : PinWalk) (fs : List PinWalk) (p : Point) (cell : Cell) → s.stack ≡ f ∷ fs → IsAsked c s s.stack p → cell ≡ cell_at c p → IsHearing f cell
   hearing f fs p cell e a right =
       let w : WaitsFor c (root_point s) (f ∷ fs) p = subst (λ st. WaitsFor c (root_point s) st p) e a.waits in
-      record { frame = top-frame f fs e; looking = w.0; heard = ap Some right ∙ sym (ap (cell_there c) w.1) }
+      record { walk = top-walk f fs e; looking = w.0; heard = ap Some right ∙ sym (ap (cell_there c) w.1) }
 
   -- the point that is asked for is one of the circuit
-  asked-in_circuit : (st : List Frame) (p : Point) → AreFrames c (root_point s) st → WaitsFor c (root_point s) st p → (length st ≡ 0 → s.root < s.to) → IsPoint c p
+  asked-in_circuit : (st : List PinWalk) (p : Point) → AreWalks c (root_point s) st → WaitsFor c (root_point s) st p → (length st ≡ 0 → s.root < s.to) → IsPoint c p
   asked-in_circuit [] p fr w live =
       let l : s.root < s.to = live refl in
       let a = r.window in
@@ -288,14 +288,14 @@ module _ (c : Circuit) (ok : IsCircuit c) (s : Parts) (r : IsRunning c s) where
   asked-in_circuit (f ∷ fs) p fr w live = source-point c ok f p fr.0 w.0 w.1
 
   pub asked-point : (p : Point) → IsAsked c s s.stack p → IsPoint c p
-  asked-point p a = asked-in_circuit s.stack p r.frames a.waits a.live
+  asked-point p a = asked-in_circuit s.stack p r.walks a.waits a.live
 
-  busy-when : (st : List Frame) → (length st ≡ 0 → s.root < s.to) → (0 < length st → s.root < s.to) → s.root < s.to
+  busy-when : (st : List PinWalk) → (length st ≡ 0 → s.root < s.to) → (0 < length st → s.root < s.to) → s.root < s.to
   busy-when [] f g = f refl
   busy-when (x ∷ xs) f g = g (omega arith)
 
   -- a point is claimed
-  pub claims : (g : Frame) (p : Point) (n : ℕ) → IsAsked c s s.stack p → IsFrame c g → g.point ≡ p → g.looked ≡ 0 → n ≡ s.charged + 1 → TakesStepTo c (λ x. claimed c x p) s (record s { stack = g ∷ s.stack; charged = n })
+  pub claims : (g : PinWalk) (p : Point) (n : ℕ) → IsAsked c s s.stack p → IsPinWalk c g → g.point ≡ p → g.looked ≡ 0 → n ≡ s.charged + 1 → TakesStepTo c (λ x. claimed c x p) s (record s { stack = g ∷ s.stack; charged = n })
   claims g p n a is same none count =
       let at : Point → List Point → strands.Frame = λ x y. record { point = x; left = y } in
       let with : List strands.Frame → ℕ → Strand = λ st k. record (strand_of c s) { stack = st; charged = k } in
@@ -307,7 +307,7 @@ module _ (c : Circuit) (ok : IsCircuit c) (s : Parts) (r : IsRunning c s) where
           within = r.within;
           since = r.since;
           root = r.root;
-          frames = (is, subst (WaitsFor c (root_point s) s.stack) (sym same) a.waits, r.frames);
+          walks = (is, subst (WaitsFor c (root_point s) s.stack) (sym same) a.waits, r.walks);
           busy = λ _. busy-when s.stack a.live r.busy;
           last = r.last;
         };
@@ -318,19 +318,19 @@ module _ (c : Circuit) (ok : IsCircuit c) (s : Parts) (r : IsRunning c s) where
       }
 
   -- the top is gone
-  without-top : (f : Frame) (fs : List Frame) (n : ℕ) → s.stack ≡ f ∷ fs → IsRunning c (record s { stack = fs; filled = n })
+  without-top : (f : PinWalk) (fs : List PinWalk) (n : ℕ) → s.stack ≡ f ∷ fs → IsRunning c (record s { stack = fs; filled = n })
   without-top f fs n e = record {
     signal = r.signal;
     window = r.window;
     within = r.within;
     since = r.since;
     root = r.root;
-    frames = (frames-of f fs e).2;
+    walks = (walks-of f fs e).2;
     busy = λ _. r.busy (count-of f fs e);
     last = r.last;
   }
 
-  pub drops : (f : Frame) (fs : List Frame) → s.stack ≡ f ∷ fs → TakesStepTo c dropped s (record s { stack = fs })
+  pub drops : (f : PinWalk) (fs : List PinWalk) → s.stack ≡ f ∷ fs → TakesStepTo c dropped s (record s { stack = fs })
   drops f fs e = record {
     running = without-top f fs s.filled e;
     number = refl;
@@ -340,12 +340,12 @@ module _ (c : Circuit) (ok : IsCircuit c) (s : Parts) (r : IsRunning c s) where
   }
 
   -- a fill is of the top, which has nothing left to hear
-  pub record IsTopFilled (f : Frame) (p : Point) : Type 0 where
+  pub record IsTopFilled (f : PinWalk) (p : Point) : Type 0 where
     pub point : f.point ≡ p
     pub awake : s.spent ≡ false
     pub whole : left_after c f.point f.looked ≡ []
 
-  pub top-filled : (f : Frame) (fs : List Frame) (p : Point) → s.stack ≡ f ∷ fs → next (strand_of c s) ≡ Fill p → IsTopFilled f p
+  pub top-filled : (f : PinWalk) (fs : List PinWalk) (p : Point) → s.stack ≡ f ∷ fs → next (strand_of c s) ≡ Fill p → IsTopFilled f p
   top-filled f fs p e h = go s.spent refl (sym (ap (step_by s.spent) e) ∙ h)
     where
       whole : (xs : List Point) → left_after c f.point f.looked ≡ xs → ask_or (Fill f.point) xs ≡ Fill p → (f.point ≡ p) × (left_after c f.point f.looked ≡ [])
@@ -368,41 +368,41 @@ module _ (c : Circuit) (ok : IsCircuit c) (s : Parts) (r : IsRunning c s) where
       go false q = end (roots_left c (window_in s) s.root) q
 
   -- what lies under a filled top asks for its point
-  pub record IsUnder (f : Frame) (fs : List Frame) (n : ℕ) : Type 0 where
+  pub record IsUnder (f : PinWalk) (fs : List PinWalk) (n : ℕ) : Type 0 where
     pub running : IsRunning c (record s { stack = fs; filled = n })
     pub ready : IsReadyIn c (record s { stack = fs; filled = n }) fs
     pub asks : IsAsked c (record s { stack = fs; filled = n }) fs f.point
 
-  pub under : (f : Frame) (fs : List Frame) (p : Point) (n : ℕ) → s.stack ≡ f ∷ fs → IsTopFilled f p → IsUnder f fs n
+  pub under : (f : PinWalk) (fs : List PinWalk) (p : Point) (n : ℕ) → s.stack ≡ f ∷ fs → IsTopFilled f p → IsUnder f fs n
   under f fs p n e t =
-      let fr = frames-of f fs e in
+      let fr = walks-of f fs e in
       record {
         running = without-top f fs n e;
         ready = ready-in fs fr.1 fr.0.evaluable;
         asks = record { awake = t.awake; waits = fr.1; evaluable = fr.0.evaluable; live = λ _. r.busy (count-of f fs e) };
       }
     where
-      ready-in : (st : List Frame) → WaitsFor c (root_point s) st f.point → IsEvaluable c f.point.signal f.point.time → IsReadyIn c (record s { stack = fs; filled = n }) st
+      ready-in : (st : List PinWalk) → WaitsFor c (root_point s) st f.point → IsEvaluable c f.point.signal f.point.time → IsReadyIn c (record s { stack = fs; filled = n }) st
       ready-in [] w v = λ _. subst (λ (x : Point). IsEvaluable c x.signal x.time) w v
       ready-in (g ∷ gs) w v = inr (w.0, (f.point, w.1, v))
 
   pub ready-root : s.stack ≡ [] → IsReadyAt c s → s.root < s.to → IsEvaluable c s.query.signal s.root
   ready-root e h l = let k : IsReadyIn c s [] = subst (IsReadyIn c s) e h in k l
 
-  pub ready-top : (f : Frame) (fs : List Frame) → s.stack ≡ f ∷ fs → IsReadyAt c s → IsReady c f
+  pub ready-top : (f : PinWalk) (fs : List PinWalk) → s.stack ≡ f ∷ fs → IsReadyAt c s → IsReady c f
   ready-top f fs e h = subst (IsReadyIn c s) e h
 
   -- where a point is to be filled there is a top
-  pub filling-top : (o : Option Frame) (below : List Frame) → MatchOption o ((s.stack ≡ []) × (below ≡ [])) (λ f. s.stack ≡ f ∷ below) → (p : Point) → next (strand_of c s) ≡ Fill p → (f : Frame) × (s.stack ≡ f ∷ below)
+  pub filling-top : (o : Option PinWalk) (below : List PinWalk) → MatchOption o ((s.stack ≡ []) × (below ≡ [])) (λ f. s.stack ≡ f ∷ below) → (p : Point) → next (strand_of c s) ≡ Fill p → (f : PinWalk) × (s.stack ≡ f ∷ below)
   filling-top None below h p k = absurd (fill-none p h.0 k)
   filling-top (Some f) below h p k = (f, h)
 
-  pub filling-frame : (o : Option Frame) → MatchOption o (s.stack ≡ []) (IsTop s.stack) → (p : Point) → next (strand_of c s) ≡ Fill p → o ≡ None → ⊥
-  filling-frame None h p k = λ e. fill-none p h k
-  filling-frame (Some f) h p k = λ e. absurd (cc e)
+  pub filling-walk : (o : Option PinWalk) → MatchOption o (s.stack ≡ []) (IsTop s.stack) → (p : Point) → next (strand_of c s) ≡ Fill p → o ≡ None → ⊥
+  filling-walk None h p k = λ e. fill-none p h k
+  filling-walk (Some f) h p k = λ e. absurd (cc e)
 
--- a frame with nothing left to hear has looked at all that it looks at
-pub whole-done : (c : Circuit) (f g : Frame) → Advances c f g → IsReady c g → left_after c f.point f.looked ≡ [] → g.looked ≡ length (looked_at c g.point)
+-- a walk with nothing left to hear has looked at all that it looks at
+pub whole-done : (c : Circuit) (f g : PinWalk) → HearsBases c f g → IsReady c g → left_after c f.point f.looked ≡ [] → g.looked ≡ length (looked_at c g.point)
 whole-done c f g a (inl done) h = done
 whole-done c f g a (inr (looking, (p, src, v))) h = let k : p ∷ left_after c g.point (g.looked + 1) ≡ [] = sym (left-ask c g looking p src v) ∙ a.left ∙ h in absurd (cc k)
 
@@ -457,7 +457,7 @@ pub answered : (c : Circuit) (ok : IsCircuit c) (s : Parts) (r : IsRunning c s) 
 answered c ok s r ready cell a = asked c ok s r a.0 ready a.1
 
 -- the top is filled, and what lies under it hears its cell
-module _ (c : Circuit) (ok : IsCircuit c) (s : Parts) (r : IsRunning c s) (p : Point) (fills : next (strand_of c s) ≡ Fill p) (f : Frame) (below : List Frame) (e : s.stack ≡ f ∷ below) where
+module _ (c : Circuit) (ok : IsCircuit c) (s : Parts) (r : IsRunning c s) (p : Point) (fills : next (strand_of c s) ≡ Fill p) (f : PinWalk) (below : List PinWalk) (e : s.stack ≡ f ∷ below) where
   abbrev popped : Parts
   popped = record s { stack = below; filled = s.filled + 1 }
 
@@ -490,7 +490,7 @@ module _ (c : Circuit) (ok : IsCircuit c) (s : Parts) (r : IsRunning c s) (p : P
     strand = h.strand ∙ ap (λ st. heard (record (strand_of c s) { stack = rest (map (shown c) st); filled = s.filled + 1 })) (sym e);
   }
 
-  pub filled-cell : (g : Frame) → Advances c f g → IsReady c g → g.looked ≡ length (looked_at c g.point)
+  pub filled-cell : (g : PinWalk) → HearsBases c f g → IsReady c g → g.looked ≡ length (looked_at c g.point)
   filled-cell g a ready = whole-done c f g a ready filled-top.whole
 
   pub filled-point : f.point ≡ p

@@ -1,4 +1,4 @@
+pub mod Bases
 pub mod Demands
-pub mod Frames
 pub mod Names
 pub mod Stacks

@@ -1,11 +1,11 @@
 //! Strands: one suspended demand each.
 //!
 //! A [`Strand`] serves a window of a query. It asks for points, one after another: for the roots of the window, and, for a point
-//! that it has claimed, for the children that the point waits for. Where a gate's first pins decide its value, the others are not
-//! asked for. It hears base answers (inputs, gates before their least delay, flip-flops before their first shown edge) by
-//! itself, so that its next step is one for the memo: to ask for a point, to fill the claimed point on top of its stack, to drop it
-//! where the budget is spent, or none. `strand_meaning` says what each step makes of a strand; the contracts here say that the code
-//! does just that, and that each cell that it makes is the cell of the definitions.
+//! that it has claimed, for the children that the point waits for. A claimed point is a walk over its pins (`pin_walks`): where a
+//! gate's first pins decide its value, the others are not asked for. A strand hears base answers (inputs, gates before their least
+//! delay, flip-flops before their first shown edge) by itself, so that its next step is one for the memo: to ask for a point, to fill
+//! the claimed point on top of its stack, to drop it where the budget is spent, or none. `strand_meaning` says what each step makes
+//! of a strand; the contracts here say that the code does just that, and that each cell that it makes is the cell of the definitions.
 //!
 //! A strand asks the `design` what its points come from, and a shard of the memo (`memo_shards`) makes its steps.
 //!
@@ -29,7 +29,7 @@
 //! ```
 #![tactic(auto)]
 
-mod frame;
+mod bases;
 mod names;
 mod parts;
 mod stack;
@@ -37,10 +37,5 @@ mod strand;
 #[cfg(test)]
 mod tests;
 
-pub use batch_meaning::Query;
-pub use frame::Frame;
-pub use journal_meaning::Entry;
 pub use names::BatchName;
 pub use strand::{Strand, Task};
-pub use strand_meaning::Next;
-pub use valid_intervals::Point;

@@ -8,10 +8,11 @@ ghost use Rattle.valid_intervals.specs.declared.Point.{Point};
 ghost use Rattle.demand_points.specs.inner.Demands.{strand_of, IsRunning, IsReadyAt, IsRootReady, IsRootKnown, IsUndone, StaysAtRoot, TakesStepTo};
 ghost use Rattle.demand_points.specs.Demands.{itself, IsAskedCell, IsFilling};
 
-use crate::frame::Frame;
+use crate::bases::hear_bases;
 use crate::stack::Stack;
 use batch_meaning::Query;
 use design::Design;
+use pin_walks::PinWalk;
 use std::alloc::AllocError;
 use strand_meaning::Next;
 use valid_intervals::{Cell, Point};
@@ -86,7 +87,7 @@ impl Parts {
     {
         design.facts();
         match self.stack.top() {
-            Some(frame) => self.stack.set_top(frame.advance(design)),
+            Some(walk) => self.stack.set_top(hear_bases(design, walk)),
             None => self.skip_roots(design),
         }
     }
@@ -121,13 +122,13 @@ impl Parts {
                     Next::Done
                 }
             }
-            Some(frame) => {
+            Some(walk) => {
                 if self.spent {
-                    Next::Drop(frame.point)
-                } else if frame.is_done(design) {
-                    Next::Fill(frame.point)
+                    Next::Drop(walk.point)
+                } else if walk.is_done(design) {
+                    Next::Fill(walk.point)
                 } else {
-                    match frame.next_source(design) {
+                    match walk.next_source(design) {
                         Some(p) => Next::Ask(p),
                         None => unreachable!(),
                     }
@@ -146,7 +147,7 @@ impl Parts {
     {
         design.facts();
         match self.stack.top() {
-            Some(frame) => self.stack.set_top(frame.see(design, Some(*cell))),
+            Some(walk) => self.stack.set_top(walk.see(design, Some(*cell))),
             None => {
                 self.root = cell.span.end();
                 self.last = Some(*cell);
@@ -165,7 +166,7 @@ impl Parts {
         ensures err { OnErr result (self.new ≡ self.old) }
     {
         design.facts();
-        self.stack.push(Frame::new(design, p))?;
+        self.stack.push(PinWalk::new(design, p))?;
         self.charged += 1;
         Ok(())
     }
@@ -189,8 +190,8 @@ impl Parts {
                 self.root = root;
                 self.last = last;
                 match top {
-                    Some(frame) => {
-                        self.stack.set_top(frame);
+                    Some(walk) => {
+                        self.stack.set_top(walk);
                         Err(error)
                     }
                     None => Err(error),
@@ -225,7 +226,7 @@ impl Parts {
     {
         design.facts();
         match self.stack.top() {
-            Some(frame) => frame.advance(design).cell(design),
+            Some(walk) => hear_bases(design, walk).cell(design),
             None => unreachable!(),
         }
     }

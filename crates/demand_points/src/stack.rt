@@ -3,21 +3,21 @@
 ghost use Rattle.std.specs.Prelude.{◌≡◌, [], ◌∷◌, length, OnOk, OnErr, MatchOption};
 ghost use Rattle.demand_points.specs.inner.Stacks.{IsTop, with_top};
 
-use crate::frame::Frame;
+use pin_walks::PinWalk;
 use std::alloc::{AllocError, Global};
 use std::marker::Model;
 
 /// A stack of claimed points, seen as the list from the top down.
 #[derive(Drop)]
 pub struct Stack {
-    items: Vec<Frame>,
+    items: Vec<PinWalk>,
 }
 
 impl Model for Stack {
     ghost use Rattle.std.specs.Prelude.{List, reverse};
-    ghost use Rattle.demand_points.specs.declared.frame.Frame.{Frame};
+    ghost use Rattle.pin_walks.specs.declared.walk.PinWalk.{PinWalk};
 
-    ghost Value = { List Frame };
+    ghost Value = { List PinWalk };
 
     ghost view = { λ s. reverse s.items.items };
 }
@@ -37,21 +37,21 @@ impl Stack {
         self.items.len()
     }
 
-    pub fn top(&self) -> Option<Frame>
+    pub fn top(&self) -> Option<PinWalk>
         ensures { MatchOption result (self.now ≡ []) (IsTop self.now) }
     {
         self.items.last().copied()
     }
 
-    pub fn push(&mut self, frame: Frame) -> Result<(), AllocError>
-        ensures ok { OnOk result (self.new ≡ frame ∷ self.old) }
+    pub fn push(&mut self, walk: PinWalk) -> Result<(), AllocError>
+        ensures ok { OnOk result (self.new ≡ walk ∷ self.old) }
         ensures err { OnErr result (self.new ≡ self.old) }
     {
-        self.items.push(frame)?;
+        self.items.push(walk)?;
         Ok(())
     }
 
-    pub fn pop(&mut self) -> Option<Frame>
+    pub fn pop(&mut self) -> Option<PinWalk>
         ensures { MatchOption result ((self.old ≡ []) × (self.new ≡ []))
             (λ f. self.old ≡ f ∷ self.new) }
     {
@@ -59,11 +59,11 @@ impl Stack {
     }
 
     /// Changes the top, if there is one.
-    pub fn set_top(&mut self, frame: Frame)
-        ensures { self.new ≡ with_top frame self.old }
+    pub fn set_top(&mut self, walk: PinWalk)
+        ensures { self.new ≡ with_top walk self.old }
     {
         if self.items.pop().is_some() {
-            self.items.push_reserved(frame);
+            self.items.push_reserved(walk);
         }
     }
 }

@@ -269,7 +269,7 @@ impl<B: BatchName> Strand<B> {
     {
         self.settled = false;
         match self.parts.stack.pop() {
-            Some(frame) => frame.point,
+            Some(walk) => walk.point,
             None => unreachable!(),
         }
     }

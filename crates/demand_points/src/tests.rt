@@ -11,6 +11,7 @@ use std::alloc::Global;
 use std::marker::Brand;
 use std::test::Fail;
 use stimulus_file::read_stimulus;
+use strand_meaning::Next;
 use timing_file::read_timing;
 use valid_intervals::{Cell, Point};
 

@@ -1,4 +1,4 @@
--- The numbers of the causes why a join is refused.
+-- The numbers of the causes of a refused join.
 use Rattle.std.specs.Prelude.{ℕ}
 use Rattle.design.specs.declared.fault.JoinCause.{JoinCause}
 use Rattle.design.specs.declared.fault.JoinCause.TheVariants.{UnknownName, NotGate, NotInput, NotFlop, PastHorizon, OutOfMemory, NotPin, NoClock}

@@ -1,4 +1,4 @@
--- What a netlist, a timing file and a stimulus file make: a design, or the first row at fault.
+-- The join of a netlist, a timing file and a stimulus file: a design, or the first row at fault.
 use Rattle.std.specs.Prelude.{◌≡◌, ℕ, Bool, true, false, not, ◌&&◌, nat_eq, nat_lt, nat_le, List, [], ◌∷◌, length, map, filter, get_or, Option, Some, None, is_some, unwrap_or, Result, Ok, Err, if◌then◌else◌, ◌⊎◌, position}
 use Rattle.std.specs.List.{range_with_len, dedup}
 use Rattle.std.specs.Str.{bytes_eq}
@@ -30,7 +30,7 @@ use Rattle.design.specs.Causes.{out_of_memory}
 use Rattle.design.specs.Joined.{Joined}
 use Rattle.design.specs.KeptDesigns.{pins_with}
 
--- the number of the signal with a name
+-- the number of the signal with this name
 abbrev pub number : netlists.Content → List ℕ → Option ℕ
 number netlist name = position (bytes_eq name) netlist.names
 
@@ -58,7 +58,7 @@ abbrev pub or_else : {A : Type 0} → Option A → Option A → Option A
 or_else None later = later
 or_else (Some a) later = Some a
 
--- what is said by the last of the rows that say anything
+-- what the last of the rows that state anything states
 abbrev pub last_said : {R A : Type 0} → (R → Option A) → List R → Option A
 last_said says [] = None
 last_said says (row ∷ later) = or_else (last_said says later) (says row)
@@ -66,16 +66,16 @@ last_said says (row ∷ later) = or_else (last_said says later) (says row)
 abbrev pub clock_of_row : List ℕ → ClockRow → Option Clock
 clock_of_row name row = if bytes_eq name row.name then Some row.clock else None
 
--- the clock with a name
+-- the clock with this name
 abbrev pub clock_named : timings.Content → List ℕ → Option Clock
 clock_named timing name = last_said (clock_of_row name) timing.clocks
 
--- this cause, unless the condition holds; then the later ones decide
+-- this cause, unless the condition holds; then the later causes decide
 abbrev pub unless : Bool → JoinCause → Option JoinCause → Option JoinCause
 unless true cause later = later
 unless false cause later = Some cause
 
--- the cause of a timing row that says this of a signal with this driver, if it is at fault
+-- the cause of a timing row that states this of a signal with this driver, if the row is at fault
 abbrev pub cause_of_what : timings.Content → NetlistDriver → TimingWhat → Option JoinCause
 cause_of_what timing driver (Delay delay) = unless (not (is_input driver)) NotGate None
 cause_of_what timing driver (Init value) = unless (is_flop driver) NotFlop None
@@ -107,7 +107,7 @@ abbrev pub first_fault : {R : Type 0} → (R → Option JoinFault) → List R �
 first_fault fault [] = None
 first_fault fault (row ∷ later) = or_else (fault row) (first_fault fault later)
 
--- whether a name with this number is that of the signal s
+-- whether the number of a name is that of the signal s
 abbrev pub is_signal : ℕ → Option ℕ → Bool
 is_signal s None = false
 is_signal s (Some n) = nat_eq n s
@@ -132,25 +132,25 @@ abbrev pub clock_said : timings.Content → TimingWhat → Option Clock
 clock_said timing (Clocked name) = clock_named timing name
 clock_said timing _ = None
 
--- what the rows say of the signal s
+-- what the rows state of the signal s
 abbrev pub said_of : {A : Type 0} → netlists.Content → ℕ → (TimingWhat → Option A) → TimingRow → Option A
 said_of netlist s says row = when (is_signal s (number netlist row.name)) (says row.what)
 
 abbrev pub rows_say : {A : Type 0} → netlists.Content → List TimingRow → ℕ → (TimingWhat → Option A) → Option A
 rows_say netlist rows s says = last_said (said_of netlist s says) rows
 
--- the delay of a gate or flip-flop: that of its row, else that of its kind
+-- the delay of a gate or flip-flop: that of its row, or else that of its kind
 abbrev pub delay_of : netlists.Content → timings.Content → ℕ → Kind → ℕ
 delay_of netlist timing s kind = unwrap_or (rows_say netlist timing.rows s delay_said) (default_of timing kind)
 
--- the delay of a pin: that of its own row, else that of its gate
+-- the delay of a pin: that of its own row, or else that of its gate
 abbrev pub pin_delay : netlists.Content → timings.Content → ℕ → Kind → ℕ → ℕ
 pin_delay netlist timing s kind k = unwrap_or (rows_say netlist timing.rows s (pin_said k)) (delay_of netlist timing s kind)
 
 abbrev pub pin_delays : netlists.Content → timings.Content → ℕ → Kind → List ℕ → List ℕ
 pin_delays netlist timing s kind pins = map (pin_delay netlist timing s kind) (range_with_len 0 (length pins))
 
--- a flip-flop has the clock of its row, else the clock without a name; it shows x at first, unless a row says otherwise
+-- a flip-flop has the clock of its row, or else the clock without a name; it shows x at first, unless a row states a value
 abbrev pub flop_of : netlists.Content → timings.Content → ℕ → List ℕ → FlipFlop
 flop_of netlist timing s pins = record {
   pin = get_or pins 0 0;
@@ -159,7 +159,7 @@ flop_of netlist timing s pins = record {
   initial = unwrap_or (rows_say netlist timing.rows s initial_said) X;
 }
 
--- a setting comes before those that are later, and before those of its own time
+-- a setting is placed before the later ones and before those of its own time
 abbrev pub placed : Setting → List Setting → List Setting
 placed setting [] = setting ∷ []
 placed setting (next ∷ later) = if nat_le setting.time next.time then setting ∷ next ∷ later else next ∷ placed setting later
@@ -174,7 +174,7 @@ setting_of row = record { time = row.time; value = row.value }
 abbrev pub is_at_one_time : Setting → Setting → Bool
 is_at_one_time a b = nat_eq a.time b.time
 
--- in the order of time; of several at one time, which no accepted stimulus file has, the first counts
+-- the settings in the order of time; of several at one time, which no accepted stimulus file has, the first counts
 abbrev pub scheduled : List Setting → List Setting
 scheduled settings = dedup is_at_one_time (in_time_order settings)
 
@@ -199,13 +199,13 @@ abbrev pub unless_fault : Option JoinFault → Joined → Result Joined JoinFaul
 unless_fault None joined = Ok joined
 unless_fault (Some fault) joined = Err fault
 
--- the first fault of the timing rows, else of the settings, else the design
+-- the first fault of the timing rows, or else of the settings, or else the design
 unfoldable pub design_of : netlists.Content → timings.Content → stimuli.Content → Result Joined JoinFault
 design_of netlist timing stimulus =
     unless_fault (or_else (first_fault (timing_fault netlist timing) timing.rows) (first_fault (set_fault netlist stimulus.horizon) stimulus.sets))
     (record { netlist = netlist; circuit = circuit_from netlist timing stimulus })
 
--- the answer is this one, unless memory ran out
+-- the result is this one, unless memory ran out
 abbrev pub AnswersDesign : Result Joined JoinFault → Result Joined JoinFault → Type 0
 AnswersDesign (Ok joined) said = said ≡ Ok joined
 AnswersDesign (Err fault) said = (fault ≡ out_of_memory) ⊎ (said ≡ Err fault)

@@ -1,4 +1,4 @@
--- What a design is: a netlist and the circuit that it makes with its delays, clocks and settings.
+-- A design: a netlist, and the circuit that it makes with its delays, clocks and settings.
 use Rattle.std.specs.Prelude.{◌≡◌, length}
 use Rattle.bench_reader.specs.Netlists.{Content}
 use Rattle.circuit_meaning.specs.Circuit.{Circuit, IsCircuit, AreLimits}

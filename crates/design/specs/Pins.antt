@@ -10,6 +10,6 @@ use Rattle.circuit_meaning.specs.Looks.{pin_points}
 abbrev pub pin_at : Circuit → ℕ → ℕ → ℕ → Point
 pin_at c s k u = record { signal = get_or (read_by (driver c s)) k 0; time = u }
 
--- the interval of the cell that pin k reads from the signal s at t, where it reads one
+-- the interval of the cell that pin k reads from the signal s at t, if it reads one
 abbrev pub heard_of : Circuit → ℕ → ℕ → ℕ → Option Span
 heard_of c s t k = option_map (λ p. span c p.signal p.time) (get_or (pin_points c s t) k None)

@@ -17,7 +17,7 @@ use flip_flops::last_edge;
 use gate_values::Value;
 use valid_intervals::{Cell, Span};
 
-/// The times from `start` on and below `end`.
+/// The times `[start, end)`.
 pub fn span_of(start: u32, end: u32) -> Span
     requires { IsSpan (from_to start end) }
     ensures { result ≡ from_to start end }
@@ -25,7 +25,7 @@ pub fn span_of(start: u32, end: u32) -> Span
     Span::new(start, end).unwrap()
 }
 
-/// How many of the settings come at or before `time`.
+/// The number of settings at or before `time`.
 fn passed_by(settings: &[Setting], time: u32) -> usize
     requires { InTimeOrder settings.now }
     ensures bound { result ≤ length settings.now }
@@ -47,7 +47,7 @@ fn last_setting(settings: &[Setting], passed: usize) -> Option<Setting>
     }
 }
 
-/// The time of the setting after those that have passed.
+/// The time of the first setting that has not passed.
 fn next_time(settings: &[Setting], passed: usize, limit: u32) -> u32
     ensures { result ≡ next_of settings.now passed limit }
 {
@@ -150,7 +150,8 @@ pub fn idle_flop(flop: &FlipFlop, time: u32, limit: u32) -> Option<Cell>
     }
 }
 
-/// The times about `time` at which a pin with this delay sees what it sees there, from the interval of its source.
+/// The times around `time` at which a pin with this delay sees what it sees at `time`, from the interval of its
+/// source.
 pub fn later_span(delay: u32, heard: Option<Span>, time: u32, limit: u32) -> Span
     requires delay { (1 ≤ delay) × (delay ≤ 1000000) }
     requires time { time < limit }

@@ -1,4 +1,5 @@
-//! Fan-in cones, by a walk back through the pins, and the signals that have one signal in their cones, by a walk on to the readers.
+//! Fan-in cones, by a walk back through the pins, and the signals with a given signal in their cones, by a walk forward through the
+//! readers.
 
 ghost use Rattle.std.specs.Prelude.{◌≡◌, ◌<◌, ◌↔◌, ◌∷◌, [], ℕ, length, slice_index_or, false, All, IsTrue, OnOk, IfOk};
 ghost use Rattle.circuit_meaning.specs.Need.{IsInCone};
@@ -9,7 +10,7 @@ use crate::flags::FlagList;
 use owned_text::OutOfMemory;
 use std::alloc::{AllocError, Global};
 
-/// A walk: for each signal whether it is marked, and the marked signals that are still to be visited.
+/// A walk: a mark for each signal, and the marked signals still to be visited.
 #[derive(Drop)]
 struct Walk {
     marks: Vec<bool>,
@@ -17,7 +18,7 @@ struct Walk {
 }
 
 impl Walk {
-    /// Marks a signal; if it was not marked, it is still to be visited.
+    /// Marks a signal. If it was not marked, it has to be visited.
     fn mark(&mut self, signal: u32) -> Result<(), AllocError>
         requires { signal < length self.old.marks.items }
         ensures { OnOk result (Marks (signal ∷ []) self.old.marks.items self.new.marks.items
@@ -30,7 +31,7 @@ impl Walk {
         Ok(())
     }
 
-    /// Marks these signals; those that were not marked are still to be visited.
+    /// Marks these signals. Those that were not marked have to be visited.
     fn mark_all(&mut self, signals: &[u32]) -> Result<(), AllocError>
         requires { All (λ x. x < length self.old.marks.items) signals.now }
         ensures { OnOk result (Marks signals.now self.old.marks.items self.new.marks.items
@@ -44,9 +45,9 @@ impl Walk {
 }
 
 impl Design {
-    /// Whether `signal` is reached from `root` back through pins; a signal is reached from itself.
+    /// Whether `signal` is reached from `root` back through pins. A signal is reached from itself.
     ///
-    /// It takes a flag for each signal, and at most the time to look at each pin once.
+    /// The call takes a flag for each signal, and at most the time to look at each pin once.
     pub fn in_cone(&self, alloc: Global, root: u32, signal: u32) -> Result<bool, OutOfMemory>
         requires root { root < length self.now.circuit.drivers }
         requires signal { signal < length self.now.circuit.drivers }
@@ -66,9 +67,10 @@ impl Design {
         Ok(true)
     }
 
-    /// For each signal whether it reads `site`, however far back; the site is one of them. All other signals are free of it.
+    /// For each signal whether it reads `site`, however far back. The site counts as one of them. All other signals are free of the
+    /// site.
     ///
-    /// It takes a flag for each signal, and the time to look at each pin once that reads a signal so marked.
+    /// The call takes a flag for each signal, and the time to look once at each pin that reads a marked signal.
     pub fn reached(&self, alloc: Global, site: u32) -> Result<FlagList, OutOfMemory>
         requires { site < length self.now.circuit.drivers }
         ensures length { IfOk result (λ flags. length flags ≡ length self.now.circuit.drivers) }

@@ -1,4 +1,4 @@
-//! A design and what it says of its points.
+//! A design, and what it says of its points.
 
 ghost use Rattle.std.specs.Prelude.{◌≡◌, ◌+◌, ◌<◌, ◌≤◌, length, All, slice_get, Some, IfSome, OnSome, IfNone, IfOk, OnOk, option_map};
 ghost use Rattle.circuit_meaning.specs.Circuit.{driver, read_by};
@@ -31,7 +31,7 @@ use stimulus_file::Stimulus;
 use timing_file::Timing;
 use valid_intervals::{Cell, Span};
 
-/// What a design has in common with those in which signals of it are held.
+/// The part of a design that it shares with the designs made of it by holding signals.
 #[derive(Drop)]
 struct Common {
     origin: Origin,
@@ -42,7 +42,7 @@ struct Common {
 #[derive(Drop)]
 pub struct Design {
     common: Arc<Common>,
-    /// The signals that are held, the last one first.
+    /// The held signals, the last one first.
     held: Vec<HeldSignal>,
 }
 
@@ -61,8 +61,8 @@ impl Model for Design {
 }
 
 impl Design {
-    /// The design that a netlist makes with the rows of a timing file and of a stimulus file, or the first row at fault.
-    /// The rows of the timing file come before those of the stimulus file.
+    /// The design of a netlist with the rows of a timing file and of a stimulus file, or the first row at fault. The rows of the
+    /// timing file come first.
     pub fn join(
         alloc: Global,
         netlist: Netlist,
@@ -100,10 +100,10 @@ impl Design {
         })
     }
 
-    /// The design with one signal forced: the signal is an input with this value from time 0 on, whatever drove it, and all else
-    /// is unchanged. The netlist stays as it is, with the names of the signals and what it says of the forced one.
+    /// The design with one signal forced: the signal is an input with this value from time 0 on, whatever drove it, and all else is
+    /// unchanged. The netlist stays as it is, including the names of the signals and the row of the forced one.
     ///
-    /// Nothing is copied but the list of the signals that are held already: both designs have the rest in common.
+    /// Only the list of the signals held before is copied. The two designs share the rest.
     pub fn hold(&self, alloc: Global, site: u32, value: Value) -> Result<Design, OutOfMemory>
         requires { site < length self.now.circuit.drivers }
         ensures circuit { IfOk result (λ held. held.circuit ≡ forced self.now.circuit site value) }
@@ -157,7 +157,7 @@ impl Design {
         }
     }
 
-    /// How many signals there are.
+    /// The number of signals.
     pub(crate) fn signals(&self) -> u32
         ensures { result ≡ length self.now.circuit.drivers }
     {
@@ -173,7 +173,7 @@ impl Design {
         reads_of(self.view(signal))
     }
 
-    /// Puts the signals that read a signal into `found`, in place of what it has.
+    /// Replaces the content of `found` by the signals that read a signal.
     pub(crate) fn find_readers(&self, signal: u32, found: &mut Vec<u32>) -> Result<(), AllocError>
         requires { signal < length self.now.circuit.drivers }
         ensures { OnOk result (ReadIt self.now.circuit signal found.new.items) }
@@ -183,7 +183,7 @@ impl Design {
         Ok(())
     }
 
-    /// The cell at a point, where it needs no evaluation.
+    /// The cell at a point, if it needs no evaluation.
     pub fn base(&self, signal: u32, time: u32) -> Option<Cell>
         requires signal { signal < length self.now.circuit.drivers }
         requires time { time ≤ self.now.circuit.horizon }
@@ -214,7 +214,7 @@ impl Design {
         }
     }
 
-    /// The time at which a point looks at one of its pins; None where that is before time 0.
+    /// The time at which a point looks at one of its pins; `None` before time 0.
     pub fn child_time(&self, signal: u32, time: u32, pin: u32) -> Option<u32>
         requires signal { signal < length self.now.circuit.drivers }
         requires time { time ≤ self.now.circuit.horizon }
@@ -231,8 +231,8 @@ impl Design {
         }
     }
 
-    /// The times about `time` at which a pin of a point sees what it sees there, from the interval of the pin's cell at the
-    /// child time, where there is one.
+    /// The times around `time` at which a pin of a point sees what it sees at `time`, from the interval of the pin's cell at the
+    /// child time, if there is one.
     pub fn pin_span(&self, signal: u32, time: u32, pin: u32, heard: Option<Span>) -> Span
         requires signal { signal < length self.now.circuit.drivers }
         requires time { time ≤ self.now.circuit.horizon }
@@ -249,7 +249,7 @@ impl Design {
         }
     }
 
-    /// The interval of the cell at a point, from what its looked pins have in common.
+    /// The interval of the cell at a point, from the times common to its looked pins.
     pub fn span_over(&self, signal: u32, time: u32, looked: Span) -> Span
         requires signal { signal < length self.now.circuit.drivers }
         requires time { time ≤ self.now.circuit.horizon }

@@ -1,4 +1,4 @@
-//! Why a netlist, a timing file and a stimulus file don't make a design.
+//! Why a netlist, a timing file and a stimulus file make no design.
 
 ghost use Rattle.std.specs.Prelude.{◌≡◌};
 ghost use Rattle.design.specs.Causes.{number_of, out_of_memory};
@@ -28,7 +28,7 @@ pub enum JoinCause {
 }
 
 impl JoinCause {
-    /// The number of the cause. A refusal prints it and 10 more; that of `OutOfMemory` is never printed.
+    /// The number of the cause. A refusal prints this number plus 10, but never that of `OutOfMemory`.
     pub fn number(self) -> u8
         ensures { result ≡ number_of self }
     {
@@ -52,7 +52,7 @@ pub enum JoinFile {
     Stimulus,
 }
 
-/// The first row at fault: its cause, its file and its line. Where memory ran out, the file is `Timing` and the line 0.
+/// The first row at fault: its cause, its file and its line. If memory ran out, the file is `Timing` and the line 0.
 #[derive(Clone, Copy, Debug, PartialEq, Eq)]
 pub struct JoinFault {
     pub cause: JoinCause,

@@ -4,7 +4,7 @@ ghost use Rattle.std.specs.Prelude.{◌≡◌, ◌<◌, length, slice_get, Some}
 
 use std::marker::Model;
 
-/// A flag for each signal, by its number. Contracts see the list of flags.
+/// A flag for each signal, by its number. The model is the list of flags.
 #[derive(Drop)]
 pub struct FlagList {
     flags: Vec<bool>,

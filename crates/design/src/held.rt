@@ -1,4 +1,4 @@
-//! The signals that are held at a value, over a design as it was joined.
+//! The signals that are held at a value, over the design without them.
 
 ghost use Rattle.std.specs.Prelude.{◌≡◌, ◌∷◌, IfOk, is_none};
 ghost use Rattle.std.specs.List.{filter};
@@ -16,7 +16,7 @@ pub struct HeldSignal {
     pub value: Value,
 }
 
-/// The value at which a signal is held, if it is held. Of several in the list the first counts.
+/// The value at which a signal is held, if it is held. Of several entries the first counts.
 pub fn value_of(held: &[HeldSignal], signal: u32) -> Option<Value>
     ensures { result ≡ values.value_of held.now signal }
 {
@@ -48,7 +48,7 @@ pub fn held_settings(value: Value) -> &'static [Setting]
     }
 }
 
-/// The list with one signal more, which counts before the others.
+/// The list with one more signal, which counts before the others.
 pub fn with_first(
     alloc: Global,
     first: HeldSignal,
@@ -62,7 +62,7 @@ pub fn with_first(
     Ok(list)
 }
 
-/// Takes those that are held out of a list of signals.
+/// Removes the held signals from a list.
 pub fn drop_held(held: &[HeldSignal], signals: &mut Vec<u32>)
     ensures { signals.new.items
         ≡ filter (λ signal. is_none (values.value_of held.now signal)) signals.old.items }

@@ -5,7 +5,7 @@ ghost use Rattle.std.specs.Prelude.{◌≡◌, ◌<◌, ◌++◌, [], ◌∷◌,
 use std::alloc::{AllocError, Global};
 use std::marker::Model;
 
-/// So many empty lists.
+/// This many empty lists.
 pub fn empty_lists<T: Copy>(alloc: Global, count: u32) -> Result<Vec<Vec<T>>, AllocError>
     ensures { IfOk result (λ lists. map (λ list. list.items) lists.items ≡ replicate count []) }
 {
@@ -16,14 +16,14 @@ pub fn empty_lists<T: Copy>(alloc: Global, count: u32) -> Result<Vec<Vec<T>>, Al
     Ok(lists)
 }
 
-/// Where a list stands.
+/// The range of a list in the array.
 #[derive(Clone, Copy)]
 pub struct Range {
     pub start: usize,
     pub length: usize,
 }
 
-/// A list of lists, one after another in one array.
+/// Lists that stand one after another in one array.
 #[derive(Drop)]
 pub struct Lists<T: Copy> {
     ranges: Vec<Range>,
@@ -60,7 +60,7 @@ impl<T: Copy> Lists<T> {
         }
     }
 
-    /// Adds a list after the others.
+    /// Appends a list.
     pub fn push(&mut self, list: &[T]) -> Result<(), AllocError>
         ensures { OnOk result (self.new ≡ self.old ++ list.now ∷ []) }
     {

@@ -11,7 +11,7 @@ use bench_reader::Netlist;
 use circuit_meaning::Setting;
 use std::marker::Model;
 
-/// A design as it was joined, with no signal held.
+/// A design without held signals, as it was joined.
 #[derive(Drop)]
 pub struct Origin {
     pub netlist: Netlist,
@@ -66,7 +66,7 @@ impl Origin {
         self.horizon
     }
 
-    /// How many signals there are.
+    /// The number of signals.
     pub fn signals(&self) -> u32
         ensures { result ≡ length self.now.circuit.drivers }
     {

@@ -1,4 +1,4 @@
-//! Which signals read a signal.
+//! The readers of each signal.
 
 ghost use Rattle.std.specs.Prelude.{◌≡◌, ◌∷◌, ◌<◌, [], length, slice_set, All, OnOk, IfOk, replicate};
 ghost use Rattle.design.specs.inner.Walk.{list_at, AddsReader, AreReaders};
@@ -7,17 +7,17 @@ use crate::origin::Origin;
 use std::alloc::{AllocError, Global};
 use std::marker::Model;
 
-/// A reader of a signal, and the number of the link with the one before it; 0 where there is none.
+/// A reader of a signal, and the number of the link before it; 0 if there is none.
 #[derive(Clone, Copy)]
 pub struct Link {
     pub reader: u32,
     pub before: u32,
 }
 
-/// For each signal those that read it, the last one first. The links of all signals stand in one array, numbered from 1 on.
+/// The readers of each signal, the last one first. The links of all signals stand in one array, numbered from 1.
 #[derive(Drop)]
 pub struct Readers {
-    /// For each signal the number of its last link; 0 where nothing reads it.
+    /// For each signal the number of its last link; 0 if it has no reader.
     last: Vec<u32>,
     links: Vec<Link>,
 }
@@ -35,7 +35,7 @@ impl Model for Readers {
 }
 
 impl Readers {
-    /// So many signals that nothing reads.
+    /// This many signals without readers.
     pub fn none(alloc: Global, signals: u32) -> Result<Readers, AllocError>
         ensures { IfOk result (λ readers. readers ≡ replicate signals []) }
     {
@@ -71,7 +71,7 @@ impl Readers {
         Ok(())
     }
 
-    /// Puts those that read a signal into `found`, in place of what it has.
+    /// Replaces the content of `found` by the signals that read a signal.
     pub fn find(&self, signal: u32, found: &mut Vec<u32>) -> Result<(), AllocError>
         requires { signal < length self.now }
         ensures { OnOk result (found.new.items ≡ list_at self.now signal) }

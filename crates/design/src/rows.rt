@@ -8,7 +8,7 @@ use bench_reader::{Netlist, Row as NetlistRow};
 use circuit_meaning::{FlipFlop, Setting};
 use gate_values::Kind;
 
-/// What a signal is. The signals that it reads stand in the netlist, delays and settings in lists of their own.
+/// What a signal is. The signals that it reads stand in the netlist; delays and settings have their own lists.
 #[derive(Clone, Copy)]
 pub enum Row {
     Input,

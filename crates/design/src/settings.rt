@@ -68,7 +68,7 @@ pub fn read(
     Ok(settings)
 }
 
-/// The settings in the order of time; of several at one time the first counts.
+/// The settings in the order of time. Of several at one time the first counts.
 fn scheduled(mut settings: Vec<Setting>) -> Result<Vec<Setting>, AllocError>
     ensures { IfOk result (λ list. list.items ≡ join.scheduled settings.items) }
 {

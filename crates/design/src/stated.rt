@@ -25,7 +25,7 @@ use std::alloc::{AllocError, Global};
 use std::collections::HashMap;
 use timing_file::{ClockRow, Timing, TimingRow, TimingWhat};
 
-/// What is said of signals, or of pins of signals by their places.
+/// What rows state of signals, or of pins by signal and place.
 #[derive(Drop)]
 pub struct Stated {
     pub delays: HashMap<u32, u32>,
@@ -119,7 +119,7 @@ fn has_pin(netlist: &Netlist, signal: u32, place: u32) -> bool
     }
 }
 
-/// The cause of a row that says this of a signal, if it is at fault.
+/// The cause of a row that states this of a signal, if the row is at fault.
 fn cause_of(
     netlist: &Netlist,
     clocks: &NamedClocks,
@@ -177,7 +177,7 @@ impl Stated {
         }
     }
 
-    /// Keeps what a row says of a signal.
+    /// Keeps what a row states of a signal.
     fn keep(
         &mut self,
         clocks: &NamedClocks,
@@ -330,7 +330,7 @@ impl Stated {
         }
     }
 
-    /// What a signal is, where the pins of a gate have these delays.
+    /// The row of a signal, if the pins of a gate have these delays.
     fn row_of(&self, netlist: &Netlist, timing: &Timing, signal: u32, delays: &[u32]) -> Row
         requires { signal < length netlist.now.names }
         ensures { HasStated netlist.now timing.now timing.now.rows self.now
@@ -373,14 +373,14 @@ impl Stated {
     }
 }
 
-/// What is kept of all signals beside their settings.
+/// What is kept of all signals, except their settings.
 #[derive(Drop)]
 pub struct Rows {
     pub rows: Vec<Row>,
     pub delays: Lists<u32>,
 }
 
-/// The least of some delays.
+/// The least of these delays.
 fn least_of(delays: &[u32]) -> u32
     ensures { result ≡ said.least_of delays.now }
 {

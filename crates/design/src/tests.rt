@@ -78,14 +78,14 @@ const UNCLOCKED: Files = Files {
     stimulus: "horizon 30\nset a 0 0\nset a 10 1\n",
 };
 
-// a clock by name beside the common one
+// a named clock and the common clock
 const CLOCKS: Files = Files {
     netlist: FLIP_FLOPS,
     timing: "version 2\nclock 10 10\nclock fast 3 4\nclocked r fast\ninit r 0\n",
     stimulus: "horizon 20\nset a 0 0\nset a 5 1\n",
 };
 
-/// The text, where it is short.
+/// The text's bytes, or none if there are over 1,000.
 fn short(text: &str) -> &[u8]
     ensures { length result.now ≤ 1000 }
 {
@@ -101,7 +101,7 @@ fn joined(alloc: Global, files: &Files) -> Result<Result<Design, JoinFault>, Fai
     Ok(Design::join(alloc, netlist, &timing, &stimulus))
 }
 
-/// The cell that a point has at once: its start, its end and its value.
+/// The base answer of a point: its start, its end and its value.
 fn base_of(design: &Design, name: &str, time: u32) -> Option<(u32, u32, Value)> {
     design.facts();
     let signal = design.netlist().id_of(name.as_bytes())?;
@@ -159,7 +159,7 @@ fn points_with_a_cell_at_once(rt: HostRuntime) -> Result<(), Fail> {
     Ok(())
 }
 
-/// The cell that a point has at once where the signal of this name is held.
+/// The base answer of a point in the design in which the signal of this name is held.
 fn base_where_held(
     alloc: Global,
     design: &Design,
@@ -192,7 +192,7 @@ fn base_held_in(
 #[test]
 fn cells_where_a_signal_is_held(rt: HostRuntime) -> Result<(), Fail> {
     let rows = [
-        // a flip-flop samples no more, and what it reads stays
+        // a held flip-flop samples no more, and its source stays
         (CLOCKED, "q", Value::One, "q", 0, Some((0, 31, Value::One))),
         (CLOCKED, "q", Value::One, "q", 30, Some((0, 31, Value::One))),
         (
@@ -203,7 +203,7 @@ fn cells_where_a_signal_is_held(rt: HostRuntime) -> Result<(), Fail> {
             10,
             Some((10, 31, Value::One)),
         ),
-        // an input has no other setting, and what reads it stays
+        // a held input has no other setting, and its readers stay
         (
             CLOCKED,
             "a",
@@ -224,8 +224,8 @@ fn cells_where_a_signal_is_held(rt: HostRuntime) -> Result<(), Fail> {
     Ok(())
 }
 
-/// What a pin of an evaluable point reads and when; the times about the point at which it sees what it sees there; and
-/// those of the point's cell, where that has no other pin.
+/// An evaluable point through one pin: the kind of its driver; the time at which the pin reads; the times around the point at which the pin
+/// sees the same; and the interval of the point's cell, if it has no other pin.
 #[derive(Clone, Copy, Debug, PartialEq, Eq)]
 struct Look {
     kind: Kind,
@@ -238,7 +238,7 @@ fn times_of(span: Span) -> (u32, u32) {
     (span.start(), span.end())
 }
 
-/// The look of an evaluable point through a pin that reads a point with a cell at once.
+/// The look of an evaluable point through a pin whose source has a base answer.
 fn looked_at(design: &Design, name: &str, time: u32, pin: u32) -> Option<Look> {
     design.facts();
     let signal = design.netlist().id_of(name.as_bytes())?;
@@ -456,7 +456,7 @@ const C17: &str =
 const S27: &str =
     "INPUT(G0)\nINPUT(G1)\nINPUT(G2)\nINPUT(G3)\nOUTPUT(G17)\nG5 = DFF(G10)\nG6 = DFF(G11)\nG7 = DFF(G13)\nG14 = NOT(G0)\nG17 = NOT(G11)\nG8 = AND(G14, G6)\nG15 = OR(G12, G8)\nG16 = OR(G3, G8)\nG9 = NAND(G16, G15)\nG10 = NOR(G14, G11)\nG11 = NOR(G5, G9)\nG12 = NOR(G1, G7)\nG13 = NOR(G2, G12)\n";
 
-/// The design of a netlist, with the delays that hold by default and inputs that are never set.
+/// The design of a netlist with default delays and inputs that are never set.
 fn unset(alloc: Global, netlist: &'static str) -> Result<Result<Design, JoinFault>, Fail> {
     let files = Files {
         netlist,
@@ -514,7 +514,7 @@ fn cones_of_signals(rt: HostRuntime) -> Result<(), Fail> {
     Ok(())
 }
 
-/// The flag of a signal, of those that say for each signal whether it reads the site, however far back.
+/// The flag of a signal, among those that say for each signal whether it reads the site, however far back.
 fn flag_of(alloc: Global, design: &Design, site: &str, name: &str) -> Result<Option<bool>, Fail> {
     design.facts();
     let Some(site) = design.netlist().id_of(site.as_bytes()) else {
@@ -574,7 +574,7 @@ fn signals_that_are_reached(rt: HostRuntime) -> Result<(), Fail> {
     Ok(())
 }
 
-/// The flag of a signal where one signal is held.
+/// The flag of a signal if one signal is held.
 fn flag_where_held(
     alloc: Global,
     design: &Design,
@@ -605,7 +605,7 @@ fn flag_held_in(
 #[test]
 fn signals_that_are_reached_where_one_is_held(rt: HostRuntime) -> Result<(), Fail> {
     let rows = [
-        // what is held reads nothing
+        // a held signal reads nothing
         (C17, "16", "11", "11 19 23", "1 2 3 6 7 10 16 22"),
         (C17, "16", "16", "16 22 23", "1 2 3 6 7 10 11 19"),
         (
@@ -630,7 +630,7 @@ fn signals_that_are_reached_where_one_is_held(rt: HostRuntime) -> Result<(), Fai
     Ok(())
 }
 
-/// The cell that a point has at once where a signal of the inverter with a pulse is held, and then another or the same one.
+/// The base answer of a point if a signal of the inverter with a pulse is held, and then another or the same one.
 fn base_held_twice(
     alloc: Global,
     first: &str,
@@ -642,7 +642,7 @@ fn base_held_twice(
     base_where_held_first(alloc, &design, first, second, value, name)
 }
 
-/// The same where the first is held at 1.
+/// The same if the first is held at 1.
 fn base_where_held_first(
     alloc: Global,
     design: &Design,
@@ -665,7 +665,7 @@ fn signals_that_are_held_one_after_another(rt: HostRuntime) -> Result<(), Fail> 
         // the last value counts
         ("a", "a", Value::Zero, "a", Some((0, 11, Value::Zero))),
         ("y", "y", Value::Z, "y", Some((0, 11, Value::Z))),
-        // the one held first stays so
+        // the signal held first stays held
         ("a", "y", Value::Zero, "a", Some((0, 11, Value::One))),
         ("a", "y", Value::Zero, "y", Some((0, 11, Value::Zero))),
         ("y", "a", Value::X, "y", Some((0, 11, Value::One))),

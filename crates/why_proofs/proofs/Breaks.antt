@@ -6,9 +6,11 @@ use Rattle.gate_values.specs.declared.Value.TheVariants.{X}
 use Rattle.valid_intervals.specs.declared.SignalCell.{SignalCell}
 use Rattle.why_proofs.specs.Spelling.{claim_line, cell_line, Proof, text_of, IsLine, IsProof}
 use Rattle.why_proofs.specs.Broken.{first_lines, GoesOn, IsBroken}
-use Rattle.why_proofs.specs.inner.Reading.{after_word, Claim, claim_at, cell_at, cells_at}
-use Rattle.why_proofs.proofs.Fields.{some_is, after_takes}
-use Rattle.why_proofs.proofs.Lines.{claim_again, cell_again, cell_none_end, cells_again}
+use Rattle.text_fields.specs.Reading.{after_word}
+use Rattle.why_proofs.specs.inner.Reading.{Claim, claim_at, cell_at, cells_at}
+use Rattle.text_fields.proofs.Fields.{some_is, after_takes}
+use Rattle.text_fields.proofs.Items.{items_again}
+use Rattle.why_proofs.proofs.Lines.{claim_again, cell_again, cell_none_end, spelling}
 use Rattle.why_proofs.proofs.Feeds.{IsWholeLine, claim-whole, cell-whole, end-whole, line-same, first-line, first-none, first-shape, first-fewer}
 
 abbrev end : List ℕ
@@ -28,7 +30,7 @@ claim-read : (p : Proof) (rest : List ℕ) → IsProof p → claim_at (claim_lin
 claim-read p rest is = claim_again p.name p.time p.value rest is.name is.time
 
 cells-read : (p : Proof) (rest : List ℕ) → IsProof p → cells_at (length (cells-text p.cells ++ (end ++ rest))) (cells-text p.cells ++ (end ++ rest)) ≡ (p.cells, end ++ rest)
-cells-read p rest is = cells_again (length (cells-text p.cells ++ (end ++ rest))) p.cells (end ++ rest) is.cells (cell_none_end rest) (omega arith)
+cells-read p rest is = items_again spelling (length (cells-text p.cells ++ (end ++ rest))) p.cells (end ++ rest) is.cells (cell_none_end rest) (omega arith)
 
 -- ---- no text is that of two proofs
 
@@ -41,7 +43,7 @@ same-tail p q x y hp hq e =
     (ap (λ (r : Claim × List ℕ). r.0) both, ap (λ (r : Claim × List ℕ). r.1) both)
 
 tail-read : (p : Proof) → IsProof p → cells_at (length (tail-of p)) (tail-of p) ≡ (p.cells, end)
-tail-read p is = cells_again (length (tail-of p)) p.cells end is.cells (cell_none_end []) (omega arith)
+tail-read p is = items_again spelling (length (tail-of p)) p.cells end is.cells (cell_none_end []) (omega arith)
 
 pub one-proof : (p q : Proof) → IsProof p → IsProof q → text_of p ≡ text_of q → p ≡ q
 one-proof p q hp hq e =

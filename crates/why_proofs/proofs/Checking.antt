@@ -5,15 +5,17 @@ use Rattle.valid_intervals.specs.declared.SignalCell.{SignalCell}
 use Rattle.circuit_meaning.specs.Circuit.{IsCircuit}
 use Rattle.circuit_meaning.specs.Forward.{value}
 use Rattle.design.specs.Joined.{Joined}
-use Rattle.why_proofs.specs.Spelling.{cell_line, claim_line, Proof, IsProof}
+use Rattle.why_proofs.specs.Spelling.{cell_line, claim_line, Proof, IsLine, IsProof}
 use Rattle.why_proofs.specs.Broken.{IsBroken}
 use Rattle.why_proofs.specs.Verdicts.{IsTextOf, RightYes, RightNo, IsTrueYes}
 use Rattle.why_proofs.specs.inner.Judged.{IsJudged}
-use Rattle.why_proofs.specs.inner.Reading.{after_word, Claim, claim_at, cells_at}
+use Rattle.text_fields.specs.Reading.{after_word}
+use Rattle.why_proofs.specs.inner.Reading.{Claim, claim_at, cell_at, cells_at}
 use Rattle.why_proofs.specs.declared.checker.Checked.{Checked}
 use Rattle.why_proofs.specs.declared.checker.Checked.TheVariants.{Yes, No, Bad}
-use Rattle.why_proofs.proofs.Fields.{after_takes}
-use Rattle.why_proofs.proofs.Lines.{AreRead, claim_takes, cells_takes, cells_count}
+use Rattle.text_fields.proofs.Fields.{after_takes}
+use Rattle.text_fields.proofs.Items.{AreRead, items_take, items_count}
+use Rattle.why_proofs.proofs.Lines.{claim_takes, spelling}
 use Rattle.why_proofs.proofs.Breaks.{head, head-is, no-end, more-behind}
 use Rattle.why_proofs.proofs.Sound.{claim-true}
 
@@ -36,11 +38,11 @@ module _ (text r1 r2 : List ℕ) (claim : Claim) (cells : List SignalCell) (one 
   abbrev first : List ℕ
   first = claim_line claim.0 claim.1 claim.2
 
-  lines-read : AreRead r1 (cells, r2)
-  lines-read = subst (AreRead r1) (sym two) (cells_takes (length r1) r1 (omega arith))
+  lines-read : AreRead cell_at cell_line IsLine r1 (cells, r2)
+  lines-read = subst (AreRead cell_at cell_line IsLine r1) (sym two) (items_take spelling (length r1) r1 (omega arith))
 
   pub is-proof : IsProof q
-  is-proof = let taken = claim_takes text claim r1 one in record { name = taken.name; time = taken.time; cells = lines-read.lines }
+  is-proof = let taken = claim_takes text claim r1 one in record { name = taken.name; time = taken.time; cells = lines-read.items }
 
   parts : text ≡ (first ++ flat_map cell_line cells) ++ r2
   parts = (claim_takes text claim r1 one).spelled ∙ ap (λ (l : List ℕ). first ++ l) lines-read.spelled ∙ sym (append_assoc first (flat_map cell_line cells) r2)
@@ -50,7 +52,7 @@ module _ (text r1 r2 : List ℕ) (claim : Claim) (cells : List SignalCell) (one 
 
   pub few : length cells ≤ length text
   few =
-      let count : length cells ≤ length r1 = subst (λ (r : List SignalCell × List ℕ). length r.0 ≤ length r1) (sym two) (cells_count (length r1) r1) in
+      let count : length cells ≤ length r1 = subst (λ (r : List SignalCell × List ℕ). length r.0 ≤ length r1) (sym two) (items_count spelling (length r1) r1) in
       omega (arith, count, ap length (claim_takes text claim r1 one).spelled, length-append first r1)
 
   pub broken-end : (n : ℕ) → n ≡ length cells → after_word end r2 ≡ None → IsBroken text (n + 2)

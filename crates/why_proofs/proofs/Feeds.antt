@@ -10,10 +10,11 @@ use Rattle.gate_values.specs.declared.Value.TheVariants.{Zero, One, X, Z}
 use Rattle.gate_values.specs.Spelling.{byte_of_value}
 use Rattle.text_rules.specs.Text.{is_name, is_name_byte, is_filled}
 use Rattle.valid_intervals.specs.declared.SignalCell.{SignalCell}
-use Rattle.why_proofs.specs.Spelling.{field, last_field, claim_line, cell_line, IsNumber, IsLine}
+use Rattle.text_fields.specs.Spelling.{field, IsNumber}
+use Rattle.why_proofs.specs.Spelling.{last_field, claim_line, cell_line, IsLine}
 use Rattle.why_proofs.specs.Broken.{first_lines}
-use Rattle.why_proofs.proofs.Numbers.{own, and_both}
-use Rattle.why_proofs.proofs.Fields.{some_is}
+use Rattle.text_fields.proofs.Numbers.{own, and_both}
+use Rattle.text_fields.proofs.Fields.{some_is}
 
 -- no line feed is among the bytes
 abbrev pub HasNoFeed : List ℕ → Type 0

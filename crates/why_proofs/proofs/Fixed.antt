@@ -9,7 +9,7 @@ use Rattle.why_proofs.specs.Justified.{IsClaimed, IsJustifiedProof}
 use Rattle.why_proofs.specs.Verdicts.{IsTextOf, IsFirstUnjustified, IsUnjustified, IsVerdict}
 use Rattle.why_proofs.specs.declared.checker.Checked.{Checked}
 use Rattle.why_proofs.specs.declared.checker.Checked.TheVariants.{Yes, No, Bad}
-use Rattle.why_proofs.proofs.Fields.{some_is}
+use Rattle.text_fields.proofs.Fields.{some_is}
 use Rattle.why_proofs.proofs.Breaks.{one-proof}
 
 same-proof : (text : List ℕ) (p q : Proof) → IsTextOf text p → IsTextOf text q → p ≡ q

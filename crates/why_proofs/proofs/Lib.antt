@@ -1,11 +1,8 @@
-pub mod Numbers
-pub mod Fields
 pub mod Lines
 pub mod Feeds
 pub mod Breaks
 pub mod Checking
 pub mod Fixed
-pub mod WalkLemmas
 pub mod Sound
 pub mod Sources
 pub mod KnownLemmas

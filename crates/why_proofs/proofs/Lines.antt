@@ -1,18 +1,20 @@
 -- A line that is read is spelled so, and what is spelled so is read.
-use Rattle.std.proofs.Common.{◌≡◌, ℕ, zero, suc, ◌<◌, ◌≤◌, Bool, true, false, cond, eqb, nat_lt, List, [], ◌∷◌, ◌++◌, length, take, drop, position, Option, Some, None, refl, sym, ap, ap₂, subst, ◌∙◌, append_assoc, append-nil, length-append, arith, lt-ltb, eqb-true}
-use Rattle.std.specs.Prelude.{flat_map, codes, decimal}
-use Rattle.std.specs.Option.{option_map_or}
-use Rattle.std.specs.List.{AllByRecursion, position_or_len, list_all}
+use Rattle.std.proofs.Common.{◌≡◌, ℕ, zero, suc, ◌<◌, Bool, true, false, cond, eqb, nat_lt, List, [], ◌∷◌, ◌++◌, length, take, drop, position, Some, None, refl, sym, ap, ap₂, subst, ◌∙◌, append_assoc, length-append, arith, lt-ltb, eqb-true}
+use Rattle.std.specs.Prelude.{codes, decimal}
+use Rattle.std.specs.List.{position_or_len, list_all}
 use Rattle.std.proofs.lemmas.Option.{cond_some}
 use Rattle.gate_values.specs.Spelling.{byte_of_value}
 use Rattle.gate_values.specs.declared.Value.{Value}
 use Rattle.gate_values.specs.declared.Value.TheVariants.{Zero, One, X, Z}
 use Rattle.text_rules.specs.Text.{is_name, is_name_byte, is_filled}
 use Rattle.valid_intervals.specs.declared.SignalCell.{SignalCell}
-use Rattle.why_proofs.specs.Spelling.{field, last_field, claim_line, cell_line, IsNumber, IsLine}
-use Rattle.why_proofs.specs.inner.Reading.{◌>>=◌, after_word, field_at, value_at, last_field_at, is_space, named, name_at, Claim, claim_at, cell_at, line_of, put_first, cells_at}
-use Rattle.why_proofs.proofs.Numbers.{and_both}
-use Rattle.why_proofs.proofs.Fields.{bind_some, some_is, after_takes, field_takes, field_again, value_takes}
+use Rattle.text_fields.specs.Spelling.{field, IsNumber}
+use Rattle.why_proofs.specs.Spelling.{last_field, claim_line, cell_line, IsLine}
+use Rattle.text_fields.specs.Reading.{◌>>=◌, after_word, field_at, value_at}
+use Rattle.why_proofs.specs.inner.Reading.{last_field_at, is_space, named, name_at, Claim, claim_at, cell_at, line_of}
+use Rattle.text_fields.proofs.Numbers.{and_both}
+use Rattle.text_fields.proofs.Items.{AreSpelled}
+use Rattle.text_fields.proofs.Fields.{bind_some, some_is, after_takes, field_takes, field_again, value_takes}
 
 -- ---- the end of a line
 
@@ -161,101 +163,12 @@ cell_again x rest is =
     let bb = field_again b (last_field v ++ rest) is.stop refl in
     ap cell_at (sym (cell-joined s a b v rest)) ∙ rw (ss, aa, bb, last_again v rest) refl
 
-pub cell_none_empty : cell_at [] ≡ None
-unfolding cell_at
-cell_none_empty = refl
-
 pub cell_none_end : (rest : List ℕ) → cell_at (codes "end\n" ++ rest) ≡ None
 unfolding cell_at
 cell_none_end rest = refl
 
-pub line_some : (x : SignalCell) → 0 < length (cell_line x)
+line_some : (x : SignalCell) → 0 < length (cell_line x)
 line_some x = omega arith
 
--- what stands after a cell line is shorter
-pub shorter : (text : List ℕ) (x : SignalCell) (rest : List ℕ) → cell_at text ≡ Some (x, rest) → length rest < length text
-shorter text x rest is = omega (arith, line_some x, ap length (cell_takes text x rest is).spelled, length-append (cell_line x) rest)
-
--- ---- the cell lines
-
-abbrev next : ℕ → List ℕ → Option (SignalCell × List ℕ) → List SignalCell × List ℕ
-next most text found = option_map_or (λ read. put_first read.0 (cells_at most read.1)) found ([], text)
-
-pub record AreRead (text : List ℕ) (read : List SignalCell × List ℕ) : Type 0 where
-  pub spelled : text ≡ flat_map cell_line read.0 ++ read.1
-  pub lines : AllByRecursion IsLine read.0
-  pub stop : cell_at read.1 ≡ None
-
-read-next : (most : ℕ) (text : List ℕ) (found : Option (SignalCell × List ℕ)) → cell_at text ≡ found → length text ≤ suc most → ((rest : List ℕ) → length rest ≤ most → AreRead rest (cells_at most rest)) → AreRead text (next most text found)
-read-next most text None is fits more = record { spelled = refl; lines = tt; stop = is }
-read-next most text (Some (x, rest)) is fits more =
-    let first = cell_takes text x rest is in
-    let others = more rest (omega (arith, shorter text x rest is)) in
-    let read = cells_at most rest in
-    record {
-      spelled = first.spelled ∙ ap (λ (l : List ℕ). cell_line x ++ l) others.spelled ∙ sym (append_assoc (cell_line x) (flat_map cell_line read.0) read.1);
-      lines = (first.line, others.lines);
-      stop = others.stop;
-    }
-
-pub cells_takes : (most : ℕ) (text : List ℕ) → length text ≤ most → AreRead text (cells_at most text)
-cells_takes zero [] fits = record { spelled = refl; lines = tt; stop = cell_none_empty }
-cells_takes zero (b ∷ text) fits = absurd (omega arith)
-cells_takes (suc most) text fits = read-next most text (cell_at text) refl fits (cells_takes most)
-
-pub cells_again : (most : ℕ) (xs : List SignalCell) (rest : List ℕ) → AllByRecursion IsLine xs → cell_at rest ≡ None → length (flat_map cell_line xs ++ rest) ≤ most → cells_at most (flat_map cell_line xs ++ rest) ≡ (xs, rest)
-cells_again zero [] rest are stop fits = refl
-cells_again (suc most) [] rest are stop fits = ap (next most rest) stop
-cells_again zero (x ∷ xs) rest are stop fits = absurd (omega (arith, line_some x, length-append (cell_line x ++ flat_map cell_line xs) rest, length-append (cell_line x) (flat_map cell_line xs)))
-cells_again (suc most) (x ∷ xs) rest are stop fits =
-    let text : List ℕ = flat_map cell_line xs ++ rest in
-    let apart : (cell_line x ++ flat_map cell_line xs) ++ rest ≡ cell_line x ++ text = append_assoc (cell_line x) (flat_map cell_line xs) rest in
-    let found : cell_at (cell_line x ++ text) ≡ Some (x, text) = cell_again x text are.0 in
-    let more : cells_at most text ≡ (xs, rest) = cells_again most xs rest are.1 stop (omega (arith, line_some x, ap length apart, length-append (cell_line x) text)) in
-    ap (cells_at (suc most)) apart ∙ ap (next most (cell_line x ++ text)) found ∙ ap (put_first x) more
-
-pub cells_count : (most : ℕ) (text : List ℕ) → length (cells_at most text).0 ≤ most
-cells_count zero text = omega arith
-cells_count (suc most) text = go (cell_at text) (cells_count most)
-  where
-    go : (found : Option (SignalCell × List ℕ)) → ((rest : List ℕ) → length (cells_at most rest).0 ≤ most) → length (next most text found).0 ≤ suc most
-    go None more = omega arith
-    go (Some (x, rest)) more = let m = more rest in omega (arith, m)
-
--- ---- as many as there are
-
-same_next : (j k : ℕ) (text : List ℕ) (found : Option (SignalCell × List ℕ)) → cell_at text ≡ found → length text ≤ suc j → length text ≤ suc k → ((rest : List ℕ) → length rest ≤ j → length rest ≤ k → cells_at j rest ≡ cells_at k rest) → next j text found ≡ next k text found
-same_next j k text None is a b more = refl
-same_next j k text (Some (x, rest)) is a b more =
-    let less = shorter text x rest is in
-    ap (put_first x) (more rest (omega (arith, less)) (omega (arith, less)))
-
-stop_next : (k : ℕ) (text : List ℕ) (found : Option (SignalCell × List ℕ)) → cell_at text ≡ found → length text ≤ 0 → ([], text) ≡ next k text found
-stop_next k text None is a = refl
-stop_next k text (Some (x, rest)) is a = absurd (omega (arith, shorter text x rest is))
-
-pub cells_enough : (j k : ℕ) (text : List ℕ) → length text ≤ j → length text ≤ k → cells_at j text ≡ cells_at k text
-cells_enough zero zero text a b = refl
-cells_enough zero (suc k) text a b = stop_next k text (cell_at text) refl a
-cells_enough (suc j) zero text a b = sym (stop_next j text (cell_at text) refl b)
-cells_enough (suc j) (suc k) text a b = same_next j k text (cell_at text) refl a b (cells_enough j k)
-
--- the lines that were read, in front of those that are read next
-abbrev pub put_all : List SignalCell → List SignalCell × List ℕ → List SignalCell × List ℕ
-put_all xs read = (xs ++ read.0, read.1)
-
-next_is : (most : ℕ) (text : List ℕ) (x : SignalCell) (rest : List ℕ) → length text ≡ most → cell_at text ≡ Some (x, rest) → cells_at most text ≡ put_first x (cells_at (length rest) rest)
-next_is zero text x rest is found = absurd (omega (arith, shorter text x rest found))
-next_is (suc most) text x rest is found = ap (next most text) found ∙ ap (put_first x) (cells_enough most (length rest) rest (omega (arith, shorter text x rest found)) (omega arith))
-
-pub put_next : (xs : List SignalCell) (text : List ℕ) (x : SignalCell) (rest : List ℕ) → cell_at text ≡ Some (x, rest) → put_all (xs ++ x ∷ []) (cells_at (length rest) rest) ≡ put_all xs (cells_at (length text) text)
-put_next xs text x rest found =
-    let read = cells_at (length rest) rest in
-    ap (λ (l : List SignalCell). (l, read.1)) (append_assoc xs (x ∷ []) read.0) ∙ sym (ap (put_all xs) (next_is (length text) text x rest refl found))
-
-pub put_last : (xs : List SignalCell) (text : List ℕ) → cell_at text ≡ None → put_all xs (cells_at (length text) text) ≡ (xs, text)
-put_last xs text stop = last (length text) ∙ ap (λ (l : List SignalCell). (l, text)) (append-nil xs)
-  where
-    last : (most : ℕ) → put_all xs (cells_at most text) ≡ (xs ++ [], text)
-    last zero = refl
-    last (suc most) = ap (λ found. put_all xs (next most text found)) stop
+pub spelling : AreSpelled cell_at cell_line IsLine
+spelling = record { takes = λ text x rest is. let line = cell_takes text x rest is in (line.spelled, line.line); again = cell_again; some = line_some }

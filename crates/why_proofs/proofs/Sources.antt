@@ -20,9 +20,9 @@ use Rattle.circuit_meaning.proofs.Equations.{all_imply}
 use Rattle.why_proofs.specs.Justified.{Answers, looked_in, IsAnswered, AreAnswered}
 use Rattle.valid_intervals.specs.declared.Cell.{Cell}
 use Rattle.circuit_meaning.specs.Cells.{cell_at}
-use Rattle.why_proofs.specs.declared.walk.Walk.{Walk}
-use Rattle.why_proofs.specs.inner.Known.{IsRuled}
-use Rattle.why_proofs.specs.inner.Walks.{looked_at, next_point, IsKnown, AreKnown}
+use Rattle.pin_walks.specs.declared.walk.PinWalk.{PinWalk}
+use Rattle.pin_walks.specs.PinWalks.{looked_at, next_point}
+use Rattle.why_proofs.specs.inner.Known.{IsKnown, AreKnown, IsRuled}
 use Rattle.why_proofs.proofs.Sound.{AreRight, looked-from, looked-to}
 
 all_of : {A : Type 0} (P : A → Type 0) → ((a : A) → P a) → (xs : List A) → AllByRecursion P xs
@@ -105,13 +105,13 @@ module _ (c : Circuit) (ok : IsCircuit c) (a : Answers) (right : AreRight c ok a
             get-any (x ∷ xs) (suc k) d e l = get-any xs k d e (omega arith)
 
   -- a walk to its end
-  pub ruled : (w : Walk) (p : Point) (cell : Cell) → w.point ≡ p → w.looked ≡ length (looked_at c w.point) → AreKnown c a p w.looked → cell ≡ cell_at c w.point → IsRuled c a p cell
+  pub ruled : (w : PinWalk) (p : Point) (cell : Cell) → w.point ≡ p → w.looked ≡ length (looked_at c w.point) → AreKnown c a p w.looked → cell ≡ cell_at c w.point → IsRuled c a p cell
   ruled w p cell same done known right-cell = record {
     answered = known-all p w.looked (done ∙ ap (λ q. length (looked_at c q)) same) known;
     right = right-cell ∙ ap (cell_at c) same;
   }
 
   -- a walk that stops at a pin without an answer
-  pub unruled : (w : Walk) (p : Point) → w.point ≡ p → w.looked < length (looked_at c w.point) → (IsKnown a (next_point c w) → ⊥) → AreAnswered a p.time (driver c p.signal) → ⊥
+  pub unruled : (w : PinWalk) (p : Point) → w.point ≡ p → w.looked < length (looked_at c w.point) → (IsKnown a (next_point c w) → ⊥) → AreAnswered a p.time (driver c p.signal) → ⊥
   unruled w p same looking none =
       unknown p w.looked (subst (λ q. w.looked < length (looked_at c q)) same looking) (λ k. none (subst (λ q. IsKnown a (get_or (looked_at c q) w.looked None)) (sym same) k))

@@ -1,14 +1,11 @@
 -- The text of a proof. Words are divided by one blank, and every line ends with a line feed.
-use Rattle.std.specs.Prelude.{◌≡◌, ℕ, ◌<◌, ◌^◌, true, List, [], ◌∷◌, ◌++◌, flat_map, codes, decimal}
+use Rattle.std.specs.Prelude.{◌≡◌, ℕ, true, List, [], ◌∷◌, ◌++◌, flat_map, codes}
 use Rattle.std.specs.List.{AllByRecursion}
 use Rattle.gate_values.specs.declared.Value.{Value}
 use Rattle.gate_values.specs.Spelling.{byte_of_value}
+use Rattle.text_fields.specs.Spelling.{field, IsNumber}
 use Rattle.text_rules.specs.Text.{is_name}
 use Rattle.valid_intervals.specs.declared.SignalCell.{SignalCell}
-
--- a number after a blank, with no leading zero
-abbrev pub field : ℕ → List ℕ
-field n = 32 ∷ decimal n
 
 -- a value after a blank, and the end of the line
 abbrev pub last_field : Value → List ℕ
@@ -35,10 +32,6 @@ pub record Proof : Type 0 where
 
 abbrev pub text_of : Proof → List ℕ
 text_of p = proof_lines p.name p.time p.value p.cells
-
--- at most 4,294,967,295
-abbrev pub IsNumber : ℕ → Type 0
-IsNumber n = n < 2 ^ 32
 
 -- the numbers of a cell line are within their limits; whether there is such a cell is another matter
 pub record IsLine (x : SignalCell) : Type 0 where

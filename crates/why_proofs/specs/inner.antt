@@ -1,4 +1,3 @@
 pub mod Reading
-pub mod Walks
 pub mod Known
 pub mod Judged

@@ -8,11 +8,12 @@ ghost use Rattle.why_proofs.specs.inner.Judged.{IsJudged};
 
 use crate::cells::CellLine;
 use crate::known::KnownCells;
-use crate::reading::{after, cells_of, claim_of};
+use crate::reading::{cells_of, claim_of};
 use design::Design;
 use gate_values::Value;
 use owned_text::OutOfMemory;
 use std::alloc::Global;
+use text_fields::after;
 
 /// What a checker answers of a text. Lines are counted from 1.
 #[derive(Clone, Copy, Debug, PartialEq, Eq)]

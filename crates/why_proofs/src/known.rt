@@ -9,14 +9,14 @@ ghost use Rattle.valid_intervals.specs.Cells.{point_cmp};
 ghost use Rattle.valid_intervals.specs.declared.SignalCell.{SignalCell};
 ghost use Rattle.why_proofs.specs.Spelling.{Proof};
 ghost use Rattle.why_proofs.specs.Justified.{answer, line_at, IsJustified, IsClaimed};
-ghost use Rattle.why_proofs.specs.inner.Known.{IsTrueCell, AreTrueCells, IsIndexOf, Rules, Judges, Accepts, place_of};
-ghost use Rattle.why_proofs.specs.inner.Walks.{IsPoint, IsWalk, IsLooking, LooksOn, Hears};
+ghost use Rattle.pin_walks.specs.PinWalks.{IsPoint, IsPinWalk, IsLooking, LooksOn};
+ghost use Rattle.why_proofs.specs.inner.Known.{IsTrueCell, AreTrueCells, IsIndexOf, Hears, Rules, Judges, Accepts, place_of};
 
 use crate::cells::CellLine;
-use crate::walk::Walk;
 use design::Design;
 use gate_values::Value;
 use owned_text::OutOfMemory;
+use pin_walks::PinWalk;
 use std::alloc::Global;
 use std::collections::BTreeMap;
 use valid_intervals::{Cell, Point};
@@ -72,8 +72,8 @@ impl KnownCells {
     }
 
     /// The walk after it has looked at the next pin; None where that pin has no answer.
-    fn look(&self, design: &Design, walk: &Walk) -> Option<Walk>
-        requires walk { IsWalk design.now.circuit walk.now }
+    fn look(&self, design: &Design, walk: &PinWalk) -> Option<PinWalk>
+        requires walk { IsPinWalk design.now.circuit walk.now }
         requires looking { IsLooking design.now.circuit walk.now }
         requires cells { AreTrueCells design.now.circuit (get point_cmp self.now.cells) }
         ensures looks { IfSome result (LooksOn design.now.circuit walk.now) }
@@ -99,7 +99,7 @@ impl KnownCells {
         ensures cell { IfSome result (λ cell. cell ≡ cell_at design.now.circuit p) }
     {
         design.facts();
-        let mut walk = Walk::new(design, p);
+        let mut walk = PinWalk::new(design, p);
         'pins: loop {
             if walk.is_done(design) {
                 return Some(walk.cell(design));

@@ -1,13 +1,13 @@
 //! Writing a proof.
 
 ghost use Rattle.std.specs.Prelude.{◌≡◌, ◌++◌, OnOk, IfOk, flat_map};
-ghost use Rattle.why_proofs.specs.Spelling.{field, last_field, cell_line, proof_lines};
+ghost use Rattle.why_proofs.specs.Spelling.{last_field, cell_line, proof_lines};
 
 use crate::CellList;
 use gate_values::Value;
-use itoa::Buffer;
 use owned_text::OutOfMemory;
 use std::alloc::{AllocError, Global};
+use text_fields::push_field;
 use valid_intervals::SignalCell;
 
 /// The text of a proof that the signal of this name has this value at this time: its first line, a line for each cell, and `end`.
@@ -49,15 +49,6 @@ fn push_cell(text: &mut Vec<u8>, stated: &SignalCell) -> Result<(), AllocError>
     push_field(text, stated.cell.span.start())?;
     push_field(text, stated.cell.span.end())?;
     push_last(text, stated.cell.value)
-}
-
-/// Writes a number after a blank.
-fn push_field(text: &mut Vec<u8>, n: u32) -> Result<(), AllocError>
-    ensures { OnOk result (text.new.items ≡ text.old.items ++ field n) }
-{
-    let mut buffer = Buffer::new();
-    text.push(b' ')?;
-    text.extend_from_slice(buffer.format(n).as_bytes())
 }
 
 /// Writes a value after a blank, and ends the line.

@@ -1,5 +1,5 @@
 -- What only the proofs and the private functions of this crate speak of, beside `Demands`.
-use Rattle.std.specs.Prelude.{◌≡◌, ℕ, ◌+◌, ◌-◌, ◌≤◌, ◌<◌, Bool, true, false, List, [], ◌∷◌, length, map, Some, MatchOption}
+use Rattle.std.specs.Prelude.{◌≡◌, ◌+◌, ◌≤◌, ◌<◌, Bool, true, false, List, [], ◌∷◌, length, map, Some, MatchOption}
 use Rattle.valid_intervals.specs.declared.Cell.{Cell}
 use Rattle.valid_intervals.specs.declared.Point.{Point}
 use Rattle.circuit_meaning.specs.declared.Window.{Window}
@@ -9,11 +9,11 @@ use Rattle.batch_meaning.specs.Batches.{Batch, window_of}
 use Rattle.circuit_meaning.specs.Cells.{cell_at}
 use Rattle.batch_meaning.specs.Lawful.{IsLawful}
 use Rattle.strand_meaning.specs.Strands.{Strand, IsStrand}
-use Rattle.demand_points.specs.declared.frame.Frame.{Frame}
+use Rattle.pin_walks.specs.declared.walk.PinWalk.{PinWalk}
 use Rattle.demand_points.specs.declared.parts.Parts.{Parts}
 use Rattle.demand_points.specs.inner.Stacks.{IsTop, with_top}
-use Rattle.demand_points.specs.Frames.{IsFrame, IsLooking, IsReady, next_point}
-use Rattle.demand_points.specs.inner.Frames.{shown}
+use Rattle.pin_walks.specs.PinWalks.{IsPinWalk, IsLooking, next_point}
+use Rattle.demand_points.specs.inner.Bases.{IsReady, shown}
 use Rattle.demand_points.specs.Demands.{Demand, IsLastHeard, roots_left}
 
 abbrev pub window_in : Parts → Window
@@ -38,14 +38,14 @@ abbrev pub demand_of : Circuit → Parts → Demand
 demand_of c s = record { number = s.number; from = s.from; to = s.to; root = s.root; last = s.last; strand = strand_of c s }
 
 -- The stack waits for the point: the claimed point on top as its next pin, or the window as its next root.
-abbrev pub WaitsFor : Circuit → Point → List Frame → Point → Type 0
+abbrev pub WaitsFor : Circuit → Point → List PinWalk → Point → Type 0
 WaitsFor c root [] p = p ≡ root
 WaitsFor c root (f ∷ fs) p = IsLooking c f × (next_point c f ≡ Some p)
 
 -- each claimed point is right, and what lies under it waits for it
-abbrev pub AreFrames : Circuit → Point → List Frame → Type 0
-AreFrames c root [] = Unit {0}
-AreFrames c root (f ∷ fs) = IsFrame c f × WaitsFor c root fs f.point × AreFrames c root fs
+abbrev pub AreWalks : Circuit → Point → List PinWalk → Type 0
+AreWalks c root [] = Unit {0}
+AreWalks c root (f ∷ fs) = IsPinWalk c f × WaitsFor c root fs f.point × AreWalks c root fs
 
 -- What it is made of is right about the circuit.
 pub record IsRunning (c : Circuit) (s : Parts) : Type 0 where
@@ -54,12 +54,12 @@ pub record IsRunning (c : Circuit) (s : Parts) : Type 0 where
   pub within : s.query.to ≤ c.horizon + 1
   pub since : s.from ≤ s.root
   pub root : s.root < s.to → IsRoot c (window_of s.query) s.root
-  pub frames : AreFrames c (root_point s) s.stack
+  pub walks : AreWalks c (root_point s) s.stack
   pub busy : 0 < length s.stack → s.root < s.to
   pub last : MatchOption s.last (s.root ≡ s.from) (IsLastHeard c s.query s.from s.to s.root)
 
 -- no base answer is left to be heard before the next step
-abbrev pub IsReadyIn : Circuit → Parts → List Frame → Type 0
+abbrev pub IsReadyIn : Circuit → Parts → List PinWalk → Type 0
 IsReadyIn c s [] = s.root < s.to → IsEvaluable c s.query.signal s.root
 IsReadyIn c s (f ∷ fs) = IsReady c f
 
@@ -91,7 +91,7 @@ pub record TakesStepTo (c : Circuit) (f : Strand → Strand) (old new : Parts) :
 -- Base answers were heard; with the old root, last cell and top it is the old one again.
 pub record IsUndone (old new : Parts) : Type 0 where
   pub empty : old.stack ≡ [] → new.stack ≡ []
-  pub top : (f : Frame) → IsTop old.stack f → with_top f new.stack ≡ old.stack
+  pub top : (f : PinWalk) → IsTop old.stack f → with_top f new.stack ≡ old.stack
 
 -- What every strand of a batch keeps. One whose window is empty from the start, at time 0, may be of no batch.
 pub record IsDemand (b : Batch) (s : Parts) : Type 0 where

@@ -1,4 +1,4 @@
--- The cells that need no evaluation, by what is kept of a signal.
+-- The cells that need no evaluation, from what is kept of a signal.
 use Rattle.std.specs.Prelude.{ℕ, zero, suc, List, Option, Some, None, slice_get}
 use Rattle.std.specs.Option.{option_map_or}
 use Rattle.valid_intervals.specs.Spans.{Span, from_to, moved}
@@ -9,7 +9,7 @@ abbrev pub last_of : List Setting → ℕ → Option Setting
 last_of settings zero = None
 last_of settings (suc n) = slice_get settings n
 
--- the time of the setting after the first n, or else the limit
+-- the time of the setting after the first n; if there is none, the limit
 abbrev pub next_of : List Setting → ℕ → ℕ → ℕ
 next_of settings n limit = option_map_or (λ (s : Setting). s.time) (slice_get settings n) limit
 

@@ -1,4 +1,4 @@
--- A design with some signals held, over the design as it was joined.
+-- A design with held signals, over the design without them.
 use Rattle.std.specs.Prelude.{ℕ, nat_eq, List, [], ◌∷◌, Option, option_map}
 use Rattle.std.specs.List.{find}
 use Rattle.gate_values.specs.declared.Value.{Value}
@@ -13,12 +13,13 @@ use Rattle.design.specs.inner.Walk.{AreReaders}
 abbrev pub held_settings : Value → List Setting
 held_settings w = record { time = 0; value = w } ∷ []
 
--- The signals of the list are forced one after another, the last of the list first.
+-- The circuit in which the signals of the list are forced one after another, from the last of the
+-- list to the first.
 abbrev pub held_circuit : Circuit → List HeldSignal → Circuit
 held_circuit c [] = c
 held_circuit c (h ∷ earlier) = forced (held_circuit c earlier) h.site h.value
 
--- the value at which a signal is held: that of the first in the list
+-- the value at which a signal is held: that of its first entry
 abbrev pub value_of : List HeldSignal → ℕ → Option Value
 value_of held s = option_map (λ h. h.value) (find (λ h. nat_eq h.site s) held)
 

@@ -1,4 +1,4 @@
--- What only the proofs and the private functions of this crate speak of, beside `KeptDesigns`.
+-- Definitions for proofs and private functions, beside `KeptDesigns`.
 use Rattle.std.specs.Prelude.{◌≡◌, ℕ, ◌<◌, List, [], ◌∷◌, length, map, get_or, AllPairs}
 use Rattle.std.specs.List.{range_with_len}
 use Rattle.bench_reader.specs.Netlists.{Primary, Content, pins_of}
@@ -17,11 +17,11 @@ driver_of row.Input signals delays settings = Input settings
 driver_of (row.Gate kind least) signals delays settings = Gate kind (pins_with signals delays)
 driver_of (row.Flop f) signals delays settings = Flop f
 
--- each setting comes after those before it
+-- each setting is after those before it
 abbrev pub InTimeOrder : List Setting → Type 0
 InTimeOrder settings = AllPairs (λ a b. a.time < b.time) settings
 
--- the parts of a row fit one another
+-- the parts of a row fit each other
 abbrev pub FitsRow : Row → List ℕ → List ℕ → List Setting → Type 0
 FitsRow row.Input signals delays settings = InTimeOrder settings
 FitsRow (row.Gate kind least) signals delays settings = (length delays ≡ length signals) × (least ≡ least_delay (pins_with signals delays))
@@ -58,7 +58,7 @@ pub record IsKeptDesign (k : KeptDesign) : Type 0 where
   pub settings : length k.settings ≡ length k.netlist.names
   pub fits : (s : ℕ) → s < length k.netlist.names → FitsAt k s
 
--- the driver that a view of a row stands for
+-- the driver of a signal with this view
 abbrev pub driver_seen : View → Driver
 driver_seen (view.Input settings) = Input settings.now
 driver_seen (view.Gate kind signals delays least) = Gate kind (pins_with signals.now delays.now)

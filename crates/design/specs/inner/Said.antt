@@ -29,19 +29,19 @@ KnowsClocks rows clocks = (name : List ℕ) → lookup (λ (key : Vec ℕ). byte
 abbrev pub pair_eq : ℕ × ℕ → ℕ × ℕ → Bool
 pair_eq a b = nat_eq a.0 b.0 && nat_eq a.1 b.1
 
--- what these rows say of each signal
+-- what these rows state of each signal
 pub record HasStated (netlist : netlists.Content) (timing : timings.Content) (rows : List TimingRow) (stated : Stated) : Type 0 where
   pub delays : (s : ℕ) → hash.get nat_eq stated.delays s ≡ rows_say netlist rows s delay_said
   pub pins : (s k : ℕ) → hash.get pair_eq stated.pins (s, k) ≡ rows_say netlist rows s (pin_said k)
   pub initials : (s : ℕ) → hash.get nat_eq stated.initials s ≡ rows_say netlist rows s initial_said
   pub clocks : (s : ℕ) → hash.get nat_eq stated.clocks s ≡ rows_say netlist rows s (clock_said timing)
 
--- what comes of one timing row more
+-- the result of one more timing row
 abbrev pub TakesRow : netlists.Content → timings.Content → List TimingRow → TimingRow → Stated → Result (Unit {0}) JoinFault → Type 0
 TakesRow netlist timing before row stated (Ok x) = (timing_fault netlist timing row ≡ None) × HasStated netlist timing (before ++ row ∷ []) stated
 TakesRow netlist timing before row stated (Err fault) = (fault ≡ out_of_memory) ⊎ (timing_fault netlist timing row ≡ Some fault)
 
--- and of all of them
+-- the result of all timing rows
 abbrev pub TakesRows : netlists.Content → timings.Content → Result Stated JoinFault → Type 0
 TakesRows netlist timing (Ok stated) = (first_fault (timing_fault netlist timing) timing.rows ≡ None) × HasStated netlist timing timing.rows stated
 TakesRows netlist timing (Err fault) = (fault ≡ out_of_memory) ⊎ (first_fault (timing_fault netlist timing) timing.rows ≡ Some fault)
@@ -65,12 +65,12 @@ abbrev pub TakesSets : netlists.Content → ℕ → List SetRow → Result (Vec 
 TakesSets netlist horizon rows (Ok buckets) = (first_fault (set_fault netlist horizon) rows ≡ None) × HasSets netlist rows buckets.items
 TakesSets netlist horizon rows (Err fault) = (fault ≡ out_of_memory) ⊎ (first_fault (set_fault netlist horizon) rows ≡ Some fault)
 
--- the least of some delays
+-- the least of these delays
 abbrev pub least_of : List ℕ → ℕ
 least_of [] = 0
 least_of (d ∷ more) = fold min d more
 
--- the delays of the pins of a gate; a flip-flop keeps its own
+-- the delays of the pins of a gate; a flip-flop keeps its own delay
 abbrev pub gate_delays : netlists.Content → timings.Content → ℕ → Bool → Kind → List ℕ → List ℕ
 gate_delays netlist timing s true kind pins = []
 gate_delays netlist timing s false kind pins = pin_delays netlist timing s kind pins

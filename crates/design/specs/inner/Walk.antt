@@ -1,4 +1,4 @@
--- A walk from signal to signal: which signals are marked, which of them lie ahead, and which signals read which.
+-- A walk from signal to signal: which signals are marked, which of them are still to be visited, and which signals read which.
 use Rattle.std.specs.Prelude.{◌≡◌, ℕ, ◌+◌, ◌<◌, Bool, false, not, ◌&&◌, ◌||◌, nat_eq, nat_lt, List, [], length, get_or, count_by, All}
 use Rattle.std.specs.List.{list_any}
 use Rattle.circuit_meaning.specs.Circuit.{Circuit, driver, read_by}
@@ -9,28 +9,28 @@ has signals x = list_any (nat_eq x) signals
 abbrev pub is_marked : List Bool → ℕ → Bool
 is_marked marks x = get_or marks x false
 
--- These signals are marked, and those of them that were not lie ahead.
+-- These signals are marked, and those that were not are to be visited.
 pub record Marks (signals : List ℕ) (marks marks' : List Bool) (ahead ahead' : List ℕ) : Type 0 where
   pub long : length marks' ≡ length marks
   pub marked : (x : ℕ) → is_marked marks' x ≡ (is_marked marks x || has signals x)
   pub waits : (x : ℕ) → has ahead' x ≡ (has ahead x || has signals x && not (is_marked marks x))
   pub fewer : count_by not marks' + length ahead' ≡ count_by not marks + length ahead
 
--- the list that stands at a place
+-- the list at a place
 abbrev pub list_at : List (List ℕ) → ℕ → List ℕ
 list_at lists u = get_or lists u []
 
--- The reader stands also in the lists of these signals.
+-- The reader is added to the lists of these signals.
 pub record AddsReader (reader : ℕ) (reads : List ℕ) (lists lists' : List (List ℕ)) : Type 0 where
   pub long : length lists' ≡ length lists
   pub each : (u x : ℕ) → u < length lists → has (list_at lists' u) x ≡ (has (list_at lists u) x || nat_eq x reader && has reads u)
 
--- Each signal has a list of those of the first n signals that read it.
+-- Each signal has a list of its readers among the first n signals.
 pub record HaveReaders (c : Circuit) (n : ℕ) (lists : List (List ℕ)) : Type 0 where
   pub long : length lists ≡ length c.drivers
   pub each : (u x : ℕ) → u < length c.drivers → has (list_at lists u) x ≡ (nat_lt x n && has (read_by (driver c x)) u)
 
--- and of all signals
+-- each signal has a list of all its readers
 pub record AreReaders (c : Circuit) (lists : List (List ℕ)) : Type 0 where
   pub long : length lists ≡ length c.drivers
   pub each : (u x : ℕ) → u < length c.drivers → has (list_at lists u) x ≡ has (read_by (driver c x)) u

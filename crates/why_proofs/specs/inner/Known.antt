@@ -1,10 +1,12 @@
--- The cells of accepted lines, found by their signals and first times.
-use Rattle.std.specs.Prelude.{◌≡◌, ◌≤◌, Bool, true, false, List, [], ◌∷◌, ◌++◌, Contains, Option, Some, MatchOption}
+-- The cells of accepted lines, found by their signals and first times, and the cells that they answer for.
+use Rattle.std.specs.Prelude.{◌≡◌, ℕ, ◌≤◌, ◌<◌, Bool, true, false, List, [], ◌∷◌, ◌++◌, get_or, Contains, Option, Some, None, IsSome, MatchOption}
 use Rattle.valid_intervals.specs.declared.Cell.{Cell}
 use Rattle.valid_intervals.specs.declared.Point.{Point}
 use Rattle.valid_intervals.specs.declared.SignalCell.{SignalCell}
 use Rattle.circuit_meaning.specs.Circuit.{Circuit, driver}
 use Rattle.circuit_meaning.specs.Cells.{cell_at}
+use Rattle.pin_walks.specs.declared.walk.PinWalk.{PinWalk}
+use Rattle.pin_walks.specs.PinWalks.{looked_at, next_point}
 use Rattle.why_proofs.specs.Justified.{Answers, AreAnswered, IsJustified}
 
 -- where a line's cell stands
@@ -31,6 +33,19 @@ pub record IsStated (lines : List SignalCell) (k : Point) (cell : Cell) : Type 0
 pub record IsIndexOf (lines : List SignalCell) (index : Point → Option Cell) : Type 0 where
   pub has : (x : SignalCell) → Contains lines x → index (place_of x) ≡ Some x.cell
   pub only : (k : Point) (cell : Cell) → index k ≡ Some cell → IsStated lines k cell
+
+-- a source before time 0 needs no answer
+abbrev pub IsKnown : Answers → Option Point → Type 0
+IsKnown a None = Unit {0}
+IsKnown a (Some p) = IsSome (a p.signal p.time)
+
+-- the first n pins that are looked at have answers
+abbrev pub AreKnown : Circuit → Answers → Point → ℕ → Type 0
+AreKnown c a p n = (k : ℕ) → k < n → IsKnown a (get_or (looked_at c p) k None)
+
+-- the next pin is heard exactly where its source has an answer
+abbrev pub Hears : Circuit → Answers → PinWalk → Option PinWalk → Type 0
+Hears c a w result = MatchOption result (IsKnown a (next_point c w) → ⊥) (λ next. IsKnown a (next_point c w))
 
 -- where all children of the point have answers, its cell is answered
 pub record IsRuled (c : Circuit) (a : Answers) (p : Point) (cell : Cell) : Type 0 where

@@ -1,6 +1,7 @@
 use Rattle.std.proofs.Common.{rules, arith, ◌≡◌, ◌<◌, ◌≤◌, length, Some, None}
 use Rattle.std.specs.Prelude.{codes}
-use Rattle.why_proofs.specs.inner.Reading.{after_word, Claim, claim_at, cells_at}
+use Rattle.text_fields.specs.Reading.{after_word}
+use Rattle.why_proofs.specs.inner.Reading.{Claim, claim_at, cells_at}
 use Rattle.why_proofs.proofs.Breaks.{no-claim}
 use Rattle.why_proofs.proofs.Checking.{read-claim, read-cells, few, broken-end, broken-behind, whole, yes-answer, no-answer, true-answer}
 use Rattle.why_proofs.proofs.checker.check_proof.Goals as goal

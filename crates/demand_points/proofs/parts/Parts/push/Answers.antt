@@ -1,6 +1,6 @@
 use Rattle.std.proofs.Common.{◌+◌, List, sym, subst, refl}
 use Rattle.strand_meaning.specs.Strands.{claimed}
-use Rattle.demand_points.specs.declared.frame.Frame.{Frame}
+use Rattle.pin_walks.specs.declared.walk.PinWalk.{PinWalk}
 use Rattle.demand_points.specs.declared.parts.Parts.{Parts}
 use Rattle.demand_points.specs.inner.Demands.{TakesStepTo}
 use Rattle.demand_points.proofs.PartLemmas.{asked, asked-point, claims}
@@ -19,6 +19,6 @@ returns-clause-ok c =
     let d = c.args.design.now.circuit in
     let s = c.args.self.now in
     let p = c.args.p in
-    let at : List Frame → Parts = λ st. record s { stack = st; charged = s.charged + 1 } in
+    let at : List PinWalk → Parts = λ st. record s { stack = st; charged = s.charged + 1 } in
     subst (λ st. TakesStepTo d (λ x. claimed d x p) s (at st)) (sym c.in_ok-push.ensures.ok)
-    (claims d c.facts.ensures.circuit s c.requires.running c.new.result p (s.charged + 1) (asked d c.facts.ensures.circuit s c.requires.running p c.requires.ready c.requires.asks) c.new.ensures.frame c.new.ensures.point c.new.ensures.looked refl)
+    (claims d c.facts.ensures.circuit s c.requires.running c.new.result p (s.charged + 1) (asked d c.facts.ensures.circuit s c.requires.running p c.requires.ready c.requires.asks) c.new.ensures.walk c.new.ensures.point c.new.ensures.looked refl)

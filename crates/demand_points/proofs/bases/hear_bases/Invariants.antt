@@ -1,0 +1,10 @@
+use Rattle.std.proofs.Common.{◌-◌, length}
+use Rattle.pin_walks.specs.PinWalks.{looked_at}
+use Rattle.demand_points.specs.inner.Bases.{HearsBases}
+use Rattle.demand_points.proofs.bases.hear_bases.Given as goal
+
+abbrev pub invariant-looks : goal.invariant-looks
+invariant-looks l = HearsBases l.design.circuit l.fn.walk l.heard
+
+abbrev pub decreases-looks : goal.decreases-looks
+decreases-looks l = length (looked_at l.design.circuit l.heard.point) - l.heard.looked

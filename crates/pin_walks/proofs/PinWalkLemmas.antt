@@ -1,0 +1,303 @@
+-- A walk that looks at its pins one after another comes to the cell of its point.
+use Rattle.std.proofs.Common.{◌≡◌, ℕ, zero, suc, ◌+◌, ◌-◌, ◌<◌, ◌≤◌, ◌||◌, Bool, true, false, IsTrue, List, [], ◌∷◌, ◌++◌, length, map, take, get_or, fold, refl, ap, sym, ◌∙◌, subst, arith, inl, inr, Option, Some, None, IsSome, nat_eq, slice_get, option_map}
+use Rattle.std.specs.List.{AllByRecursion, list_any, range_with_len}
+use Rattle.std.proofs.lemmas.Bool.{cases_Bool, cases_lt}
+use Rattle.std.proofs.lemmas.Bool.Decides.{eqb_tells}
+use Rattle.std.proofs.lemmas.List.{map-append, take_more, take_all, get_or-take}
+use Rattle.std.proofs.lemmas.List.Folds.{list_any-append}
+use Rattle.std.proofs.lemmas.List.Sums.{fold-append}
+use Rattle.std.proofs.lemmas.List.FromFn.{length-map-range_with_len, take-map-range_with_len, get_or-map-range_with_len}
+use Rattle.std.proofs.Math.ListN.{get_or-map, length-map}
+use Rattle.gate_values.specs.declared.Value.{Value}
+use Rattle.gate_values.specs.declared.Evaluation.{Evaluation}
+use Rattle.gate_values.specs.Gates.{gate_value, decides, is_unary, up_to_first}
+use Rattle.valid_intervals.specs.declared.Point.{Point}
+use Rattle.valid_intervals.specs.Spans.{Span, IsIn, from_to, meet, cut_at}
+use Rattle.flip_flops.specs.Edges.{shown_edge}
+use Rattle.circuit_meaning.specs.declared.Pin.{Pin}
+use Rattle.circuit_meaning.specs.Circuit.{Circuit, Driver, Input, Gate, Flop, driver, read_by, IsCircuit, IsDriver}
+use Rattle.circuit_meaning.specs.Forward.{value}
+use Rattle.circuit_meaning.specs.Cells.{span, pin_span, cell_at}
+use Rattle.circuit_meaning.specs.Need.{HasChildren, IsEvaluable}
+use Rattle.circuit_meaning.specs.Looks.{kind_of, pin_point, flop_points, pin_points_at, sees, interval_at, pin_interval, met_interval, no_pin}
+use Rattle.circuit_meaning.proofs.Equations.{driver_fits}
+use Rattle.circuit_meaning.proofs.Steady.{in_meet, pin_span-early, pin_span-late}
+use Rattle.circuit_meaning.proofs.Cover.{cell-covers}
+use Rattle.circuit_meaning.proofs.Looking.{looked-value, cut-take, cut-ends, cut-whole, cut-more}
+use Rattle.valid_intervals.specs.declared.Cell.{Cell}
+use Rattle.design.specs.Pins.{pin_at, heard_of}
+use Rattle.pin_walks.specs.declared.walk.PinWalk.{PinWalk}
+use Rattle.pin_walks.specs.PinWalks.{cell_there, kind_at, all_points, looked_at, next_point, IsPoint, IsPinWalk, IsLooking, LooksOn}
+use Rattle.pin_walks.specs.inner.HeardCells.{value_there, span_there}
+
+pub cut-get : {A : Type 0} (test : A → Bool) (xs : List A) (n : ℕ) (d : A) → n < length (up_to_first test xs) → get_or (up_to_first test xs) n d ≡ get_or xs n d
+cut-get test xs n d h =
+    let same : take (n + 1) (up_to_first test xs) ≡ take (n + 1) xs = cut-take test xs (n + 1) (omega arith) in
+    sym (get_or-take (n + 1) (up_to_first test xs) n d (omega arith)) ∙ ap (λ l. get_or l n d) same ∙ get_or-take (n + 1) xs n d (omega arith)
+
+-- the numbers of sources and of pins
+pub sources-count : (t : ℕ) (d : Driver) → HasChildren t d → length (pin_points_at t d) ≡ length (read_by d)
+sources-count t (Input settings) h = absurd h
+sources-count t (Gate kind pins) h = length-map pins (pin_point t) ∙ sym (length-map pins (λ p. p.signal))
+sources-count t (Flop f) h = go (shown_edge f.clock f.delay t) h
+  where
+    go : (o : Option ℕ) → IsSome o → length (flop_points f.pin o) ≡ 1
+    go None h = absurd (cc h)
+    go (Some e) h = refl
+
+unary-sources : (n h t : ℕ) (d : Driver) → IsDriver n h d → IsTrue (is_unary (kind_of d)) → length (pin_points_at t d) ≤ 1
+unary-sources n h t (Input settings) ok u = omega arith
+unary-sources n h t (Gate kind pins) ok u = let e = ok.one u in let l = length-map pins (pin_point t) in omega arith
+unary-sources n h t (Flop f) ok u = go (shown_edge f.clock f.delay t)
+  where
+    go : (o : Option ℕ) → length (flop_points f.pin o) ≤ 1
+    go None = omega arith
+    go (Some e) = omega arith
+
+some-pin : (n h t : ℕ) (d : Driver) → IsDriver n h d → HasChildren t d → 1 ≤ length (pin_points_at t d)
+some-pin n h t (Input settings) ok e = absurd e
+some-pin n h t (Gate kind pins) ok e = let l = length-map pins (pin_point t) in let k = ok.some in omega arith
+some-pin n h t (Flop f) ok e = let k = sources-count t (Flop f) e in omega arith
+
+few-pins : (n h : ℕ) (d : Driver) → IsDriver n h d → length (read_by d) ≤ 64
+few-pins n h (Input settings) ok = omega arith
+few-pins n h (Gate kind pins) ok = let l = length-map pins (λ p. p.signal) in let k = ok.few in omega arith
+few-pins n h (Flop f) ok = omega arith
+
+reads-within : (n h : ℕ) (d : Driver) (k : ℕ) → IsDriver n h d → k < length (read_by d) → get_or (read_by d) k 0 < n
+reads-within n h (Input settings) k ok below = absurd (omega arith)
+reads-within n h (Gate kind pins) k ok below =
+    let l = length-map pins (λ p. p.signal) in
+    let at : get_or (map (λ p. p.signal) pins) k 0 ≡ (get_or pins k no_pin).signal = get_or-map (λ p. p.signal) pins k no_pin in
+    let fits : (get_or pins k no_pin).signal < n = ok.signal k no_pin (omega arith) in
+    omega arith
+reads-within n h (Flop f) zero ok below = ok.pin
+reads-within n h (Flop f) (suc k) ok below = absurd (omega arith)
+
+apart-below : (a b n : ℕ) → a ≤ b → b ≡ n → (a ≡ n → ⊥) → a < b
+apart-below a b n le e ne = elim (cases_lt a b) [ inl l ↦ l | inr l ↦ absurd (ne (omega arith)) ]
+
+below-not : (a b : ℕ) → a < b → a ≡ b → ⊥
+below-not a b l e = omega arith
+
+eqb_is : (a b : ℕ) → a ≡ b → nat_eq a b ≡ true
+eqb_is a b e = elim (eqb_tells a b) [ inl t ↦ t.0 | inr t ↦ absurd (t.1 e) ]
+
+eqb_not : (a b : ℕ) → (a ≡ b → ⊥) → nat_eq a b ≡ false
+eqb_not a b ne = elim (eqb_tells a b) [ inl t ↦ absurd (ne t.1) | inr t ↦ t.0 ]
+
+get-is : {A : Type 0} (xs : List A) (n : ℕ) (d y : A) → slice_get xs n ≡ Some y → get_or xs n d ≡ y
+get-is [] n d y e = absurd (cc e)
+get-is (x ∷ xs) zero d y e = cc
+get-is (x ∷ xs) (suc n) d y e = get-is xs n d y e
+
+-- what is heard of a source is what is seen there
+pub heard-value : (c : Circuit) (o : Option Point) (h : Option Cell) → h ≡ cell_there c o → value_there h ≡ sees c o
+heard-value c None h e = rw e refl
+heard-value c (Some p) h e = rw e refl
+
+pub heard-span : (c : Circuit) (o : Option Point) (h : Option Cell) → h ≡ cell_there c o → span_there h ≡ option_map (λ p. span c p.signal p.time) o
+heard-span c None h e = rw e refl
+heard-span c (Some p) h e = rw e refl
+
+take-none : {A : Type 0} (xs : List A) → take 0 xs ≡ []
+take-none [] = refl
+take-none (x ∷ xs) = refl
+
+or-last : (a b : Bool) → a ≡ false → (a || (b || false)) ≡ b
+or-last true b h = absurd (cc h)
+or-last false true h = refl
+or-last false false h = refl
+
+-- one number more
+range-more : {A : Type 0} (f : ℕ → A) (n : ℕ) → map f (range_with_len 0 (n + 1)) ≡ map f (range_with_len 0 n) ++ f n ∷ []
+range-more f n =
+    let ys = map f (range_with_len 0 (n + 1)) in
+    let count : length ys ≡ n + 1 = length-map-range_with_len f 0 (n + 1) in
+    let last : get_or ys n (f n) ≡ f n = get_or-map-range_with_len f 0 (n + 1) n n (f n) (omega arith) (omega arith) in
+    sym (take_all (n + 1) ys (omega arith)) ∙ take_more ys n (f n) (omega arith)
+    ∙ ap (λ l. l ++ get_or ys n (f n) ∷ []) (take-map-range_with_len f 0 (n + 1) n (omega arith)) ∙ ap (λ y. map f (range_with_len 0 n) ++ y ∷ []) last
+
+pub met-more : (c : Circuit) (s t n : ℕ) → met_interval c s t (n + 1) ≡ meet (met_interval c s t n) (pin_interval c s t n)
+met-more c s t n = ap (fold meet (from_to 0 2000002)) (range-more (pin_interval c s t) n) ∙ fold-append meet (from_to 0 2000002) (map (pin_interval c s t) (range_with_len 0 n)) (pin_interval c s t n ∷ [])
+
+module _ (c : Circuit) (ok : IsCircuit c) (s t : ℕ) (within : t ≤ c.horizon) where
+  gate-has : (pins : List Pin) (k : ℕ) → IsIn (cut_at (c.horizon + 1) (pin_span (span c) t (get_or pins k no_pin))) t
+  gate-has pins k =
+      let p = get_or pins k no_pin in
+      elim (cases_lt t p.delay) [
+        | inl l ↦ rw (pin_span-early (span c) t p l) (record { low = omega arith; high = omega arith })
+        | inr l ↦
+            let inside : IsIn (span c p.signal (t - p.delay)) (t - p.delay) = (cell-covers c ok (t - p.delay) p.signal (omega arith)).inside in
+            let low = inside.low in
+            let high = inside.high in
+            rw (pin_span-late (span c) t p l) (record { low = omega arith; high = omega arith })
+      ]
+
+  at-has : (d : Driver) (k : ℕ) → IsIn (interval_at c s t d k) t
+  at-has (Input settings) k = (cell-covers c ok t s within).inside
+  at-has (Gate kind pins) k = gate-has pins k
+  at-has (Flop f) k = (cell-covers c ok t s within).inside
+
+  -- the interval of each pin has the time
+  pub interval-has : (k : ℕ) → IsIn (pin_interval c s t k) t
+  interval-has k = at-has (driver c s) k
+
+  all-have : (ks : List ℕ) → AllByRecursion (λ x. IsIn x t) (map (pin_interval c s t) ks)
+  all-have [] = tt
+  all-have (k ∷ ks) = (interval-has k, all-have ks)
+
+  pub met-has : (n : ℕ) → t < 2000002 → IsIn (met_interval c s t n) t
+  met-has n small = in_meet (from_to 0 2000002) (map (pin_interval c s t) (range_with_len 0 n)) t (record { low = omega arith; high = small }) (all-have (range_with_len 0 n))
+
+module _ (c : Circuit) (ok : IsCircuit c) (f : PinWalk) (is : IsPinWalk c f) where
+  none-decides : IsLooking c f → list_any (λ o. decides (kind_at c f.point) (sees c o)) (take f.looked (all_points c f.point)) ≡ false
+  none-decides looking =
+      let test : Option Point → Bool = λ o. decides (kind_at c f.point) (sees c o) in
+      elim (cases_Bool (list_any test (take f.looked (all_points c f.point)))) [
+        | inl t ↦ let e : f.looked ≡ length (looked_at c f.point) = cut-ends test (all_points c f.point) f.looked is.looked t in absurd (omega arith)
+        | inr h ↦ h
+      ]
+
+  pub looking-below : IsLooking c f → f.looked < length (all_points c f.point)
+  looking-below looking = let k = cut-whole (λ o. decides (kind_at c f.point) (sees c o)) (all_points c f.point) in omega arith
+
+  -- the next source, among all sources
+  pub next-among : IsLooking c f → next_point c f ≡ get_or (all_points c f.point) f.looked None
+  next-among looking = cut-get (λ o. decides (kind_at c f.point) (sees c o)) (all_points c f.point) f.looked None looking
+
+  -- a unary gate has looked at nothing before its one pin
+  pub unary-first : IsLooking c f → IsTrue (is_unary f.evaluation.kind) → map (sees c) (take f.looked (all_points c f.point)) ≡ []
+  unary-first looking u =
+      let few : length (all_points c f.point) ≤ 1 = unary-sources (length c.drivers) c.horizon f.point.time (driver c f.point.signal) (driver_fits c ok f.point.signal) (subst (λ k. IsTrue (is_unary k)) is.kind u) in
+      let below = looking-below looking in
+      let zero : f.looked ≡ 0 = omega arith in
+      rw zero (ap (map (sees c)) (take-none (all_points c f.point)))
+
+  -- one pin more
+  pub looks-on : IsLooking c f → (e : Evaluation) (v : Value) (x : Span) → v ≡ sees c (next_point c f) → e.kind ≡ f.evaluation.kind
+      → e.value ≡ gate_value e.kind (map (sees c) (take f.looked (all_points c f.point)) ++ v ∷ []) → x ≡ meet f.interval (pin_interval c f.point.signal f.point.time f.looked)
+      → LooksOn c f (record { point = f.point; looked = f.looked + 1; interval = x; evaluation = e; decided = decides f.evaluation.kind v })
+  looks-on looking e v x seen kind value met =
+      let xs = all_points c f.point in
+      let n = f.looked in
+      let K = kind_at c f.point in
+      let test : Option Point → Bool = λ o. decides K (sees c o) in
+      let o = get_or xs n None in
+      let more : take (n + 1) xs ≡ take n xs ++ o ∷ [] = take_more xs n None (looking-below looking) in
+      let same : v ≡ sees c o = seen ∙ ap (sees c) (next-among looking) in
+      let kinds : e.kind ≡ K = kind ∙ is.kind in
+      let values : map (sees c) (take (n + 1) xs) ≡ map (sees c) (take n xs) ++ v ∷ [] =
+      ap (map (sees c)) more ∙ map-append (sees c) (take n xs) (o ∷ []) ∙ ap (λ y. map (sees c) (take n xs) ++ y ∷ []) (sym same) in
+      let tests : list_any test (take (n + 1) xs) ≡ decides f.evaluation.kind v =
+      ap (list_any test) more ∙ list_any-append test (take n xs) (o ∷ []) ∙ or-last (list_any test (take n xs)) (test o) (none-decides looking)
+      ∙ ap (λ y. decides K y) (sym same) ∙ ap (λ k. decides k v) (sym is.kind) in
+      record {
+        walk = record {
+          point = is.point;
+          evaluable = is.evaluable;
+          looked = omega arith;
+          kind = kinds;
+          value = value ∙ ap (λ k. gate_value k (map (sees c) (take n xs) ++ v ∷ [])) kinds ∙ ap (gate_value K) (sym values);
+          decided = sym tests;
+          interval = met ∙ ap (λ a. meet a (pin_interval c f.point.signal f.point.time n)) is.interval ∙ sym (met-more c f.point.signal f.point.time n);
+        };
+        point = refl;
+        looked = refl;
+      }
+
+  -- it has looked at all that it looks at exactly where one has decided or none is left
+  pub ends-here : f.decided ≡ true → f.looked ≡ length (looked_at c f.point)
+  ends-here h = cut-ends (λ o. decides (kind_at c f.point) (sees c o)) (all_points c f.point) f.looked is.looked (sym is.decided ∙ h)
+
+  pub ends-last : f.looked ≡ length (all_points c f.point) → f.looked ≡ length (looked_at c f.point)
+  ends-last h = let k = cut-whole (λ o. decides (kind_at c f.point) (sees c o)) (all_points c f.point) in let l = is.looked in omega arith
+
+  pub goes-on : f.decided ≡ false → f.looked < length (all_points c f.point) → IsLooking c f
+  goes-on h below = cut-more (λ o. decides (kind_at c f.point) (sees c o)) (all_points c f.point) f.looked below (sym is.decided ∙ h)
+
+  -- then it has the value of its point
+  pub done-value : f.looked ≡ length (looked_at c f.point) → f.evaluation.value ≡ value c f.point.signal f.point.time
+  done-value h =
+      let test : Option Point → Bool = λ o. decides (kind_at c f.point) (sees c o) in
+      let all : take f.looked (all_points c f.point) ≡ looked_at c f.point =
+      sym (cut-take test (all_points c f.point) f.looked is.looked) ∙ take_all f.looked (looked_at c f.point) (omega arith) in
+      is.value ∙ ap (λ xs. gate_value (kind_at c f.point) (map (sees c) xs)) all ∙ looked-value c f.point.signal f.point.time ok is.evaluable
+
+  -- the next pin is a pin of the point
+  pub pin-below : IsLooking c f → f.looked < length (read_by (driver c f.point.signal))
+  pin-below looking = let k = looking-below looking in let e = sources-count f.point.time (driver c f.point.signal) is.evaluable in omega arith
+
+  pub few-looked : IsLooking c f → f.looked < 64
+  few-looked looking = let k = pin-below looking in let l = few-pins (length c.drivers) c.horizon (driver c f.point.signal) (driver_fits c ok f.point.signal) in omega arith
+
+  -- what the next pin reads
+  pub next-read : IsLooking c f → (o : Option ℕ) → slice_get (all_points c f.point) f.looked ≡ Some (option_map (pin_at c f.point.signal f.looked) o) → option_map (pin_at c f.point.signal f.looked) o ≡ next_point c f
+  next-read looking o e = sym (get-is (all_points c f.point) f.looked None (option_map (pin_at c f.point.signal f.looked) o) e) ∙ sym (next-among looking)
+
+  pub read-within : IsLooking c f → get_or (read_by (driver c f.point.signal)) f.looked 0 < length c.drivers
+  read-within looking = reads-within (length c.drivers) c.horizon (driver c f.point.signal) f.looked (driver_fits c ok f.point.signal) (pin-below looking)
+
+  -- the intervals share the time of the point
+  pub shares : c.horizon ≤ 1000000 → IsIn (meet f.interval (pin_interval c f.point.signal f.point.time f.looked)) f.point.time
+  shares small =
+      let t = f.point.time in
+      let within = is.point.time in
+      let a : IsIn f.interval t = subst (λ x. IsIn x t) (sym is.interval) (met-has c ok f.point.signal t within f.looked (omega arith)) in
+      let b : IsIn (pin_interval c f.point.signal t f.looked) t = interval-has c ok f.point.signal t within f.looked in
+      let al = a.low in let ah = a.high in let bl = b.low in let bh = b.high in
+      record { low = omega arith; high = omega arith }
+
+  pub done-first : f.decided ≡ true → f.decided ≡ nat_eq f.looked (length (looked_at c f.point))
+  done-first h = h ∙ sym (eqb_is f.looked (length (looked_at c f.point)) (ends-here h))
+
+  pub done-last : f.decided ≡ false → (n : ℕ) → n ≡ length (read_by (driver c f.point.signal)) → nat_eq f.looked n ≡ nat_eq f.looked (length (looked_at c f.point))
+  done-last h n e =
+      let count : length (all_points c f.point) ≡ n = sources-count f.point.time (driver c f.point.signal) is.evaluable ∙ sym e in
+      elim (eqb_tells f.looked n) [
+        | inl t ↦ t.0 ∙ sym (eqb_is f.looked (length (looked_at c f.point)) (ends-last (t.1 ∙ sym count)))
+        | inr t ↦
+            let l = cut-whole (λ o. decides (kind_at c f.point) (sees c o)) (all_points c f.point) in
+            let m = is.looked in
+            let below : f.looked < length (all_points c f.point) = apart-below f.looked (length (all_points c f.point)) n (omega arith) count t.1 in
+            t.0 ∙ sym (eqb_not f.looked (length (looked_at c f.point)) (below-not f.looked (length (looked_at c f.point)) (goes-on h below)))
+      ]
+
+  -- the point that is read
+  pub read-is : IsLooking c f → (xs : List ℕ) (t : ℕ) → xs ≡ read_by (driver c f.point.signal) → slice_get (all_points c f.point) f.looked ≡ Some (option_map (pin_at c f.point.signal f.looked) (Some t))
+      → Some (record { signal = get_or xs f.looked 0; time = t }) ≡ next_point c f
+  read-is looking xs t e k = let at : ℕ → Option Point = λ s. Some (record { signal = s; time = t }) in ap (λ l. at (get_or l f.looked 0)) e ∙ next-read looking (Some t) k
+
+  pub read-point : IsLooking c f → (xs : List ℕ) (t : ℕ) → xs ≡ read_by (driver c f.point.signal) → t < f.point.time → IsPoint c (record { signal = get_or xs f.looked 0; time = t })
+  read-point looking xs t e early =
+      let within = is.point.time in
+      record { signal = subst (λ l. get_or l f.looked 0 < length c.drivers) (sym e) (read-within looking); time = omega arith }
+
+  pub heard-there : IsLooking c f → (h : Option Cell) → h ≡ cell_there c (next_point c f) → span_there h ≡ heard_of c f.point.signal f.point.time f.looked
+  heard-there looking h e = heard-span c (next_point c f) h e ∙ ap (option_map (λ p. span c p.signal p.time)) (next-among looking)
+
+  pub some-time : c.horizon ≤ 1000000 → (x : Span) → x ≡ pin_interval c f.point.signal f.point.time f.looked → (meet f.interval x).start < (meet f.interval x).stop
+  some-time small x e = let h = shares small in let low = h.low in let high = h.high in subst (λ y. (meet f.interval y).start < (meet f.interval y).stop) (sym e) (omega arith)
+
+  -- what was seen with the value that is seen now
+  pub sees-more : IsLooking c f → (e : Evaluation) (v : Value) → ((seen : List Value) → (IsTrue (is_unary f.evaluation.kind) → seen ≡ []) → f.evaluation.value ≡ gate_value f.evaluation.kind seen → e.value ≡ gate_value e.kind (seen ++ v ∷ []))
+      → e.value ≡ gate_value e.kind (map (sees c) (take f.looked (all_points c f.point)) ++ v ∷ [])
+  sees-more looking e v h = let seen = map (sees c) (take f.looked (all_points c f.point)) in h seen (unary-first looking) (is.value ∙ ap (λ k. gate_value k seen) (sym is.kind))
+
+  pub done-cell : f.looked ≡ length (looked_at c f.point) → (a : Span) → a ≡ span c f.point.signal f.point.time → ◌≡◌ {A = Cell} (record { span = a; value = f.evaluation.value }) (cell_at c f.point)
+  done-cell h a e = let at : Span → Value → Cell = λ x v. record { span = x; value = v } in ap (λ x. at x f.evaluation.value) e ∙ ap (at (span c f.point.signal f.point.time)) (done-value h)
+
+-- a walk that has looked at nothing
+pub new-walk : (c : Circuit) (p : Point) (e : Evaluation) → IsPoint c p → IsEvaluable c p.signal p.time → e.kind ≡ kind_at c p → e.value ≡ gate_value e.kind []
+    → IsPinWalk c (record { point = p; looked = 0; interval = from_to 0 2000002; evaluation = e; decided = false })
+new-walk c p e here evaluable kind value =
+    let none : take 0 (all_points c p) ≡ [] = take-none (all_points c p) in
+    record {
+      point = here;
+      evaluable = evaluable;
+      looked = omega arith;
+      kind = kind;
+      value = value ∙ ap (λ k. gate_value k []) kind ∙ ap (λ xs. gate_value (kind_at c p) (map (sees c) xs)) (sym none);
+      decided = ap (list_any (λ o. decides (kind_at c p) (sees c o))) (sym none);
+      interval = refl;
+    }

@@ -1,0 +1,2 @@
+pub mod PinWalks
+pub mod inner

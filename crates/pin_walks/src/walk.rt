@@ -1,0 +1,151 @@
+//! A point whose pins are being looked at, one after another.
+
+ghost use Rattle.std.specs.Prelude.{◌≡◌, ◌<◌, length, nat_eq, IfSome};
+ghost use Rattle.valid_intervals.specs.Spans as spans;
+ghost use Rattle.valid_intervals.specs.Spans.{from_to};
+ghost use Rattle.circuit_meaning.specs.Need.{IsEvaluable};
+ghost use Rattle.circuit_meaning.specs.Cells.{cell_at};
+ghost use Rattle.pin_walks.specs.PinWalks.{IsPoint, IsPinWalk, IsLooking, LooksOn, looked_at, next_point, cell_there};
+ghost use Rattle.pin_walks.specs.inner.HeardCells.{span_there, value_there};
+
+use design::Design;
+use gate_values::{Evaluation, Value};
+use valid_intervals::{Cell, LATEST, Point, Span};
+
+/// A point, how many of its pins were looked at, and what these come to: the times that their intervals have in common, their
+/// value, and whether the last of them has decided.
+#[derive(Clone, Copy)]
+pub struct PinWalk {
+    pub point: Point,
+    pub looked: u32,
+    pub interval: Span,
+    pub evaluation: Evaluation,
+    pub decided: bool,
+}
+
+/// Every time.
+fn always() -> Span
+    ensures { result ≡ from_to 0 2000002 }
+{
+    match Span::new(0, LATEST) {
+        Some(span) => span,
+        None => unreachable!(),
+    }
+}
+
+/// The times that both have, which share one.
+fn common(a: Span, b: Span) -> Span
+    requires { (spans.meet a b).start < (spans.meet a b).stop }
+    ensures { result ≡ spans.meet a b }
+{
+    match a.meet(b) {
+        Some(span) => span,
+        None => unreachable!(),
+    }
+}
+
+/// The interval of what was heard.
+fn span_there(heard: &Option<Cell>) -> Option<Span>
+    ensures { result ≡ span_there heard.now }
+{
+    match heard {
+        Some(cell) => Some(cell.span),
+        None => None,
+    }
+}
+
+/// The value of what was heard; before time 0 it is x.
+fn value_there(heard: &Option<Cell>) -> Value
+    ensures { result ≡ value_there heard.now }
+{
+    match heard {
+        Some(cell) => cell.value,
+        None => Value::X,
+    }
+}
+
+impl PinWalk {
+    /// Nothing is looked at yet.
+    pub fn new(design: &Design, point: Point) -> PinWalk
+        requires point { IsPoint design.now.circuit point }
+        requires evaluable { IsEvaluable design.now.circuit point.signal point.time }
+        ensures walk { IsPinWalk design.now.circuit result }
+        ensures point { result.point ≡ point }
+        ensures looked { result.looked ≡ 0 }
+    {
+        design.facts();
+        let (kind, _) = design.gate_of(point.signal);
+        PinWalk {
+            point,
+            looked: 0,
+            interval: always(),
+            evaluation: Evaluation::new(kind),
+            decided: false,
+        }
+    }
+
+    /// Whether the look is over: one pin has decided, or none is left.
+    pub fn is_done(&self, design: &Design) -> bool
+        requires { IsPinWalk design.now.circuit self.now }
+        ensures { result ≡ nat_eq self.now.looked
+            (length (looked_at design.now.circuit self.now.point)) }
+    {
+        design.facts();
+        let (_, pins) = design.gate_of(self.point.signal);
+        self.decided || self.looked as usize == pins.len()
+    }
+
+    /// The point that the next pin reads; none where that is before time 0.
+    pub fn next_source(&self, design: &Design) -> Option<Point>
+        requires walk { IsPinWalk design.now.circuit self.now }
+        requires looking { IsLooking design.now.circuit self.now }
+        ensures source { result ≡ next_point design.now.circuit self.now }
+        ensures point { IfSome result (IsPoint design.now.circuit) }
+    {
+        design.facts();
+        let time = design.child_time(self.point.signal, self.point.time, self.looked)?;
+        let (_, pins) = design.gate_of(self.point.signal);
+        Some(Point {
+            signal: pins[self.looked as usize],
+            time,
+        })
+    }
+
+    /// The walk after it has looked at the next pin, whose cell is heard; before time 0 there is none.
+    pub fn see(&self, design: &Design, heard: Option<Cell>) -> PinWalk
+        requires walk { IsPinWalk design.now.circuit self.now }
+        requires looking { IsLooking design.now.circuit self.now }
+        requires heard { heard ≡ cell_there design.now.circuit
+            (next_point design.now.circuit self.now) }
+        ensures { LooksOn design.now.circuit self.now result }
+    {
+        design.facts();
+        let value = value_there(&heard);
+        let interval = design.pin_span(
+            self.point.signal,
+            self.point.time,
+            self.looked,
+            span_there(&heard),
+        );
+        PinWalk {
+            point: self.point,
+            looked: self.looked + 1,
+            interval: common(self.interval, interval),
+            evaluation: self.evaluation.see(value),
+            decided: self.evaluation.kind.decides(value),
+        }
+    }
+
+    /// The cell of the point, once the look is over.
+    pub fn cell(&self, design: &Design) -> Cell
+        requires walk { IsPinWalk design.now.circuit self.now }
+        requires done { self.now.looked ≡ length (looked_at design.now.circuit self.now.point) }
+        ensures { result ≡ cell_at design.now.circuit self.now.point }
+    {
+        design.facts();
+        Cell {
+            span: design.span_over(self.point.signal, self.point.time, self.interval),
+            value: self.evaluation.value,
+        }
+    }
+}
