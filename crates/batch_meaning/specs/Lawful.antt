@@ -1,11 +1,11 @@
--- What a batch has to be, and what its strands may serve.
+-- What a batch has to be, and which queries its strands may serve.
 use Rattle.std.specs.Prelude.{◌≡◌, ◌≢◌, ◌+◌, ◌≤◌, ◌<◌, ◌⊎◌, length, All, AllPairs, Contains, None}
 use Rattle.valid_intervals.specs.declared.Point.{Point}
 use Rattle.circuit_meaning.specs.Circuit.{IsCircuit}
 use Rattle.batch_meaning.specs.declared.Query.{Query}
 use Rattle.batch_meaning.specs.Batches.{Batch, IsNeededBy}
 
--- A lawful batch: its queries have numbers of their own, ask signals of the circuit, and end with the horizon.
+-- A lawful batch: its queries have different numbers, ask for signals of the circuit, and end no later than the horizon.
 pub record IsLawful (b : Batch) : Type 0 where
   pub circuit : IsCircuit b.circuit
   pub horizon : b.circuit.horizon ≤ 1000000
@@ -29,6 +29,6 @@ pub record IsSubQuery (b : Batch) (q : Query) : Type 0 where
   pub within : q.to ≤ b.circuit.horizon + 1
   pub needed : IsNeededBy b of (start_of q)
 
--- What strands of the batch serve: its queries, and queries for one point that these need. Where a signal is forced, only the latter.
+-- The queries that strands of the batch serve: its queries, and queries for one point that these need. With a site, only the latter.
 abbrev pub IsQueryOf : Batch → Query → Type 0
 IsQueryOf b q = ((b.site ≡ None) × Contains b.queries q) ⊎ IsSubQuery b q

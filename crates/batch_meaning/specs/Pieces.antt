@@ -8,7 +8,7 @@ use Rattle.batch_meaning.specs.declared.Query.{Query}
 use Rattle.batch_meaning.specs.Batches.{Batch, window_of}
 use Rattle.batch_meaning.specs.Lawful.{IsQueryOf}
 
--- what a strand is started with: the times of its query's window from start on and below stop, and what it may charge
+-- the start of a strand: the times [start, stop) of its query's window, and what it may charge
 pub record Start : Type 0 where
   pub query : Query
   pub start : ℕ
@@ -33,7 +33,7 @@ span_at t u = record { start = t; stop = u }
 abbrev pub next_cut : ℕ → ℕ
 next_cut t = (t / 65536 + 1) * 65536
 
--- from t on and below stop, in at most n cuts
+-- the pieces of [t, stop), in at most n cuts
 abbrev pub cuts : ℕ → ℕ → ℕ → List Span
 cuts zero t stop = span_at t stop ∷ []
 cuts (suc n) t stop = if nat_lt (next_cut t) stop then span_at t (next_cut t) ∷ cuts n (next_cut t) stop else span_at t stop ∷ []
@@ -41,12 +41,12 @@ cuts (suc n) t stop = if nat_lt (next_cut t) stop then span_at t (next_cut t) �
 abbrev pub spans_of : Query → List Span
 spans_of q = cuts (q.to / 65536 + 1) q.from q.to
 
--- the first has one budget, the others another
+-- the first piece has one budget, the others another
 abbrev pub starts_of : Query → ℕ → ℕ → List Span → List Start
 starts_of q first each [] = []
 starts_of q first each (w ∷ ws) = record { query = q; start = w.start; stop = w.stop; budget = first; charged = 0 } ∷ starts_of q each each ws
 
--- each piece has an equal part of the budget, and the first also what remains
+-- each piece has an equal part of the budget, and the first also the remainder
 abbrev pub pieces : Query → List Start
 pieces q = let m = length (spans_of q) in starts_of q (q.budget / m + q.budget % m) (q.budget / m) (spans_of q)
 
@@ -63,6 +63,6 @@ PiecesAreStarts = (b : Batch) → b.site ≡ None → (q : Query) → Contains b
 abbrev pub PiecesFollow : Type 0
 PiecesFollow = (q : Query) → IsJoined q.from (pieces q) q.to
 
--- and share the budget
+-- the pieces share the budget
 abbrev pub PiecesShare : Type 0
 PiecesShare = (q : Query) → sum_by (λ a. a.budget) (pieces q) ≡ q.budget

@@ -1,11 +1,11 @@
--- What a bounded store holds: cells of signals, the most recently used first.
+-- The content of a bounded store: cells of signals, the most recently used first.
 use Rattle.std.specs.Prelude.{◌≡◌, ℕ, ◌-◌, ◌==◌, Bool, true, not, ◌&&◌, ◌⊎◌, ⊤, List, [], ◌∷◌, length, All, Option, option_map, if◌then◌else◌}
 use Rattle.valid_intervals.specs.declared.Point.{Point}
 use Rattle.valid_intervals.specs.declared.SignalCell.{SignalCell}
 use Rattle.valid_intervals.specs.Cells.{same_stored, covers, is_stored, last_cell, to_front, all_but_last}
 use Rattle.cell_store.specs.declared.Key.{Key}
 
--- how many cells there may be, and the cells
+-- the greatest number of cells, and the cells
 pub record Contents : Type 0 where
   pub capacity : ℕ
   pub cells : List SignalCell
@@ -29,11 +29,11 @@ abbrev pub AreApart : List SignalCell → Type 0
 AreApart [] = ⊤
 AreApart (x ∷ cells) = All (IsApart x) cells × AreApart cells
 
--- each of the cells is x, or apart from it
+-- each of the cells is x, or has no point in common with x
 abbrev pub FitsStore : SignalCell → List SignalCell → Type 0
 FitsStore x cells = All (λ y. (same_stored x y ≡ true) ⊎ IsApart x y) cells
 
--- whether x comes to a store that has no place left for it
+-- whether putting x evicts a cell
 abbrev pub pushes_out : SignalCell → Contents → Bool
 pushes_out x s = not (is_stored x s.cells) && (length s.cells == s.capacity)
 
@@ -41,6 +41,6 @@ pushes_out x s = not (is_stored x s.cells) && (length s.cells == s.capacity)
 abbrev pub last_key : List SignalCell → Option Key
 last_key cells = option_map key_of (last_cell cells)
 
--- the store once x has come to it
+-- the store after x was put into it
 abbrev pub after_put : Contents → SignalCell → Contents
 after_put s x = with_cells s (to_front x (if pushes_out x s then all_but_last s.cells else s.cells))

@@ -1,19 +1,18 @@
 //! The bounded store of a memo's shard: cells of signals, the most recently used first.
 //!
-//! A [`CellStore`] holds at most as many cells as its capacity. No two of its cells cover one point, so a point is
-//! covered by one stored cell or by none. [`CellStore::find`] answers that cell and makes it the most recently used;
-//! [`CellStore::covers`] only asks. [`CellStore::put`] stores a cell in front, and where the store is full the least
-//! recently used cell goes; [`Put`] tells which one. [`CellStore::trim`] takes cells off the end until few enough are left.
+//! A [`CellStore`] holds at most as many cells as its capacity. No two of its cells cover one point. [`CellStore::find`]
+//! returns the cell that covers a point, and makes it the most recently used. [`CellStore::covers`] only asks.
+//! [`CellStore::put`] stores a cell in front. A new cell in a full store evicts the least recently used one, which [`Put`]
+//! names. [`CellStore::trim`] removes cells from the end until few enough are left.
 //!
-//! Contracts see a store as its capacity and the list of its cells (`specs/Recency.antt`), and each call says exactly
-//! which list it leaves. They do not say how a cell is found: inside, the kit's `lru` cache keeps the cells by their
-//! [`Key`], and an ordered index beside it has the end of each cell, so that the only cell that can cover a point is the
-//! last of its signal that begins no later. The cell in front is tried before the index is. A call that is refused memory
-//! leaves the store as it was; `find` and `covers` take none.
+//! The model of a store is its capacity and the list of its cells (`specs/Recency.antt`). Contracts say exactly which list
+//! a call leaves. Inside, the kit's `lru` cache keeps the cells by their [`Key`], and an ordered index has the end of each
+//! cell. Of the cells of a signal that begin no later than a point, only the last can cover it. The cell in front is tried
+//! before the index. A call that fails for lack of memory leaves the store as it was. `find` and `covers` do not allocate.
 //!
-//! With n cells, `find`, `covers` and `put` take O(log n) steps, but a `find` of the most recently used cell a constant
-//! number, as `len` and `capacity` do. `trim` takes O(log n) for each cell that it removes. Memory is taken as cells come,
-//! about 100 bytes a cell.
+//! With n cells, `find`, `covers` and `put` take O(log n) steps. `len`, `capacity`, and a `find` of the most recently used
+//! cell take constant time. `trim` takes O(log n) steps for each cell that it removes. The store allocates about 100 bytes
+//! a cell, as cells come.
 //!
 //! ```text
 //! let mut store = CellStore::new(alloc, 3)?;
@@ -37,7 +36,7 @@ pub struct Key {
 /// What a [`CellStore::put`] did.
 #[derive(Clone, Copy, Debug, PartialEq, Eq)]
 pub struct Put {
-    /// The cell that had to go.
+    /// The evicted cell.
     pub evicted: Option<Key>,
     /// Whether the cell that was put was not stored before.
     pub fresh: bool,

@@ -21,7 +21,7 @@ use valid_intervals::{Cell, Point, SignalCell};
 /// The greatest capacity of a store.
 pub const MOST_CELLS: u32 = 65_536;
 
-/// Cells of signals, the most recently used first, at most as many as its capacity. No two of a signal have a time in common.
+/// Cells of signals, the most recently used first, at most as many as the capacity. Two cells of a signal have no common time.
 #[derive(Drop)]
 pub struct CellStore {
     cache: LruCache<Key, Cell>,
@@ -41,7 +41,7 @@ impl Model for CellStore {
 }
 
 impl CellStore {
-    /// An empty store. `capacity` is how many cells it may hold.
+    /// An empty store with room for `capacity` cells.
     pub fn new(alloc: Global, capacity: u32) -> Result<CellStore, OutOfMemory>
         requires some { 0 < capacity }
         requires most { capacity ≤ MOST_CELLS }
@@ -54,7 +54,7 @@ impl CellStore {
         })
     }
 
-    /// How many cells it holds.
+    /// The number of stored cells.
     pub fn len(&self) -> u32
         ensures len { result ≡ length self.now.cells }
         ensures within { length self.now.cells ≤ self.now.capacity }
@@ -63,14 +63,14 @@ impl CellStore {
         self.cache.len() as u32
     }
 
-    /// Whether it holds none.
+    /// Whether the store has no cell.
     pub fn is_empty(&self) -> bool
         ensures { IsTrue result ↔ (self.now.cells ≡ []) }
     {
         self.cache.is_empty()
     }
 
-    /// How many cells it may hold.
+    /// The greatest number of cells.
     pub fn capacity(&self) -> u32
         ensures capacity { result ≡ self.now.capacity }
         ensures some { 0 < self.now.capacity }
@@ -79,7 +79,7 @@ impl CellStore {
         self.cache.cap().get() as u32
     }
 
-    /// The stored cell that covers the point, which becomes the most recently used.
+    /// The stored cell that covers the point. It becomes the most recently used.
     pub fn find(&mut self, p: Point) -> Option<Cell>
         ensures found { result ≡ option_map (λ x. x.cell) (stored_at self.old.cells p) }
         ensures used { IfSome result (λ cell. self.new ≡ with_cells self.old
@@ -93,15 +93,14 @@ impl CellStore {
         use_cell(&mut self.cache, key)
     }
 
-    /// Whether a stored cell covers the point. Using a cell in this way does not count.
+    /// Whether a stored cell covers the point. The order of use stays.
     pub fn covers(&self, p: Point) -> bool
         ensures { result ≡ list_any (cells.covers p) self.now.cells }
     {
         covering_key(&self.index, p).is_some()
     }
 
-    /// Puts a cell in front: one that is stored already moves there, and a new one takes the place of the
-    /// least recently used cell where the store is full.
+    /// Puts a cell in front. A cell that is stored already moves there. A new cell in a full store replaces the least recently used one.
     pub fn put(&mut self, signal: u32, cell: Cell) -> Result<Put, OutOfMemory>
         requires { FitsStore (record { signal = signal; cell = cell }) self.old.cells }
         ensures cells { let x : SignalCell = record { signal = signal; cell = cell } in
@@ -145,7 +144,7 @@ impl CellStore {
         }
     }
 
-    /// Removes the least recently used cells until at most `n` are left. Answers their keys, the least recently used first.
+    /// Removes the least recently used cells until at most `n` are left. Returns their keys, the least recently used first.
     pub fn trim(&mut self, n: u32) -> Result<Vec<Key>, OutOfMemory>
         ensures cells { OnOk result (self.new ≡ with_cells self.old (take n self.old.cells)) }
         ensures keys { IfOk result (λ keys. keys.items ≡ reverse
@@ -168,7 +167,7 @@ impl CellStore {
     }
 }
 
-// The most recently used cell, where it covers the point. To use it changes nothing.
+// The most recently used cell, if it covers the point. Its use leaves the order as it is.
 fn front_covering(cache: &LruCache<Key, Cell>, p: Point) -> Option<Cell>
     ensures { IfSome result (IsInFront cache.now.entries p) }
 {
@@ -184,7 +183,7 @@ fn front_covering(cache: &LruCache<Key, Cell>, p: Point) -> Option<Cell>
     }
 }
 
-// The key of the cell that covers the point: of the cells of its signal that begin no later, the last is the only one that can.
+// The key of the cell that covers the point. Of the cells of its signal that begin no later, only the last can cover it.
 fn covering_key(index: &BTreeMap<Key, u32>, p: Point) -> Option<Key>
     ensures { (cells : List SignalCell) → IsStoreIndex (get key_cmp index.now) cells
         → result ≡ option_map key_of (stored_at cells p) }
@@ -201,7 +200,7 @@ fn covering_key(index: &BTreeMap<Key, u32>, p: Point) -> Option<Key>
     }
 }
 
-// Makes the cell of this key the most recently used, and answers the most recently used cell.
+// Makes the cell with this key the most recently used, and returns the most recently used cell.
 fn use_cell(cache: &mut LruCache<Key, Cell>, key: Key) -> Option<Cell>
     ensures cache { cache.new ≡ lru_cache (promoted (key_eq key) cache.old.entries) cache.old.cap }
     ensures cell { result ≡ option_map (λ e. e.1) (slice_get cache.new.entries 0) }

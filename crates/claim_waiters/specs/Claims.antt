@@ -32,7 +32,7 @@ module _ {W : Type 0} where
   abbrev pub waiters_of : Claims W → Point → Option (List W)
   waiters_of claims p = option_map (λ c. c.waiters) (claim_at claims p)
 
-  -- those that wait at a point, and at one that is not claimed there are none
+  -- the waiters at a point; none if it is not claimed
   abbrev pub waiting_in : Option (WaitedClaim W) → List W
   waiting_in None = []
   waiting_in (Some c) = c.waiters
@@ -45,14 +45,14 @@ module _ {W : Type 0} where
   first_of [] = None
   first_of (e ∷ claims) = Some (e.1.q, e.0)
 
-  -- a claim with no waiters, in its place in the order
+  -- a claim without waiters is added, at its place in the order
   abbrev pub with_claim : Claims W → ℕ → Point → Claims W
   with_claim claims q p = insert_entry point_cmp claims p (record { q = q; waiters = [] })
 
   abbrev pub without_claim : Claims W → Point → Claims W
   without_claim claims p = remove_entry (is_at (point_cmp p)) claims
 
-  -- the claim whose point passes the test has one more waiter, after the others
+  -- a waiter is appended to the claim whose point passes the test
   abbrev pub add_waiter : (Point → Bool) → Claims W → W → Claims W
   add_waiter test [] w = []
   add_waiter test (e ∷ claims) w = if test e.0 then (e.0, record { q = e.1.q; waiters = e.1.waiters ++ w ∷ [] }) ∷ claims else (e ∷ add_waiter test claims w)

@@ -1,19 +1,16 @@
 //! The claims of a memo's shard: which points are being evaluated, for which query, and who waits for them.
 //!
-//! A [`ClaimTable`] is seen as the list of the claimed points in their order, by signal and then by time, each with the
-//! query that claimed it and its waiters in the order in which they came. A point is claimed at most once.
-//! [`ClaimTable::claim`] begins a claim, [`ClaimTable::wait`] puts a waiter after the others at a claimed point, and
-//! [`ClaimTable::take`] ends the claim and hands all its waiters back in their order. [`ClaimTable::holder`],
-//! [`ClaimTable::first`] and [`ClaimTable::len`] only ask. No call drops, copies or reorders a waiter; one that can't be taken
-//! in is handed back.
+//! The model of a [`ClaimTable`] is the list of the claimed points, ordered by signal and then by time. Each has the query that
+//! claimed it, and its waiters in the order of their arrival. A point is claimed at most once. [`ClaimTable::claim`] begins a
+//! claim. [`ClaimTable::wait`] appends a waiter at a claimed point. [`ClaimTable::take`] ends the claim and hands back all its
+//! waiters in their order. [`ClaimTable::holder`], [`ClaimTable::first`] and [`ClaimTable::len`] only ask. No call drops,
+//! copies or reorders a waiter. A waiter that cannot be added is handed back.
 //!
-//! The table is generic in what waits, a [`Waiter`], which says by its [`Waiter::Room`] how a claim keeps its waiters: a vector
-//! serves, since `take` hands out a room also where nobody waited. A claim has a room only once somebody waits, and most never
-//! have one.
+//! The table is generic in its [`Waiter`], whose [`Waiter::Room`], such as a vector, keeps the waiters of a claim. A claim gets
+//! a room with its first waiter, and most never have one; `take` then hands out an empty one.
 //!
-//! With n claims each call takes O(log n) steps; `wait` also puts one waiter into a room, and `take` moves the room out.
-//! `claim` and `wait` may want memory and leave the table as it was where there is none; `take`, `holder` and `first`
-//! take none.
+//! With n claims each call takes O(log n) steps. `wait` also puts one waiter into a room, and `take` moves the room out.
+//! `claim` and `wait` may allocate; on failure they leave the table as it was. `take`, `holder` and `first` do not allocate.
 //!
 //! ```text
 //! let mut claims: ClaimTable<Strand> = ClaimTable::new(alloc);

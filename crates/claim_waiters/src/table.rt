@@ -9,14 +9,14 @@ use std::collections::BTreeMap;
 use std::marker::Model;
 use valid_intervals::Point;
 
-/// A claim: its query, and the room of those that wait, which is made when the first of them comes.
+/// A claim: its query, and the room of its waiters, which is made for the first waiter.
 #[derive(Drop)]
 pub struct Holding<R: Drop> {
     pub q: u32,
     pub room: Option<Box<R>>,
 }
 
-// Puts a waiter after the others, into a room that is made for the first; or hands it back.
+// Appends a waiter to a room, which is made for the first waiter. On failure hands it back.
 fn wait_in<W: Waiter>(
     alloc: Global,
     room: &mut Option<Box<W::Room>>,
@@ -58,7 +58,7 @@ impl<W: Waiter> Model for ClaimTable<W> {
 }
 
 impl<W: Waiter> ClaimTable<W> {
-    /// Nothing is claimed.
+    /// A table without claims.
     pub fn new(alloc: Global) -> ClaimTable<W>
         ensures { result ≡ [] }
     {
@@ -68,28 +68,28 @@ impl<W: Waiter> ClaimTable<W> {
         }
     }
 
-    /// What is known of every table: its points are in order, so none is claimed twice.
+    /// What holds of every table: its points are in order, so none is claimed twice.
     pub fn facts(&self)
         ensures { IsInOrder self.now }
     {
         let _len = self.map.len();
     }
 
-    /// How many points are claimed.
+    /// The number of claimed points.
     pub fn len(&self) -> usize
         ensures { result ≡ length self.now }
     {
         self.map.len()
     }
 
-    /// Whether nothing is claimed.
+    /// Whether no point is claimed.
     pub fn is_empty(&self) -> bool
         ensures { IsTrue result ↔ (self.now ≡ []) }
     {
         self.map.is_empty()
     }
 
-    /// Claims a point for a query. Nobody waits for it yet.
+    /// Claims a point for a query. The claim has no waiter yet.
     pub fn claim(&mut self, q: u32, p: Point) -> Result<(), OutOfMemory>
         requires { claim_at self.old p ≡ None }
         ensures ok { OnOk result (self.new ≡ with_claim self.old q p) }
@@ -109,7 +109,7 @@ impl<W: Waiter> ClaimTable<W> {
         Some(claim.q)
     }
 
-    /// Puts a waiter after the others at a claimed point, or hands it back.
+    /// Appends a waiter at a claimed point. On failure hands it back.
     pub fn wait(&mut self, p: Point, waiter: W) -> Result<(), (W, OutOfMemory)>
         requires { IsSome (claim_at self.old p) }
         ensures ok { OnOk result (self.new ≡ with_waiter self.old p waiter) }
@@ -122,7 +122,7 @@ impl<W: Waiter> ClaimTable<W> {
         }
     }
 
-    /// Ends a claim. Its waiters come back in the order in which they came.
+    /// Ends a claim, and returns its waiters in the order of their arrival.
     pub fn take(&mut self, p: Point) -> W::Room
         requires { IsSome (claim_at self.old p) }
         ensures waiters { waiters_of self.old p ≡ Some (W.items result) }

@@ -1,4 +1,4 @@
-//! A small waiter, and the calls one after another.
+//! A small waiter, and one call after another.
 ghost use Rattle.std.specs.Prelude.{◌≡◌};
 
 use crate::{ClaimTable, Waiter};
@@ -7,7 +7,7 @@ use std::alloc::Global;
 use std::test::Fail;
 use valid_intervals::Point;
 
-// Waits in a vector.
+// A waiter whose room is a vector.
 #[derive(Drop)]
 struct Ticket {
     number: u32,

@@ -12,11 +12,11 @@ pub trait Waiter: Drop + Sized {
 
     ghost items: { Self.Room → List Self };
 
-    /// A room with nobody in it. It takes no memory.
+    /// A room without waiters. It takes no memory.
     fn none(alloc: Global) -> Self::Room
         ensures { items result ≡ [] };
 
-    /// Puts a waiter after the others. Where there is no memory, the room is as it was and the waiter comes back.
+    /// Appends a waiter. If there is no memory, the room is as it was, and the waiter is handed back.
     fn wait(room: &mut Self::Room, waiter: Self) -> Result<(), (Self, OutOfMemory)>
         ensures ok { OnOk result (items room.new ≡ items room.old ++ waiter ∷ []) }
         ensures err { OnErr result (items room.new ≡ items room.old) }

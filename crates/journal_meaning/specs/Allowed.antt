@@ -1,16 +1,16 @@
 -- What the entries of a shard may name.
-use Rattle.std.specs.Prelude.{◌≡◌, ⊤, ℕ, ◌≤◌, ◌%◌}
+use Rattle.std.specs.Prelude.{◌≡◌, ⊤, ℕ, ◌≤◌}
 use Rattle.valid_intervals.specs.declared.Point.{Point}
 use Rattle.valid_intervals.specs.declared.SignalCell.{SignalCell}
 use Rattle.circuit_meaning.specs.Circuit.{Circuit}
 use Rattle.circuit_meaning.specs.Cells.{cell_at}
-use Rattle.batch_meaning.specs.Batches.{Batch, IsNeededBy, OfQuery}
+use Rattle.batch_meaning.specs.Batches.{Batch, IsNeededBy, OfQuery, shard_number}
 use Rattle.journal_meaning.specs.declared.Entry.{Entry}
 use Rattle.journal_meaning.specs.declared.Entry.TheVariants.{Told, Claimed, Filled, Evicted, Dropped, Spent}
 
--- the point is one of the shard with this number, and its time is at most the horizon
+-- the point belongs to the shard with this number, and its time is at most the horizon
 abbrev pub IsAt : Batch → ℕ → Point → Type 0
-IsAt b shard p = (p.signal % b.shards ≡ shard) × (p.time ≤ b.circuit.horizon)
+IsAt b shard p = (shard_number p.signal b.shards ≡ shard) × (p.time ≤ b.circuit.horizon)
 
 -- A stored cell is right if it is the cell of its signal at some time.
 pub record IsRight (c : Circuit) (x : SignalCell) : Type 0 where

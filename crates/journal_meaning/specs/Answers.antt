@@ -1,4 +1,4 @@
--- When a query is closed, when its budget is spent, and what it is answered.
+-- When a query is closed, when its budget is spent, and what its answer is.
 use Rattle.std.specs.Prelude.{◌≡◌, ℕ, ◌+◌, ◌≤◌, Bool, ◌&&◌, true, false, nat_eq, List, [], ◌∷◌, length, filter, Contains, All, AllPairs, ◌≢◌, ◌⊎◌, Option, Some, None, if◌then◌else◌}
 use Rattle.std.specs.Option.{option_or}
 use Rattle.valid_intervals.specs.declared.Cell.{Cell}
@@ -31,7 +31,7 @@ pub record IsClosed (c : Circuit) (es : List Entry) (q : Query) : Type 0 where
   pub roots : (t : ℕ) → IsRoot c (window_of q) t → IsCovered c es (record { signal = q.signal; time = t })
   pub children : ChildrenCovered c es q.number
 
--- whether the entry is one of the query at the point
+-- whether the entry is one of this query at this point
 abbrev pub is_of : ℕ → Point → Entry → Bool
 is_of number p (Told q x cell) = nat_eq q number && same_point p x
 is_of number p (Claimed q x) = nat_eq q number && same_point p x
@@ -40,7 +40,7 @@ is_of number p (Evicted signal start) = false
 is_of number p (Dropped q x) = nat_eq q number && same_point p x
 is_of number p (Spent q x held) = nat_eq q number && same_point p x
 
--- the last entry of the query at the point
+-- the last entry of this query at this point
 abbrev pub last_of : List Entry → ℕ → Point → Option Entry
 last_of [] q p = None
 last_of (e ∷ es) q p = option_or (last_of es q p) (if is_of q p e then Some e else None)
@@ -52,8 +52,8 @@ is_fill_of number e = false
 abbrev pub filled : List Entry → ℕ → ℕ
 filled es q = length (filter (is_fill_of q) es)
 
--- Why a query is refused: it was refused a point, and the points that it evaluated and those that it gave up then come to its budget.
--- The claims that it held when it was refused (`held`) are at most as many as the points that it gave up (`enough`).
+-- Why a query is refused: it was refused a point while it held a number of claims (`held`). Its evaluations and these claims are at least
+-- its budget (`budget`). Later it gave up at least as many different points (`enough`).
 pub record IsSpent (es : List Entry) (q : Query) : Type 0 where
   pub point : Point
   pub held : ℕ
@@ -64,7 +64,7 @@ pub record IsSpent (es : List Entry) (q : Query) : Type 0 where
   pub enough : held ≤ length given_up
   pub budget : q.budget ≤ filled es q.number + held
 
--- what a query is answered, over the entries of its batch: its wave, or nothing since its budget was spent
+-- the answer to a query, over the entries of its batch: its wave, or none if its budget was spent
 abbrev pub IsAnswer : Circuit → List Entry → Query → Option (List Run) → Type 0
 IsAnswer c es q (Some runs) = (runs ≡ wave c q.signal q.from q.to) × IsClosed c es q
 IsAnswer c es q None = IsSpent es q

@@ -1,4 +1,4 @@
--- How often points are evaluated, and cells evicted.
+-- How often points are evaluated and cells evicted.
 use Rattle.std.specs.Prelude.{ℕ, ◌+◌, nat_eq, Bool, true, false, not, ◌&&◌, if◌then◌else◌, List, [], ◌∷◌, length, filter, filter_map, Option, Some, None}
 use Rattle.std.specs.List.{list_any}
 use Rattle.valid_intervals.specs.declared.Point.{Point}
@@ -18,12 +18,12 @@ evaluated e = None
 abbrev pub points_of : List Entry → List Point
 points_of es = filter_map evaluated es
 
--- the different ones among the points
+-- the points, each once
 abbrev pub different : List Point → List Point
 different [] = []
 different (p ∷ rest) = p ∷ filter (λ x. not (same_point p x)) (different rest)
 
--- how many of the points stand among those before them, of which these are the earlier ones
+-- how many of the points occurred before, in the list or among these earlier ones
 abbrev pub repeated : List Point → List Point → ℕ
 repeated earlier [] = 0
 repeated earlier (p ∷ rest) = (if list_any (same_point p) earlier then 1 else 0) + repeated (p ∷ earlier) rest
@@ -55,12 +55,12 @@ is_eviction_of signal start e = false
 abbrev pub evictions_of : List Entry → ℕ → ℕ → ℕ
 evictions_of es signal start = length (filter (is_eviction_of signal start) es)
 
--- whether the entry is of a claim that begins, or of a point that is filled
+-- whether the entry begins a claim or fills a point
 abbrev pub is_booked : Entry → Bool
 is_booked (Claimed q p) = true
 is_booked (Filled q p x) = true
 is_booked e = false
 
--- how many entries are of a claim that begins, or of a point that is filled
+-- how many entries begin a claim or fill a point
 abbrev pub booked : List Entry → ℕ
 booked es = length (filter is_booked es)

@@ -1,4 +1,4 @@
--- Journals that grow: what the entries of a batch say, count and name once more of them are recorded.
+-- Journals that grow: what the entries of a batch say, count and name after more of them are recorded.
 use Rattle.std.specs.Prelude.{◌≡◌, ◌≢◌, ◌++◌, ◌+◌, ◌%◌, ◌<◌, ◌≤◌, ◌⊎◌, ℕ, Bool, nat_eq, false, List, [], length, get_or, Contains}
 use Rattle.std.specs.Option.{option_or}
 use Rattle.valid_intervals.specs.declared.Point.{Point}
@@ -12,7 +12,7 @@ use Rattle.journal_meaning.specs.Counts.{count}
 abbrev pub IsSaid : List Entry → Point → Type 0
 IsSaid es p = (e : Entry) × Contains es e × Says p e
 
--- the entry is for the query with this number, or it evicts, which is for none
+-- the entry is for the query with this number, or is an eviction, which is for none
 abbrev pub IsFor : ℕ → Entry → Type 0
 IsFor q (Told r p x) = r ≡ q
 IsFor q (Claimed r p) = r ≡ q
@@ -29,7 +29,8 @@ is_spent_of number e = false
 abbrev pub refusals : List Entry → ℕ → ℕ
 refusals es q = count (is_spent_of q) es
 
--- These entries are the old ones and the added ones, and of each query at each point the last is an added one where there is one.
+-- The new entries are the old ones and the added ones. If a query has an added entry at a point, its last entry there is an added
+-- one.
 pub record GrowsBy (old added new : List Entry) : Type 0 where
   pub kept : (e : Entry) → Contains old e → Contains new e
   pub now : (e : Entry) → Contains added e → Contains new e
@@ -37,13 +38,13 @@ pub record GrowsBy (old added new : List Entry) : Type 0 where
   pub counts : (test : Entry → Bool) → count test new ≡ count test old + count test added
   pub last : (q : ℕ) (p : Point) → last_of new q p ≡ option_or (last_of added q p) (last_of old q p)
 
--- a journal is kept, and after it stand some of the added entries
+-- the new entries are the old ones, followed by some of the added entries
 pub record IsLonger (old added new : List Entry) : Type 0 where
   pub more : List Entry
   pub longer : new ≡ old ++ more
   pub from : (e : Entry) → Contains more e → Contains added e
 
--- The journals of all shards, to which entries were added in this order, each after the list of its shard.
+-- The journals of all shards after entries were added in this order, each at the end of its shard's list.
 pub record AreAdded (old : List (List Entry)) (added : List Entry) (new : List (List Entry)) : Type 0 where
   pub shards : length new ≡ length old
   pub lists : (k : ℕ) → IsLonger (get_or old k []) added (get_or new k [])

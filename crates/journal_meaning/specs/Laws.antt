@@ -19,11 +19,11 @@ use Rattle.journal_meaning.specs.States.{fresh}
 use Rattle.circuit_meaning.specs.Forward.{wave}
 use Rattle.circuit_meaning.specs.declared.Run.{Run}
 
--- every evaluation is of a point for the first time, or again
+-- every evaluation is the first of its point or a repeated one
 abbrev pub CountsAdd : Type 0
 CountsAdd = (es : List Entry) → evaluations es ≡ distinct es + again es
 
--- the batches of a section's memo are those of this circuit
+-- the batches of a section's memo are about this circuit
 abbrev pub OfCircuit : Circuit → SectionEntries → Type 0
 OfCircuit c section = (b : Batch) → section.purpose ≡ Asks b → b.circuit ≡ c
 
@@ -43,11 +43,11 @@ OneFillPerEviction = (b : Batch) → IsCircuit b.circuit → (shard : ℕ) (cell
 abbrev pub NoEviction : List Entry → Type 0
 NoEviction es = (signal start : ℕ) → Contains es (Evicted signal start) → ⊥
 
--- the point is one of the shard, and a query of the batch needs it
+-- the point belongs to the shard, and a query of the batch needs it
 abbrev pub IsWanted : Batch → ℕ → Point → Type 0
 IsWanted b shard p = IsAt b shard p × ((q : Query) × Contains b.queries q × IsNeededBy b q p)
 
--- the points of the shard that the batch needs have at most as many different cells as the shard holds
+-- the points of the shard that the batch needs have at most as many different cells as the shard can hold
 abbrev pub HasRoom : Batch → ℕ → Type 0
 HasRoom b shard = (points : List Point) → All (IsWanted b shard) points
     → AllPairs (λ p r. cell_for p (cell_at b.circuit p) ≢ cell_for r (cell_at b.circuit r)) points
@@ -62,24 +62,24 @@ pub record IsLegalFrom (b : Batch) (opening : ℕ → List SignalCell) (lists : 
 abbrev pub IsRoomy : Batch → List (List Entry) → Type 0
 IsRoomy b lists = NoEviction (of_batch lists) ⊎ ((shard : ℕ) → shard < b.shards → HasRoom b shard)
 
--- the query is one of the batch, and no other has its number
+-- the query is in the batch, and no other has its number
 pub record IsOwnQuery (b : Batch) (q : Query) : Type 0 where
   pub known : Contains b.queries q
   pub single : (r : Query) → Contains b.queries r → r.number ≡ q.number → r ≡ q
 
--- the query needs more points than this, or at most as many
+-- the query needs more points than this number, or at most this number
 abbrev pub NeedsMoreThan : Batch → Query → ℕ → Type 0
 NeedsMoreThan b q n = (points : List Point) × (n + 1 ≤ length points) × AllPairs (λ p r. p ≢ r) points × All (IsNeededBy b q) points
 
 abbrev pub NeedsAtMost : Batch → Query → ℕ → Type 0
 NeedsAtMost b q n = (points : List Point) → AllPairs (λ p r. p ≢ r) points → All (IsNeededBy b q) points → length points ≤ n
 
--- a query whose budget was spent needs more points than that, whatever the shards held before
+-- a query whose budget was spent needs more points than its budget, whatever the shards held before
 abbrev pub SpentNeedsMore : Type 0
 SpentNeedsMore = (b : Batch) → IsCircuit b.circuit → (opening : ℕ → List SignalCell) (lists : List (List Entry)) → IsLegalFrom b opening lists → IsRoomy b lists
     → (q : Query) → IsOwnQuery b q → IsSpent (of_batch lists) q → NeedsMoreThan b q q.budget
 
--- so a query whose budget is as great as its need is answered by its wave
+-- a query whose budget is at least its need is answered by its wave
 abbrev pub EnoughBudget : Type 0
 EnoughBudget = (b : Batch) → IsCircuit b.circuit → (opening : ℕ → List SignalCell) (lists : List (List Entry)) → IsLegalFrom b opening lists → IsRoomy b lists
     → (q : Query) → IsOwnQuery b q → NeedsAtMost b q q.budget

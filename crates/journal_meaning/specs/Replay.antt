@@ -13,17 +13,17 @@ abbrev pub replay : State → List Entry → State
 replay s [] = s
 replay s (e ∷ es) = replay (after s e) es
 
--- each entry has what it needs where it stands, and names what it may
+-- each entry has what it needs of the state before it, and names only what it may
 abbrev pub IsLegal : Batch → ℕ → State → List Entry → Type 0
 IsLegal b shard s [] = ⊤
 IsLegal b shard s (e ∷ es) = Needs b.capacity s e × IsAllowed b shard e × IsLegal b shard (after s e) es
 
--- no claim is left, and no place was just made
+-- no claim is left, and no eviction waits for its fill
 pub record IsAtEnd (s : State) : Type 0 where
   pub claims : s.claims ≡ []
   pub made : s.made ≡ false
 
--- a whole journal of a shard in a batch, from the cells that it held before
+-- a whole journal of a shard in a batch, from the cells that the shard held before
 pub record IsLegalBatch (b : Batch) (shard : ℕ) (cells : List SignalCell) (es : List Entry) : Type 0 where
   pub legal : IsLegal b shard (fresh cells) es
   pub ended : IsAtEnd (replay (fresh cells) es)

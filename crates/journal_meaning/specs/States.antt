@@ -10,17 +10,17 @@ pub record Claim : Type 0 where
   pub query : ℕ
   pub point : Point
 
--- the stored cells, the most recent first; the claims, the latest first; whether a place was just made by an eviction
+-- the stored cells, the most recent first; the claims, the latest first; whether an eviction just made place
 pub record State : Type 0 where
   pub cells : List SignalCell
   pub claims : List Claim
   pub made : Bool
 
--- as a section begins
+-- the state at the start of a section
 abbrev pub fresh : List SignalCell → State
 fresh cells = record { cells = cells; claims = []; made = false }
 
--- whether a stored cell has the point
+-- whether a stored cell covers the point
 abbrev pub is_covered : State → Point → Bool
 is_covered s p = list_any (covers p) s.cells
 
@@ -28,7 +28,7 @@ is_covered s p = list_any (covers p) s.cells
 abbrev pub holder : List Claim → Point → Option ℕ
 holder claims p = option_map (λ c. c.query) (find (λ c. same_point p c.point) claims)
 
--- all claims but that of the point
+-- all claims except that of the point
 abbrev pub without_point : List Claim → Point → List Claim
 without_point claims p = filter (λ c. not (same_point p c.point)) claims
 

@@ -14,7 +14,7 @@ Needs capacity s (Evicted signal start) = (s.made ≡ false) × (length s.cells 
 Needs capacity s (Dropped q p) = (s.made ≡ false) × (holder s.claims p ≡ Some q)
 Needs capacity s (Spent q p held) = (s.made ≡ false) × (is_covered s p ≡ false) × (holder s.claims p ≡ None)
 
--- what it changes
+-- what an entry changes
 abbrev pub after : State → Entry → State
 after s (Told q p x) = record s { cells = to_front (cell_for p x) s.cells }
 after s (Claimed q p) = record s { claims = record { query = q; point = p } ∷ s.claims }

@@ -1,12 +1,12 @@
 -- What the calls of a shard come to.
-use Rattle.std.specs.Prelude.{◌≡◌, ◌<◌, ◌%◌, if◌then◌else◌, [], ◌∷◌, ◌++◌, IsSome, Some, None, Result, Ok, Err}
+use Rattle.std.specs.Prelude.{◌≡◌, ◌<◌, if◌then◌else◌, [], ◌∷◌, ◌++◌, IsSome, Some, None, Result, Ok, Err}
 use Rattle.owned_text.specs.declared.OutOfMemory.{OutOfMemory}
 use Rattle.valid_intervals.specs.declared.Point.{Point}
 use Rattle.valid_intervals.specs.declared.SignalCell.{SignalCell}
 use Rattle.valid_intervals.specs.Cells.{same_point, stored_at}
 use Rattle.journal_meaning.specs.declared.Entry.TheVariants as entry
 use Rattle.journal_meaning.specs.States.{holder}
-use Rattle.batch_meaning.specs.Batches.{Batch}
+use Rattle.batch_meaning.specs.Batches.{Batch, shard_number}
 use Rattle.strand_meaning.specs.Strands.{heard, claimed, given_up}
 use Rattle.plan_machine.specs.Shards.{recorded}
 use Rattle.demand_points.specs.Demands.{Demand, TakesStep}
@@ -18,7 +18,7 @@ use Rattle.memo_shards.specs.KeptShards.{KeptShard, waiting_at}
 
 -- the point is one of the shard
 abbrev pub IsHere : Batch → KeptShard → Point → Type 0
-IsHere b m p = p.signal % b.shards ≡ m.number
+IsHere b m p = shard_number p.signal b.shards ≡ m.number
 
 -- no stored cell covers the point, and it is not claimed
 pub record IsUnfound (m : KeptShard) (p : Point) : Type 0 where

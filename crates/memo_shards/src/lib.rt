@@ -1,11 +1,11 @@
 //! The shards of the memo: what one batch of queries knows, claims, and writes down.
 //!
-//! A [`Shard`] has the points of some signals: a bounded store of their cells, a table of the points that are being evaluated with
-//! the strands that wait for them, and the journal of what it did in the batch. A strand asks for the point that it needs next
-//! ([`Shard::ask`]). The answer is an [`Asked`]: it was told the stored cell, it has claimed the point, it waits, or its budget is
-//! spent. A point that it claimed it fills ([`Shard::fill`]) or drops ([`Shard::drop_top`]), and those that waited for it come back.
-//! `ask` and `fill` are handed the strand. [`Shard::answer`], with [`Shard::park`] where the point is claimed, and
-//! [`Shard::fill_top`] do the same to a strand that stays where it is, which takes less time.
+//! A [`Shard`] has the points of some signals ([`shard_number`]): a bounded store of their cells, a table of the points that are
+//! being evaluated with the strands that wait for them, and the journal of what it did in the batch. A strand asks for the point
+//! that it needs next ([`Shard::ask`]). The answer is an [`Asked`]: it was told the stored cell, it has claimed the point, it
+//! waits, or its budget is spent. A point that it claimed it fills ([`Shard::fill`]) or drops ([`Shard::drop_top`]), and those that
+//! waited for it come back. `ask` and `fill` are handed the strand. [`Shard::answer`], with [`Shard::park`] where the point is
+//! claimed, and [`Shard::fill_top`] do the same to a strand that stays where it is, which takes less time.
 //!
 //! The strands are those of `demand_points`. Who calls is a worker (`worker_gate`), under the shard's lock, or a plan (`plan_core`).
 //!
@@ -42,4 +42,4 @@ mod tests;
 mod wake;
 
 pub use asked::{Answer, Asked};
-pub use shard::Shard;
+pub use shard::{Shard, shard_number};

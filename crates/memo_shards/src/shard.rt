@@ -6,6 +6,7 @@ ghost use Rattle.cell_store.specs.Recency.{contents};
 ghost use Rattle.claim_waiters.specs.Claims.{claim_at, without_claim};
 ghost use Rattle.journal_meaning.specs.Allowed.{IsRight};
 ghost use Rattle.journal_meaning.specs.States.{holder, is_covered};
+ghost use Rattle.batch_meaning.specs.Batches.{shard_number};
 ghost use Rattle.batch_meaning.specs.Lawful.{IsLawful};
 ghost use Rattle.journal_meaning.specs.declared.Entry.TheVariants as entry;
 ghost use Rattle.strand_meaning.specs.Strands.{next, next_in};
@@ -30,6 +31,15 @@ use owned_text::OutOfMemory;
 use std::alloc::Global;
 use std::marker::Model;
 use valid_intervals::Point;
+
+/// The number of the shard that has the points of a signal, of so many shards.
+pub fn shard_number(signal: u32, count: usize) -> usize
+    requires { 0 < count }
+    ensures number { result ≡ shard_number signal count }
+    ensures within { result < count }
+{
+    signal as usize % count
+}
 
 /// One shard of the memo, in the batch that B names.
 #[derive(Drop)]

@@ -119,7 +119,7 @@ fn step<B: BatchName>(
     let q = strand.query().number;
     match strand.next_step(design) {
         Next::Ask(p) => {
-            if p.signal % shards != shard.number() {
+            if shard_number(p.signal, shards as usize) != shard.number() as usize {
                 return Ok((Came::Elsewhere, None));
             }
             match shard.ask(strand, design, p) {

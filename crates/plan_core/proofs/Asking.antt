@@ -33,7 +33,7 @@ use Rattle.plan_core.proofs.Seen.{here, in-plan, awake, home, homes, shard-here,
 
 module _ (b : Batch) (opening : ℕ → List SignalCell) (places : List (Option Demand)) (shards : List KeptShard) (parts : IsPlan b opening places shards)
     (n : ℕ) (s0 : Demand) (at : slice_get places n ≡ Some (Some s0)) (p : Point) (asks : next s0.strand ≡ Ask p)
-    (len : ℕ) (count : len ≡ length shards) (h0 : KeptShard) (index : h0 ≡ get_or shards (p.signal % len) h0) where
+    (slot : ℕ) (slot-is : slot ≡ p.signal % length shards) (h0 : KeptShard) (index : h0 ≡ get_or shards slot h0) where
   abbrev old : Plan
   old = plan_at places shards
 
@@ -47,7 +47,7 @@ module _ (b : Batch) (opening : ℕ → List SignalCell) (places : List (Option 
   quiet = awake b opening places shards parts n s0 at
 
   there : shard_of old p ≡ h0.shard
-  there = shard-here b opening places shards parts n s0 at p len count h0 index
+  there = shard-here b opening places shards parts n s0 at p slot slot-is h0 index
 
   none : stored_at h0.shard.state.cells p ≡ None → stored_at (shard_of old p).state.cells p ≡ None
   none h = ap (λ (z : Shard). stored_at z.state.cells p) there ∙ h
@@ -56,13 +56,13 @@ module _ (b : Batch) (opening : ℕ → List SignalCell) (places : List (Option 
   claim o h = ap (λ (z : Shard). holder z.state.claims p) there ∙ h
 
   abbrev Ends : Option Demand → KeptShard → Result Turned OutOfMemory → Type 0
-  Ends back h came = OfTurn b opening old n (slice_set places n back) (slice_set shards (p.signal % len) h) came
+  Ends back h came = OfTurn b opening old n (slice_set places n back) (slice_set shards slot h) came
 
   told : (s : Demand) (h : KeptShard) → Tells h0 h p s0 s → Ends (Some s) h (Ok comes.Told)
   told s h f =
       let q = s0.strand.query.number in
       let is = told-turn b old n s0.strand at-plan quiet p f.cell asks (ap (λ (z : Shard). stored_at z.state.cells p) there ∙ f.stored) in (
-        put-seen b opening places shards parts n s0 at p len count h0 index s h heard (recorded (entry.Told q p f.cell.cell)) f.strand quiet
+        put-seen b opening places shards parts n s0 at p slot slot-is h0 index s h heard (recorded (entry.Told q p f.cell.cell)) f.strand quiet
             (ap (λ (z : KeptShard). z.number) f.shard) (ap (λ (z : KeptShard). z.waiting) f.shard) (ap (λ (z : KeptShard). z.shard) f.shard) is.turn,
         sym (ap turned_by is.step),
       )
@@ -71,7 +71,7 @@ module _ (b : Batch) (opening : ℕ → List SignalCell) (places : List (Option 
   claims s h f =
       let q = s0.strand.query.number in
       let is = claimed-turn b old n s0.strand at-plan quiet p asks (none f.unfound.missed) (claim None f.unfound.unclaimed) f.within in (
-        put-seen b opening places shards parts n s0 at p len count h0 index s h (λ x. claimed b.circuit x p) (recorded (entry.Claimed q p)) f.strand quiet
+        put-seen b opening places shards parts n s0 at p slot slot-is h0 index s h (λ x. claimed b.circuit x p) (recorded (entry.Claimed q p)) f.strand quiet
             (ap (λ (z : KeptShard). z.number) f.shard) (ap (λ (z : KeptShard). z.waiting) f.shard) (ap (λ (z : KeptShard). z.shard) f.shard) is.turn,
         sym (ap turned_by is.step),
       )
@@ -81,9 +81,9 @@ module _ (b : Batch) (opening : ℕ → List SignalCell) (places : List (Option 
       let full : s0.strand.budget ≤ s0.strand.charged = let k = f.spent in omega arith in
       let is = spent-turn b old n s0.strand at-plan quiet p asks (none f.unfound.missed) (claim None f.unfound.unclaimed) full in
       let z = with_strand old n (given_up s0.strand) in (
-        put-seen b opening places shards parts n s0 at p len count h0 index s h given_up (λ x. x) f.strand quiet
+        put-seen b opening places shards parts n s0 at p slot slot-is h0 index s h given_up (λ x. x) f.strand quiet
             (ap (λ (z : KeptShard). z.number) f.shard) (ap (λ (z : KeptShard). z.waiting) f.shard) (ap (λ (z : KeptShard). z.shard) f.shard)
-            (is.turn ∙ sym (same-shard b opening places shards parts n s0 at p len count h0 index z refl)),
+            (is.turn ∙ sym (same-shard b opening places shards parts n s0 at p slot slot-is h0 index z refl)),
         sym (ap turned_by is.step),
       )
 
@@ -93,18 +93,18 @@ module _ (b : Batch) (opening : ℕ → List SignalCell) (places : List (Option 
       let q = by (holder h0.shard.state.claims p) refl in
       let is = waits-turn b old n s0.strand at-plan quiet p q.0 asks (none f.missed) (claim (Some q.0) q.1) in
       let z = with_strand old n (waiting s0.strand) in
-      let here_0 = home b opening places shards parts n s0 at p len count h0 index in
+      let here_0 = home b opening places shards parts n s0 at p slot slot-is h0 index in
       let waiter : numbered_strand s0 ≡ record { number = n; strand = s0.strand } = let made : ℕ → NumberedStrand = λ k. record { number = k; strand = s0.strand } in ap made (parts.numbers n s0 at) in
       let e : seats (slice_set places n None) ≡ slice_set (seats places) n None = map-set seat places n None in
       let hs = slice_set (waited_shards shards) (p.signal % length (waited_shards shards)) (waited_shard h) in
       let now = kept-wait (seats places) (waited_shards shards) old.strands parts.kept n s0.strand (here b opening places shards parts n s0 at) p (waited_shard h) asks
       (waits-here h0 h p s0 f ∙ ap (λ (m : WaitedShard). kept.waiting_at m.parked p ++ numbered_strand s0 ∷ []) (sym here_0) ∙ ap (λ w. kept.waiters (waited_shards shards) p ++ w ∷ []) waiter)
       (λ x ne. waits-other h0 h p s0 f x ne ∙ ap (λ (m : WaitedShard). kept.waiting_at m.parked x) (sym here_0))
-      (homes b opening places shards parts n s0 at p len count h0 index h known f.number) in (
-        seen b opening places shards parts n s0 at p len count h0 index (slice_set places n None) h (λ ys. slice_set ys n (waiting s0.strand)) (λ x. x)
+      (homes b opening places shards parts n s0 at p slot slot-is h0 index h known f.number) in (
+        seen b opening places shards parts n s0 at p slot slot-is h0 index (slice_set places n None) h (λ ys. slice_set ys n (waiting s0.strand)) (λ x. x)
             (numbers-none places parts.numbers n (Some s0) at) f.number
             (subst (λ z. IsKeptPlan z hs (slice_set old.strands n (waiting s0.strand))) (sym e) now) f.shard
-            (is.turn ∙ sym (same-shard b opening places shards parts n s0 at p len count h0 index z refl)),
+            (is.turn ∙ sym (same-shard b opening places shards parts n s0 at p slot slot-is h0 index z refl)),
         sym (ap turned_by is.step),
       )
     where
@@ -113,7 +113,7 @@ module _ (b : Batch) (opening : ℕ → List SignalCell) (places : List (Option 
       held-by (Some q) h = (q, refl)
 
   rests : (s : Demand) (h : KeptShard) (error : OutOfMemory) → TakesStep itself s0 s → h ≡ h0 → Ends (Some s) h (Err error)
-  rests s h error step same = rest-set b opening places shards parts n s0 at p len count h0 index s h step same
+  rests s h error step same = rest-set b opening places shards parts n s0 at p slot slot-is h0 index s h step same
 
   pub asked : (came : Result Turned OutOfMemory) (back : Option Demand) (h : KeptShard) → IsKnownShard b opening h → OfAskTurn b h0 h p s0 came back → Ends back h came
   asked (Ok comes.Told) (Some s) h known f = told s h f

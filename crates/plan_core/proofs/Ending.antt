@@ -42,14 +42,14 @@ map-itself (w ∷ ws) = ap (λ l. w ∷ l) (map-itself ws)
 
 module _ (b : Batch) (opening : ℕ → List SignalCell) (places : List (Option Demand)) (shards : List KeptShard) (parts : IsPlan b opening places shards)
     (n : ℕ) (s0 : Demand) (at : slice_get places n ≡ Some (Some s0)) (p : Point)
-    (len : ℕ) (count : len ≡ length shards) (h0 : KeptShard) (index : h0 ≡ get_or shards (p.signal % len) h0) where
+    (slot : ℕ) (slot-is : slot ≡ p.signal % length shards) (h0 : KeptShard) (index : h0 ≡ get_or shards slot h0) where
   abbrev old : Plan
   old = plan_at places shards
 
   -- its claim is the shard's
   holds : IsHeld s0.strand.stack p → holder h0.shard.state.claims p ≡ Some s0.strand.query.number
   holds h =
-      ap (λ (z : Shard). holder z.state.claims p) (sym (shard-here b opening places shards parts n s0 at p len count h0 index))
+      ap (λ (z : Shard). holder z.state.claims p) (sym (shard-here b opening places shards parts n s0 at p slot slot-is h0 index))
       ∙ parts.sound.linked.held n s0.strand p (in-plan b opening places shards parts n s0 at) h
 
   pub holds-filled : next s0.strand ≡ Fill p → holder h0.shard.state.claims p ≡ Some s0.strand.query.number
@@ -60,7 +60,7 @@ module _ (b : Batch) (opening : ℕ → List SignalCell) (places : List (Option 
 
   -- those that wait there
   waits : kept.waiters (waited_shards shards) p ≡ map numbered_strand (waiting_at h0.waiting p)
-  waits = ap (λ (m : WaitedShard). kept.waiting_at m.parked p) (home b opening places shards parts n s0 at p len count h0 index) ∙ waiting-seen h0.waiting p
+  waits = ap (λ (m : WaitedShard). kept.waiting_at m.parked p) (home b opening places shards parts n s0 at p slot slot-is h0 index) ∙ waiting-seen h0.waiting p
 
   low : (w : NumberedStrand) → IsAmong w (kept.waiters (waited_shards shards) p) → w.number < length places
   low w h =
@@ -84,13 +84,13 @@ module _ (b : Batch) (opening : ℕ → List SignalCell) (places : List (Option 
     ended : (mid : List (Option Demand)) → seats mid ≡ put_back itself (seats (slice_set places n None)) (map numbered_strand list) → length mid ≡ length (slice_set places n None) → AreNumbered mid
         → (s : Demand) (h : KeptShard) (e : Strand → Strand) (g : Shard → Shard) → TakesStep e s0 s → (e s0.strand).waits ≡ false → IsKnownShard b opening h → h.number ≡ h0.number → LeavesNone h0 h p → h.shard ≡ g h0.shard
         → turn b old n ≡ with_shard (with_strand (with_woken old f p) n (e s0.strand)) p (g (shard_of old p))
-        → IsSeen b opening (slice_set mid n (Some s)) (slice_set shards (p.signal % len) h) (turn b old n)
+        → IsSeen b opening (slice_set mid n (Some s)) (slice_set shards slot h) (turn b old n)
     ended mid seats_are long numbered s h e g step calm known number leaves shard turns =
         let t = e s0.strand in
         let ps = seats places in
         let ws = kept.waiters (waited_shards shards) p in
         let hs = slice_set (waited_shards shards) (p.signal % length (waited_shards shards)) (waited_shard h) in
-        let home_0 = home b opening places shards parts n s0 at p len count h0 index in
+        let home_0 = home b opening places shards parts n s0 at p slot slot-is h0 index in
         let cleared : seats (slice_set places n None) ≡ slice_set ps n None = map-set seat places n None in
         let mid_is : seats mid ≡ put_back f (slice_set ps n None) ws =
         seats_are ∙ ap (λ xs. put_back itself xs (map numbered_strand list)) cleared ∙ ap (put_back itself (slice_set ps n None)) told ∙ put-changed f (slice_set ps n None) ws in
@@ -101,8 +101,8 @@ module _ (b : Batch) (opening : ℕ → List SignalCell) (places : List (Option 
         let now = kept-wake ps (waited_shards shards) old.strands parts.kept n s0.strand (here b opening places shards parts n s0 at) p f quiet fits t (waited_shard h) calm
         (none-here h0 h p leaves)
         (λ x ne. none-other h0 h p leaves x ne ∙ ap (λ (m : WaitedShard). kept.waiting_at m.parked x) (sym home_0))
-        (homes b opening places shards parts n s0 at p len count h0 index h known number) in
-        seen b opening places shards parts n s0 at p len count h0 index (slice_set mid n (Some s)) h (λ ys. slice_set (map (woken f p) ys) n t) g
+        (homes b opening places shards parts n s0 at p slot slot-is h0 index h known number) in
+        seen b opening places shards parts n s0 at p slot slot-is h0 index (slice_set mid n (Some s)) h (λ ys. slice_set (map (woken f p) ys) n t) g
         (set-numbers mid numbered n s (step.number ∙ parts.numbers n s0 at) wide) number
         (subst (λ z. IsKeptPlan z hs (slice_set (map (woken f p) old.strands) n t)) (sym shape) now) shard turns
 
@@ -115,7 +115,7 @@ module _ (b : Batch) (opening : ℕ → List SignalCell) (places : List (Option 
 
   pub filled : next s0.strand ≡ Fill p → (s r : Demand) (h : KeptShard) (list : List Demand) → IsKnownShard b opening h → FillsIt b h0 h p s0 s list → TakesStep itself s r
       → (mid : List (Option Demand)) → seats mid ≡ put_back itself (seats (slice_set places n None)) (map numbered_strand list) → length mid ≡ length (slice_set places n None) → AreNumbered mid
-      → OfTurn b opening old n (slice_set mid n (Some r)) (slice_set shards (p.signal % len) h) (Ok comes.Filled)
+      → OfTurn b opening old n (slice_set mid n (Some r)) (slice_set shards slot h) (Ok comes.Filled)
   filled fills s r h list known f more mid seats_are long numbered =
       let q = s0.strand.query.number in
       let at_plan = in-plan b opening places shards parts n s0 at in
@@ -138,7 +138,7 @@ module _ (b : Batch) (opening : ℕ → List SignalCell) (places : List (Option 
 
   pub dropped-seen : next s0.strand ≡ Drop p → (s r : Demand) (h : KeptShard) (list : List Demand) → IsKnownShard b opening h → DropsIt h0 h p s0 s list → TakesStep itself s r
       → (mid : List (Option Demand)) → seats mid ≡ put_back itself (seats (slice_set places n None)) (map numbered_strand list) → length mid ≡ length (slice_set places n None) → AreNumbered mid
-      → OfTurn b opening old n (slice_set mid n (Some r)) (slice_set shards (p.signal % len) h) (Ok comes.Dropped)
+      → OfTurn b opening old n (slice_set mid n (Some r)) (slice_set shards slot h) (Ok comes.Dropped)
   dropped-seen drops s r h list known f more mid seats_are long numbered =
       let q = s0.strand.query.number in
       let at_plan = in-plan b opening places shards parts n s0 at in
@@ -150,7 +150,7 @@ module _ (b : Batch) (opening : ℕ → List SignalCell) (places : List (Option 
       )
 
   -- a fill that was refused memory
-  pub filled-not : (s r : Demand) (h : KeptShard) (error : OutOfMemory) → s ≡ s0 → h ≡ h0 → TakesStep itself s r → OfTurn b opening old n (slice_set (slice_set places n None) n (Some r)) (slice_set shards (p.signal % len) h) (Err error)
+  pub filled-not : (s r : Demand) (h : KeptShard) (error : OutOfMemory) → s ≡ s0 → h ≡ h0 → TakesStep itself s r → OfTurn b opening old n (slice_set (slice_set places n None) n (Some r)) (slice_set shards slot h) (Err error)
   filled-not s r h error same kept_is step =
-      subst (λ xs. IsSeen b opening xs (slice_set shards (p.signal % len) h) old) (sym (set-twice places n None (Some r)))
-      (rest-set b opening places shards parts n s0 at p len count h0 index r h (subst (λ z. TakesStep itself z r) same step) kept_is)
+      subst (λ xs. IsSeen b opening xs (slice_set shards slot h) old) (sym (set-twice places n None (Some r)))
+      (rest-set b opening places shards parts n s0 at p slot slot-is h0 index r h (subst (λ z. TakesStep itself z r) same step) kept_is)

@@ -100,7 +100,7 @@ module _ (b : Batch) (plan : Plan) (n : ℕ) where
 
 module _ (b : Batch) (opening : ℕ → List SignalCell) (places : List (Option Demand)) (shards : List KeptShard) (parts : IsPlan b opening places shards)
     (n : ℕ) (s0 : Demand) (at : slice_get places n ≡ Some (Some s0)) (p : Point)
-    (len : ℕ) (count : len ≡ length shards) (h0 : KeptShard) (index : h0 ≡ get_or shards (p.signal % len) h0) (r : IsRefusedAt (plan_at places shards) n p) where
+    (slot : ℕ) (slot-is : slot ≡ p.signal % length shards) (h0 : KeptShard) (index : h0 ≡ get_or shards slot h0) (r : IsRefusedAt (plan_at places shards) n p) where
   abbrev old : Plan
   old = plan_at places shards
 
@@ -111,7 +111,7 @@ module _ (b : Batch) (opening : ℕ → List SignalCell) (places : List (Option 
   same-strand = let k = r.at in let l = at-plan in cc (k, l)
 
   there : shard_of old p ≡ h0.shard
-  there = shard-here b opening places shards parts n s0 at p len count h0 index
+  there = shard-here b opening places shards parts n s0 at p slot slot-is h0 index
 
   pub refused-spent : s0.strand.spent ≡ true
   refused-spent = ap (λ (z : Strand). z.spent) (sym same-strand) ∙ r.spent
@@ -120,7 +120,7 @@ module _ (b : Batch) (opening : ℕ → List SignalCell) (places : List (Option 
   refused-asks = ap (λ (z : Strand). next_in false z.roots z.stack) (sym same-strand) ∙ r.asks
 
   pub refused-here : IsHere b h0 p
-  refused-here = ap (λ m. p.signal % m) (sym (count ∙ shards-count b opening places shards parts)) ∙ sym (number-is b opening places shards parts n s0 at p len count h0 index)
+  refused-here = ap (λ m. p.signal % m) (sym (shards-count b opening places shards parts)) ∙ sym slot-is ∙ sym (number-is b opening places shards parts n s0 at p slot slot-is h0 index)
 
   pub refused-open : IsUnfound h0 p
   refused-open = record {
@@ -129,38 +129,38 @@ module _ (b : Batch) (opening : ℕ → List SignalCell) (places : List (Option 
   }
 
   pub refused-seen : (h : KeptShard) → IsKnownShard b opening h → h ≡ ends.with_shard h0 (recorded (entry.Spent s0.strand.query.number p (length s0.strand.stack)) h0.shard)
-      → (s : Strand) × ((slice_get old.strands n ≡ Some s) × IsSeen b opening places (slice_set shards (p.signal % len) h) (refused old s (Ask p)))
+      → (s : Strand) × ((slice_get old.strands n ≡ Some s) × IsSeen b opening places (slice_set shards slot h) (refused old s (Ask p)))
   refused-seen h known is =
       let e = entry.Spent s0.strand.query.number p (length s0.strand.stack) in
       let calm = awake b opening places shards parts n s0 at in
       let here_0 = here b opening places shards parts n s0 at in
       let number : h.number ≡ h0.number = ap (λ (z : KeptShard). z.number) is in
       let shard : h.shard ≡ recorded e h0.shard = ap (λ (z : KeptShard). z.shard) is in
-      let parked : (waited_shard h).parked ≡ (kept.waited_shard_at (waited_shards shards) p).parked = ap (λ (z : KeptShard). map parked_of z.waiting) is ∙ ap (λ (z : WaitedShard). z.parked) (sym (home-is b opening places shards parts n s0 at p len count h0 index)) in
+      let parked : (waited_shard h).parked ≡ (kept.waited_shard_at (waited_shards shards) p).parked = ap (λ (z : KeptShard). map parked_of z.waiting) is ∙ ap (λ (z : WaitedShard). z.parked) (sym (home-is b opening places shards parts n s0 at p slot slot-is h0 index)) in
       let hs = slice_set (waited_shards shards) (p.signal % length (waited_shards shards)) (waited_shard h) in
       let now_0 = kept-put (seats places) (waited_shards shards) old.strands parts.kept n s0.strand here_0 p s0.strand (waited_shard h) calm parked in
       let now : IsKeptPlan (seats places) hs old.strands =
       subst (λ xs. IsKeptPlan (seats places) hs xs) (set-same old.strands n s0.strand at-plan) (subst (λ z. IsKeptPlan z hs (slice_set old.strands n s0.strand)) (set-same (seats places) n (Some s0.strand) here_0) now_0) in
       let many : length old.shards ≡ b.shards = parts.sound.count in
-      let home_is : h.number ≡ home old p = number ∙ number-is b opening places shards parts n s0 at p len count h0 index ∙ ap (λ m. p.signal % m) (count ∙ shards-count b opening places shards parts ∙ sym many) in
+      let home_is : h.number ≡ home old p = number ∙ number-is b opening places shards parts n s0 at p slot slot-is h0 index ∙ slot-is ∙ ap (λ m. p.signal % m) (shards-count b opening places shards parts ∙ sym many) in
       let right : IsShard b (home old p) (opening (home old p)) (recorded e (shard_of old p)) =
       subst (λ z. IsShard b (home old p) (opening (home old p)) z) (shard ∙ ap (recorded e) (sym there)) (subst (λ k. IsShard b k (opening k) h.shard) home_is known.shard) in
       let sound = shard-sound b parts.lawful opening old parts.sound p (recorded e (shard_of old p)) right refl n s0.strand at-plan calm in (
         s0.strand,
         (
           at-plan,
-          seen-as b opening places shards parts n s0 at p len count h0 index places h (λ ys. ys) (recorded e) parts.numbers number now shard
+          seen-as b opening places shards parts n s0 at p slot slot-is h0 index places h (λ ys. ys) (recorded e) parts.numbers number now shard
               (refused old s0.strand (Ask p)) sound refl,
         ),
       )
 
-  pub refused-not : (h : KeptShard) → h ≡ h0 → IsSeen b opening places (slice_set shards (p.signal % len) h) old
+  pub refused-not : (h : KeptShard) → h ≡ h0 → IsSeen b opening places (slice_set shards slot h) old
   refused-not h is =
-      let shards_is : slice_set shards (p.signal % len) h ≡ shards = ap (slice_set shards (p.signal % len)) is ∙ set-same shards (p.signal % len) h0 (at-home b opening places shards parts n s0 at p len count h0 index) in
-      rest-seen b opening places shards parts places (slice_set shards (p.signal % len) h) parts.numbers (subst AreInOrder (sym shards_is) parts.order) refl (ap waited_shards shards_is)
+      let shards_is : slice_set shards slot h ≡ shards = ap (slice_set shards slot) is ∙ set-same shards slot h0 (at-home b opening places shards parts n s0 at p slot slot-is h0 index) in
+      rest-seen b opening places shards parts places (slice_set shards slot h) parts.numbers (subst AreInOrder (sym shards_is) parts.order) refl (ap waited_shards shards_is)
 
   -- whatever came of it
   pub refused-end : (h : KeptShard) → IsKnownShard b opening h → (came : Result Unit OutOfMemory) → OnOk came (h ≡ ends.with_shard h0 (recorded (entry.Spent s0.strand.query.number p (length s0.strand.stack)) h0.shard)) → OnErr came (h ≡ h0)
-      → OfRefusal b opening old n p places (slice_set shards (p.signal % len) h) came
+      → OfRefusal b opening old n p places (slice_set shards slot h) came
   refused-end h known (Ok u) ok err = refused-seen h known ok
   refused-end h known (Err e) ok err = refused-not h err

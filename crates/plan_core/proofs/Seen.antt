@@ -68,32 +68,34 @@ module _ (b : Batch) (opening : ℕ → List SignalCell) (places : List (Option 
     pub awake : s0.strand.waits ≡ false
     awake = (parts.kept.parts.ready n s0.strand here).1
 
-    module _ (p : Point) (len : ℕ) (count : len ≡ length shards) (h0 : KeptShard) (index : h0 ≡ get_or shards (p.signal % len) h0) where
-      pub at-home : slice_get shards (p.signal % len) ≡ Some h0
+    module _ (p : Point) (slot : ℕ) (slot-is : slot ≡ p.signal % length shards) (h0 : KeptShard) (index : h0 ≡ get_or shards slot h0) where
+      slot-waited : slot ≡ p.signal % length (waited_shards shards)
+      slot-waited = slot-is ∙ ap (λ m. p.signal % m) (sym shards-len)
+
+      pub at-home : slice_get shards slot ≡ Some h0
       at-home =
           let some_shard : 1 ≤ length shards = let k = parts.kept.some in let l = shards-len in omega arith in
-          let low : p.signal % len < length shards = omega arith in
-          read-at shards (p.signal % len) h0 low index
+          let low : slot < length shards = omega arith in
+          read-at shards slot h0 low index
 
-      pub number-is : h0.number ≡ p.signal % len
-      number-is = parts.order (p.signal % len) h0 at-home
+      pub number-is : h0.number ≡ slot
+      number-is = parts.order slot h0 at-home
 
       pub home : kept.waited_shard_at (waited_shards shards) p ≡ waited_shard h0
       home =
-          let l : length (waited_shards shards) ≡ len = shards-len ∙ sym count in
-          ap (λ m. get_or (waited_shards shards) (p.signal % m) no_waited_shard) l
-          ∙ get-or-at (waited_shards shards) (p.signal % len) (waited_shard h0) no_waited_shard (map-get waited_shard shards (p.signal % len) h0 at-home)
+          ap (λ m. get_or (waited_shards shards) m no_waited_shard) (sym slot-waited)
+          ∙ get-or-at (waited_shards shards) slot (waited_shard h0) no_waited_shard (map-get waited_shard shards slot h0 at-home)
 
       pub shard-here : shard_of plan p ≡ h0.shard
       shard-here = shard-is (seats places) (waited_shards shards) p ∙ ap (λ (z : WaitedShard). z.shard) home
 
-      pub order-set : (h : KeptShard) → h.number ≡ h0.number → AreInOrder (slice_set shards (p.signal % len) h)
-      order-set h e i m got = elim (cases_eq i (p.signal % len)) [
+      pub order-set : (h : KeptShard) → h.number ≡ h0.number → AreInOrder (slice_set shards slot h)
+      order-set h e i m got = elim (cases_eq i slot) [
         | inl k ↦
-            let now : slice_get (slice_set shards (p.signal % len) h) i ≡ Some h = subst (λ j. slice_get (slice_set shards (p.signal % len) h) j ≡ Some h) (sym k) (set-here shards (p.signal % len) h0 h at-home) in
+            let now : slice_get (slice_set shards slot h) i ≡ Some h = subst (λ j. slice_get (slice_set shards slot h) j ≡ Some h) (sym k) (set-here shards slot h0 h at-home) in
             let same : h ≡ m = cc (now, got) in
             ap (λ (z : KeptShard). z.number) (sym same) ∙ e ∙ number-is ∙ sym k
-        | inr k ↦ parts.order i m (sym (set-other shards (p.signal % len) i h k) ∙ got)
+        | inr k ↦ parts.order i m (sym (set-other shards slot i h k) ∙ got)
       ]
 
       -- who waits in the shard waits for a point of it
@@ -101,7 +103,7 @@ module _ (b : Batch) (opening : ℕ → List SignalCell) (places : List (Option 
       homes h known e =
           let all = homes-seen b opening h known in
           let l : b.shards ≡ length (waited_shards shards) = sym (shards-len ∙ shards-count) in
-          let number : h.number ≡ p.signal % length (waited_shards shards) = e ∙ number-is ∙ ap (λ m. p.signal % m) (count ∙ sym shards-len) in
+          let number : h.number ≡ p.signal % length (waited_shards shards) = e ∙ number-is ∙ slot-waited in
           subst (λ m. AllByRecursion (λ (k : Parked). k.point.signal % length (waited_shards shards) ≡ m) (waited_shard h).parked) number
           (subst (λ m. AllByRecursion (λ (k : Parked). k.point.signal % m ≡ h.number) (waited_shard h).parked) l all)
 
@@ -110,11 +112,11 @@ module _ (b : Batch) (opening : ℕ → List SignalCell) (places : List (Option 
           → IsKeptPlan (seats after) (slice_set (waited_shards shards) (p.signal % length (waited_shards shards)) (waited_shard h)) (change plan.strands)
           → h.shard ≡ g h0.shard
           → (new : Plan) → IsSound b opening new → new ≡ with_shard (record plan { strands = change plan.strands }) p (g (shard_of plan p))
-          → IsSeen b opening after (slice_set shards (p.signal % len) h) new
+          → IsSeen b opening after (slice_set shards slot h) new
       seen-as after h change g numbers number now shard new sound turns =
-          let ns = slice_set shards (p.signal % len) h in
+          let ns = slice_set shards slot h in
           let hs = slice_set (waited_shards shards) (p.signal % length (waited_shards shards)) (waited_shard h) in
-          let e : waited_shards ns ≡ hs = map-set waited_shard shards (p.signal % len) h ∙ ap (λ z. slice_set (waited_shards shards) (p.signal % z) (waited_shard h)) (count ∙ sym shards-len) in
+          let e : waited_shards ns ≡ hs = map-set waited_shard shards slot h ∙ ap (λ z. slice_set (waited_shards shards) z (waited_shard h)) slot-waited in
           let is = kept-is blank (seats after) hs (change plan.strands) now in
           let value : (waited_shard h).shard ≡ g (kept.waited_shard_at (waited_shards shards) p).shard = shard ∙ ap (λ (m : WaitedShard). g m.shard) (sym home) in
           let same : plan_at after ns ≡ new = ap (plan_of blank (seats after)) e
@@ -135,13 +137,13 @@ module _ (b : Batch) (opening : ℕ → List SignalCell) (places : List (Option 
           → IsKeptPlan (seats after) (slice_set (waited_shards shards) (p.signal % length (waited_shards shards)) (waited_shard h)) (change plan.strands)
           → h.shard ≡ g h0.shard
           → turn b plan n ≡ with_shard (record plan { strands = change plan.strands }) p (g (shard_of plan p))
-          → IsSeen b opening after (slice_set shards (p.signal % len) h) (turn b plan n)
+          → IsSeen b opening after (slice_set shards slot h) (turn b plan n)
       seen after h change g numbers number now shard turns = seen-as after h change g numbers number now shard (turn b plan n) (turn-sound b parts.lawful opening plan parts.sound n) turns
 
       -- the strand goes back after f, and those that wait stay
       pub put-seen : (s : Demand) (h : KeptShard) (f : Strand → Strand) (g : Shard → Shard) → TakesStep f s0 s → (f s0.strand).waits ≡ false → h.number ≡ h0.number → h.waiting ≡ h0.waiting → h.shard ≡ g h0.shard
           → turn b plan n ≡ with_shard (with_strand plan n (f s0.strand)) p (g (shard_of plan p))
-          → IsSeen b opening (slice_set places n (Some s)) (slice_set shards (p.signal % len) h) (turn b plan n)
+          → IsSeen b opening (slice_set places n (Some s)) (slice_set shards slot h) (turn b plan n)
       put-seen s h f g step quiet number waiting shard turns =
           let t = f s0.strand in
           let hs = slice_set (waited_shards shards) (p.signal % length (waited_shards shards)) (waited_shard h) in
@@ -158,11 +160,11 @@ module _ (b : Batch) (opening : ℕ → List SignalCell) (places : List (Option 
           ap at_shards (ap (λ hs. slice_set hs (p.signal % length hs) (shard_of plan p)) e ∙ set-get_or plan.shards (p.signal % length plan.shards) no_shard ∙ sym e)
 
       -- parts that read as before, where the strand has heard base answers at most
-      pub rest-set : (s : Demand) (h : KeptShard) → TakesStep itself s0 s → h ≡ h0 → IsSeen b opening (slice_set places n (Some s)) (slice_set shards (p.signal % len) h) (plan_at places shards)
+      pub rest-set : (s : Demand) (h : KeptShard) → TakesStep itself s0 s → h ≡ h0 → IsSeen b opening (slice_set places n (Some s)) (slice_set shards slot h) (plan_at places shards)
       rest-set s h step same =
-          let shards_is : slice_set shards (p.signal % len) h ≡ shards = ap (slice_set shards (p.signal % len)) same ∙ set-same shards (p.signal % len) h0 at-home in
+          let shards_is : slice_set shards slot h ≡ shards = ap (slice_set shards slot) same ∙ set-same shards slot h0 at-home in
           let places_is : seats (slice_set places n (Some s)) ≡ seats places =
           map-set seat places n (Some s) ∙ ap (λ z. slice_set (seats places) n (Some z)) step.strand ∙ set-same (seats places) n (Some s0.strand) here in
-          rest-seen (slice_set places n (Some s)) (slice_set shards (p.signal % len) h)
+          rest-seen (slice_set places n (Some s)) (slice_set shards slot h)
           (numbers-set places parts.numbers n (Some s0) at s (step.number ∙ parts.numbers n s0 at))
           (subst AreInOrder (sym shards_is) parts.order) places_is (ap waited_shards shards_is)

@@ -1,4 +1,4 @@
--- What a plan is made of, and what its parts keep.
+-- The parts of a plan, and what they preserve.
 use Rattle.std.specs.Prelude.{◌≡◌, ℕ, false, List, [], length, map, slice_get, Some}
 use Rattle.std.specs.List.{AllByRecursion}
 use Rattle.batch_meaning.specs.Batches.{Batch}
@@ -12,7 +12,7 @@ use Rattle.memo_shards.specs.KeptShards.{KeptShard}
 abbrev pub AreInOrder : List KeptShard → Type 0
 AreInOrder shards = (i : ℕ) (m : KeptShard) → slice_get shards i ≡ Some m → m.number ≡ i
 
--- a strand that has made no turn, for place i
+-- a strand for place i that has made no turn
 pub record IsFreshStrand (b : Batch) (i : ℕ) (s : Demand) : Type 0 where
   pub number : s.number ≡ i
   pub strand : IsStrand b s.strand
@@ -22,24 +22,24 @@ pub record IsFreshStrand (b : Batch) (i : ℕ) (s : Demand) : Type 0 where
 abbrev pub AreFreshStrands : Batch → List Demand → Type 0
 AreFreshStrands b strands = (i : ℕ) (s : Demand) → slice_get strands i ≡ Some s → IsFreshStrand b i s
 
--- the shards of a batch in order, in which nothing is claimed
+-- the shards of a batch in order, without claims
 pub record AreFree (b : Batch) (shards : List KeptShard) : Type 0 where
   pub count : length shards ≡ b.shards
   pub order : AreInOrder shards
   pub free : AllByRecursion (λ (m : KeptShard). m.shard.state.claims ≡ []) shards
 
--- in the plan's words
+-- the shards, in the words of `plan_machine`
 abbrev pub shards_in : List KeptShard → List Shard
 shards_in shards = map (λ (m : KeptShard). m.shard) shards
 
 abbrev pub strands_in : List Demand → List Strand
 strands_in strands = map (λ (s : Demand). s.strand) strands
 
--- the plan that begins with these
+-- the plan that begins with these strands and shards
 abbrev pub plan_of_new : List Demand → List KeptShard → Plan
 plan_of_new strands shards = record { strands = strands_in strands; shards = shards_in shards }
 
--- the plan has this strand awake in the place
+-- the strand in this place of the plan is awake
 pub record IsAwake (plan : Plan) (n : ℕ) (s : Demand) : Type 0 where
   pub number : s.number ≡ n
   pub at : slice_get plan.strands n ≡ Some s.strand

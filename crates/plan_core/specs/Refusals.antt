@@ -12,13 +12,13 @@ use Rattle.plan_machine.specs.Alone.{RunsAlone}
 use Rattle.plan_core.specs.declared.alone.Alone.{Alone}
 use Rattle.plan_core.specs.declared.alone.Alone.TheVariants.{Ended, Spent}
 
--- the point that it was refused
+-- the point that the strand was refused
 abbrev pub point_of : Alone → Option Point
 point_of Ended = None
 point_of (Spent p) = Some p
 
--- Where memory ran out: turns of strand n alone, which was started as a, led from the old plan to the new one; or to the one before the
--- last turn, in which the strand was spent, and whose refusal is not recorded.
+-- When memory ran out: turns of strand n alone, started as a, led from the old plan to the new one. Or they led to the plan before the
+-- last turn, in which the strand was spent, and the refusal is not recorded.
 pub record StopsAlone (b : Batch) (opening : ℕ → List SignalCell) (n : ℕ) (a : Start) (old new : Plan) : Type 0 where
   pub before : Plan
   pub refused_at : Option Point

@@ -18,7 +18,7 @@ ghost use Rattle.valid_intervals.specs.declared.Point.{Point as PointRecord};
 use crate::paused::Paused;
 use crate::places::{next_at, strand_at};
 use demand_points::{BatchName, Strand};
-use memo_shards::Shard;
+use memo_shards::{Shard, shard_number};
 use owned_text::OutOfMemory;
 use strand_meaning::Next;
 use valid_intervals::Point;
@@ -28,11 +28,11 @@ use valid_intervals::Point;
 pub enum Alone {
     /// It has heard all its roots.
     Ended,
-    /// It was refused this point, since its budget is spent.
+    /// The strand's budget is spent, and it was refused this point.
     Spent(Point),
 }
 
-/// The point that the strand in the place asks for, if it asks for one.
+/// The point that the strand in the place asks for, if there is one.
 pub fn asked_at<B: BatchName>(places: &[Option<Paused<B>>], number: usize) -> Option<Point>
     requires { number < length places.now }
     ensures all { (s : Demand) (p : PointRecord) → slice_get places.now number ≡ Some (Some s)
@@ -79,7 +79,7 @@ pub fn refuse<B: BatchName>(
     ensures { OfRefusal B.batch B.opening (plan_at places.now shards.old.items) number p places.now
         shards.new.items result }
 {
-    let home = p.signal as usize % shards.len();
+    let home = shard_number(p.signal, shards.len());
     match strand_at(places, number) {
         Some(strand) => spend(&mut shards[home], strand, p),
         None => unreachable!(),

@@ -13,12 +13,12 @@ use crate::paused::Paused;
 use crate::places::{put_at, take_at};
 use demand_points::BatchName;
 use design::Design;
-use memo_shards::{Asked, Shard};
+use memo_shards::{Asked, Shard, shard_number};
 use owned_text::OutOfMemory;
 use plan_machine::Turned;
 use valid_intervals::Point;
 
-/// What is known of every shard of a list.
+/// What holds of every shard of a list.
 pub fn know_all<B: BatchName>(shards: &[Shard<B>])
     ensures { (i : ℕ) (m : KeptShard) → slice_get shards.now i ≡ Some m
         → IsKnownShard B.batch B.opening m }
@@ -28,7 +28,7 @@ pub fn know_all<B: BatchName>(shards: &[Shard<B>])
     }
 }
 
-/// Asks the shard for the point. Comes back with the strand, unless it waits.
+/// Asks the shard for the point. Returns the strand, unless it waits.
 fn ask<B: BatchName>(
     shard: &mut Shard<B>,
     paused: Paused<B>,
@@ -67,7 +67,7 @@ pub fn ask_turn<B: BatchName>(
     ensures { OfTurn B.batch B.opening (plan_at places.old.items shards.old.items) number
         places.new.items shards.new.items result }
 {
-    let home = p.signal as usize % shards.len();
+    let home = shard_number(p.signal, shards.len());
     let paused = take_at(places, number);
     let (came, back) = ask(&mut shards[home], paused, design, p);
     put_at(places, number, back);

@@ -14,12 +14,12 @@ use crate::paused::Paused;
 use crate::places::{put_at, put_back, take_at};
 use demand_points::{BatchName, Strand};
 use design::Design;
-use memo_shards::Shard;
+use memo_shards::{Shard, shard_number};
 use owned_text::OutOfMemory;
 use plan_machine::Turned;
 use valid_intervals::Point;
 
-/// A strand, and those that its step let out.
+/// A strand, and those that its step woke.
 type Ended<B> = (Strand<B>, Vec<Strand<B>>);
 
 /// Fills the point in its shard.
@@ -55,7 +55,7 @@ pub fn fill_turn<B: BatchName>(
     ensures { OfTurn B.batch B.opening (plan_at places.old.items shards.old.items) number
         places.new.items shards.new.items result }
 {
-    let home = p.signal as usize % shards.len();
+    let home = shard_number(p.signal, shards.len());
     let strand = take_at(places, number).into_strand();
     match fill(&mut shards[home], strand, design, p) {
         Ok((strand, woken)) => {
@@ -97,7 +97,7 @@ pub fn drop_turn<B: BatchName>(
     ensures { OfTurn B.batch B.opening (plan_at places.old.items shards.old.items) number
         places.new.items shards.new.items (Ok result) }
 {
-    let home = p.signal as usize % shards.len();
+    let home = shard_number(p.signal, shards.len());
     let strand = take_at(places, number).into_strand();
     let (strand, woken) = drop_top(&mut shards[home], strand, p);
     put_back(places, woken, design);

@@ -10,7 +10,7 @@ use design::Design;
 use std::marker::Model;
 use strand_meaning::Next;
 
-/// A strand that has heard all base answers, with the step that it makes next.
+/// A strand that has heard all base answers, with its next step.
 #[derive(Drop)]
 pub struct Paused<B: BatchName> {
     strand: Strand<B>,
@@ -39,14 +39,14 @@ impl<B: BatchName> Paused<B> {
         Paused { strand, step }
     }
 
-    /// Its next step.
+    /// The next step.
     pub fn next(&self) -> Next
         ensures { result ≡ next self.now.strand }
     {
         self.step
     }
 
-    /// Whether it has a step left.
+    /// Whether a step is left.
     pub fn has_next(&self) -> bool
         ensures { result ≡ not (is_done (next self.now.strand)) }
     {

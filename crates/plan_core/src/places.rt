@@ -51,7 +51,7 @@ pub fn take_at<B: BatchName>(places: &mut Vec<Option<Paused<B>>>, number: usize)
     }
 }
 
-/// Puts what came of a step into the place.
+/// Puts the result of a step into the place.
 pub fn put_at<B: BatchName>(
     places: &mut Vec<Option<Paused<B>>>,
     number: usize,
@@ -63,7 +63,7 @@ pub fn put_at<B: BatchName>(
     places[number] = back;
 }
 
-/// Each strand goes to the place of its number.
+/// Puts each strand into the place of its number.
 pub fn put_back<B: BatchName>(
     places: &mut Vec<Option<Paused<B>>>,
     woken: Vec<Strand<B>>,
@@ -83,7 +83,7 @@ pub fn put_back<B: BatchName>(
     }
 }
 
-/// A place for each strand, which is brought to its next step.
+/// A place for each strand, advanced to its next step.
 pub fn pause_all<B: BatchName>(
     alloc: Global,
     strands: Vec<Strand<B>>,
@@ -99,7 +99,7 @@ pub fn pause_all<B: BatchName>(
     Ok(places)
 }
 
-// Notes the number of the strand in the place, if it has a step left.
+// Notes the number of the strand in the place, if the strand has a step left.
 fn note_ready<B: BatchName>(
     numbers: &mut Vec<u32>,
     place: &Option<Paused<B>>,

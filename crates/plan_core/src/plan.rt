@@ -54,8 +54,8 @@ impl<B: BatchName> Model for Plan<B> {
 }
 
 impl<B: BatchName> Plan<B> {
-    /// The plan of these strands, of which none has made a turn, and of these shards. Each strand is brought to its next step, so one
-    /// that base answers complete has ended.
+    /// The plan of these strands, none of which has made a turn, and of these shards. Each strand is advanced to its next step, so one that
+    /// base answers complete has ended.
     pub fn new(
         alloc: Global,
         design: &Design,
@@ -76,7 +76,7 @@ impl<B: BatchName> Plan<B> {
         Ok(Plan { places, shards })
     }
 
-    /// What is known of every plan.
+    /// What holds of every plan.
     pub fn facts(&self)
         ensures lawful { IsLawful B.batch }
         ensures sound { IsSound B.batch B.opening self.now }
@@ -84,7 +84,7 @@ impl<B: BatchName> Plan<B> {
         let _places = self.places.len();
     }
 
-    /// One turn of the strand with this number. Where memory runs out, nothing changes.
+    /// One turn of the strand with this number. If memory runs out, nothing changes.
     pub fn turn(&mut self, design: &Design, number: u32) -> Result<Turned, OutOfMemory>
         requires design { design.now.circuit ≡ B.batch.circuit }
         requires number { number < length self.old.strands }
@@ -96,8 +96,8 @@ impl<B: BatchName> Plan<B> {
         turns::turn(&mut self.places, &mut self.shards, design, number as usize)
     }
 
-    /// Turns of the strands with these numbers, in this order; how many of them were not NotReady. Where memory runs out, the turns
-    /// before it stand.
+    /// Turns of the strands with these numbers, in this order. Returns how many were not NotReady. If memory runs out, the turns before
+    /// stay.
     pub fn run(&mut self, design: &Design, schedule: &[u32]) -> Result<u64, OutOfMemory>
         requires design { design.now.circuit ≡ B.batch.circuit }
         requires numbers { AllByRecursion (λ i. i < length self.old.strands) schedule.now }
@@ -137,7 +137,7 @@ impl<B: BatchName> Plan<B> {
         refuse(&self.places, &mut self.shards, number as usize, p)
     }
 
-    // One turn of a strand that runs alone; whether it goes on.
+    // One turn of a strand that runs alone. Returns whether it goes on.
     fn turn_alone(
         &mut self,
         design: &Design,
@@ -174,8 +174,8 @@ impl<B: BatchName> Plan<B> {
         }
     }
 
-    /// Turns of one strand alone until it has ended. A refusal for its budget is recorded before it drops what it holds. Where memory
-    /// runs out, the turns before it stand, and all are this strand's.
+    /// Turns of one strand alone until it has ended. If it is refused for its budget, this is recorded before it drops what it holds. If
+    /// memory runs out, the turns before stay, and all are this strand's.
     pub fn run_alone(&mut self, design: &Design, number: u32) -> Result<Alone, OutOfMemory>
         requires design { design.now.circuit ≡ B.batch.circuit }
         requires number { number < length self.old.strands }
@@ -202,7 +202,7 @@ impl<B: BatchName> Plan<B> {
         ready_in(alloc, &self.places)
     }
 
-    /// The strand with this number. There is none where the number is none of the plan's, or the strand waits.
+    /// The strand with this number. None if the plan has no such strand, or the strand waits.
     pub fn strand(&self, number: u32) -> Option<&Strand<B>>
         ensures some { IfSome result (λ s. IsAwake self.now number s.now) }
         ensures none { result ≡ None → (s : MachineStrand)
@@ -221,7 +221,7 @@ impl<B: BatchName> Plan<B> {
     }
 }
 
-// Counts a turn that is not NotReady.
+// 1 for a turn that is not NotReady, else 0.
 fn counted(turned: Turned) -> u64
     ensures count { result ≡ is_turn turned }
     ensures most { result ≤ 1 }

@@ -25,7 +25,7 @@ use timing_file::read_timing;
 /// A query for one time of a signal, as a script asks it: the number of its line, the signal, the time and the budget.
 struct At(u32, &'static str, u32, u32);
 
-/// An entry, by the word and the numbers of its line in the journal's text.
+/// An entry: the word and the numbers of its line in the journal's text.
 #[derive(Clone, Copy, Debug, PartialEq, Eq)]
 enum Line {
     Told(u32, u32, u32, u32, u32, Value),
@@ -36,28 +36,29 @@ enum Line {
     Spent(u32, u32, u32, u32),
 }
 
-/// Strand 0 is for the first query, and strand 1 for the second; they ask one shard with room for four cells.
+/// Strand 0 serves the first query, and strand 1 the second. They ask one shard with room for four cells.
 struct Row {
     name: &'static str,
     netlist: &'static str,
     first: At,
     second: At,
     schedule: &'static [u32],
-    /// What the turns of the schedule come to, how many of them count, and how many turns may count in any schedule.
+    /// The results of the schedule's turns, how many of them count, and the bound on the turns that count in any
+    /// schedule.
     turns: &'static [Turned],
     counted: u64,
     most: u64,
-    /// Who is ready then, and the value that each strand has heard last of its root.
+    /// The strands that are ready then, and the last value that each strand has heard of its root.
     ready: &'static [u32],
     heard: (Option<Value>, Option<Value>),
-    /// What a further turn of strand 0 comes to.
+    /// The result of a further turn of strand 0.
     further: Turned,
-    /// The journal before that turn, and how many cells are stored.
+    /// The journal before that turn, and the number of stored cells.
     lines: &'static [Line],
     stored: u32,
 }
 
-/// A strand that runs alone, what comes of it, the value that it heard of its root, and the journal.
+/// A strand that runs alone: its end, the value that it heard of its root, and the journal.
 struct Lone {
     number: u32,
     came: Alone,
@@ -65,7 +66,7 @@ struct Lone {
     lines: &'static [Line],
 }
 
-/// The text, where it is short.
+/// The text's bytes, or none if there are over 1,000.
 fn short(text: &str) -> &[u8]
     ensures { length result.now ≤ 1000 }
 {
@@ -81,7 +82,7 @@ fn circuit(alloc: Global, netlist: &str) -> Result<Result<Design, JoinFault>, Fa
     Ok(Design::join(alloc, netlist, &timing, &stimulus))
 }
 
-/// The query, where the design has its signal and its time.
+/// The query, if the design has its signal and its time.
 fn query_of(design: &Design, at: &At) -> Option<Query>
     ensures signal { IfSome result (λ q. q.signal < length design.now.circuit.drivers) }
     ensures window { IfSome result (λ q. q.from < q.to) }
@@ -145,7 +146,7 @@ fn two<B: BatchName>(
     Ok(Plan::new(alloc, design, strands, shards)?)
 }
 
-/// What the turns of the schedule come to, one by one, and a further turn of strand 0.
+/// The results of the schedule's turns, and that of a further turn of strand 0.
 fn turns_of<B: BatchName>(
     alloc: Global,
     mut plan: Plan<B>,
@@ -165,7 +166,7 @@ fn turns_of<B: BatchName>(
     Ok((turns, further))
 }
 
-/// The value that the strand with this number has heard last of its root; none where it waits.
+/// The last value that the strand with this number has heard of its root; none if it waits.
 fn heard_by<B: BatchName>(plan: &Plan<B>, number: u32) -> Option<Value> {
     match plan.strand(number) {
         None => None,
@@ -193,7 +194,7 @@ fn line_of(entry: &Entry) -> Line {
     }
 }
 
-/// What the shards have recorded, and how many cells they store.
+/// The entries of the shards, and the number of their stored cells.
 fn left_in<B: BatchName>(alloc: Global, plan: Plan<B>) -> Result<(Vec<Line>, u32), Fail> {
     let mut lines = Vec::new(alloc);
     let mut stored = 0u32;
@@ -208,7 +209,7 @@ fn left_in<B: BatchName>(alloc: Global, plan: Plan<B>) -> Result<(Vec<Line>, u32
     Ok((lines, stored))
 }
 
-/// What came of a schedule.
+/// The result of a schedule.
 #[derive(Drop)]
 struct Seen {
     turns: Vec<Turned>,
@@ -220,7 +221,7 @@ struct Seen {
     stored: u32,
 }
 
-/// Runs two strands as the schedule says.
+/// Runs two strands by the schedule.
 fn serve<B: BatchName>(
     alloc: Global,
     design: &Design,
@@ -257,7 +258,7 @@ fn serve<B: BatchName>(
     })
 }
 
-/// Runs a row, where its queries are of the design, and its schedule of the strands.
+/// Runs a row, if its queries fit the design and its schedule names the two strands.
 fn serve_row(alloc: Global, design: &Design, row: &Row) -> Result<Option<Seen>, Fail> {
     design.facts();
     let Some(first) = query_of(design, &row.first) else {
@@ -272,7 +273,7 @@ fn serve_row(alloc: Global, design: &Design, row: &Row) -> Result<Option<Seen>, 
     Ok(Some(serve::<Brand>(alloc, design, first, second, row.schedule)?))
 }
 
-/// Whether what came of a row's schedule is what the row says.
+/// Whether the result of a row's schedule is the row's.
 fn is_as_said(seen: &Seen, row: &Row) -> bool {
     seen.turns.as_slice() == row.turns
         && seen.counted == row.counted
@@ -284,7 +285,7 @@ fn is_as_said(seen: &Seen, row: &Row) -> bool {
         && seen.stored == row.stored
 }
 
-/// Whether a row is right of this design; none where its queries are not of the design.
+/// Whether a row is right for this design; none if its queries do not fit the design.
 fn goes_as_said(alloc: Global, design: &Design, row: &Row) -> Result<Option<bool>, Fail> {
     match serve_row(alloc, design, row)? {
         None => Ok(None),
@@ -292,7 +293,7 @@ fn goes_as_said(alloc: Global, design: &Design, row: &Row) -> Result<Option<bool
     }
 }
 
-/// The same for the design of the row.
+/// The same for the row's own design.
 fn is_right(alloc: Global, row: &Row) -> Result<Option<bool>, Fail> {
     let design = circuit(alloc, row.netlist)??;
     goes_as_said(alloc, &design, row)
@@ -333,7 +334,7 @@ fn serve_alone<B: BatchName>(
     Ok((came, heard, lines))
 }
 
-/// Runs one of two strands for `n3` at 5, with budgets of 2 and of 3, alone.
+/// Runs one of two strands for `n3` at 5, with budgets of 2 and 3, alone.
 fn serve_lone(
     alloc: Global,
     design: &Design,

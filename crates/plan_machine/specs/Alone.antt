@@ -1,4 +1,4 @@
--- Running one strand alone: what holds on the way, and what it leaves.
+-- A strand that runs alone: what holds during its run, and what the run leaves.
 use Rattle.std.specs.Prelude.{◌≡◌, ◌≢◌, ◌⊎◌, ℕ, zero, suc, ◌+◌, ◌-◌, ◌≤◌, true, false, List, [], ◌∷◌, ◌++◌, length, map, All, AllPairs, Contains, slice_get, is_some, Option, Some, None}
 use Rattle.std.specs.List.{AllByRecursion}
 use Rattle.valid_intervals.specs.declared.Cell.{Cell}
@@ -24,12 +24,12 @@ use Rattle.plan_machine.specs.Turns.{stepped, turn}
 use Rattle.plan_machine.specs.Sound.{IsSound, HasEnded}
 use Rattle.plan_machine.specs.Journals.{journals, entries}
 
--- The strand s was refused the point that it asked for: this is recorded, with the number of its claims.
+-- The strand s was refused the point that it asked for. The refusal is recorded, with the number of its claims.
 abbrev pub refused : Plan → Strand → Next → Plan
 refused plan s (Ask p) = with_shard plan p (recorded (Spent s.query.number p (length s.stack)) (shard_of plan p))
 refused plan s n = plan
 
--- a turn of a strand that runs alone: where its budget is spent, that is recorded
+-- a turn of a strand that runs alone; if its budget is spent, the refusal is recorded
 abbrev pub alone_step : Batch → Plan → ℕ → Strand → Step → Plan
 alone_step b plan i s steps.Spend = refused (stepped b plan i s steps.Spend) s (next s)
 alone_step b plan i s t = stepped b plan i s t
@@ -41,28 +41,28 @@ alone_at b plan i (Some s) = alone_step b plan i s (step_at plan (Some s))
 abbrev pub alone_turn : Batch → Plan → ℕ → Plan
 alone_turn b plan i = alone_at b plan i (slice_get plan.strands i)
 
--- so many turns of strand i
+-- this many turns of strand i
 abbrev pub run_alone : Batch → ℕ → ℕ → Plan → Plan
 run_alone b i zero plan = plan
 run_alone b i (suc n) plan = run_alone b i n (alone_turn b plan i)
 
--- the roots of a start: the ends of cells from its start on, those with base answers too
+-- the roots of a start: the ends of cells from its first time on, including those with base answers
 abbrev pub roots_of : Circuit → Start → List Point
 roots_of c a = roots_from c (piece a) (a.stop - a.start) a.start
 
--- the point is still to be heard, or an added entry says its cell
+-- the point is not heard yet, or an added entry says its cell
 abbrev pub IsDue : List Entry → List Point → Point → Type 0
 IsDue added left p = Contains left p ⊎ IsSaid added p
 
--- what a claimed point comes from is due
+-- each child of a claimed point is due
 abbrev pub IsFrameDue : Circuit → List Entry → Frame → Type 0
 IsFrameDue c added f = All (IsDue added f.left) (asked_children c f.point)
 
--- what the points come from that were evaluated is said
+-- the children of the evaluated points are said
 abbrev pub AreFed : Circuit → List Entry → Type 0
 AreFed c added = (q : ℕ) (p : Point) (x : Cell) → Contains added (Filled q p x) → All (IsSaid added) (asked_children c p)
 
--- an entry of a strand whose budget isn't spent
+-- an entry of a strand whose budget is not spent
 abbrev pub IsUnspent : Entry → Type 0
 IsUnspent (Told q p x) = Unit {0}
 IsUnspent (Claimed q p) = Unit {0}
@@ -74,8 +74,8 @@ IsUnspent (Spent q p held) = ⊥
 abbrev pub points_on : List Frame → List Point
 points_on st = map (λ f. f.point) st
 
--- While its budget isn't spent: its charge is that at the start, its fills and its claims. What a claimed point comes from, and each
--- root, is still to be heard or said by an entry; what an evaluated point comes from is said. Entries are those that it added.
+-- While the budget is not spent: the charge is that at the start, plus the fills and the claims. Each root and each child of a claimed
+-- point is not heard yet or said by an entry. Each child of an evaluated point is said. All added entries are the strand's.
 pub record IsUnderWay (c : Circuit) (a : Start) (added : List Entry) (s : Strand) : Type 0 where
   pub query : s.query ≡ a.query
   pub budget : s.budget ≡ a.budget
@@ -90,8 +90,8 @@ pub record IsUnderWay (c : Circuit) (a : Start) (added : List Entry) (s : Strand
 abbrev pub drops : ℕ → List Point → List Entry
 drops q points = map (Dropped q) points
 
--- Once it was refused p: the refusal stands after what it added before, and after it the points that it has dropped since. Those
--- and the points that it still holds are different from each other and from p, and make up its budget.
+-- Once the strand was refused p: the refusal comes after the entries before it, and is followed by the points dropped since. These points
+-- and those still held are different from each other and from p. With the charge and the fills before, they make up the budget.
 pub record IsGivingUp (c : Circuit) (a : Start) (p : Point) (added : List Entry) (s : Strand) : Type 0 where
   pub query : s.query ≡ a.query
   pub budget : s.budget ≡ a.budget
@@ -105,13 +105,13 @@ pub record IsGivingUp (c : Circuit) (a : Start) (p : Point) (added : List Entry)
   pub own : AllByRecursion (IsFor a.query.number) before
   pub going : AllByRecursion IsUnspent before
 
--- under way, or giving up since it was refused a point
+-- under way, or giving up after it was refused a point
 abbrev pub IsAtPoint : Circuit → Start → List Entry → Strand → Option Point → Type 0
 IsAtPoint c a added s None = IsUnderWay c a added s
 IsAtPoint c a added s (Some p) = IsGivingUp c a p added s
 
--- The plan came of the old one by turns of strand n alone, which is now s, and these entries were added. No other strand changed,
--- none of them holds a point or waits, nor does s wait.
+-- Turns of strand n alone led from the old plan to this one and added these entries. The strand is now s, and does not wait. No other
+-- strand changed, and none of them holds a point or waits.
 pub record IsAlone (b : Batch) (opening : ℕ → List SignalCell) (n : ℕ) (old : Plan) (added : List Entry) (s : Strand) (plan : Plan) : Type 0 where
   pub sound : IsSound b opening plan
   pub at : slice_get plan.strands n ≡ Some s
@@ -127,14 +127,14 @@ pub record RunsAlone (b : Batch) (opening : ℕ → List SignalCell) (n : ℕ) (
   pub alone : IsAlone b opening n old added strand plan
   pub is_at : IsAtPoint b.circuit a added strand spent
 
--- The strand was not refused: each of its roots is covered, and its charge has room for what it filled.
+-- The strand was not refused: each of its roots is covered, and its charge has room for its fills.
 pub record IsServedAlone (c : Circuit) (a : Start) (added new : List Entry) : Type 0 where
   pub roots : All (IsCovered c new) (roots_of c a)
   pub charge : a.charged + filled added a.query.number ≤ a.budget
   pub refusals : refusals added a.query.number ≡ 0
 
--- The strand was refused the point: the last entry of its query there says so. It gave up so many different points, and the last
--- entry at each of them says so. The charge at its start, its fills and these points come to its budget.
+-- The strand was refused the point: the last entry of its query there says so. It gave up this many different points, and the last entry at
+-- each of them says so. The charge at its start, its fills and these points make up its budget.
 pub record IsRefusedAlone (a : Start) (p : Point) (added new : List Entry) : Type 0 where
   pub given_up : List Point
   pub last : last_of new a.query.number p ≡ Some (Spent a.query.number p (length given_up))
@@ -147,7 +147,7 @@ abbrev pub IsOutcome : Circuit → Start → List Entry → List Entry → Optio
 IsOutcome c a added new None = IsServedAlone c a added new
 IsOutcome c a added new (Some p) = IsRefusedAlone a p added new
 
--- the strand has ended with its query, and is spent exactly where it was refused
+-- the strand has ended with its query, and is spent exactly when it was refused
 pub record HasRun (n : ℕ) (a : Start) (new : Plan) (refused_at : Option Point) : Type 0 where
   pub strand : Strand
   pub at : slice_get new.strands n ≡ Some strand
@@ -155,8 +155,8 @@ pub record HasRun (n : ℕ) (a : Start) (new : Plan) (refused_at : Option Point)
   pub ended : HasEnded strand
   pub spent : strand.spent ≡ is_some refused_at
 
--- What is left of running strand n alone until it has ended, where it was started as a: entries for its query were added, no point is
--- claimed, no other strand changed, and what was filled has its children covered.
+-- The result of running strand n, started as a, alone to its end: entries for its query were added, no point is claimed, no other strand
+-- changed, and the children of its fills are covered.
 pub record RanAlone (b : Batch) (opening : ℕ → List SignalCell) (n : ℕ) (a : Start) (old new : Plan) (spent : Option Point) : Type 0 where
   pub sound : IsSound b opening new
   pub added : List Entry
@@ -168,14 +168,15 @@ pub record RanAlone (b : Batch) (opening : ℕ → List SignalCell) (n : ℕ) (a
   pub children : (q : ℕ) (p : Point) (x : Cell) → Contains added (Filled q p x) → All (IsCovered b.circuit (entries new)) (children b.circuit p.signal p.time)
   pub outcome : IsOutcome b.circuit a added (entries new) spent
 
--- strand n, which was s, was refused the point that it asked for: now it is spent, and its point is what it would still ask for
+-- strand n, which was s, was refused the point that it asked for: now it is spent, and would still ask for the point
 pub record IsRefusal (n : ℕ) (p : Point) (s : Strand) (plan new : Plan) : Type 0 where
   pub at : slice_get plan.strands n ≡ Some s
   pub asks : next s ≡ Ask p
   pub now : slice_get new.strands n ≡ Some (given_up s)
   pub still : next_in false s.roots s.stack ≡ Ask p
 
--- A turn of strand n alone never waits, and goes on; where it was Spent, the refusal is recorded. Where it is NotReady, the strand has ended.
+-- A turn of strand n alone never waits, and the strand goes on. If the turn is Spent, the refusal is recorded. If it is NotReady, the
+-- strand has ended.
 pub record TurnsAlone (b : Batch) (opening : ℕ → List SignalCell) (n : ℕ) (a : Start) (old plan : Plan) (spent : Option Point) : Type 0 where
   pub never : turned plan n ≢ comes.Waits
   pub on : turned plan n ≢ comes.Spent → RunsAlone b opening n a old (turn b plan n) spent

@@ -17,16 +17,16 @@ abbrev pub most_pins : List Driver → ℕ
 most_pins [] = 0
 most_pins (d ∷ more) = max (pins_of d) (most_pins more)
 
--- what a claim can cost in turns: itself, its end, one for each child, and one for each strand that its end lets out
+-- the greatest cost of a claim in turns: itself, its end, one for each child, and one for each strand that its end wakes
 abbrev pub claim_cost : Batch → ℕ → ℕ
 claim_cost b strands = most_pins b.circuit.drivers + strands + 2
 
--- At most so many turns a new plan makes: for each claim that the budgets allow what it can cost, one for each root, and for
--- each strand one to give up and one to wait at first.
+-- The greatest number of turns of a new plan: for each claim that the budgets allow the cost of a claim, one for each root, and for each
+-- strand one to give up and one to wait.
 abbrev pub bound : Batch → List Start → ℕ
 bound b starts = sum_by (λ a. a.budget) starts * claim_cost b (length starts) + sum_by (λ a. a.stop - a.start) starts + 2 * length starts
 
--- At most so many are still to come for a strand, among so many strands.
+-- The greatest number of turns that a stack still costs, among this many strands.
 abbrev pub stack_cost : ℕ → List Frame → ℕ
 stack_cost strands [] = 0
 stack_cost strands (f ∷ fs) = strands + 1 + length f.left + stack_cost strands fs

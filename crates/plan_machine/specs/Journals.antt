@@ -1,4 +1,4 @@
--- The journals of a plan, and what turns leave of it: each turn adds entries for its strand's query, and each strand keeps its task.
+-- The journals of a plan, and what turns preserve: each turn adds entries for its strand's query, and each strand keeps its task.
 use Rattle.std.specs.Prelude.{◌≡◌, ℕ, ◌&&◌, not, nat_eq, if◌then◌else◌, List, [], ◌∷◌, ◌++◌, length, map, slice_get, Option, Some, None}
 use Rattle.std.specs.List.{AllByRecursion}
 use Rattle.valid_intervals.specs.declared.SignalCell.{SignalCell}
@@ -15,14 +15,14 @@ use Rattle.plan_machine.specs.Plans.{Plan, shard_of}
 use Rattle.plan_machine.specs.Steps.{Step, Tell, Claim, Wait, Spend, Finish, GiveBack, Rest, step_at}
 use Rattle.plan_machine.specs.Turns.{turn}
 
--- the journals of the shards, and their entries one shard after another
+-- the journals of the shards, and the entries of all shards in order
 abbrev pub journals : Plan → List (List Entry)
 journals plan = map (λ (h : Shard). h.journal) plan.shards
 
 abbrev pub entries : Plan → List Entry
 entries plan = of_batch (journals plan)
 
--- the eviction before a fill, where there is one
+-- the eviction before a fill, if there is one
 abbrev pub eviction : Option SignalCell → List Entry
 eviction None = []
 eviction (Some x) = Evicted x.signal x.cell.span.start ∷ []
@@ -48,7 +48,7 @@ added_at b plan (Some s) = entries_of b plan s (step_at plan (Some s))
 abbrev pub added_by : Batch → Plan → ℕ → List Entry
 added_by b plan i = added_at b plan (slice_get plan.strands i)
 
--- a turn adds its entries, which are for the query of its strand
+-- a turn adds its entries, all for the query of its strand
 pub record TurnAdds (b : Batch) (plan : Plan) (i : ℕ) : Type 0 where
   pub added : AreAdded (journals plan) (added_by b plan i) (journals (turn b plan i))
   pub own : (s : Strand) → slice_get plan.strands i ≡ Some s → AllByRecursion (IsFor s.query.number) (added_by b plan i)
@@ -58,7 +58,7 @@ pub record SameTask (s r : Strand) : Type 0 where
   pub query : r.query ≡ s.query
   pub budget : r.budget ≡ s.budget
 
--- so does each strand of a plan
+-- each strand of a plan keeps its task
 pub record SameTasks (old new : Plan) : Type 0 where
   pub count : length new.strands ≡ length old.strands
   pub strands : (j : ℕ) (r : Strand) → slice_get new.strands j ≡ Some r → (s : Strand) × (slice_get old.strands j ≡ Some s) × SameTask s r

@@ -1,4 +1,4 @@
--- What holds of every list of turns.
+-- Theorems on every list of turns.
 use Rattle.std.specs.Prelude.{◌≡◌, ◌≢◌, ℕ, ◌≤◌, ◌<◌, true, List, slice_get, Bool, Option, Some, None}
 use Rattle.std.specs.List.{AllByRecursion}
 use Rattle.valid_intervals.specs.declared.Point.{Point}
@@ -24,7 +24,7 @@ abbrev pub NewIsSound : Type 0
 NewIsSound = (b : Batch) → IsLawful b → (opening : ℕ → List SignalCell) (starts : List Start) (shards : List Shard)
     → AllByRecursion (IsStart b) starts → IsFresh b opening shards → IsSound b opening (new_plan b starts shards)
 
--- for the turn of every strand number, also of one that none has
+-- for the turn of every strand number, even one that no strand has
 abbrev pub TurnsKeepSound : Type 0
 TurnsKeepSound = (b : Batch) → IsLawful b → (opening : ℕ → List SignalCell) (plan : Plan) → IsSound b opening plan → (i : ℕ) → IsSound b opening (turn b plan i)
 
@@ -49,14 +49,14 @@ IsNeverStuck = (b : Batch) → IsLawful b → (opening : ℕ → List SignalCell
 abbrev pub NoneReadyEnds : Type 0
 NoneReadyEnds = (b : Batch) → IsLawful b → (opening : ℕ → List SignalCell) (plan : Plan) → IsSound b opening plan → AreEnded plan
 
--- each turn but a NotReady one takes at least one from what is left, in every plan
+-- in every plan, each turn that is not NotReady lowers the number of turns left
 abbrev pub TurnsAreFew : Type 0
 TurnsAreFew = (b : Batch) (plan : Plan) (schedule : List ℕ) → turns b plan schedule ≤ all_left b plan
 
 abbrev pub TurnsAreBounded : Type 0
 TurnsAreBounded = (b : Batch) (starts : List Start) (shards : List Shard) (schedule : List ℕ) → turns b (new_plan b starts shards) schedule ≤ bound b starts
 
--- each turn adds entries for its strand's query after the journals
+-- each turn appends entries for its strand's query to the journals
 abbrev pub TurnsAdd : Type 0
 TurnsAdd = (b : Batch) → IsLawful b → (opening : ℕ → List SignalCell) (plan : Plan) → IsSound b opening plan → (i : ℕ) → TurnAdds b plan i
 
@@ -68,7 +68,7 @@ RunsAdd = (b : Batch) → IsLawful b → (opening : ℕ → List SignalCell) (pl
 abbrev pub TasksStay : Type 0
 TasksStay = (b : Batch) (plan : Plan) (schedule : List ℕ) → SameTasks plan (run b plan schedule)
 
--- Where no point is claimed and strand n is as it was started, its turns alone begin.
+-- If no point is claimed and strand n is as it was started, its turns alone begin.
 pub record BeginsAlone (b : Batch) (opening : ℕ → List SignalCell) (n : ℕ) (a : Start) (plan : Plan) : Type 0 where
   pub sound : IsSound b opening plan
   pub free : (p : Point) → claim_of plan p ≡ None
@@ -77,21 +77,21 @@ pub record BeginsAlone (b : Batch) (opening : ℕ → List SignalCell) (n : ℕ)
 abbrev pub AloneBegins : Type 0
 AloneBegins = (b : Batch) → IsLawful b → (opening : ℕ → List SignalCell) (n : ℕ) (a : Start) (plan : Plan) → BeginsAlone b opening n a plan → RunsAlone b opening n a plan plan None
 
--- they go on, never wait, and end
+-- these turns go on, never wait, and end
 abbrev pub AloneGoes : Type 0
 AloneGoes = (b : Batch) → IsLawful b → (opening : ℕ → List SignalCell) (n : ℕ) (a : Start) (old plan : Plan) (spent : Option Point) → RunsAlone b opening n a old plan spent → TurnsAlone b opening n a old plan spent
 
--- after enough of them it has ended
+-- after enough of these turns the strand has ended
 abbrev pub AloneEnds : Type 0
 AloneEnds = (b : Batch) → IsLawful b → (opening : ℕ → List SignalCell) (n : ℕ) (a : Start) (plan : Plan) → BeginsAlone b opening n a plan
     → (turns : ℕ) → all_left b plan < turns → (spent : Option Point) × RanAlone b opening n a plan (run_alone b n turns plan) spent
 
--- The claims that are left are freed, and then the batch is settled: the journals that were handed in are kept, no claim is left, and
--- each query is closed, or was refused once with its cause.
+-- The claims that are left are freed, and then the batch is settled. The earlier journals are kept, no claim is left, and each query is
+-- closed or was refused once with its cause.
 abbrev pub SettlesBatch : Type 0
 SettlesBatch = (b : Batch) → IsLawful b → b.site ≡ None → (opening : ℕ → List SignalCell) (handed freed : List Shard) → AreShards b opening handed → AreFreed handed freed
     → AreSettled b opening handed (settle b freed).shards (settle b freed).refused
 
--- so its journals are legal, and each query is answered by its wave, or by nothing where its budget was spent
+-- the journals of a settled batch are legal; each query is answered by its wave, or by none if its budget was spent
 abbrev pub SettledAnswers : Type 0
 SettledAnswers = (b : Batch) (opening : ℕ → List SignalCell) (old new : List Shard) (refused : List Bool) → AreSettled b opening old new refused → IsAnswered b opening new refused

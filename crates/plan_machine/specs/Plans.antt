@@ -1,31 +1,31 @@
 -- A plan: the strands of a batch and the shards that they ask.
-use Rattle.std.specs.Prelude.{ℕ, ◌+◌, ◌%◌, not, ◌&&◌, Bool, true, false, if◌then◌else◌, List, [], ◌∷◌, length, map, get_or, slice_set, Option}
+use Rattle.std.specs.Prelude.{ℕ, ◌+◌, not, ◌&&◌, Bool, true, false, if◌then◌else◌, List, [], ◌∷◌, length, map, get_or, slice_set, Option}
 use Rattle.valid_intervals.specs.declared.Point.{Point}
 use Rattle.valid_intervals.specs.Cells.{same_point}
 use Rattle.journal_meaning.specs.States.{fresh, holder}
-use Rattle.batch_meaning.specs.Batches.{Batch}
+use Rattle.batch_meaning.specs.Batches.{Batch, shard_number}
 use Rattle.strand_meaning.specs.declared.Next.{Next}
 use Rattle.strand_meaning.specs.declared.Next.TheVariants.{Ask, Done}
 use Rattle.strand_meaning.specs.Strands.{Strand, started, next, awake}
 use Rattle.batch_meaning.specs.Pieces.{Start}
 use Rattle.plan_machine.specs.Shards.{Shard}
 
--- Strand i has number i. A strand that waits is among them.
+-- Strand i has number i. Waiting strands are included.
 pub record Plan : Type 0 where
   pub strands : List Strand
   pub shards : List Shard
 
--- strands that have made no turn
+-- a plan whose strands have made no turn
 abbrev pub new_plan : Batch → List Start → List Shard → Plan
 new_plan b starts shards = record { strands = map (started b.circuit) starts; shards = shards }
 
--- the shard of a number that none has
+-- the shard for a number that no shard has
 abbrev pub no_shard : Shard
 no_shard = record { state = fresh []; journal = [] }
 
 -- the number of the point's shard
 abbrev pub home : Plan → Point → ℕ
-home plan p = p.signal % length plan.shards
+home plan p = shard_number p.signal (length plan.shards)
 
 abbrev pub shard_of : Plan → Point → Shard
 shard_of plan p = get_or plan.shards (home plan p) no_shard
@@ -38,7 +38,7 @@ abbrev pub is_done : Next → Bool
 is_done Done = true
 is_done n = false
 
--- it neither waits nor has ended
+-- the strand neither waits nor has ended
 abbrev pub is_ready : Strand → Bool
 is_ready s = not s.waits && not (is_done (next s))
 
@@ -50,7 +50,7 @@ ready_from n (s ∷ more) = if is_ready s then n ∷ ready_from (n + 1) more els
 abbrev pub ready : Plan → List ℕ
 ready plan = ready_from 0 plan.strands
 
--- changes of a plan: one strand, the shard of a point
+-- changes of a plan: of one strand, and of the shard of a point
 abbrev pub with_strand : Plan → ℕ → Strand → Plan
 with_strand plan i s = record plan { strands = slice_set plan.strands i s }
 
@@ -61,13 +61,13 @@ abbrev pub asks : Point → Next → Bool
 asks p (Ask x) = same_point x p
 asks p n = false
 
--- a strand that waits at the point comes out, and f is done to it
+-- f is applied to a strand that waits at the point, and the strand is woken
 abbrev pub woken : (Strand → Strand) → Point → Strand → Strand
 woken f p s = if s.waits && asks p (next s) then awake (f s) else s
 
 abbrev pub itself : Strand → Strand
 itself s = s
 
--- so for all that wait there
+-- the same for all strands that wait there
 abbrev pub with_woken : Plan → (Strand → Strand) → Point → Plan
 with_woken plan f p = record plan { strands = map (woken f p) plan.strands }

@@ -1,4 +1,4 @@
--- Settling a batch: what is missing is asked for by one strand after another, each alone over the shards.
+-- Settling a batch: one strand after another asks for what is missing, each alone over the shards.
 use Rattle.std.specs.Prelude.{◌≡◌, ◌≢◌, ℕ, ◌+◌, ◌≤◌, ◌<◌, min, Bool, true, false, length, get_or, AllPairs, List, [], ◌∷◌, map, Contains, Option, Some, None}
 use Rattle.std.specs.List.{AllByRecursion}
 use Rattle.valid_intervals.specs.declared.Point.{Point}
@@ -26,46 +26,46 @@ journals_of shards = map (λ (h : Shard). h.journal) shards
 abbrev pub entries_in : List Shard → List Entry
 entries_in shards = of_batch (journals_of shards)
 
--- what a query was charged so far: its fills in this batch, or its budget where they are more
+-- the charge of a query so far: its fills in this batch, at most its budget
 abbrev pub charge_of : List Entry → Query → ℕ
 charge_of es q = min (filled es q.number) q.budget
 
--- a query for one point, that counts as this one
+-- a query for one point, with the number of this query
 abbrev pub sub_query : Query → Point → Query
 sub_query q x = record { number = q.number; signal = x.signal; from = x.time; to = x.time + 1; budget = q.budget }
 
--- a child that is missing is asked for by a sub-query
+-- a sub-query asks for a missing child
 abbrev pub child_start : Query → Point → ℕ → Start
 child_start q x charged = record { query = sub_query q x; start = x.time; stop = x.time + 1; budget = q.budget; charged = charged }
 
--- a root that is missing is asked for by the query itself
+-- the query itself asks for a missing root
 abbrev pub root_start : Query → ℕ → ℕ → Start
 root_start q t charged = record { query = q; start = t; stop = t + 1; budget = q.budget; charged = charged }
 
--- A query is settled: it is closed, and settlement recorded no refusal of it; or settlement recorded one, which has its cause.
+-- A query is settled: it is closed, and settlement recorded no refusal of it; or settlement recorded one refusal, which has its cause.
 abbrev pub IsSettled : Circuit → Query → List Entry → List Entry → Bool → Type 0
 IsSettled c q start now false = IsClosed c now q × (refusals now q.number ≡ refusals start q.number)
 IsSettled c q start now true = IsSpent now q × (refusals now q.number ≡ refusals start q.number + 1)
 
--- so are these, each with its flag
+-- these queries are settled, each with its flag
 abbrev pub AreAllSettled : Circuit → List Entry → List Entry → List Query → List Bool → Type 0
 AreAllSettled c start now [] [] = Unit {0}
 AreAllSettled c start now (q ∷ qs) (r ∷ rs) = IsSettled c q start now r × AreAllSettled c start now qs rs
 AreAllSettled c start now qs rs = ⊥
 
--- While a query is settled: the shards, and whether it was refused.
+-- The state while a query is settled: the shards, and whether it was refused.
 pub record Standing : Type 0 where
   pub shards : List Shard
   pub refused : Bool
 
--- All queries of the batch are settled: the journals are kept, no claim is left.
+-- All queries of the batch are settled: the journals are kept, and no claim is left.
 pub record AreSettled (b : Batch) (opening : ℕ → List SignalCell) (old new : List Shard) (refused : List Bool) : Type 0 where
   pub fresh : IsFresh b opening new
   pub added : List Entry
   pub journals : AreAdded (journals_of old) added (journals_of new)
   pub queries : AreAllSettled b.circuit (entries_in old) (entries_in new) b.queries refused
 
--- Before that the claims that are left are freed, in an order that names each of them once: each is dropped.
+-- Before settlement the claims that are left are dropped, in an order that has each of them once.
 pub record IsOrder (claims order : List Claim) : Type 0 where
   pub held : AllByRecursion (λ c. holder claims c.point ≡ Some c.query) order
   pub different : AllPairs (λ a b. a.point ≢ b.point) order
@@ -83,12 +83,12 @@ pub record AreFreed (old new : List Shard) : Type 0 where
   pub count : length new ≡ length old
   pub order : (n : ℕ) → n < length old → (order : List Claim) × IsOrder (get_or old n no_shard).state.claims order × (get_or new n no_shard ≡ freed order (get_or old n no_shard))
 
--- the shards of a batch, in which claims may stand
+-- the shards of a batch, possibly with claims
 pub record AreShards (b : Batch) (opening : ℕ → List SignalCell) (shards : List Shard) : Type 0 where
   pub count : length shards ≡ b.shards
   pub right : (n : ℕ) → n < b.shards → IsShard b n (opening n) (get_or shards n no_shard)
 
--- what a query is answered: its wave, or nothing where it was refused
+-- the answer to a query: its wave, or none if it was refused
 abbrev pub answer_of : Circuit → Query → Bool → Option (List Run)
 answer_of c q false = Some (wave c q.signal q.from q.to)
 answer_of c q true = None
@@ -98,7 +98,7 @@ AreAnswered c es [] [] = Unit {0}
 AreAnswered c es (q ∷ qs) (r ∷ rs) = IsAnswer c es q (answer_of c q r) × AreAnswered c es qs rs
 AreAnswered c es qs rs = ⊥
 
--- the journals of a batch are legal to their end, and its queries are answered rightly
+-- the journals of a batch are legal to their end, and its queries have right answers
 pub record IsAnswered (b : Batch) (opening : ℕ → List SignalCell) (shards : List Shard) (refused : List Bool) : Type 0 where
   pub legal : IsLegalFrom b opening (journals_of shards)
   pub answers : AreAnswered b.circuit (entries_in shards) b.queries refused

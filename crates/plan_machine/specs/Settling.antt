@@ -1,4 +1,4 @@
--- Settlement as a function: what it asks for, one point after another.
+-- Settlement as a function: the points that it asks for, one after another.
 use Rattle.std.specs.Prelude.{ℕ, zero, suc, ◌-◌, ◌+◌, nat_eq, nat_lt, Bool, false, not, ◌||◌, if◌then◌else◌, List, [], ◌∷◌, slice_get, Option, Some, None}
 use Rattle.std.specs.List.{list_any}
 use Rattle.valid_intervals.specs.declared.Point.{Point}
@@ -34,14 +34,14 @@ abbrev pub is_spent : Option Strand → Bool
 is_spent None = false
 is_spent (Some s) = s.spent
 
--- a strand that is started so runs alone until it has ended
+-- a strand with this start runs alone until it has ended
 unfoldable pub run_of : Batch → List Shard → Start → Plan
 run_of b shards a = run_alone b 0 (all_left b (new_plan b (a ∷ []) shards) + 1) (new_plan b (a ∷ []) shards)
 
 abbrev pub ask : Batch → List Shard → Start → Standing
 ask b shards a = record { shards = (run_of b shards a).shards; refused = is_spent (slice_get (run_of b shards a).strands 0) }
 
--- a point is asked for where it is missing, and the query was not refused
+-- a point is asked for if it is missing and the query was not refused
 abbrev pub settle_point : Batch → Standing → Point → Start → Standing
 settle_point b s x a = if s.refused then s else (if is_covered_in b.circuit (entries_in s.shards) x then s else ask b s.shards a)
 
@@ -51,7 +51,7 @@ settle_child b q s x = settle_point b s x (child_start q x (charge_of (entries_i
 abbrev pub settle_root : Batch → Query → Standing → ℕ → Standing
 settle_root b q s t = settle_point b s (record { signal = q.signal; time = t }) (root_start q t (charge_of (entries_in s.shards) q))
 
--- the children of one point, and then of each of these
+-- the children of one point, and then of each of these points
 abbrev pub settle_children : Batch → Query → Standing → List Point → Standing
 settle_children b q s [] = s
 settle_children b q s (x ∷ xs) = settle_children b q (settle_child b q s x) xs
@@ -60,7 +60,7 @@ abbrev pub settle_fills : Batch → Query → Standing → List Point → Standi
 settle_fills b q s [] = s
 settle_fills b q s (p ∷ ps) = settle_fills b q (settle_children b q s (children b.circuit p.signal p.time)) ps
 
--- the window from the time t on, in so many steps
+-- the window from the time t on, in this many steps
 abbrev pub settle_window : Batch → Query → ℕ → ℕ → Standing → Standing
 settle_window b q zero t s = s
 settle_window b q (suc n) t s = if nat_lt t q.to then settle_window b q n (span b.circuit q.signal t).stop (settle_root b q s t) else s
@@ -71,7 +71,7 @@ fills_of [] q = []
 fills_of (Filled r p x ∷ es) q = if nat_eq r q then p ∷ fills_of es q else fills_of es q
 fills_of (e ∷ es) q = fills_of es q
 
--- one query, and then each; start has the entries that there were before
+-- one query, and then each of them; start has the entries from before settlement
 abbrev pub settle_query : Batch → List Entry → Query → List Shard → Standing
 settle_query b start q shards = settle_window b q (q.to - q.from) q.from (settle_fills b q (record { shards = shards; refused = false }) (fills_of start q.number))
 

@@ -1,4 +1,4 @@
--- A shard of a plan: its state and its journal, and what each entry makes of it.
+-- A shard of a plan: its state and its journal, and the changes of each entry.
 use Rattle.std.specs.Prelude.{◌≡◌, ℕ, ◌-◌, ◌≤◌, nat_eq, not, ◌&&◌, if◌then◌else◌, false, List, [], ◌∷◌, ◌++◌, length, Option, Some, None}
 use Rattle.std.specs.List.{AllByRecursion}
 use Rattle.valid_intervals.specs.declared.Point.{Point}
@@ -17,16 +17,16 @@ pub record Shard : Type 0 where
   pub state : State
   pub journal : List Entry
 
--- one entry more
+-- one more entry
 abbrev pub recorded : Entry → Shard → Shard
 recorded e h = record { state = after h.state e; journal = h.journal ++ e ∷ [] }
 
--- the least recent cell goes
+-- the least recent cell is evicted
 abbrev pub evicted : Option SignalCell → Shard → Shard
 evicted None h = h
 evicted (Some x) h = recorded (Evicted x.signal x.cell.span.start) h
 
--- where the cell is new and the shard is at its capacity, the least recent cell makes place
+-- if the cell is new and the shard is full, the least recent cell is evicted
 abbrev pub with_room : ℕ → SignalCell → Shard → Shard
 with_room capacity x h = if not (is_stored x h.state.cells) && nat_eq (length h.state.cells) capacity then evicted (last_cell h.state.cells) h else h
 
@@ -34,7 +34,7 @@ with_room capacity x h = if not (is_stored x h.state.cells) && nat_eq (length h.
 abbrev pub filled_shard : ℕ → ℕ → Point → Cell → Shard → Shard
 filled_shard capacity q p cell h = recorded (Filled q p cell) (with_room capacity (cell_for p cell) h)
 
--- What a shard of the batch keeps: its state is the replay of its journal from its opening, and the journal is legal.
+-- A shard of the batch: its state is the replay of its journal from its opening, and the journal is legal.
 pub record IsShard (b : Batch) (number : ℕ) (opening : List SignalCell) (h : Shard) : Type 0 where
   pub legal : IsLegal b number (fresh opening) h.journal
   pub state : h.state ≡ replay (fresh opening) h.journal

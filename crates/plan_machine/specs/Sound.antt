@@ -14,8 +14,8 @@ use Rattle.plan_machine.specs.declared.Turned.TheVariants.{NotReady}
 use Rattle.plan_machine.specs.Steps.{Finish, GiveBack, step, turned}
 use Rattle.plan_machine.specs.Turns.{turn}
 
--- Claims and stacks agree: each point on a stack is claimed for the strand's query, each claim stands on the stack of one strand
--- alone, and a strand that waits asks for a claimed point.
+-- Claims and stacks agree: each point on a stack is claimed for the strand's query, each claim is on the stack of exactly one strand, and a
+-- strand that waits asks for a claimed point.
 pub record AreLinked (claim : Point → Option ℕ) (strands : List Strand) : Type 0 where
   pub held : (i : ℕ) (s : Strand) (p : Point) → slice_get strands i ≡ Some s → IsHeld s.stack p → claim p ≡ Some s.query.number
   pub holder : (p : Point) (q : ℕ) → claim p ≡ Some q → (i : ℕ) × ((s : Strand) × ((slice_get strands i ≡ Some s) × IsHeld s.stack p))
@@ -29,13 +29,13 @@ pub record IsSound (b : Batch) (opening : ℕ → List SignalCell) (plan : Plan)
   pub strands : (i : ℕ) (s : Strand) → slice_get plan.strands i ≡ Some s → IsStrand b s
   pub linked : AreLinked (claim_of plan) plan.strands
 
--- the shards of a new plan: no claim stands in them
+-- the shards of a new plan, without claims
 pub record IsFresh (b : Batch) (opening : ℕ → List SignalCell) (shards : List Shard) : Type 0 where
   pub count : length shards ≡ b.shards
   pub right : (n : ℕ) → n < b.shards → IsShard b n (opening n) (get_or shards n no_shard)
   pub free : (n : ℕ) → n < b.shards → (get_or shards n no_shard).state.claims ≡ []
 
--- one strand holds the point for the query with this number, and no other holds it
+-- exactly one strand holds the point, for the query with this number
 pub record IsHolder (plan : Plan) (p : Point) (q : ℕ) : Type 0 where
   pub number : ℕ
   pub strand : Strand
@@ -44,9 +44,9 @@ pub record IsHolder (plan : Plan) (p : Point) (q : ℕ) : Type 0 where
   pub held : IsHeld strand.stack p
   pub alone : (j : ℕ) (r : Strand) → slice_get plan.strands j ≡ Some r → IsHeld r.stack p → j ≡ number
 
--- What soundness says to a reader.
+-- What soundness means to a reader.
 pub record IsSafe (b : Batch) (plan : Plan) : Type 0 where
-  -- a claimed point is needed by a query of the batch with the claim's number, and one strand holds it
+  -- a query of the batch with the claim's number needs the claimed point, and one strand holds it
   pub claims : (p : Point) (q : ℕ) → claim_of plan p ≡ Some q → OfQuery b q (λ y. IsNeededBy b y p) × IsHolder plan p q
   -- no strand holds a point twice
   pub stacks : (i : ℕ) (s : Strand) → slice_get plan.strands i ≡ Some s → AllPairs (λ f g. f.point ≢ g.point) s.stack
@@ -63,24 +63,24 @@ pub record HasEnded (s : Strand) : Type 0 where
   pub empty : s.stack ≡ []
   pub cause : (s.spent ≡ true) ⊎ (s.roots ≡ [])
 
--- where none is ready, each strand has ended; and where each has, none is ready
+-- if none is ready, each strand has ended; if each has ended, none is ready
 pub record AreEnded (plan : Plan) : Type 0 where
   pub none : ready plan ≡ [] → (i : ℕ) (s : Strand) → slice_get plan.strands i ≡ Some s → HasEnded s
   pub all : ((i : ℕ) (s : Strand) → slice_get plan.strands i ≡ Some s → next s ≡ Done) → ready plan ≡ []
 
--- a turn is NotReady exactly where no strand has the number, or the strand is not ready; then nothing changes
+-- a turn is NotReady exactly when no strand has the number or the strand is not ready; then nothing changes
 pub record MovesIfReady (b : Batch) (plan : Plan) (i : ℕ) : Type 0 where
   pub none : slice_get plan.strands i ≡ None → turned plan i ≡ NotReady
   pub rests : (s : Strand) → slice_get plan.strands i ≡ Some s → is_ready s ≡ false → turned plan i ≡ NotReady
   pub moves : (s : Strand) → slice_get plan.strands i ≡ Some s → is_ready s ≡ true → turned plan i ≢ NotReady
   pub idle : turned plan i ≡ NotReady → turn b plan i ≡ plan
 
--- The end of a claim of p, in the turn of strand i: all that wait at p come out, with f done to them, and all others stay.
+-- The end of a claim of p, in the turn of strand i: all strands that wait at p are woken with f applied to them, and all others stay.
 pub record LetsOut (b : Batch) (plan : Plan) (i : ℕ) (p : Point) (f : Strand → Strand) : Type 0 where
   pub woken : (j : ℕ) (r : Strand) → j ≢ i → slice_get plan.strands j ≡ Some r → r.waits ≡ true → next r ≡ Ask p → slice_get (turn b plan i).strands j ≡ Some (awake (f r))
   pub others : (j : ℕ) (r : Strand) → j ≢ i → slice_get plan.strands j ≡ Some r → (r.waits ≡ true → next r ≢ Ask p) → slice_get (turn b plan i).strands j ≡ Some r
 
--- a fill lets them out with the answer, a drop without one
+-- a fill wakes them with the answer, a drop without one
 pub record ClaimEnds (b : Batch) (plan : Plan) (i : ℕ) (p : Point) : Type 0 where
   pub filled : step plan i ≡ Finish p → LetsOut b plan i p heard
   pub dropped : step plan i ≡ GiveBack p → LetsOut b plan i p itself

@@ -1,4 +1,4 @@
--- What the turn of a strand does, and what it comes to.
+-- The step that the turn of a strand makes, and its result.
 use Rattle.std.specs.Prelude.{ℕ, nat_lt, if◌then◌else◌, slice_get, Option, Some, None}
 use Rattle.valid_intervals.specs.declared.Point.{Point}
 use Rattle.valid_intervals.specs.declared.SignalCell.{SignalCell}
@@ -20,7 +20,8 @@ pub data Step : Type 0 where
   GiveBack : Point → Step
   Rest : Step
 
--- A point that a stored cell covers is told. Else at a claimed one the strand waits, and else it claims the point or is spent.
+-- If a stored cell covers the point, it is told. If the point is claimed, the strand waits. Otherwise the strand claims it or
+-- is spent.
 abbrev pub claim_step : Strand → Point → Option ℕ → Step
 claim_step s p (Some q) = Wait
 claim_step s p None = if nat_lt s.charged s.budget then Claim p else Spend
@@ -43,7 +44,7 @@ step_at plan (Some s) = if s.waits then Rest else next_step plan s (next s)
 abbrev pub step : Plan → ℕ → Step
 step plan i = step_at plan (slice_get plan.strands i)
 
--- what that turn comes to
+-- the result of that turn
 abbrev pub turned_by : Step → Turned
 turned_by (Tell p x) = Told
 turned_by (Claim p) = Claimed
@@ -56,7 +57,7 @@ turned_by Rest = NotReady
 abbrev pub turned : Plan → ℕ → Turned
 turned plan i = turned_by (step plan i)
 
--- whether it is one that counts
+-- 0 for a NotReady turn, and 1 for any other
 abbrev pub is_turn : Turned → ℕ
 is_turn NotReady = 0
 is_turn t = 1

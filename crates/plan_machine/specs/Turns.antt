@@ -8,8 +8,8 @@ use Rattle.plan_machine.specs.Shards.{recorded, filled_shard}
 use Rattle.plan_machine.specs.Plans.{Plan, shard_of, with_strand, with_shard, with_woken, itself}
 use Rattle.plan_machine.specs.Steps.{Step, Tell, Claim, Wait, Spend, Finish, GiveBack, Rest, step_at, turned, is_turn}
 
--- The plan after a step of the strand s with the number i. A fill lets all that wait at its point hear the cell, and come out;
--- a drop lets them come out as they are.
+-- The plan after a step of the strand s with the number i. At a fill all strands that wait at its point hear the cell and are woken. A drop
+-- wakes them unchanged.
 abbrev pub stepped : Batch → Plan → ℕ → Strand → Step → Plan
 stepped b plan i s (Tell p x) = with_shard (with_strand plan i (heard s)) p (recorded (Told s.query.number p x.cell) (shard_of plan p))
 stepped b plan i s (Claim p) = with_shard (with_strand plan i (claimed b.circuit s p)) p (recorded (Claimed s.query.number p) (shard_of plan p))

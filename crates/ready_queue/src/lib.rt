@@ -1,21 +1,18 @@
 //! The queue of strands that are ready to take a turn: bounded, and shared by all workers.
 //!
-//! A [`ReadyQueue`] is made with as many [`QueuePass`]es as threads will use it. Each thread keeps one
-//! pass, by which it pushes and pops. A pass takes no room at run time: it stands in proofs for what went
-//! through it, as two lists, the items pushed and the items popped, in order.
+//! A [`ReadyQueue`] is made with a [`QueuePass`] for each thread that will use it. The thread pushes and pops with its pass. A pass takes
+//! no room at run time: in proofs it is two lists, the items pushed and the items popped through it, in order.
 //!
-//! What a caller may rely on, under every schedule of the threads, is the queue's rule: at every moment the
-//! items in the queue, together with those popped through all its passes, are up to order those pushed
-//! through all its passes. So nothing is lost, made up or handed out twice. A push that is refused hands the
-//! item back. The thread that holds the queue's only pass knows when that is, and when a pop answers `None`:
-//! it is settled by what it pushed and popped itself. Of several passes no clause says it.
+//! The queue's rule holds under every schedule of the threads: at every moment the items in the queue, together with those popped through
+//! all its passes, are up to order those pushed through all its passes. No item is lost, made up or handed out twice. A refused push hands
+//! the item back. For a thread that holds the only pass, its own pushes and pops determine when a push is refused and when a pop returns
+//! `None`. With several passes no clause says this.
 //!
-//! The rule does not say in which order items of different threads come out, which thread gets an item, or
-//! that a push or a pop that finds another thread in the middle of its step returns: the page
-//! `docs/maintain/READY_QUEUE.md` says this at more length.
+//! The rule does not say in which order items of different threads come out, or which thread gets an item. Nor does it say that a push or a
+//! pop returns if another thread is in the middle of its step. `docs/maintain/READY_QUEUE.md` says more.
 //!
-//! A push and a pop take no memory, and cost a few atomic steps each, however much the queue holds; while
-//! threads meet at one slot they try again. `new` takes memory for `capacity` items.
+//! A push and a pop do not allocate. Each takes a few atomic steps, however many items the queue holds, and tries again while threads meet
+//! at one slot. `new` allocates room for `capacity` items.
 #![tactic(auto)]
 
 ghost use Rattle.std.specs.Prelude.{◌≡◌, ◌<◌, [], ◌∷◌, ◌++◌, All, IfErr, IfNone, IfOk, IfSome, OnErr, OnOk, IsPermutation, vec_len};
@@ -29,7 +26,7 @@ use std::alloc::Global;
 use std::collections::LinkedList;
 use std::sync::Wait;
 
-/// What went through a pass, in order, and whether the queue has no other pass. Proofs alone have such a value.
+/// What went through a pass, in order, and whether the queue has no other pass. Only proofs have such a value.
 pub struct History<T> {
     pub pushed: LinkedList<T>,
     pub popped: LinkedList<T>,
@@ -47,7 +44,7 @@ impl<T> Protocol<T, History<T>> for NoneLost {
     ghost first = { history [] [] true };
 }
 
-// A pass makes another: from then on neither is the only one.
+// A pass makes another. From then on neither is the only one.
 struct Another;
 
 impl<T> Split<History<T>> for Another {
@@ -84,14 +81,14 @@ pub struct ReadyQueue<T: Drop> {
     queue: RuledArrayQueue<T, History<T>, NoneLost>,
 }
 
-/// The leave of one thread to push to and pop from a queue. It has no bytes.
+/// The right of one thread to push to and pop from a queue. It has no bytes.
 #[derive(Drop)]
 pub struct QueuePass<T> {
     pass: Pass<T, History<T>>,
 }
 
 impl<T: Drop> ReadyQueue<T> {
-    /// An empty queue and `passes` passes of it, in no order that matters. All passes are made here.
+    /// An empty queue and its `passes` passes. Their order does not matter. No later call makes a pass.
     pub fn new(
         alloc: Global,
         capacity: u32,
@@ -118,7 +115,7 @@ impl<T: Drop> ReadyQueue<T> {
         Ok((queue, all))
     }
 
-    /// Pushes an item, or hands it back. A caller that is refused may pop, or try again later.
+    /// Pushes an item, or hands it back. A caller that was refused may pop, or try again later.
     pub fn push<R: Wait>(&self, rt: &R, pass: &mut QueuePass<T>, item: T) -> Result<(), T>
         requires { IsPassOf self.now pass.old }
         ensures of_queue { IsPassOf self.now pass.new }
@@ -135,7 +132,7 @@ impl<T: Drop> ReadyQueue<T> {
         self.queue.push_as::<Pushed, R>(rt, &mut pass.pass, item)
     }
 
-    /// Pops the item that has been in the queue longest, if there is one.
+    /// Pops the item that has been in the queue longest, if the queue has one.
     pub fn pop<R: Wait>(&self, rt: &R, pass: &mut QueuePass<T>) -> Option<T>
         requires { IsPassOf self.now pass.old }
         ensures of_queue { IsPassOf self.now pass.new }

@@ -1,4 +1,4 @@
-//! Runs on one thread and on four, whose results are the same under every schedule.
+//! Runs on one thread and on four. Their results are the same under every schedule.
 ghost use Rattle.std.specs.Prelude.{All, IfOk};
 ghost use Rattle.ready_queue.specs.Queue.{IsPassOf};
 
@@ -10,7 +10,7 @@ use std::test::Fail;
 use std::thread;
 use std::thread::Threads;
 
-// What is pushed: it is neither copied nor cloned.
+// What is pushed. It is neither copied nor cloned.
 #[derive(Drop)]
 struct Strand {
     number: u32,
@@ -72,7 +72,7 @@ fn jobs_of(
     Ok(jobs)
 }
 
-// Pushes a strand, and takes one out whenever the queue is full.
+// Pushes a strand. Whenever the queue is full, pops one.
 fn push_at_last<R: Wait>(
     rt: &R,
     queue: &ReadyQueue<Strand>,
@@ -96,7 +96,7 @@ fn push_at_last<R: Wait>(
     unreachable!()
 }
 
-// Takes out what is there, at most as many as the queue can hold.
+// Pops the items that are there, at most as many as the queue can hold.
 fn take_some<R: Wait>(
     rt: &R,
     queue: &ReadyQueue<Strand>,

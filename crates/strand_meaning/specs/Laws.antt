@@ -1,4 +1,4 @@
--- What is so of every strand.
+-- Laws of strands.
 use Rattle.std.specs.Prelude.{◌≡◌, ◌<◌}
 use Rattle.valid_intervals.specs.declared.Point.{Point}
 use Rattle.circuit_meaning.specs.Need.{IsEvaluable}
@@ -7,12 +7,12 @@ use Rattle.batch_meaning.specs.Lawful.{IsLawful}
 use Rattle.strand_meaning.specs.declared.Next.TheVariants.{Ask, Fill, Drop}
 use Rattle.strand_meaning.specs.Strands.{Strand, IsStrand, next, heard, claimed, given_up, dropped, finished, IsHeld}
 
--- the point is needed by a query of the batch with the strand's number, and has no answer at once
+-- a query of the batch with the strand's number needs the point, which has no base answer
 pub record IsWantedBy (b : Batch) (s : Strand) (p : Point) : Type 0 where
   pub needed : OfQuery b s.query.number (λ q. IsNeededBy b q p)
   pub evaluable : IsEvaluable b.circuit p.signal p.time
 
--- what a strand asks for, and what it holds, is needed
+-- what a strand asks for and what it holds is needed
 pub record AsksWhatIsNeeded (b : Batch) (s : Strand) : Type 0 where
   pub asked : (p : Point) → next s ≡ Ask p → IsWantedBy b s p
   pub held : (p : Point) → IsHeld s.stack p → IsWantedBy b s p

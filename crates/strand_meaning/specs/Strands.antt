@@ -1,4 +1,4 @@
--- A strand: one suspended demand. It asks for points one after another and evaluates a point once its children are heard.
+-- A strand: one suspended demand. It asks for points one after another, and evaluates a point once its children are heard.
 use Rattle.std.specs.Prelude.{◌≡◌, ℕ, zero, suc, ◌+◌, ◌-◌, ◌≤◌, ◌<◌, nat_lt, nat_le, ◌⊎◌, Bool, true, false, if◌then◌else◌, is_some, List, [], ◌∷◌, length, filter, Contains}
 use Rattle.std.specs.List.{AllByRecursion}
 use Rattle.circuit_meaning.specs.Circuit.{Driver, Input, Gate, Flop, Circuit, driver}
@@ -14,12 +14,12 @@ use Rattle.strand_meaning.specs.declared.Next.TheVariants.{Ask, Fill, Drop, Done
 use Rattle.batch_meaning.specs.Lawful.{IsQueryOf}
 use Rattle.batch_meaning.specs.Pieces.{Start, piece}
 
--- a claimed point, and those of its children that are still to be heard
+-- a claimed point, and the children that are not heard yet
 pub record Frame : Type 0 where
   pub point : Point
   pub left : List Point
 
--- roots has the roots that are still to be heard; the top of the stack comes first
+-- roots has the roots that are not heard yet; the top of the stack comes first
 pub record Strand : Type 0 where
   pub query : Query
   pub budget : ℕ
@@ -30,7 +30,7 @@ pub record Strand : Type 0 where
   pub spent : Bool
   pub waits : Bool
 
--- whether a point has no answer at once
+-- whether a point has no base answer
 abbrev pub has_children : ℕ → Driver → Bool
 has_children t (Input settings) = false
 has_children t (Gate kind pins) = nat_le (least_delay pins) t
@@ -39,7 +39,7 @@ has_children t (Flop f) = is_some (shown_edge f.clock f.delay t)
 abbrev pub is_evaluable : Circuit → Point → Bool
 is_evaluable c p = has_children p.time (driver c p.signal)
 
--- the children that a strand has to ask for; it hears the others by itself
+-- the children that a strand has to ask for; the others have base answers
 unfoldable pub asked_children : Circuit → Point → List Point
 asked_children c p = filter (is_evaluable c) (children c p.signal p.time)
 
@@ -60,7 +60,7 @@ started c a = record {
   waits = false;
 }
 
--- what is left to be heard is asked for, and then comes the end
+-- asks for the first of these points; if there is none, makes this step
 abbrev pub ask_or : Next → List Point → Next
 ask_or end [] = end
 ask_or end (p ∷ rest) = Ask p
@@ -85,7 +85,7 @@ abbrev pub stack_heard : List Frame → List Frame
 stack_heard [] = []
 stack_heard (f ∷ fs) = record { point = f.point; left = rest f.left } ∷ fs
 
--- it has heard what it asked for
+-- the strand after it has heard what it asked for
 abbrev pub heard : Strand → Strand
 heard s = record s { roots = roots_heard s.roots s.stack; stack = stack_heard s.stack }
 
@@ -101,11 +101,11 @@ awake s = record s { waits = false }
 abbrev pub given_up : Strand → Strand
 given_up s = record s { spent = true }
 
--- its top is gone without an answer
+-- the strand after its top was dropped
 abbrev pub dropped : Strand → Strand
 dropped s = record s { stack = rest s.stack }
 
--- its top is answered, and what lies under it hears the answer
+-- the strand after its top was filled; the frame below hears the answer
 abbrev pub finished : Strand → Strand
 finished s = heard (record s { stack = rest s.stack; filled = s.filled + 1 })
 
@@ -114,7 +114,7 @@ abbrev pub IsHeld : List Frame → Point → Type 0
 IsHeld [] p = ⊥
 IsHeld (f ∷ fs) p = (f.point ≡ p) ⊎ IsHeld fs p
 
--- what is to be heard by the top, or by the strand itself
+-- what the top, or else the strand itself, has not heard yet
 abbrev pub left_in : List Point → List Frame → List Point
 left_in roots [] = roots
 left_in roots (f ∷ fs) = f.left
@@ -127,7 +127,7 @@ pub record IsAskedChild (c : Circuit) (parent p : Point) : Type 0 where
   pub child : Contains (children c parent.signal parent.time) p
   pub evaluable : IsEvaluable c p.signal p.time
 
--- each point of a stack is what the one below it waits for, and the lowest is what the strand waits for
+-- each point of a stack is what the one below it waits for, and the strand waits for the lowest
 abbrev pub IsChain : Circuit → List Point → List Frame → Type 0
 IsChain c roots [] = Unit {0}
 IsChain c roots (f ∷ fs) = IsFirst (left_in roots fs) f.point × AllByRecursion (IsAskedChild c f.point) f.left × IsChain c roots fs

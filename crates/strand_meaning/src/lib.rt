@@ -1,8 +1,8 @@
-//! What a strand is: one suspended demand, as a value.
+//! Strands: one suspended demand each, as a value.
 //!
-//! A strand serves a query. It asks for the points that its window and then its claimed points wait for, one after another,
-//! and evaluates a claimed point once all its children are heard. `specs/Strands.antt` says what its next step is and what each
-//! step makes of it; the functions here carry the laws of these definitions, and do nothing.
+//! A strand serves a query. It asks for the points that its window and its claimed points wait for, one after another. It
+//! evaluates a claimed point once it has heard all its children. `specs/Strands.antt` defines its next step, and the strand
+//! after each step. The functions here have laws as contracts, and do nothing.
 #![tactic(auto)]
 
 ghost use Rattle.strand_meaning.specs.Laws.{StrandsAskWhatIsNeeded, WaitsAreEarlier, StrandsStay};
@@ -14,25 +14,25 @@ use valid_intervals::Point;
 pub enum Next {
     /// It asks for a point.
     Ask(Point),
-    /// The claimed point on top of its stack has heard all its children, and is filled.
+    /// The claimed point on top of the stack has heard all its children, and is filled.
     Fill(Point),
-    /// Its budget is spent, and the claimed point on top of its stack is dropped.
+    /// The budget is spent, and the claimed point on top of the stack is dropped.
     Drop(Point),
     /// It has ended.
     Done,
 }
 
-/// Every point that a strand asks for or holds is needed by a query of its batch that has its number.
+/// A query of the batch with the strand's number needs every point that the strand asks for or holds.
 pub fn strands_ask_what_is_needed()
     ensures { StrandsAskWhatIsNeeded }
 {}
 
-/// A strand waits for a point that is earlier than every point that it holds, so no ring of waiting strands exists.
+/// A strand waits for a point that is earlier than every point that it holds, so no cycle of waiting strands exists.
 pub fn waits_are_earlier()
     ensures { WaitsAreEarlier }
 {}
 
-/// A strand stays a strand at each of its steps.
+/// Each step of a strand leaves a strand.
 pub fn strands_stay()
     ensures { StrandsStay }
 {}

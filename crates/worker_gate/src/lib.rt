@@ -1,6 +1,6 @@
 //! Workers that serve the strands of one batch together.
 //!
-//! [`run_workers`] starts 1 to 64 workers, and no more than there are strands; the first runs on the caller's thread. Each takes
+//! [`Crew::run`] starts 1 to 64 workers, and no more than there are strands; the first runs on the caller's thread. Each takes
 //! a strand from the queue of those that are ready and makes its turns, until the strand waits in a shard or has ended; the
 //! strands that come out of a claim go into the queue. Each shard stands behind a lock of its own, with a count of the claims and
 //! fills of each strand: a claim or a fill takes no other lock. A strand that has ended goes to its place on the board, which is
@@ -18,30 +18,38 @@
 //! What is under one lock is not known under another, so a worker tests it: that the shard is there with its number, that it has the
 //! claim and a count for the strand, that the place on the board is empty. No worker makes one of these tests false; where one is, the
 //! worker takes the lock again. After the join each strand is compared with its count, and where one differed the call would not
-//! return. So `run_workers` may wait, and no clause says that it returns, that a worker gets on, or that two workers run at once: the
+//! return. So `Crew::run` may wait, and no clause says that it returns, that a worker gets on, or that two workers run at once: the
 //! tests show the latter, by gates that hold a worker until another has come.
+//!
+//! A [`Crew`] gathers the runtime in which the workers are started, the gate that each passes, and how many there are. A caller that
+//! is generic over crews names no handle. [`Workers`] is such a crew. How far a crew gets is up to its gate: strands and claims may be
+//! left behind. Settlement finishes what is left, so the answers never depend on the crew.
 //!
 //! A [`Gate`] is called before each turn, and within each shard's lock. [`OpenGate`] lets everyone go on. A worker that a gate tells
 //! to leave puts its strand back into the queue, and that strand's place stays empty. Where memory runs out, all workers end, and
-//! `run_workers` answers so; the shards are given up.
+//! `Crew::run` answers so; the shards are given up.
 //!
 //! ```
-//! let ran = run_workers(rt, alloc, &design, shards, strands, 4, &OpenGate)?;
+//! let crew = Workers::new(&rt, &OpenGate, 4);
+//! let ran = crew.run(alloc, &design, shards, strands)?;
 //! let strand = ran.strands.strand(0);
 //! let shards = ran.shards.into_vec();
 //! ```
 #![tactic(auto)]
 
 mod board;
+mod crew;
 mod gate;
 mod ran;
 mod run;
 mod slot;
 mod worker;
+mod workers;
 
+pub use crew::Crew;
 pub use gate::{Gate, OpenGate, Pass};
 pub use ran::{CountList, EndedList, Ran, ShardList};
-pub use run::run_workers;
+pub use workers::Workers;
 
 #[cfg(test)]
 mod tests;

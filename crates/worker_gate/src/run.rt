@@ -8,7 +8,7 @@ use crate::board::Board;
 use crate::gate::Gate;
 use crate::ran::{CountList, EndedList, Ran, ShardList};
 use crate::slot::{Held, Slot};
-use crate::worker::Shared;
+use crate::worker::{Shared, Worker};
 use demand_points::{BatchName, Strand, Task};
 use design::Design;
 use memo_shards::Shard;
@@ -28,7 +28,7 @@ fn no_counts(alloc: Global, strands: usize) -> Result<Vec<u64>, OutOfMemory>
 }
 
 // Puts each shard behind a lock, with a count for each strand.
-fn locked<B: BatchName>(
+fn lock_each<B: BatchName>(
     alloc: Global,
     shards: Vec<Shard<B>>,
     strands: usize,
@@ -72,7 +72,7 @@ fn empty_board<B: BatchName>(alloc: Global, tasks: Vec<Task>) -> Result<Board<B>
 }
 
 // Takes out the shard with this number, however often the lock has to be taken.
-fn taken<B: BatchName, R: Wait>(rt: &R, lock: &Mutex<Slot<B>>, number: u32) -> Held<B>
+fn take_shard<B: BatchName, R: Wait>(rt: &R, lock: &Mutex<Slot<B>>, number: u32) -> Held<B>
     ensures { result.shard.number ≡ number }
 {
     for _ in rt.forever() {
@@ -101,7 +101,7 @@ fn add_counts(counts: &mut Vec<u64>, more: &[u64]) -> bool
 }
 
 // Takes all shards out, and adds their counts up. It waits for ever where these can't be added.
-fn all_taken<B: BatchName, R: Wait>(
+fn take_all<B: BatchName, R: Wait>(
     rt: &R,
     alloc: Global,
     slots: &[Mutex<Slot<B>>],
@@ -119,7 +119,7 @@ fn all_taken<B: BatchName, R: Wait>(
         let Held {
             shard,
             counts: more,
-        } = taken(rt, &slots[i], i as u32);
+        } = take_shard(rt, &slots[i], i as u32);
         if !add_counts(&mut counts, more.as_slice()) {
             for _ in rt.forever() {}
             unreachable!()
@@ -130,7 +130,7 @@ fn all_taken<B: BatchName, R: Wait>(
 }
 
 // Takes the board out; none where memory ran out. It waits for ever where the board isn't what the workers leave.
-fn board_taken<B: BatchName, R: Wait>(
+fn take_board<B: BatchName, R: Wait>(
     rt: &R,
     board: Mutex<Board<B>>,
     tasks: &[Task],
@@ -152,7 +152,7 @@ fn board_taken<B: BatchName, R: Wait>(
 }
 
 // The places of the board, compared with the counts. It waits for ever where they differ.
-fn compared<B: BatchName, R: Wait>(
+fn match_counts<B: BatchName, R: Wait>(
     rt: &R,
     board: Board<B>,
     counts: &[u64],
@@ -212,7 +212,13 @@ fn all_run<B: BatchName + Send + Sync, G: Gate, R: Threads + Wait + Sync>(
         &|job: Job<B>| -> bool
             requires { (design.now.circuit ≡ B.batch.circuit) × IsPassOf shared.now.queue job.pass }
             ensures { G.is_open gate.entry.now ≡ true → result ≡ false }
-        { shared.work(rt, design, gate, job.worker, job.pass) },
+        {
+            let worker = Worker {
+                number: job.worker,
+                gate,
+            };
+            shared.work(rt, design, &worker, job.pass)
+        },
     )?;
     Ok(left.iter().any(|x| *x))
 }
@@ -247,7 +253,7 @@ pub fn run_workers<B: BatchName + Send + Sync, G: Gate, R: Threads + Wait + Sync
     let tasks = tasks_of(alloc, strands.as_slice())?;
     let kept = tasks_of(alloc, strands.as_slice())?;
     let count = shards.len() as u32;
-    let slots = locked(alloc, shards, strands.len())?;
+    let slots = lock_each(alloc, shards, strands.len())?;
     let capacity = (strands.len() as u32).max(1);
     let workers = workers.min(capacity);
     let (queue, mut passes) = ReadyQueue::new(alloc, capacity, workers + 1)?;
@@ -266,11 +272,11 @@ pub fn run_workers<B: BatchName + Send + Sync, G: Gate, R: Threads + Wait + Sync
     let jobs = jobs_of(alloc, &shared.queue, passes)?;
     let left = all_run(rt, design, &shared, gate, jobs)?;
     let Shared { slots, board, .. } = shared;
-    let Some(board) = board_taken(rt, board, tasks.as_slice(), left) else {
+    let Some(board) = take_board(rt, board, tasks.as_slice(), left) else {
         return Err(OutOfMemory);
     };
-    let (shards, counts) = all_taken(rt, alloc, slots.as_slice(), tasks.len())?;
-    let places = compared(rt, board, counts.as_slice());
+    let (shards, counts) = take_all(rt, alloc, slots.as_slice(), tasks.len())?;
+    let places = match_counts(rt, board, counts.as_slice());
     Ok(Ran {
         shards: ShardList::new(shards),
         strands: EndedList::new(places),

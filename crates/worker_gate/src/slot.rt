@@ -9,10 +9,11 @@ ghost use Rattle.memo_shards.specs.Asks.{IsHere, OfAnswer, OfPark};
 ghost use Rattle.memo_shards.specs.Ends.{OfFillTop, DropsIt};
 ghost use Rattle.worker_gate.specs.Ends.{booked_in, HasRoom};
 
-use demand_points::{BatchName, Point, Strand};
+use demand_points::{BatchName, Strand};
 use design::Design;
 use memo_shards::{Answer, Shard};
 use owned_text::OutOfMemory;
+use valid_intervals::Point;
 
 /// A shard, and for each strand the number of claims and fills that the shard has recorded of it.
 #[derive(Drop)]

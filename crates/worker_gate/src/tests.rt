@@ -5,6 +5,7 @@ ghost use Rattle.batch_meaning.specs.Lawful.{IsLawful, IsQueryOf};
 ghost use Rattle.worker_gate.specs.Ends.{AreInOrder, AreNew};
 
 use super::*;
+use crate::run::run_workers;
 use batch_meaning::Query;
 use bench_reader::read_bench;
 use cell_store::CellStore;

@@ -1,6 +1,7 @@
 //! What one worker does.
 
-ghost use Rattle.std.specs.Prelude.{◌≡◌, ◌<◌, ◌%◌, true, false, Some};
+ghost use Rattle.std.specs.Prelude.{◌≡◌, ◌<◌, true, false, IsSome, IfSome, Some};
+ghost use Rattle.std.specs.Sync.Mutex.{mutex_guard_value};
 ghost use Rattle.journal_meaning.specs.States.{holder};
 ghost use Rattle.memo_shards.specs.Asks.{IsHere};
 ghost use Rattle.worker_gate.specs.Ends.{HasRoom};
@@ -10,13 +11,15 @@ ghost use Rattle.strand_meaning.specs.declared.Next.TheVariants.{Ask, Fill, Drop
 
 use crate::board::Board;
 use crate::gate::{Gate, Pass};
-use crate::slot::{Held, Slot};
-use demand_points::{BatchName, Next, Point, Strand};
+use crate::slot::Slot;
+use demand_points::{BatchName, Strand};
 use design::Design;
-use memo_shards::Answer;
+use memo_shards::{Answer, shard_number};
 use ready_queue::{QueuePass, ReadyQueue};
 use std::hint::spin_loop;
 use std::sync::{Condvar, Mutex, MutexGuard, Wait};
+use strand_meaning::Next;
+use valid_intervals::Point;
 
 /// How often a lock is tried before the thread sleeps for it.
 const TRIES: u32 = 50;
@@ -36,6 +39,13 @@ pub struct Shared<B: BatchName> {
     ghost some: { 0 < count },
 }
 
+/// A worker: its number, and the gate that it passes.
+#[derive(Drop)]
+pub struct Worker<'a, G: Gate> {
+    pub number: u32,
+    pub gate: &'a G,
+}
+
 /// What became of a strand's turn.
 #[derive(Drop)]
 pub enum Turn<B: BatchName> {
@@ -53,8 +63,8 @@ fn pause() {
     }
 }
 
-// Takes the lock. Whoever has one of the workers' locks makes one step under it, in a microsecond or two, and to sleep and be
-// woken takes longer. So the lock is tried for as long before the thread sleeps.
+// Takes the lock. A worker makes one step under a lock, which takes a microsecond or two. To sleep and to be woken takes longer. So the
+// lock is tried for as long as a step takes before the thread sleeps.
 fn take_lock<'a, T, R: Wait>(rt: &R, lock: &'a Mutex<T>) -> MutexGuard<'a, T> {
     for _ in 0..TRIES {
         if let Some(guard) = lock.try_lock() {
@@ -65,55 +75,13 @@ fn take_lock<'a, T, R: Wait>(rt: &R, lock: &'a Mutex<T>) -> MutexGuard<'a, T> {
     lock.lock(rt)
 }
 
-// Asks the shard for the point. The strand waits there where the point is claimed.
-fn ask_held<B: BatchName>(
-    held: &mut Held<B>,
-    mut strand: Strand<B>,
-    design: &Design,
-    p: Point,
-) -> Turn<B>
-    requires room { HasRoom held.old.counts.items strand.number }
-    requires design { design.now.circuit ≡ B.batch.circuit }
-    requires asks { next strand.strand ≡ Ask p }
-    requires here { IsHere B.batch held.old.shard p }
-{
-    match held.answer(&mut strand, design, p) {
-        Ok(Answer::Heard) => Turn::Goes(strand),
-        Ok(Answer::Holds) => Turn::Goes(strand),
-        Ok(Answer::Refused) => Turn::Goes(strand),
-        Ok(Answer::Taken) => match held.park(strand, p) {
-            Ok(()) => Turn::Rests,
-            Err(_) => Turn::NoMemory,
-        },
-        Err(_) => Turn::NoMemory,
-    }
-}
-
-// Fills the point in the shard.
-fn fill_held<B: BatchName>(
-    held: &mut Held<B>,
-    mut strand: Strand<B>,
-    design: &Design,
-    p: Point,
-) -> Option<(Strand<B>, Vec<Strand<B>>)>
-    requires room { HasRoom held.old.counts.items strand.number }
-    requires design { design.now.circuit ≡ B.batch.circuit }
-    requires fills { next strand.strand ≡ Fill p }
-    requires held { holder held.old.shard.shard.state.claims p ≡ Some strand.strand.query.number }
-{
-    match held.fill(&mut strand, design, p) {
-        Ok(woken) => Some((strand, woken)),
-        Err(_) => None,
-    }
-}
-
 impl<B: BatchName> Shared<B> {
     // Tells of a push, and wakes a worker for it where one sleeps.
     //
-    // No wake is lost. A worker goes to sleep under the board's lock, where no move was made since it looked, there is memory, and a
-    // place is empty. Each of these changes under that lock and wakes then, so whoever is woken finds a change. A move wakes one, since
-    // it made one strand ready; where it finds none to wake, all are awake or woken, and each takes from the queue before it sleeps.
-    // So does who pushed the strand; where it leaves at the gate, the push has woken another.
+    // No wake is lost. A worker goes to sleep under the board's lock, after it found there that no strand was pushed since it looked at
+    // the queue, that memory is left, and that a place is empty. Each of these changes under the same lock, and each change wakes
+    // sleepers. A push wakes one worker. If none sleeps, each worker looks at the queue once more before it sleeps. The worker that
+    // pushed the strand does so too, unless it leaves at its gate; then another one takes the strand.
     fn tell<R: Wait>(&self, rt: &R) {
         let mut board = take_lock(rt, &self.board);
         board.moves = board.moves.wrapping_add(1);
@@ -183,16 +151,6 @@ impl<B: BatchName> Shared<B> {
         }
     }
 
-    // Puts the strands that came out of a claim into the queue, in their order.
-    fn push_woken<R: Wait>(&self, rt: &R, pass: &mut QueuePass<Strand<B>>, woken: Vec<Strand<B>>)
-        requires { IsPassOf self.now.queue pass.old }
-        ensures { IsPassOf self.now.queue pass.new }
-    {
-        for strand in woken {
-            self.push(rt, pass, strand);
-        }
-    }
-
     // Puts a strand that has ended on the board, however often the board has to be looked at. The last one wakes all.
     fn put<R: Wait>(&self, rt: &R, strand: Strand<B>)
         requires { next strand.strand ≡ Done }
@@ -213,35 +171,70 @@ impl<B: BatchName> Shared<B> {
         unreachable!()
     }
 
-    // Asks the shard for the point, under its lock.
+    // Locks the shard of the point, once it has a count for the strand and, where the strand has claimed the point, its claim.
+    fn lock_shard<G: Gate, R: Wait>(
+        &self,
+        rt: &R,
+        worker: &Worker<'_, G>,
+        strand: &Strand<B>,
+        p: Point,
+        claimed: bool,
+    ) -> MutexGuard<'_, Slot<B>>
+        ensures some { IsSome (mutex_guard_value result).held }
+        ensures here { IfSome (mutex_guard_value result).held (λ h. IsHere B.batch h.shard p) }
+        ensures room { IfSome (mutex_guard_value result).held
+            (λ h. HasRoom h.counts.items strand.now.number) }
+        ensures holds { claimed ≡ true → IfSome (mutex_guard_value result).held
+            (λ h. holder h.shard.shard.state.claims p ≡ Some strand.now.strand.query.number) }
+    {
+        let number = shard_number(p.signal, self.count as usize);
+        let q = strand.query().number;
+        for _ in rt.forever() {
+            let Some(lock) = self.slots.get(number) else {
+                continue;
+            };
+            let slot = take_lock(rt, lock);
+            let Some(held) = &slot.held else {
+                continue;
+            };
+            if held.shard.number() as usize != number || !held.has_room(strand.number()) {
+                continue;
+            }
+            if claimed && !held.shard.holds(p, q) {
+                continue;
+            }
+            worker.gate.within(worker.number, number as u32);
+            return slot;
+        }
+        unreachable!()
+    }
+
+    // Asks the shard for the point, under its lock. The strand waits there where the point is claimed.
     fn ask<G: Gate, R: Wait>(
         &self,
         rt: &R,
         design: &Design,
-        gate: &G,
-        worker: u32,
-        strand: Strand<B>,
+        worker: &Worker<'_, G>,
+        mut strand: Strand<B>,
         p: Point,
     ) -> Turn<B>
         requires design { design.now.circuit ≡ B.batch.circuit }
         requires asks { next strand.strand ≡ Ask p }
     {
-        let number = p.signal % self.count;
-        for _ in rt.forever() {
-            let Some(lock) = self.slots.get(number as usize) else {
-                continue;
-            };
-            let mut slot = take_lock(rt, lock);
-            let Some(held) = &mut slot.held else {
-                continue;
-            };
-            if held.shard.number() != number || !held.has_room(strand.number()) {
-                continue;
-            }
-            gate.within(worker, number);
-            return ask_held(held, strand, design, p);
+        let mut slot = self.lock_shard(rt, worker, &strand, p, false);
+        let Some(held) = &mut slot.held else {
+            unreachable!();
+        };
+        match held.answer(&mut strand, design, p) {
+            Ok(Answer::Heard) => Turn::Goes(strand),
+            Ok(Answer::Holds) => Turn::Goes(strand),
+            Ok(Answer::Refused) => Turn::Goes(strand),
+            Ok(Answer::Taken) => match held.park(strand, p) {
+                Ok(()) => Turn::Rests,
+                Err(_) => Turn::NoMemory,
+            },
+            Err(_) => Turn::NoMemory,
         }
-        unreachable!()
     }
 
     // Fills the point in its shard, under its lock.
@@ -249,64 +242,38 @@ impl<B: BatchName> Shared<B> {
         &self,
         rt: &R,
         design: &Design,
-        gate: &G,
-        worker: u32,
-        strand: Strand<B>,
+        worker: &Worker<'_, G>,
+        mut strand: Strand<B>,
         p: Point,
     ) -> Option<(Strand<B>, Vec<Strand<B>>)>
         requires design { design.now.circuit ≡ B.batch.circuit }
         requires fills { next strand.strand ≡ Fill p }
     {
-        let number = p.signal % self.count;
-        let q = strand.query().number;
-        for _ in rt.forever() {
-            let Some(lock) = self.slots.get(number as usize) else {
-                continue;
-            };
-            let mut slot = take_lock(rt, lock);
-            let Some(held) = &mut slot.held else {
-                continue;
-            };
-            if held.shard.number() != number || !held.shard.holds(p, q) {
-                continue;
-            }
-            if !held.has_room(strand.number()) {
-                continue;
-            }
-            gate.within(worker, number);
-            return fill_held(held, strand, design, p);
+        let mut slot = self.lock_shard(rt, worker, &strand, p, true);
+        let Some(held) = &mut slot.held else {
+            unreachable!();
+        };
+        match held.fill(&mut strand, design, p) {
+            Ok(woken) => Some((strand, woken)),
+            Err(_) => None,
         }
-        unreachable!()
     }
 
     // Gives the point up in its shard, under its lock.
     fn drop_top<G: Gate, R: Wait>(
         &self,
         rt: &R,
-        gate: &G,
-        worker: u32,
+        worker: &Worker<'_, G>,
         strand: Strand<B>,
         p: Point,
     ) -> (Strand<B>, Vec<Strand<B>>)
         requires { next strand.strand ≡ Drop p }
     {
-        let number = p.signal % self.count;
-        let q = strand.query().number;
-        for _ in rt.forever() {
-            let Some(lock) = self.slots.get(number as usize) else {
-                continue;
-            };
-            let mut slot = take_lock(rt, lock);
-            let Some(held) = &mut slot.held else {
-                continue;
-            };
-            if held.shard.number() != number || !held.shard.holds(p, q) {
-                continue;
-            }
-            gate.within(worker, number);
-            return held.drop_top(strand, p);
-        }
-        unreachable!()
+        let mut slot = self.lock_shard(rt, worker, &strand, p, true);
+        let Some(held) = &mut slot.held else {
+            unreachable!();
+        };
+        held.drop_top(strand, p)
     }
 
     // Makes the turn of a strand whose next step is this one.
@@ -314,8 +281,7 @@ impl<B: BatchName> Shared<B> {
         &self,
         rt: &R,
         design: &Design,
-        gate: &G,
-        worker: u32,
+        worker: &Worker<'_, G>,
         pass: &mut QueuePass<Strand<B>>,
         strand: Strand<B>,
         step: Next,
@@ -326,17 +292,17 @@ impl<B: BatchName> Shared<B> {
         ensures { IsPassOf self.now.queue pass.new }
     {
         match step {
-            Next::Ask(p) => self.ask(rt, design, gate, worker, strand, p),
+            Next::Ask(p) => self.ask(rt, design, worker, strand, p),
             Next::Fill(p) => {
-                let Some((s, woken)) = self.fill(rt, design, gate, worker, strand, p) else {
+                let Some((s, woken)) = self.fill(rt, design, worker, strand, p) else {
                     return Turn::NoMemory;
                 };
-                self.push_woken(rt, pass, woken);
+                self.push_all(rt, pass, woken);
                 Turn::Goes(s)
             }
             Next::Drop(p) => {
-                let (s, woken) = self.drop_top(rt, gate, worker, strand, p);
-                self.push_woken(rt, pass, woken);
+                let (s, woken) = self.drop_top(rt, worker, strand, p);
+                self.push_all(rt, pass, woken);
                 Turn::Goes(s)
             }
             Next::Done => {
@@ -351,24 +317,23 @@ impl<B: BatchName> Shared<B> {
         &self,
         rt: &R,
         design: &Design,
-        gate: &G,
-        worker: u32,
+        worker: &Worker<'_, G>,
         pass: &mut QueuePass<Strand<B>>,
         strand: Strand<B>,
     ) -> bool
         requires design { design.now.circuit ≡ B.batch.circuit }
         requires queue { IsPassOf self.now.queue pass.old }
         ensures queue { IsPassOf self.now.queue pass.new }
-        ensures stays { G.is_open gate.now ≡ true → result ≡ false }
+        ensures stays { G.is_open worker.now.gate.now ≡ true → result ≡ false }
     {
         let mut strand = strand;
         for _ in rt.forever() {
             let step = strand.next_step(design);
-            if step != Next::Done && gate.before(worker) == Pass::Leave {
+            if step != Next::Done && worker.gate.before(worker.number) == Pass::Leave {
                 self.push(rt, pass, strand);
                 return true;
             }
-            match self.turn(rt, design, gate, worker, pass, strand, step) {
+            match self.turn(rt, design, worker, pass, strand, step) {
                 Turn::Goes(s) => strand = s,
                 Turn::Rests => return false,
                 Turn::NoMemory => {
@@ -385,13 +350,12 @@ impl<B: BatchName> Shared<B> {
         &self,
         rt: &R,
         design: &Design,
-        gate: &G,
-        worker: u32,
+        worker: &Worker<'_, G>,
         pass: QueuePass<Strand<B>>,
     ) -> bool
         requires design { design.now.circuit ≡ B.batch.circuit }
         requires queue { IsPassOf self.now.queue pass }
-        ensures { G.is_open gate.now ≡ true → result ≡ false }
+        ensures { G.is_open worker.now.gate.now ≡ true → result ≡ false }
     {
         let mut pass = pass;
         for _ in rt.forever() {
@@ -400,7 +364,7 @@ impl<B: BatchName> Shared<B> {
             };
             match self.queue.pop(rt, &mut pass) {
                 Some(strand) => {
-                    if self.run(rt, design, gate, worker, &mut pass, strand) {
+                    if self.run(rt, design, worker, &mut pass, strand) {
                         return true;
                     }
                 }

@@ -1,4 +1,4 @@
--- How a store finds a cell: the cache's pairs of keys and cells, and an index of the ends by their keys.
+-- How a store finds a cell: the cache's pairs of keys and cells, and an index from keys to ends.
 use Rattle.std.specs.Prelude.{◌≡◌, ℕ, ◌<◌, ◌≤◌, Bool, true, ◌&&◌, nat_eq, List, length, map, find, slice_get, All, Option, Some, option_map}
 use Rattle.std.specs.declared.cmp.Ordering.{Ordering}
 use Rattle.std.specs.Ordering.{ordering_then, nat_cmp}
@@ -14,14 +14,14 @@ use Rattle.cell_store.specs.Recency.{key_of, AreApart}
 abbrev pub key_cmp : Key → Key → Ordering
 key_cmp a b = ordering_then (nat_cmp a.signal b.signal) (nat_cmp a.start b.start)
 
--- whether two keys are one
+-- whether two keys are equal
 abbrev pub key_eq : Key → Key → Bool
 key_eq k j = nat_eq k.signal j.signal && nat_eq k.start j.start
 
 abbrev pub has_key : Key → SignalCell → Bool
 has_key k x = nat_eq k.signal x.signal && nat_eq k.start x.cell.span.start
 
--- where the cell of this key ends
+-- the end of the cell with this key
 abbrev pub end_at : Key → List SignalCell → Option ℕ
 end_at k cells = option_map (λ x. x.cell.span.stop) (find (has_key k) cells)
 
@@ -44,7 +44,7 @@ pub record IsInFront (entries : List (Key × Cell)) (p : Point) (cell : Cell) : 
   pub front : slice_get entries 0 ≡ Some (key, cell)
   pub covering : covers p (cell_in (key, cell)) ≡ true
 
--- the ends are those of the cells, which are apart
+-- the ends are those of the cells, and no point is covered by two of these
 pub record IsStoreIndex (end_of : Key → Option ℕ) (cells : List SignalCell) : Type 0 where
   pub spans : All (λ x. IsSpan x.cell.span) cells
   pub apart : AreApart cells

@@ -1,4 +1,4 @@
-//! The store as one plain list, proved against the contract of [`CellStore`](crate::CellStore).
+//! The store as a plain list, proved against the contract of [`CellStore`](crate::CellStore).
 ghost use Rattle.std.specs.Prelude.{◌≡◌, ◌<◌, ◌≤◌, ◌-◌, [], true, not, map, drop, reverse, take, option_map, IfNone, IfOk, IfSome, None, OnErr, OnOk, length, vec_capacity, vec_len, ◌==◌, if◌then◌else◌};
 ghost use Rattle.std.specs.List.{list_any};
 ghost use Rattle.valid_intervals.specs.Cells as cells;
@@ -151,7 +151,7 @@ fn find_covering(cells: &[SignalCell], p: Point) -> Option<Cell>
     Some(x.cell)
 }
 
-// Takes out the last cell where there are so many.
+// If there are this many cells, removes the last.
 fn make_room(cells: &mut Vec<SignalCell>, many: u32) -> Option<Key>
     ensures cells { cells.new.items ≡ (if length cells.old.items == many then all_but_last
         cells.old.items else cells.old.items) }

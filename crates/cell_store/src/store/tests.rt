@@ -1,4 +1,4 @@
-//! Runs of the store, and of the plain list beside it.
+//! Runs of the store, and of the plain list as a reference.
 ghost use Rattle.std.specs.Prelude.{◌≡◌, ◌<◌, OnOk};
 ghost use Rattle.cell_store.specs.inner.Beside.{is_apart, is_fitting};
 
@@ -30,7 +30,8 @@ fn fits(x: &SignalCell, cells: &[SignalCell]) -> bool
     cells.iter().all(|y| same(x, y) || apart(x, y))
 }
 
-// Each function below makes one call of both bodies, and answers whether they agree. That their lists are one is proved.
+// Each function below makes one call of both bodies, and returns whether they agree. It is proved that both have the
+// same list.
 fn find_both(store: &mut CellStore, plain: &mut PlainStore, p: Point) -> bool
     requires { store.old ≡ plain.old }
     ensures { store.new ≡ plain.new }
@@ -81,7 +82,7 @@ impl Draws {
     }
 }
 
-// One call, drawn at random: of each sixteen, five finds, one test, one trim and nine puts.
+// One call, drawn at random: a find with 5 chances in 16, a test with 1, a trim with 1, a put with 9.
 fn one_call(
     store: &mut CellStore,
     plain: &mut PlainStore,

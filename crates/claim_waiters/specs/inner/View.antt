@@ -5,7 +5,7 @@ use Rattle.claim_waiters.specs.Claims.{WaitedClaim, Claims}
 use Rattle.claim_waiters.specs.declared.table.Holding.{Holding}
 use Rattle.valid_intervals.specs.declared.Point.{Point}
 
--- those that wait in a room, and in none where nobody has come yet
+-- the waiters in a room; none if there is no room yet
 abbrev pub those_in : {W R : Type 0} → (R → List W) → Option (Box R Global) → List W
 those_in items None = []
 those_in items (Some b) = items b.value

@@ -1,9 +1,9 @@
--- What only the proofs and the private functions of this crate speak of, beside `Counts`.
+-- Definitions for proofs and private functions, beside `Counts`.
 use Rattle.std.specs.Prelude.{ℕ, ◌+◌, ◌&&◌, if◌then◌else◌, List, [], ◌∷◌, flat_map}
 use Rattle.std.specs.List.{range_with_len}
 use Rattle.journal_meaning.specs.declared.Entry.{Entry}
 use Rattle.journal_meaning.specs.Sections.{SectionEntries, joined}
 
--- the entries of the session's own memo, shard by shard
+-- the entries of the session's memo, shard by shard
 abbrev pub all_joined : ℕ → List SectionEntries → List Entry
 all_joined shards sections = flat_map (λ shard. joined shard sections) (range_with_len 0 shards)

@@ -1,11 +1,12 @@
--- What only the proofs and the private functions of this crate speak of, beside `Grown`.
-use Rattle.std.specs.Prelude.{◌≡◌, ◌≢◌, ◌++◌, ◌+◌, ◌%◌, ◌<◌, ◌≤◌, ◌⊎◌, ℕ, List, [], length, get_or}
+-- Definitions for proofs and private functions, beside `Grown`.
+use Rattle.std.specs.Prelude.{◌≡◌, ◌≢◌, ◌++◌, ◌+◌, ◌<◌, ◌≤◌, ◌⊎◌, ℕ, List, [], length, get_or}
 use Rattle.std.specs.List.{AllByRecursion}
 use Rattle.journal_meaning.specs.declared.Entry.{Entry}
 use Rattle.journal_meaning.specs.declared.Entry.TheVariants.{Told, Claimed, Filled, Evicted, Dropped, Spent}
 use Rattle.journal_meaning.specs.Answers.{IsCovered}
 use Rattle.circuit_meaning.specs.Cells.{cell_at}
 use Rattle.circuit_meaning.specs.Circuit.{Circuit}
+use Rattle.batch_meaning.specs.Batches.{shard_number}
 
 -- the entry is for another query, or for none
 abbrev pub IsForOther : ℕ → Entry → Type 0
@@ -16,20 +17,20 @@ IsForOther q (Evicted signal start) = Unit {0}
 IsForOther q (Dropped r p) = r ≢ q
 IsForOther q (Spent r p held) = r ≢ q
 
--- the point that the entry names is one of the shard k, of so many shards
+-- the point that the entry names belongs to shard k of so many shards
 abbrev pub IsHome : ℕ → ℕ → Entry → Type 0
-IsHome shards k (Told q p x) = p.signal % shards ≡ k
-IsHome shards k (Claimed q p) = p.signal % shards ≡ k
-IsHome shards k (Filled q p x) = p.signal % shards ≡ k
+IsHome shards k (Told q p x) = shard_number p.signal shards ≡ k
+IsHome shards k (Claimed q p) = shard_number p.signal shards ≡ k
+IsHome shards k (Filled q p x) = shard_number p.signal shards ≡ k
 IsHome shards k (Evicted signal start) = Unit {0}
-IsHome shards k (Dropped q p) = p.signal % shards ≡ k
-IsHome shards k (Spent q p held) = p.signal % shards ≡ k
+IsHome shards k (Dropped q p) = shard_number p.signal shards ≡ k
+IsHome shards k (Spent q p held) = shard_number p.signal shards ≡ k
 
--- each entry stands in the list of the shard of its point
+-- each entry is in the list of the shard of its point
 pub record AreHome (lists : List (List Entry)) : Type 0 where
   pub home : (k : ℕ) → k < length lists → AllByRecursion (IsHome (length lists) k) (get_or lists k [])
 
--- the cell that an entry says is that of its point, within the horizon
+-- the cell that an entry says is that of its point, and the point is within the horizon
 abbrev pub IsRightEntry : Circuit → Entry → Type 0
 IsRightEntry c (Told q p x) = (p.time ≤ c.horizon) × (x ≡ cell_at c p)
 IsRightEntry c (Claimed q p) = Unit {0}
@@ -38,6 +39,6 @@ IsRightEntry c (Evicted signal start) = Unit {0}
 IsRightEntry c (Dropped q p) = Unit {0}
 IsRightEntry c (Spent q p held) = Unit {0}
 
--- the times of the signal from one on and below another are covered
+-- the signal is covered at all times of a half-open interval
 abbrev pub AreTimesCovered : Circuit → List Entry → ℕ → ℕ → ℕ → Type 0
 AreTimesCovered c es s from u = (t : ℕ) → from ≤ t → t < u → IsCovered c es (record { signal = s; time = t })

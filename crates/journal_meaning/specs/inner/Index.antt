@@ -33,7 +33,7 @@ pub record Covers (f : SaidCell) (p : Point) : Type 0 where
 abbrev pub IsFound : List SaidCell → Point → Type 0
 IsFound cells p = (f : SaidCell) × Contains cells f × Covers f p
 
--- where a cell stands in an index: under its signal and first time
+-- the place of a cell in an index: its signal and first time
 abbrev pub place_of : SaidCell → Point
 place_of f = record { signal = f.point.signal; time = f.cell.span.start }
 
@@ -44,7 +44,7 @@ pub record StandsAt (cells : List SaidCell) (k : Point) (cell : Cell) : Type 0 w
   pub cell_is : of.cell ≡ cell
   pub place : place_of of ≡ k
 
--- the index has these cells and nothing else, and each is the cell of its point
+-- the index has exactly these cells, and each is the cell of its point
 pub record IsCellIndex (c : Circuit) (cells : List SaidCell) (index : Point → Option Cell) : Type 0 where
   pub right : All (λ f. f.cell ≡ cell_at c f.point) cells
   pub within : All (λ f. f.point.time ≤ c.horizon) cells

@@ -1,4 +1,4 @@
--- What only the proofs and the private functions of this crate speak of, beside `Parts`.
+-- Definitions for proofs and private functions, beside `Parts`.
 use Rattle.std.specs.Prelude.{ℕ, false, List, [], map, Option}
 use Rattle.valid_intervals.specs.declared.SignalCell.{SignalCell}
 use Rattle.batch_meaning.specs.Batches.{Batch}
@@ -13,7 +13,7 @@ use Rattle.memo_shards.specs.inner.Seen.{waited_shard}
 use Rattle.plan_core.specs.inner.Places.{seats, AreNumbered}
 use Rattle.plan_core.specs.Parts.{AreInOrder}
 
--- a strand that there isn't
+-- a strand for numbers without one
 abbrev pub blank : Strand
 blank = record { query = record { number = 0; signal = 0; from = 0; to = 0; budget = 0 }; budget = 0; roots = []; stack = []; charged = 0; filled = 0; spent = false; waits = false }
 

@@ -1,4 +1,4 @@
--- The places of strands: one for each number, with a gap where its strand waits.
+-- The places of strands: one for each number, with a gap if its strand waits.
 use Rattle.std.specs.Prelude.{◌≡◌, ℕ, ◌<◌, List, [], ◌∷◌, ◌++◌, map, if◌then◌else◌, slice_get, Option, Some, None}
 use Rattle.strand_meaning.specs.declared.Next.{Next}
 use Rattle.strand_meaning.specs.Strands.{Strand, next}
@@ -7,7 +7,7 @@ use Rattle.plan_machine.specs.inner.Parts.{NumberedStrand}
 use Rattle.demand_points.specs.Demands.{Demand}
 use Rattle.memo_shards.specs.inner.Seen.{numbered_strand}
 
--- in the plan's words
+-- the strand in a place, in the words of `plan_machine`
 abbrev pub seat : Option Demand → Option Strand
 seat None = None
 seat (Some s) = Some s.strand
@@ -19,17 +19,17 @@ seats places = map seat places
 abbrev pub AreNumbered : List (Option Demand) → Type 0
 AreNumbered places = (i : ℕ) (s : Demand) → slice_get places i ≡ Some (Some s) → s.number ≡ i
 
--- among so many places each strand has one
+-- each strand's number is below the number of places
 abbrev pub HaveNumbers : ℕ → List Demand → Type 0
 HaveNumbers n [] = Unit {0}
 HaveNumbers n (s ∷ ss) = (s.number < n) × HaveNumbers n ss
 
--- what the place shows of a next step
+-- the place shows this next step
 abbrev pub IsNextAt : List (Option Demand) → ℕ → Option Next → Type 0
 IsNextAt places n None = slice_get places n ≡ Some None
 IsNextAt places n (Some x) = (s : Demand) × ((slice_get places n ≡ Some (Some s)) × (next s.strand ≡ x))
 
--- a strand with its number, in its place
+-- the strand in a place with its number
 abbrev pub tag : Option Demand → Option NumberedStrand
 tag None = None
 tag (Some s) = Some (numbered_strand s)
@@ -40,7 +40,7 @@ tags places = map tag places
 abbrev pub tag_of : Demand → Option NumberedStrand
 tag_of s = Some (numbered_strand s)
 
--- the number of a strand that has a step left
+-- the number of the strand, if it has a step left
 abbrev pub ready_one : Option Demand → List ℕ
 ready_one None = []
 ready_one (Some s) = if is_done (next s.strand) then [] else s.number ∷ []

@@ -1,4 +1,4 @@
--- What only the proofs and the private functions of this crate speak of, beside `Refusals`.
+-- Definitions for proofs and private functions, beside `Refusals`.
 use Rattle.std.specs.Prelude.{◌≡◌, ℕ, false, true, List, slice_get, Option, Some, None, Result, Ok, Err}
 use Rattle.owned_text.specs.declared.OutOfMemory.{OutOfMemory}
 use Rattle.valid_intervals.specs.declared.Point.{Point}
@@ -23,7 +23,7 @@ pub record IsRefusedAt (plan : Plan) (n : ℕ) (p : Point) : Type 0 where
   pub missed : stored_at (shard_of plan p).state.cells p ≡ None
   pub unclaimed : claim_of plan p ≡ None
 
--- what recording the refusal makes of the parts
+-- what recording the refusal changes of the parts
 abbrev pub OfRefusal : Batch → (ℕ → List SignalCell) → Plan → ℕ → Point → List (Option Demand) → List KeptShard → Result Unit OutOfMemory → Type 0
 OfRefusal b opening plan n p places shards (Ok u) = (s : Strand) × ((slice_get plan.strands n ≡ Some s) × IsSeen b opening places shards (refused plan s (Ask p)))
 OfRefusal b opening plan n p places shards (Err e) = IsSeen b opening places shards plan

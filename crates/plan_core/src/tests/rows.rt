@@ -149,7 +149,7 @@ pub const ROWS: [Row; 5] = [
     },
 ];
 
-/// Of the strands for `n3` at 5, with budgets of 2 and of 3, one alone.
+/// The strands for `n3` at 5, with budgets of 2 and 3, one at a time alone.
 pub const LONE: [Lone; 2] = [
     Lone {
         number: 0,

@@ -1,8 +1,9 @@
--- A plan as it is kept: places for the strands, and shards that hold those that wait.
-use Rattle.std.specs.Prelude.{◌≡◌, ℕ, ◌≤◌, ◌<◌, ◌%◌, if◌then◌else◌, List, [], ◌∷◌, ◌++◌, length, map, get_or, Option}
+-- A plan as code keeps it: places for the strands, and shards that hold the waiting ones.
+use Rattle.std.specs.Prelude.{◌≡◌, ℕ, ◌≤◌, ◌<◌, if◌then◌else◌, List, [], ◌∷◌, ◌++◌, length, map, get_or, Option}
 use Rattle.std.specs.List.{AllByRecursion}
 use Rattle.valid_intervals.specs.declared.Point.{Point}
 use Rattle.valid_intervals.specs.Cells.{same_point}
+use Rattle.batch_meaning.specs.Batches.{shard_number}
 use Rattle.strand_meaning.specs.Strands.{Strand}
 use Rattle.plan_machine.specs.Shards.{Shard}
 use Rattle.plan_machine.specs.Plans.{Plan, no_shard}
@@ -25,7 +26,7 @@ waiting_at [] p = []
 waiting_at (k ∷ ks) p = if same_point k.point p then k.waiter ∷ waiting_at ks p else waiting_at ks p
 
 abbrev pub waited_shard_at : List WaitedShard → Point → WaitedShard
-waited_shard_at memos p = get_or memos (p.signal % length memos) no_waited_shard
+waited_shard_at memos p = get_or memos (shard_number p.signal (length memos)) no_waited_shard
 
 abbrev pub waiters : List WaitedShard → Point → List NumberedStrand
 waiters memos p = waiting_at (waited_shard_at memos p).parked p
@@ -37,12 +38,12 @@ all_waiters (m ∷ ms) = map (λ (k : Parked). k.waiter) m.parked ++ all_waiters
 abbrev pub shards_of : List WaitedShard → List Shard
 shards_of memos = map (λ (m : WaitedShard). m.shard) memos
 
--- the plan that is kept so; blank stands for a strand that there isn't
+-- the plan that is kept in these parts; blank stands for a missing strand
 abbrev pub plan_of : Strand → List (Option Strand) → List WaitedShard → Plan
 plan_of blank places memos = record { strands = strands_from (all_waiters memos) blank 0 places; shards = shards_of memos }
 
--- each strand stands in its place or waits at its shard
+-- each strand is in its place or waits at its shard
 pub record IsKeptPlan (places : List (Option Strand)) (memos : List WaitedShard) (xs : List Strand) : Type 0 where
   pub some : 1 ≤ length memos
   pub parts : AreParts places (waiters memos) xs
-  pub homes : (n : ℕ) → n < length memos → AllByRecursion (λ (k : Parked). k.point.signal % length memos ≡ n) (get_or memos n no_waited_shard).parked
+  pub homes : (n : ℕ) → n < length memos → AllByRecursion (λ (k : Parked). shard_number k.point.signal (length memos) ≡ n) (get_or memos n no_waited_shard).parked

@@ -1,4 +1,4 @@
--- The parts that a plan is kept in: a list with a gap for each strand that waits, and the strands that wait at each point.
+-- The parts in which a plan is kept: a list with a gap for each strand that waits, and the strands that wait at each point.
 use Rattle.std.specs.Prelude.{◌≡◌, ℕ, suc, nat_eq, false, if◌then◌else◌, ◌⊎◌, List, [], ◌∷◌, length, slice_get, slice_set, Option, Some, None}
 use Rattle.valid_intervals.specs.declared.Point.{Point}
 use Rattle.strand_meaning.specs.declared.Next.TheVariants.{Ask}
@@ -20,16 +20,16 @@ pub record AreParts (places : List (Option Strand)) (waiters : Point → List Nu
   pub gap : (i : ℕ) → slice_get places i ≡ Some None → (p : Point) × ((w : NumberedStrand) × (IsAmong w (waiters p) × (w.number ≡ i)))
   pub waiter : (p : Point) (w : NumberedStrand) → IsAmong w (waiters p) → (slice_get places w.number ≡ Some None) × (slice_get xs w.number ≡ Some (waiting w.strand)) × (next w.strand ≡ Ask p) × (w.strand.waits ≡ false)
 
--- each goes back to its place, after f
+-- each strand returns to its place, with f applied to it
 abbrev pub put_back : (Strand → Strand) → List (Option Strand) → List NumberedStrand → List (Option Strand)
 put_back f places [] = places
 put_back f places (w ∷ ws) = put_back f (slice_set places w.number (Some (f w.strand))) ws
 
--- the waiters at p are others
+-- the waiters at p are replaced by these
 abbrev pub with_waiters : (Point → List NumberedStrand) → Point → List NumberedStrand → Point → List NumberedStrand
 with_waiters waiters p ws x = if same_point p x then ws else waiters x
 
--- the strand of a place, or the waiter with its number
+-- the strand in a place, or the waiter with its number
 abbrev pub waiter_at : List NumberedStrand → ℕ → Strand → Strand
 waiter_at [] n blank = blank
 waiter_at (w ∷ ws) n blank = if nat_eq w.number n then w.strand else waiter_at ws n blank

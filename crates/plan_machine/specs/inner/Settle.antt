@@ -1,4 +1,4 @@
--- What only the proofs and the private functions of this crate speak of, beside `Settle`.
+-- Definitions for proofs and private functions, beside `Settle`.
 use Rattle.std.specs.Prelude.{◌≡◌, ◌≢◌, ℕ, ◌+◌, ◌≤◌, ◌<◌, Bool, true, false, List, [], ◌∷◌, All, Contains, Option}
 use Rattle.std.specs.List.{AllByRecursion}
 use Rattle.valid_intervals.specs.declared.Cell.{Cell}
@@ -19,7 +19,7 @@ use Rattle.plan_machine.specs.Sound.{IsFresh}
 use Rattle.plan_machine.specs.Alone.{IsOutcome}
 use Rattle.plan_machine.specs.Settle.{AreAllSettled, IsSettled, Standing, entries_in, journals_of}
 
--- A strand that was started so ran alone over the shards, from the old ones to the new ones. No claim is left.
+-- A strand with this start ran alone over the shards, from the old ones to the new ones. No claim is left.
 pub record AskedAlone (b : Batch) (opening : ℕ → List SignalCell) (a : Start) (old new : List Shard) (spent : Option Point) : Type 0 where
   pub fresh : IsFresh b opening new
   pub added : List Entry
@@ -32,18 +32,18 @@ pub record AskedAlone (b : Batch) (opening : ℕ → List SignalCell) (a : Start
 abbrev pub IsVisited : Circuit → List Entry → Point → Type 0
 IsVisited c es p = All (IsCovered c es) (children c p.signal p.time)
 
--- A query that settlement did not refuse: of what it evaluated since settlement began, the children are covered.
+-- A query that settlement did not refuse: the children of what it evaluated during settlement are covered.
 pub record IsOpen (c : Circuit) (q : Query) (start now : List Entry) : Type 0 where
   pub added : List Entry
   pub grows : GrowsBy start added now
   pub fed : (p : Point) (x : Cell) → Contains added (Filled q.number p x) → IsVisited c now p
   pub refusals : refusals now q.number ≡ refusals start q.number
 
--- each point that it had evaluated before is visited
+-- each point that the query evaluated before settlement is visited
 abbrev pub AreVisited : Circuit → Query → List Entry → List Entry → Type 0
 AreVisited c q start now = (p : Point) (x : Cell) → Contains start (Filled q.number p x) → IsVisited c now p
 
--- the start asks for this one point, for the query, with its budget and at most its fills as charge
+-- the start asks for this one point, for the query, with its budget and a charge of at most its fills
 pub record IsAskedFor (q : Query) (es : List Entry) (x : Point) (a : Start) : Type 0 where
   pub point : record { signal = a.query.signal; time = a.start } ≡ x
   pub number : a.query.number ≡ q.number
@@ -55,7 +55,7 @@ abbrev pub StandsAs : Circuit → Query → List Entry → List Entry → Bool �
 StandsAs c q start now false = IsOpen c q start now
 StandsAs c q start now true = IsSpent now q × (refusals now q.number ≡ refusals start q.number + 1)
 
--- since the query's turn came, with these first shards, only entries for it were added; it is open, or was refused
+-- since settlement reached the query, with these first shards, only entries for it were added; it is open, or was refused
 pub record IsStanding (b : Batch) (opening : ℕ → List SignalCell) (q : Query) (start : List Entry) (first : List Shard) (s : Standing) : Type 0 where
   pub fresh : IsFresh b opening s.shards
   pub added : List Entry
@@ -63,21 +63,21 @@ pub record IsStanding (b : Batch) (opening : ℕ → List SignalCell) (q : Query
   pub own : AllByRecursion (IsFor q.number) added
   pub state : StandsAs b.circuit q start (entries_in s.shards) s.refused
 
--- from one to the next: what is covered stays so, and a refused query stays refused
+-- from one standing to the next: what is covered stays covered, and a refused query stays refused
 pub record Advances (b : Batch) (opening : ℕ → List SignalCell) (q : Query) (start : List Entry) (first : List Shard) (s t : Standing) : Type 0 where
   pub stands : IsStanding b opening q start first t
   pub kept : (p : Point) → IsCovered b.circuit (entries_in s.shards) p → IsCovered b.circuit (entries_in t.shards) p
   pub live : t.refused ≡ false → s.refused ≡ false
 
--- and it covers the point, if the query is not refused
+-- the step also covers the point, unless the query is refused
 abbrev pub Reaches : Batch → (ℕ → List SignalCell) → Query → List Entry → List Shard → Standing → Point → Standing → Type 0
 Reaches b opening q start first s p t = Advances b opening q start first s t × (t.refused ≡ false → IsCovered b.circuit (entries_in t.shards) p)
 
--- the window is covered up to a time, if the query is not refused
+-- the window is covered up to a time, unless the query is refused
 abbrev pub IsCoveredTo : Circuit → Query → Standing → ℕ → Type 0
 IsCoveredTo c q s u = s.refused ≡ false → AreTimesCovered c (entries_in s.shards) q.signal q.from u
 
--- the query is settled by shards that came of the first ones
+-- the query is settled by shards that came from the first ones
 pub record SettlesQuery (b : Batch) (opening : ℕ → List SignalCell) (q : Query) (start : List Entry) (first : List Shard) (t : Standing) : Type 0 where
   pub fresh : IsFresh b opening t.shards
   pub added : List Entry

@@ -1,4 +1,5 @@
-use Rattle.std.proofs.Common.{◌≡◌, ◌∙◌, length, sym, refl, true≢false}
+use Rattle.std.proofs.Common.{◌≡◌, ◌∙◌, length, sym, refl, true≢false, ◌%◌, ap}
+use Rattle.batch_meaning.specs.Batches.{shard_number}
 use Rattle.plan_core.specs.inner.Parts.{plan_at}
 use Rattle.plan_core.proofs.Refusing.{refused-spent, refused-asks, refused-here, refused-open, refused-end}
 use Rattle.plan_core.proofs.Resting.{unplaced-waits}
@@ -10,8 +11,8 @@ spend-requires-clause-spent g c =
     let o = g.B.BatchName.opening in
     let places = c.args.places.now in
     let shards = c.args.shards.now.items in
-    let count : c.len.result ≡ length shards = c.len.ensures ∙ c.args.shards.now.ok.0 in
-    refused-spent b o places shards c.requires.parts c.args.number c.in-Some.strand.now c.in-Some.ensures.some c.args.p c.len.result count c.index_mut.result.now c.index_mut.ensures.value c.requires.refused
+    let slot_is : c.shard_number-home.result ≡ c.args.p.signal % length shards = c.shard_number-home.ensures.number ∙ ap (shard_number c.args.p.signal) (c.len.ensures ∙ c.args.shards.now.ok.0) in
+    refused-spent b o places shards c.requires.parts c.args.number c.in-Some.strand.now c.in-Some.ensures.some c.args.p c.shard_number-home.result slot_is c.index_mut.result.now c.index_mut.ensures.value c.requires.refused
 
 pub spend-requires-clause-refused : goal.spend-requires-clause-refused
 spend-requires-clause-refused g c =
@@ -19,8 +20,8 @@ spend-requires-clause-refused g c =
     let o = g.B.BatchName.opening in
     let places = c.args.places.now in
     let shards = c.args.shards.now.items in
-    let count : c.len.result ≡ length shards = c.len.ensures ∙ c.args.shards.now.ok.0 in
-    refused-asks b o places shards c.requires.parts c.args.number c.in-Some.strand.now c.in-Some.ensures.some c.args.p c.len.result count c.index_mut.result.now c.index_mut.ensures.value c.requires.refused
+    let slot_is : c.shard_number-home.result ≡ c.args.p.signal % length shards = c.shard_number-home.ensures.number ∙ ap (shard_number c.args.p.signal) (c.len.ensures ∙ c.args.shards.now.ok.0) in
+    refused-asks b o places shards c.requires.parts c.args.number c.in-Some.strand.now c.in-Some.ensures.some c.args.p c.shard_number-home.result slot_is c.index_mut.result.now c.index_mut.ensures.value c.requires.refused
 
 pub spend-requires-clause-here : goal.spend-requires-clause-here
 spend-requires-clause-here g c =
@@ -28,8 +29,8 @@ spend-requires-clause-here g c =
     let o = g.B.BatchName.opening in
     let places = c.args.places.now in
     let shards = c.args.shards.now.items in
-    let count : c.len.result ≡ length shards = c.len.ensures ∙ c.args.shards.now.ok.0 in
-    refused-here b o places shards c.requires.parts c.args.number c.in-Some.strand.now c.in-Some.ensures.some c.args.p c.len.result count c.index_mut.result.now c.index_mut.ensures.value c.requires.refused
+    let slot_is : c.shard_number-home.result ≡ c.args.p.signal % length shards = c.shard_number-home.ensures.number ∙ ap (shard_number c.args.p.signal) (c.len.ensures ∙ c.args.shards.now.ok.0) in
+    refused-here b o places shards c.requires.parts c.args.number c.in-Some.strand.now c.in-Some.ensures.some c.args.p c.shard_number-home.result slot_is c.index_mut.result.now c.index_mut.ensures.value c.requires.refused
 
 pub spend-requires-clause-unfound : goal.spend-requires-clause-unfound
 spend-requires-clause-unfound g c =
@@ -37,8 +38,8 @@ spend-requires-clause-unfound g c =
     let o = g.B.BatchName.opening in
     let places = c.args.places.now in
     let shards = c.args.shards.now.items in
-    let count : c.len.result ≡ length shards = c.len.ensures ∙ c.args.shards.now.ok.0 in
-    refused-open b o places shards c.requires.parts c.args.number c.in-Some.strand.now c.in-Some.ensures.some c.args.p c.len.result count c.index_mut.result.now c.index_mut.ensures.value c.requires.refused
+    let slot_is : c.shard_number-home.result ≡ c.args.p.signal % length shards = c.shard_number-home.ensures.number ∙ ap (shard_number c.args.p.signal) (c.len.ensures ∙ c.args.shards.now.ok.0) in
+    refused-open b o places shards c.requires.parts c.args.number c.in-Some.strand.now c.in-Some.ensures.some c.args.p c.shard_number-home.result slot_is c.index_mut.result.now c.index_mut.ensures.value c.requires.refused
 
 pub unreachable-requires : goal.unreachable-requires
 unreachable-requires g c =
@@ -52,5 +53,5 @@ returns g c =
     let o = g.B.BatchName.opening in
     let places = c.args.places.now in
     let shards = c.args.shards.now.items in
-    let count : c.len.result ≡ length shards = c.len.ensures ∙ c.args.shards.now.ok.0 in
-    refused-end b o places shards c.requires.parts c.args.number c.in-Some.strand.now c.in-Some.ensures.some c.args.p c.len.result count c.index_mut.result.now c.index_mut.ensures.value c.requires.refused c.spend.new.shard c.spend.ensures.known c.spend.result c.spend.ensures.ok c.spend.ensures.err
+    let slot_is : c.shard_number-home.result ≡ c.args.p.signal % length shards = c.shard_number-home.ensures.number ∙ ap (shard_number c.args.p.signal) (c.len.ensures ∙ c.args.shards.now.ok.0) in
+    refused-end b o places shards c.requires.parts c.args.number c.in-Some.strand.now c.in-Some.ensures.some c.args.p c.shard_number-home.result slot_is c.index_mut.result.now c.index_mut.ensures.value c.requires.refused c.spend.new.shard c.spend.ensures.known c.spend.result c.spend.ensures.ok c.spend.ensures.err

@@ -1,4 +1,5 @@
 use Rattle.std.proofs.Common.{◌≡◌, ◌<◌, ◌%◌, arith, List, length, map, slice_get, slice_set, ap, sym, ◌∙◌, subst, Option, Some, None}
+use Rattle.batch_meaning.specs.Batches.{shard_number}
 use Rattle.std.proofs.Math.ListN.{length-set}
 use Rattle.std.proofs.lemmas.Option.{slice_get_within}
 use Rattle.strand_meaning.specs.Strands.{next}
@@ -29,12 +30,12 @@ drop_top-strand-requires g c =
     let who = c.requires.drops in
     let same : who.0 ≡ s = let there = who.1.0 in cc (there, at) in
     let step : next s.strand ≡ Drop p = subst (λ (z : Demand). next z.strand ≡ Drop p) same who.1.1 in
-    let count : c.len.result ≡ length shards = c.len.ensures ∙ c.args.shards.now.ok.0 in
+    let slot_is : c.shard_number-home.result ≡ p.signal % length shards = c.shard_number-home.ensures.number ∙ ap (shard_number p.signal) (c.len.ensures ∙ c.args.shards.now.ok.0) in
     let h0 = c.index_mut.result.now in
     let index = c.index_mut.ensures.value in
     record {
       drops = step;
-      held = holds-dropped b o places shards parts n s at p c.len.result count h0 index step;
+      held = holds-dropped b o places shards parts n s at p c.shard_number-home.result slot_is h0 index step;
     }
 
 pub put_back-requires : goal.put_back-requires
@@ -48,12 +49,12 @@ put_back-requires g c =
     let parts = c.requires.parts in
     let s = c.into_strand-strand.result in
     let at : slice_get places n ≡ Some (Some s) = c.take_at.ensures.taken ∙ ap (λ (z : Demand). Some (Some z)) (sym c.into_strand-strand.ensures) in
-    let count : c.len.result ≡ length shards = c.len.ensures ∙ c.args.shards.now.ok.0 in
+    let slot_is : c.shard_number-home.result ≡ p.signal % length shards = c.shard_number-home.ensures.number ∙ ap (shard_number p.signal) (c.len.ensures ∙ c.args.shards.now.ok.0) in
     let h0 = c.index_mut.result.now in
     let index = c.index_mut.ensures.value in
     record {
       design = c.requires.design;
-      numbers = subst (λ (xs : List (Option Demand)). HaveNumbers (length xs) c.drop_top-strand.result.1.items) (sym c.take_at.ensures.rest) (dropped-numbers b o places shards parts n s at p c.len.result count h0 index c.drop_top-strand.result.0 c.drop_top-strand.new.shard c.drop_top-strand.result.1.items c.drop_top-strand.ensures.came);
+      numbers = subst (λ (xs : List (Option Demand)). HaveNumbers (length xs) c.drop_top-strand.result.1.items) (sym c.take_at.ensures.rest) (dropped-numbers b o places shards parts n s at p c.shard_number-home.result slot_is h0 index c.drop_top-strand.result.0 c.drop_top-strand.new.shard c.drop_top-strand.result.1.items c.drop_top-strand.ensures.came);
       numbered = subst AreNumbered (sym c.take_at.ensures.rest) (numbers-none places parts.numbers n (Some s) at);
     }
 
@@ -88,7 +89,7 @@ returns g c =
     let who = c.requires.drops in
     let same : who.0 ≡ s = let there = who.1.0 in cc (there, at) in
     let step : next s.strand ≡ Drop p = subst (λ (z : Demand). next z.strand ≡ Drop p) same who.1.1 in
-    let count : c.len.result ≡ length shards = c.len.ensures ∙ c.args.shards.now.ok.0 in
+    let slot_is : c.shard_number-home.result ≡ p.signal % length shards = c.shard_number-home.ensures.number ∙ ap (shard_number p.signal) (c.len.ensures ∙ c.args.shards.now.ok.0) in
     let h0 = c.index_mut.result.now in
     let index = c.index_mut.ensures.value in
     let rest = c.take_at.ensures.rest in
@@ -96,5 +97,5 @@ returns g c =
     let list = c.drop_top-strand.result.1.items in
     let seats_are = subst (λ (xs : List (Option Demand)). seats mid ≡ put_all itself (seats xs) (map numbered_strand list)) rest c.put_back.ensures.seats in
     let long = subst (λ (xs : List (Option Demand)). length mid ≡ length xs) rest c.put_back.ensures.length in
-    let k = dropped-seen b o places shards parts n s at p c.len.result count h0 index step c.drop_top-strand.result.0 c.new.result c.drop_top-strand.new.shard list c.drop_top-strand.ensures.known c.drop_top-strand.ensures.came c.new.ensures mid seats_are long c.put_back.ensures.numbered in
-    (subst (λ (xs : List (Option Demand)). IsSeen b o xs (slice_set shards (p.signal % c.len.result) c.drop_top-strand.new.shard) (turn b (plan_at places shards) n)) (sym c.put_at.ensures) k.0, k.1)
+    let k = dropped-seen b o places shards parts n s at p c.shard_number-home.result slot_is h0 index step c.drop_top-strand.result.0 c.new.result c.drop_top-strand.new.shard list c.drop_top-strand.ensures.known c.drop_top-strand.ensures.came c.new.ensures mid seats_are long c.put_back.ensures.numbered in
+    (subst (λ (xs : List (Option Demand)). IsSeen b o xs (slice_set shards c.shard_number-home.result c.drop_top-strand.new.shard) (turn b (plan_at places shards) n)) (sym c.put_at.ensures) k.0, k.1)

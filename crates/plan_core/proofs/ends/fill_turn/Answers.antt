@@ -1,4 +1,5 @@
 use Rattle.std.proofs.Common.{◌≡◌, ◌<◌, ◌%◌, arith, List, length, map, slice_get, slice_set, ap, sym, ◌∙◌, subst, Option, Some, None}
+use Rattle.batch_meaning.specs.Batches.{shard_number}
 use Rattle.std.proofs.Math.ListN.{length-set}
 use Rattle.std.proofs.lemmas.Option.{slice_get_within}
 use Rattle.strand_meaning.specs.Strands.{next}
@@ -29,13 +30,13 @@ fill-requires g c =
     let who = c.requires.fills in
     let same : who.0 ≡ s = let there = who.1.0 in cc (there, at) in
     let step : next s.strand ≡ Fill p = subst (λ (z : Demand). next z.strand ≡ Fill p) same who.1.1 in
-    let count : c.len.result ≡ length shards = c.len.ensures ∙ c.args.shards.now.ok.0 in
+    let slot_is : c.shard_number-home.result ≡ p.signal % length shards = c.shard_number-home.ensures.number ∙ ap (shard_number p.signal) (c.len.ensures ∙ c.args.shards.now.ok.0) in
     let h0 = c.index_mut.result.now in
     let index = c.index_mut.ensures.value in
     record {
       design = c.requires.design;
       fills = step;
-      held = holds-filled b o places shards parts n s at p c.len.result count h0 index step;
+      held = holds-filled b o places shards parts n s at p c.shard_number-home.result slot_is h0 index step;
     }
 
 pub put_back-requires : goal.put_back-requires
@@ -49,12 +50,12 @@ put_back-requires g c =
     let parts = c.requires.parts in
     let s = c.into_strand-strand.result in
     let at : slice_get places n ≡ Some (Some s) = c.take_at.ensures.taken ∙ ap (λ (z : Demand). Some (Some z)) (sym c.into_strand-strand.ensures) in
-    let count : c.len.result ≡ length shards = c.len.ensures ∙ c.args.shards.now.ok.0 in
+    let slot_is : c.shard_number-home.result ≡ p.signal % length shards = c.shard_number-home.ensures.number ∙ ap (shard_number p.signal) (c.len.ensures ∙ c.args.shards.now.ok.0) in
     let h0 = c.index_mut.result.now in
     let index = c.index_mut.ensures.value in
     record {
       design = c.requires.design;
-      numbers = subst (λ (xs : List (Option Demand)). HaveNumbers (length xs) c.in-Ok.woken.items) (sym c.take_at.ensures.rest) (filled-numbers b o places shards parts n s at p c.len.result count h0 index c.in-Ok.strand c.fill.new.shard c.in-Ok.woken.items c.in-Ok.ensures.came);
+      numbers = subst (λ (xs : List (Option Demand)). HaveNumbers (length xs) c.in-Ok.woken.items) (sym c.take_at.ensures.rest) (filled-numbers b o places shards parts n s at p c.shard_number-home.result slot_is h0 index c.in-Ok.strand c.fill.new.shard c.in-Ok.woken.items c.in-Ok.ensures.came);
       numbered = subst AreNumbered (sym c.take_at.ensures.rest) (numbers-none places parts.numbers n (Some s) at);
     }
 
@@ -89,7 +90,7 @@ returns-in-Ok g c =
     let who = c.requires.fills in
     let same : who.0 ≡ s = let there = who.1.0 in cc (there, at) in
     let step : next s.strand ≡ Fill p = subst (λ (z : Demand). next z.strand ≡ Fill p) same who.1.1 in
-    let count : c.len.result ≡ length shards = c.len.ensures ∙ c.args.shards.now.ok.0 in
+    let slot_is : c.shard_number-home.result ≡ p.signal % length shards = c.shard_number-home.ensures.number ∙ ap (shard_number p.signal) (c.len.ensures ∙ c.args.shards.now.ok.0) in
     let h0 = c.index_mut.result.now in
     let index = c.index_mut.ensures.value in
     let rest = c.take_at.ensures.rest in
@@ -97,8 +98,8 @@ returns-in-Ok g c =
     let list = c.in-Ok.woken.items in
     let seats_are = subst (λ (xs : List (Option Demand)). seats mid ≡ put_all itself (seats xs) (map numbered_strand list)) rest c.put_back.ensures.seats in
     let long = subst (λ (xs : List (Option Demand)). length mid ≡ length xs) rest c.put_back.ensures.length in
-    let k = filled b o places shards parts n s at p c.len.result count h0 index step c.in-Ok.strand c.new.result c.fill.new.shard list c.fill.ensures.known c.in-Ok.ensures.came c.new.ensures mid seats_are long c.put_back.ensures.numbered in
-    (subst (λ (xs : List (Option Demand)). IsSeen b o xs (slice_set shards (p.signal % c.len.result) c.fill.new.shard) (turn b (plan_at places shards) n)) (sym c.put_at.ensures) k.0, k.1)
+    let k = filled b o places shards parts n s at p c.shard_number-home.result slot_is h0 index step c.in-Ok.strand c.new.result c.fill.new.shard list c.fill.ensures.known c.in-Ok.ensures.came c.new.ensures mid seats_are long c.put_back.ensures.numbered in
+    (subst (λ (xs : List (Option Demand)). IsSeen b o xs (slice_set shards c.shard_number-home.result c.fill.new.shard) (turn b (plan_at places shards) n)) (sym c.put_at.ensures) k.0, k.1)
 
 pub put_at-requires-in-Err : goal.put_at-requires-in-Err
 put_at-requires-in-Err g c =
@@ -127,10 +128,10 @@ returns-in-Err g c =
     let parts = c.requires.parts in
     let s = c.into_strand-strand.result in
     let at : slice_get places n ≡ Some (Some s) = c.take_at.ensures.taken ∙ ap (λ (z : Demand). Some (Some z)) (sym c.into_strand-strand.ensures) in
-    let count : c.len.result ≡ length shards = c.len.ensures ∙ c.args.shards.now.ok.0 in
+    let slot_is : c.shard_number-home.result ≡ p.signal % length shards = c.shard_number-home.ensures.number ∙ ap (shard_number p.signal) (c.len.ensures ∙ c.args.shards.now.ok.0) in
     let h0 = c.index_mut.result.now in
     let index = c.index_mut.ensures.value in
     let came = c.in-Err.ensures.came in
-    let k = filled-not b o places shards parts n s at p c.len.result count h0 index c.in-Err.strand c.new-in-Err.result c.fill.new.shard c.in-Err.error came.0 came.1 c.new-in-Err.ensures in
+    let k = filled-not b o places shards parts n s at p c.shard_number-home.result slot_is h0 index c.in-Err.strand c.new-in-Err.result c.fill.new.shard c.in-Err.error came.0 came.1 c.new-in-Err.ensures in
     let e = c.put_at-in-Err.ensures ∙ ap (λ (xs : List (Option Demand)). slice_set xs n (Some c.new-in-Err.result)) c.take_at.ensures.rest in
-    subst (λ (xs : List (Option Demand)). IsSeen b o xs (slice_set shards (p.signal % c.len.result) c.fill.new.shard) (plan_at places shards)) (sym e) k
+    subst (λ (xs : List (Option Demand)). IsSeen b o xs (slice_set shards c.shard_number-home.result c.fill.new.shard) (plan_at places shards)) (sym e) k

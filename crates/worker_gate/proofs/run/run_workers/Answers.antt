@@ -6,12 +6,12 @@ use Rattle.worker_gate.proofs.run.run_workers.Goals as goal
 
 pub returns-clause-ended : goal.returns-clause-ended
 returns-clause-ended g c =
-    let tasks : c.in-Some-board_taken.board.tasks.items ≡ map task_of c.args.strands.items =
-    c.in-Some-board_taken.ensures.tasks ∙ c.as_slice-3.ensures.value ∙ c.in_ok-tasks.ensures ∙ ap (map task_of) c.as_slice.ensures.value in
+    let tasks : c.in-Some-take_board.board.tasks.items ≡ map task_of c.args.strands.items =
+    c.in-Some-take_board.ensures.tasks ∙ c.as_slice-3.ensures.value ∙ c.in_ok-tasks.ensures ∙ ap (map task_of) c.as_slice.ensures.value in
     let P : List (Option Demand) → Type 0 = λ places. AreEnds places (map task_of c.args.strands.items) c.new-5.result in
-    let Q : List ℕ → Type 0 = λ counts. AreEnds c.compared-places.result.items (map task_of c.args.strands.items) counts in
-    let R : List Task → Type 0 = λ ts. AreEnds c.compared-places.result.items ts c.as_slice-5.result.now in
-    subst P (sym c.new-4.ensures) (subst Q (c.as_slice-5.ensures.value ∙ sym c.new-5.ensures) (subst R tasks c.compared-places.ensures.ends))
+    let Q : List ℕ → Type 0 = λ counts. AreEnds c.match_counts-places.result.items (map task_of c.args.strands.items) counts in
+    let R : List Task → Type 0 = λ ts. AreEnds c.match_counts-places.result.items ts c.as_slice-5.result.now in
+    subst P (sym c.new-4.ensures) (subst Q (c.as_slice-5.ensures.value ∙ sym c.new-5.ensures) (subst R tasks c.match_counts-places.ensures.ends))
 
 pub returns-clause-order : goal.returns-clause-order
 returns-clause-order g c = subst AreInOrder (sym c.new-3.ensures) c.in_ok-shards.ensures.numbers

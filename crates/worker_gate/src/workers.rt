@@ -3,12 +3,11 @@
 ghost use Rattle.std.specs.Prelude.{◌≡◌, ◌<◌, ◌≤◌};
 
 use crate::crew::Crew;
+use crate::gate::Gate;
 use std::sync::Wait;
 use std::thread::Threads;
-use worker_gate::Gate;
 
-/// So many workers, from 1 to 64, with the gate that each passes and the runtime in which they are started. They are started anew for
-/// each batch.
+/// From 1 to 64 workers, the gate that each passes, and the runtime in which they are started. They are started anew for each batch.
 #[derive(Drop)]
 pub struct Workers<'a, G: Gate, R: Threads + Wait + Sync> {
     rt: &'a R,
@@ -19,7 +18,7 @@ pub struct Workers<'a, G: Gate, R: Threads + Wait + Sync> {
 }
 
 impl<'a, G: Gate, R: Threads + Wait + Sync> Workers<'a, G, R> {
-    /// Workers of this runtime, at this gate.
+    /// Workers of this runtime, with this gate.
     pub fn new(rt: &'a R, gate: &'a G, count: u32) -> Workers<'a, G, R>
         requires some { 0 < count }
         requires most { count ≤ 64 }

@@ -1,8 +1,11 @@
-//! What a crew is.
+//! The trait of crews.
 
 ghost use Rattle.std.specs.Prelude.{◌≡◌, ◌<◌, ◌≤◌, Bool, true, [], length, map, sum, sum_by, All, IfOk, vec_len};
-ghost use Rattle.batch_crew.specs.Crews.{AreInOrder, AreNew, task_of, booked_in, AreEnds, AreFilled};
+ghost use Rattle.worker_gate.specs.Ends.{AreInOrder, AreNew, task_of, booked_in, AreEnds, AreFilled};
 
+use crate::gate::Gate;
+use crate::ran::Ran;
+use crate::run::run_workers;
 use demand_points::{BatchName, Strand};
 use design::Design;
 use memo_shards::Shard;
@@ -10,9 +13,8 @@ use owned_text::OutOfMemory;
 use std::alloc::Global;
 use std::sync::Wait;
 use std::thread::Threads;
-use worker_gate::{Gate, Ran, run_workers};
 
-/// Those who run the strands of a batch.
+/// Workers that run the strands of a batch.
 pub trait Crew {
     type Gate: Gate;
 
@@ -25,16 +27,16 @@ pub trait Crew {
     fn gate(&self) -> &Self::Gate
         ensures open { is_open self.now ≡ true → Self.Gate.is_open result.now ≡ true };
 
-    /// Where the workers are started.
+    /// The runtime in which the workers are started.
     fn runtime(&self) -> &Self::Runtime;
 
-    /// How many workers there are.
+    /// The number of workers.
     fn workers(&self) -> u32
         ensures some { 0 < result }
         ensures most { result ≤ 64 };
 
-    /// Runs the strands over the shards. Handed back are the shards in their order, the strands that ended, and how many claims and fills
-    /// each strand made. Where memory runs out, the shards are given up.
+    /// Runs the strands over the shards. Returns the shards in their order, the strands that ended, and how many claims and fills each
+    /// strand made. If memory runs out, the shards are dropped.
     final fn run<B: BatchName + Send + Sync>(
         &self,
         alloc: Global,

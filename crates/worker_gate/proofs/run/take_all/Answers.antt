@@ -2,11 +2,11 @@ use Rattle.std.proofs.Common.{rules, ◌≡◌, arith, length, true, ap, sum}
 use Rattle.std.proofs.lemmas.List.Sums.{sum_by_push}
 use Rattle.worker_gate.specs.Ends.{booked_in}
 use Rattle.worker_gate.proofs.Places.{places_more}
-use Rattle.worker_gate.proofs.run.all_taken.Goals as goal
+use Rattle.worker_gate.proofs.run.take_all.Goals as goal
 
 pub loop-i-preserved : goal.loop-i-preserved
 loop-i-preserved g c =
-    let h = c.taken-shard.result in
+    let h = c.take_shard-shard.result in
     let old = c.loop-i.invariant in
     let items = c.in_ok-push.ensures.items in
     let e = sum_by_push booked_in c.loop-i.shards.items h.shard in
@@ -16,5 +16,5 @@ loop-i-preserved g c =
       count = search rules;
       counts = search rules;
       amount = rw items (omega (arith, e, old.amount, h.amount, more, c.add_counts.ensures.sum yes));
-      numbers = let n : length c.loop-i.shards.items ≡ c.loop-i.i = search rules in rw items (places_more (λ s k. s.number ≡ k) c.loop-i.shards.items h.shard c.loop-i.i n old.numbers c.taken-shard.ensures);
+      numbers = let n : length c.loop-i.shards.items ≡ c.loop-i.i = search rules in rw items (places_more (λ s k. s.number ≡ k) c.loop-i.shards.items h.shard c.loop-i.i n old.numbers c.take_shard-shard.ensures);
     }

@@ -1,6 +1,6 @@
 use Rattle.std.proofs.Common.{◌≡◌, ℕ, Some, slice_get, sum, sum_by, vec_len}
 use Rattle.worker_gate.specs.Ends.{booked_in}
-use Rattle.worker_gate.proofs.run.all_taken.Given as goal
+use Rattle.worker_gate.proofs.run.take_all.Given as goal
 
 abbrev pub invariant-loop-i : goal.invariant-loop-i
 invariant-loop-i g l = record {

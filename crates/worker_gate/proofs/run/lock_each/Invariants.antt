@@ -1,5 +1,5 @@
 use Rattle.std.proofs.Common.{◌≡◌, ◌+◌, [], vec_len, All}
-use Rattle.worker_gate.proofs.run.locked.Given as goal
+use Rattle.worker_gate.proofs.run.lock_each.Given as goal
 
 abbrev pub invariant-loop-alloc : goal.invariant-loop-alloc
 invariant-loop-alloc g l = record {
