@@ -1,5 +1,5 @@
 -- What is asked for a query, one time after another.
-use Rattle.std.proofs.Common.{◌≡◌, ℕ, Bool, false, List, subst}
+use Rattle.std.proofs.Common.{◌≡◌, ℕ, Bool, false, List, None, subst}
 use Rattle.valid_intervals.specs.declared.Point.{Point}
 use Rattle.valid_intervals.specs.declared.SignalCell.{SignalCell}
 use Rattle.circuit_meaning.specs.Need.{IsEvaluable, IsRoot}
@@ -17,7 +17,7 @@ module _ (b : Batch) (opening : ℕ → List SignalCell) (q : Query) where
   pub asks-then : (old : List Shard) (was : Bool) (mid new : List Shard) (r : Bool) → AsksOn b opening q old was mid false → AsksOn b opening q mid false new r → AsksOn b opening q old was new r
   asks-then old was mid new r a Nothing = a
   asks-then old was mid new r a (Needed k x need h) = Needed (asks-then old was mid _ false a k) x need h
-  asks-then old was mid new r a (Root k t root h) = Root (asks-then old was mid _ false a k) t root h
+  asks-then old was mid new r a (Root k none t root h) = Root (asks-then old was mid _ false a k) none t root h
 
   module _ (old new : List KeptShard) (charge : ℕ) (counts : charge ≡ charge_of (entries_of old) q) (r : Bool) where
     -- one point is asked for
@@ -25,5 +25,5 @@ module _ (b : Batch) (opening : ℕ → List SignalCell) (q : Query) where
     asks-point x need h = Needed Nothing x need (subst (λ n. HasAsked b opening (child_start q x n) (shards_in old) (shards_in new) r) counts h)
 
     -- one root is asked for
-    pub asks-root : (t : ℕ) → IsRoot b.circuit (window_of q) t → HasAsked b opening (asked_at q t charge) (shards_in old) (shards_in new) r → AsksOn b opening q (shards_in old) false (shards_in new) r
-    asks-root t root h = Root Nothing t root (subst (λ n. HasAsked b opening (root_start q t n) (shards_in old) (shards_in new) r) counts h)
+    pub asks-root : b.site ≡ None → (t : ℕ) → IsRoot b.circuit (window_of q) t → HasAsked b opening (asked_at q t charge) (shards_in old) (shards_in new) r → AsksOn b opening q (shards_in old) false (shards_in new) r
+    asks-root none t root h = Root Nothing none t root (subst (λ n. HasAsked b opening (root_start q t n) (shards_in old) (shards_in new) r) counts h)

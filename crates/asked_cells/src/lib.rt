@@ -8,7 +8,8 @@
 //! Whoever asks keeps what the query is charged, since each fill for the query counts (`IsChargedMemo`). What a call leaves is told by
 //! `HasAsked`, in the words of `plan_machine`: entries for the query alone were added, the children of what was filled are covered, and so
 //! is the time that was asked for, or else the refusal has its cause. So whoever asks for all times of a window knows that the query is
-//! closed, and `window_answers` settles batches in this way. Several calls for one query are told together by `AsksOn`.
+//! closed, and `window_answers` settles batches in this way. Several calls for one query are told together by `AsksOn`, and with the
+//! claims that are freed before them by `AsksFreed`.
 //!
 //! `begin` reads each entry once, and notes where the entry stands that was recorded for a point (`src/places.rt`). A strand that came
 //! to its end left an entry for each point that it heard, so whoever asks for the points that it asked for finds all of them there: each

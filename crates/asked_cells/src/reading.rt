@@ -17,7 +17,7 @@ ghost use Rattle.asked_cells.specs.inner.Places.{ArePlaces};
 use crate::cells::SaidCells;
 use crate::places::Places;
 use demand_points::BatchName;
-use memo_shards::Shard;
+use memo_shards::{Shard, shard_number};
 use owned_text::OutOfMemory;
 use std::alloc::Global;
 use valid_intervals::{Cell, Point};
@@ -98,7 +98,7 @@ pub fn said_for<B: BatchName>(shards: &[Shard<B>], places: &[Places], p: Point) 
     if shards.is_empty() {
         return None;
     }
-    let home = p.signal as usize % shards.len();
+    let home = shard_number(p.signal, shards.len());
     if home >= places.len() {
         return None;
     }

@@ -23,7 +23,7 @@ use Rattle.plan_machine.proofs.Settle.{begins-query, settles-closed}
 use Rattle.plan_machine.proofs.Underway.{contains-none}
 use Rattle.memo_shards.specs.KeptShards.{KeptShard}
 use Rattle.plan_core.specs.Parts.{shards_in}
-use Rattle.demand_points.specs.Frames.{IsPoint}
+use Rattle.pin_walks.specs.PinWalks.{IsPoint}
 use Rattle.asked_cells.specs.Memos.{AreFreeShards, entries_of, is_missing}
 use Rattle.asked_cells.specs.inner.Standings.{live, standing}
 use Rattle.explanations.specs.inner.Gathered.{AreExplained}

@@ -26,7 +26,7 @@ use Rattle.session_meaning.specs.Explanations.{Tells, IsBefore}
 use Rattle.plan_machine.proofs.Underway.{contains-cases}
 use Rattle.why_proofs.specs.Justified.{base_or, line_at, answer, AreAnswered, IsJustified, AreJustified}
 use Rattle.why_proofs.specs.Laws.{IsTrueLine}
-use Rattle.why_proofs.specs.inner.Walks.{IsKnown}
+use Rattle.why_proofs.specs.inner.Known.{IsKnown}
 use Rattle.why_proofs.proofs.Sound.{AreRight, answer-right, rule-right}
 use Rattle.why_proofs.proofs.Sources.{known-all}
 use Rattle.explanations.specs.declared.waiting.Place.{Place}

@@ -18,7 +18,7 @@ use Rattle.batch_meaning.specs.Batches.{Batch, IsNeededBy}
 use Rattle.batch_meaning.specs.Lawful.{IsLawful}
 use Rattle.journal_meaning.specs.declared.Entry.{Entry}
 use Rattle.session_meaning.specs.Explanations.{IsBefore}
-use Rattle.demand_points.specs.Frames.{IsPoint}
+use Rattle.pin_walks.specs.PinWalks.{IsPoint}
 use Rattle.plan_machine.proofs.Steps.{wanted-time}
 use Rattle.plan_machine.proofs.Settle.{child-needed}
 use Rattle.plan_machine.proofs.Underway.{contains-one, contains-cases, contains-none}

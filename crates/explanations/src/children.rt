@@ -4,11 +4,13 @@ ghost use Rattle.std.specs.Prelude.{◌≡◌, ◌∷◌, [], List, Contains, So
 ghost use Rattle.std.specs.BTreeMap.{get};
 ghost use Rattle.circuit_meaning.specs.Cells.{cell_at};
 ghost use Rattle.circuit_meaning.specs.Need.{IsEvaluable};
+ghost use Rattle.pin_walks.specs.PinWalks.{IsPoint, IsPinWalk, IsLooking, LooksOn, looked_at, next_point};
 ghost use Rattle.batch_meaning.specs.Batches.{IsNeededBy};
 ghost use Rattle.batch_meaning.specs.Lawful.{IsLawful};
 ghost use Rattle.plan_machine.specs.Shards.{Shard as ShardRecord};
 ghost use Rattle.plan_machine.specs.inner.Settle.{IsStanding, Advances, Reaches};
-ghost use Rattle.demand_points.specs.Frames.{IsPoint, IsFrame, IsLooking, LooksOn, looked_at, next_point};
+ghost use Rattle.plan_core.specs.Parts.{shards_in};
+ghost use Rattle.asked_cells.specs.Asked.{AsksOn};
 ghost use Rattle.asked_cells.specs.Memos.{IsChargedMemo, entries_of, is_missing};
 ghost use Rattle.asked_cells.specs.inner.Standings.{live, standing};
 ghost use Rattle.explanations.specs.inner.Waiting.{place_cmp, point_of};
@@ -17,9 +19,10 @@ ghost use Rattle.explanations.specs.inner.Gathered.{Looks};
 use crate::waiting::{Asked, Waiting};
 use asked_cells::{Memo, reach};
 use batch_meaning::Query;
-use demand_points::{BatchName, Frame};
+use demand_points::BatchName;
 use design::Design;
 use owned_text::OutOfMemory;
+use pin_walks::PinWalk;
 use valid_intervals::{Cell, Point};
 
 /// The cell of a point: its base answer, or what is asked for, and then it waits. None where the query is refused.
@@ -46,6 +49,8 @@ pub fn hear<B: BatchName>(
     ensures looks { IfOk result (λ r. IfSome r
         (λ cell. Looks B.batch.circuit (entries_of memo.old) (entries_of memo.new)
         (get place_cmp waiting.old.cells) (get place_cmp waiting.new.cells) (Some p ∷ []))) }
+    ensures asks { IfOk result (λ r. AsksOn B.batch B.opening query (shards_in memo.old) false
+        (shards_in memo.new) (is_missing r)) }
 {
     if let Some(cell) = design.base(p.signal, p.time) {
         return Ok(Some(cell));
@@ -74,19 +79,19 @@ fn look<B: BatchName>(
     memo: &mut Memo<B>,
     design: &Design,
     query: Query,
-    frame: &Frame,
+    walk: &PinWalk,
     waiting: &mut Waiting,
     charge: &mut u32,
-) -> Result<Option<Frame>, OutOfMemory>
+) -> Result<Option<PinWalk>, OutOfMemory>
     requires lawful { IsLawful B.batch }
     requires design { design.now.circuit ≡ B.batch.circuit }
     requires known { Contains B.batch.queries query }
-    requires frame { IsFrame design.now.circuit frame.now }
-    requires looking { IsLooking design.now.circuit frame.now }
-    requires needed { IsNeededBy B.batch query frame.now.point }
+    requires walk { IsPinWalk design.now.circuit walk.now }
+    requires looking { IsLooking design.now.circuit walk.now }
+    requires needed { IsNeededBy B.batch query walk.now.point }
     requires asking { IsChargedMemo B.batch B.opening memo.old query charge.old }
     ensures asking { OnOk result (IsChargedMemo B.batch B.opening memo.new query charge.new) }
-    ensures frame { IfOk result (λ r. IfSome r (LooksOn design.now.circuit frame.now)) }
+    ensures walk { IfOk result (λ r. IfSome r (LooksOn design.now.circuit walk.now)) }
     ensures advances { (first : List ShardRecord)
         → IsStanding B.batch B.opening query [] first (live memo.old)
         → IfOk result (λ r. Advances B.batch B.opening query [] first (live memo.old)
@@ -94,14 +99,16 @@ fn look<B: BatchName>(
     ensures looks { IfOk result (λ r. IfSome r
         (λ next. Looks B.batch.circuit (entries_of memo.old) (entries_of memo.new)
         (get place_cmp waiting.old.cells) (get place_cmp waiting.new.cells)
-        (next_point design.now.circuit frame.now ∷ []))) }
+        (next_point design.now.circuit walk.now ∷ []))) }
+    ensures asks { IfOk result (λ r. AsksOn B.batch B.opening query (shards_in memo.old) false
+        (shards_in memo.new) (is_missing r)) }
 {
-    let Some(p) = frame.next_source(design) else {
-        return Ok(Some(frame.see(design, None)));
+    let Some(p) = walk.next_source(design) else {
+        return Ok(Some(walk.see(design, None)));
     };
     match hear(memo, design, query, p, waiting, charge)? {
         None => Ok(None),
-        Some(cell) => Ok(Some(frame.see(design, Some(cell)))),
+        Some(cell) => Ok(Some(walk.see(design, Some(cell)))),
     }
 }
 
@@ -130,12 +137,14 @@ pub fn ask_children<B: BatchName>(
         → Looks B.batch.circuit (entries_of memo.old) (entries_of memo.new)
         (get place_cmp waiting.old.cells) (get place_cmp waiting.new.cells)
         (looked_at B.batch.circuit p)) }
+    ensures asks { IfOk result (AsksOn B.batch B.opening query (shards_in memo.old) false
+        (shards_in memo.new)) }
 {
-    let mut frame = Frame::new(design, p);
-    'pins: while !frame.is_done(design) {
-        match look(memo, design, query, &frame, waiting, charge)? {
+    let mut walk = PinWalk::new(design, p);
+    'pins: while !walk.is_done(design) {
+        match look(memo, design, query, &walk, waiting, charge)? {
             None => return Ok(true),
-            Some(next) => frame = next,
+            Some(next) => walk = next,
         }
     }
     Ok(false)

@@ -1,6 +1,6 @@
 //! The answer to a question for an explanation.
 
-ghost use Rattle.std.specs.Prelude.{◌≡◌, ◌+◌, ◌∷◌, [], List, None, length, IfOk, OnOk};
+ghost use Rattle.std.specs.Prelude.{◌≡◌, ◌+◌, ◌∷◌, [], List, None, false, length, IfOk, OnOk};
 ghost use Rattle.batch_meaning.specs.Lawful.{IsLawful};
 ghost use Rattle.journal_meaning.specs.declared.Entry.{Entry as EntryRecord};
 ghost use Rattle.journal_meaning.specs.Grown.{AreAdded};
@@ -8,8 +8,10 @@ ghost use Rattle.session_meaning.specs.Explanations.{IsWhyAnswer};
 ghost use Rattle.plan_machine.specs.Sound.{IsFresh};
 ghost use Rattle.plan_machine.specs.Settle.{entries_in, journals_of};
 ghost use Rattle.plan_core.specs.Parts.{shards_in};
+ghost use Rattle.asked_cells.specs.Asked.{AsksOn, AsksFreed};
 ghost use Rattle.asked_cells.specs.Shards.{AreNumbered, AreUnused};
 ghost use Rattle.asked_cells.specs.Memos.{AreFreeShards, entries_of};
+ghost use Rattle.explanations.specs.Asks.{is_budget};
 
 use crate::children::hear;
 use crate::lines::gather;
@@ -50,6 +52,8 @@ fn gather_answer<B: BatchName>(
     ensures journals { OnOk result ((added : List EntryRecord) ×
         AreAdded (journals_of (shards_in memo.old)) added (journals_of (shards_in memo.new))) }
     ensures answer { IfOk result (IsWhyAnswer B.batch.circuit (entries_of memo.new) query) }
+    ensures asks { IfOk result (λ answer. AsksOn B.batch B.opening query (shards_in memo.old) false
+        (shards_in memo.new) (is_budget answer)) }
 {
     let mut waiting = Waiting::new(alloc);
     let mut charge = 0;
@@ -92,6 +96,8 @@ pub fn explain<B: BatchName>(
         (journals_of (shards_in done.shards.items))) }
     ensures answer { IfOk result (λ done. IsWhyAnswer B.batch.circuit
         (entries_in (shards_in done.shards.items)) query done.answer) }
+    ensures asks { IfOk result (λ done. AsksFreed B.batch B.opening query (shards_in shards.items)
+        (shards_in done.shards.items) (is_budget done.answer)) }
 {
     let mut memo = begin(alloc, shards)?;
     let answer = gather_answer(alloc, &mut memo, design, query)?;

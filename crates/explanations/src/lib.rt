@@ -5,7 +5,8 @@
 //! first times, and each follows from those above it by the rules of `why_proofs`. So whoever has the circuit can check the answer,
 //! and has to believe neither the memo nor this crate. Each line is a cell that an entry of the batch tells or fills, and the entries
 //! close the query. Where the answer would take more evaluations than the query's budget, the answer is the budget, and the entries
-//! hold the cause.
+//! hold the cause. Each point is asked for under the query's number, charged with what was filled so far, and none after a refusal
+//! (`AsksFreed` of `asked_cells`).
 //!
 //! A point that has a base answer is explained by no line. For any other, its cell is the last line. What a cell comes from is asked
 //! for at the time at which the cell was asked for (`reach` of `asked_cells`): the pins of its gate, one after another, up to the first

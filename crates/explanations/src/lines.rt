@@ -1,10 +1,12 @@
 //! Lines are gathered, the last first.
 
-ghost use Rattle.std.specs.Prelude.{◌≡◌, [], List, Contains, IfOk, IfSome, OnOk};
+ghost use Rattle.std.specs.Prelude.{◌≡◌, [], List, Contains, false, IfOk, IfSome, OnOk};
 ghost use Rattle.std.specs.BTreeMap.{get};
 ghost use Rattle.batch_meaning.specs.Lawful.{IsLawful};
 ghost use Rattle.plan_machine.specs.Shards.{Shard as ShardRecord};
 ghost use Rattle.plan_machine.specs.inner.Settle.{IsStanding, Advances};
+ghost use Rattle.plan_core.specs.Parts.{shards_in};
+ghost use Rattle.asked_cells.specs.Asked.{AsksOn};
 ghost use Rattle.asked_cells.specs.Memos.{IsChargedMemo, AreFreeShards, entries_of, is_missing};
 ghost use Rattle.asked_cells.specs.inner.Standings.{live, standing};
 ghost use Rattle.explanations.specs.inner.Waiting.{place_cmp};
@@ -42,6 +44,8 @@ pub fn gather<B: BatchName>(
         (standing memo.new (is_missing r))) }
     ensures lines { IfOk result (λ r. IfSome r
         (λ lines. AreExplained B.batch.circuit (entries_of memo.new) query lines.items)) }
+    ensures asks { IfOk result (λ r. AsksOn B.batch B.opening query (shards_in memo.old) false
+        (shards_in memo.new) (is_missing r)) }
 {
     design.facts();
     let mut waiting = waiting;

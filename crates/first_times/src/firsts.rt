@@ -9,10 +9,10 @@ ghost use Rattle.session_meaning.specs.FirstTimes.{IsFirstAnswer, up_to_first};
 ghost use Rattle.plan_machine.specs.Sound.{IsFresh};
 ghost use Rattle.plan_machine.specs.Settle.{entries_in, journals_of};
 ghost use Rattle.plan_core.specs.Parts.{shards_in};
-ghost use Rattle.asked_cells.specs.Asked.{AsksOn};
+ghost use Rattle.asked_cells.specs.Asked.{AsksOn, AsksFreed};
 ghost use Rattle.asked_cells.specs.Shards.{AreNumbered, AreUnused};
 ghost use Rattle.asked_cells.specs.Memos.{AreFreeShards, entries_of};
-ghost use Rattle.first_times.specs.Asks.{AsksUpToFirst, is_budget};
+ghost use Rattle.first_times.specs.Asks.{is_budget};
 
 use asked_cells::{Memo, begin, reach};
 use batch_meaning::Query;
@@ -24,21 +24,21 @@ use owned_text::OutOfMemory;
 use reply_lines::FirstAnswer;
 use std::alloc::Global;
 
-/// The answer, and the shards that are left.
+/// The answer, and the shards after it.
 #[derive(Drop)]
 pub struct FirstDone<B: BatchName> {
     pub answer: FirstAnswer,
     pub shards: Vec<Shard<B>>,
 }
 
-/// Whether two values are the same.
+/// Whether two values are equal.
 fn is_same(value: Value, other: Value) -> bool
     ensures { result ≡ same_value value other }
 {
     value == other
 }
 
-/// Walks a window from cell to cell, up to the first that has the value.
+/// Walks a window from cell to cell, up to the first cell that has the value.
 fn walk<B: BatchName>(
     memo: &mut Memo<B>,
     design: &Design,
@@ -80,8 +80,8 @@ fn walk<B: BatchName>(
     Ok(FirstAnswer::Never)
 }
 
-/// The first time in the window of a query at which its signal has a value, by asking for one cell after another up to that time. An
-/// empty window is answered with nothing asked. An `Err` gives up the shards.
+/// The first time in the window of a query at which its signal has a value, found by asking for one cell after another up to that
+/// time. For an empty window nothing is asked. An `Err` drops the shards.
 pub fn first_time<B: BatchName>(
     alloc: Global,
     design: &Design,
@@ -103,8 +103,9 @@ pub fn first_time<B: BatchName>(
         (journals_of (shards_in done.shards.items))) }
     ensures answer { IfOk result (λ done. IsFirstAnswer B.batch.circuit
         (entries_in (shards_in done.shards.items)) query value done.answer) }
-    ensures asks { IfOk result (λ done. AsksUpToFirst B.batch B.opening query value
-        (shards_in shards.items) (shards_in done.shards.items) done.answer) }
+    ensures asks { let until = up_to_first B.batch.circuit query value in
+        IfOk result (λ done. AsksFreed B.batch B.opening until (shards_in shards.items)
+        (shards_in done.shards.items) (is_budget done.answer)) }
 {
     let mut memo = begin(alloc, shards)?;
     let answer = walk(&mut memo, design, query, value)?;

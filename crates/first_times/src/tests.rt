@@ -19,7 +19,7 @@ use std::test::Fail;
 use stimulus_file::read_stimulus;
 use timing_file::read_timing;
 
-/// The text, where it is short.
+/// The text's bytes, or none if there are over 1,000.
 fn short(text: &str) -> &[u8]
     ensures { length result.now ≤ 1000 }
 {
@@ -66,7 +66,7 @@ fn one_shard<B: BatchName>(alloc: Global) -> Result<Shard<B>, OutOfMemory>
     Ok(Shard::<B>::begin(alloc, 0, CellStore::new(alloc, 4)?))
 }
 
-/// What is answered over one empty shard.
+/// The answer over one empty shard.
 fn asked<B: BatchName>(
     alloc: Global,
     design: &Design,

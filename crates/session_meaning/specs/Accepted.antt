@@ -1,4 +1,4 @@
--- An explanation that is replied is a proof that whoever checks it accepts.
+-- An explanation in a reply is a proof that the checker accepts.
 use Rattle.std.specs.Prelude.{◌≡◌, ⊤, ℕ, ◌≤◌, List, length}
 use Rattle.gate_values.specs.declared.Value.{Value}
 use Rattle.valid_intervals.specs.declared.SignalCell.{SignalCell}
@@ -21,12 +21,12 @@ use Rattle.why_proofs.specs.declared.checker.Checked.{Checked}
 use Rattle.why_proofs.specs.declared.checker.Checked.TheVariants.{Yes}
 use Rattle.session_meaning.specs.Session.{Setup, Course, IsServed, Session, Opened, Served}
 
--- what the reply claims of the signal that the question names, at its time
+-- what the reply claims of the signal in the question, at its time
 abbrev pub proof_of : Why → List SignalCell → Value → Proof
 proof_of why cells v = record { name = why.name; time = why.time; value = v; cells = cells }
 
--- The text is that of this proof, and the proof is justified. Of a text that is not too long for
--- the checker, whatever this may answer is yes, with what the proof claims.
+-- The text is that of this proof, and the proof is justified. If the text is not too long for
+-- the checker, every verdict that the checker may give is yes, with the proof's claim.
 pub record IsAccepted (d : Joined) (text : List ℕ) (p : Proof) : Type 0 where
   pub spelled : IsTextOf text p
   pub signal : ℕ
@@ -34,7 +34,7 @@ pub record IsAccepted (d : Joined) (text : List ℕ) (p : Proof) : Type 0 where
   pub answered : length text ≤ 268435456
       → (answer : Checked) → IsVerdict d text answer → answer ≡ Yes signal p.time p.value
 
--- so it is where the reply is an explanation
+-- the same for a reply that is an explanation
 abbrev pub IsAcceptedReply : Joined → Why → WhyReply → Type 0
 IsAcceptedReply d why whys.Unknown = ⊤
 IsAcceptedReply d why whys.Past = ⊤
@@ -42,12 +42,12 @@ IsAcceptedReply d why (whys.Answer (explained.Budget budget)) = ⊤
 IsAcceptedReply d why (whys.Answer (explained.Proof cells v)) =
     IsAccepted d (why_lines why (whys.Answer (explained.Proof cells v))) (proof_of why cells v)
 
--- so it is of a question, if it asks for one
+-- the same for a question that asks for an explanation
 abbrev pub IsAcceptedQuestion : Joined → Asks → QuestionReply → Type 0
 IsAcceptedQuestion d (kinds.Why why) (told.Why reply) = IsAcceptedReply d why reply
 IsAcceptedQuestion d asks reply = ⊤
 
--- so it is in a unit, if it asks for one
+-- the same for a unit that asks for an explanation
 abbrev pub IsAcceptedUnit : (setup : Setup) (now next : Course) (unit : ScriptUnit)
     → IsServed setup now unit next → Type 0
 IsAcceptedUnit setup now next (units.Batch items) served = ⊤
@@ -57,7 +57,7 @@ IsAcceptedUnit setup now next (units.Question question) served =
     IsAcceptedQuestion setup.design question.asks served.reply
 IsAcceptedUnit setup now next (units.Vcd file) served = ⊤
 
--- and in every unit of a session
+-- the same for every unit of a session
 abbrev pub AreAccepted : (setup : Setup) (all : List ScriptUnit) (course : Course)
     → Session setup all course → Type 0
 AreAccepted setup all course Opened = ⊤

@@ -1,8 +1,9 @@
 -- How often the points of a session are evaluated.
-use Rattle.std.specs.Prelude.{◌≡◌, ⊤, ℕ, ◌+◌, ◌%◌, ◌<◌, List, ◌∷◌, ◌++◌, sum_by, All, Contains}
+use Rattle.std.specs.Prelude.{◌≡◌, ⊤, ℕ, ◌+◌, ◌<◌, List, ◌∷◌, ◌++◌, sum_by, All, Contains}
 use Rattle.std.specs.List.{range_with_len}
 use Rattle.valid_intervals.specs.declared.Cell.{Cell}
 use Rattle.valid_intervals.specs.declared.Point.{Point}
+use Rattle.batch_meaning.specs.Batches.{shard_number}
 use Rattle.journal_meaning.specs.declared.Entry.{Entry}
 use Rattle.journal_meaning.specs.declared.Entry.TheVariants.{Filled, Evicted}
 use Rattle.journal_meaning.specs.Sections.{Purpose, Asks, Trims, Forces, SectionEntries, joined}
@@ -15,25 +16,25 @@ IsEvictedBetween es = (q r : ℕ) (p : Point) (x y : Cell) (before between behin
     → es ≡ before ++ Filled q p x ∷ between ++ Filled r p y ∷ behind
     → Contains between (Evicted p.signal y.span.start)
 
--- The evaluations that entries tell are those of different points and those that come again, and
--- each of the latter comes after an eviction of the point's cell.
+-- The evaluations in the entries are those of different points and repeated ones. Each repeated
+-- one comes after an eviction of the point's cell.
 pub record IsFrugal (es : List Entry) : Type 0 where
   pub sum : evaluations es ≡ distinct es + again es
   pub evicted : IsEvictedBetween es
 
--- what is evaluated in a shard are points of its own, so no other shard evaluates them
+-- a shard evaluates only its points, so no other shard evaluates them
 abbrev pub AreOfShard : ℕ → ℕ → List Entry → Type 0
 AreOfShard shards shard es = (q : ℕ) (p : Point) (x : Cell) → Contains es (Filled q p x)
-    → p.signal % shards ≡ shard
+    → shard_number p.signal shards ≡ shard
 
--- a memo of its own, where a signal is stuck, is of another circuit, and counts by itself
+-- a second memo, for a stuck signal, is about another circuit and is counted alone
 abbrev pub IsFrugalMemo : Purpose → List (List Entry) → Type 0
 IsFrugalMemo (Asks batch) lists = ⊤
 IsFrugalMemo Trims lists = ⊤
 IsFrugalMemo (Forces batch) lists = All IsFrugal lists
 
--- So it is in each shard, over all sections of the session's own memo, and the evaluations of the
--- shards are the fills that the session counts. And so it is in each memo of its own.
+-- Each shard is frugal over all sections of the session's memo. The evaluations of the shards are
+-- the fills that the session counts. Each second memo is frugal too.
 pub record AreFrugal (shards : ℕ) (sections : List SectionEntries) : Type 0 where
   pub own : (shard : ℕ) → shard < shards → IsFrugal (joined shard sections)
   pub home : (shard : ℕ) → shard < shards → AreOfShard shards shard (joined shard sections)

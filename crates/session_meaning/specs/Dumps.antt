@@ -1,4 +1,4 @@
--- What a dump shows of a batch: a wire for each wave that it replied, in the order of its items.
+-- What a dump shows of a batch: a wire for each wave in its replies, in the order of its items.
 use Rattle.std.specs.Prelude.{ℕ, List, [], ◌∷◌, ◌++◌}
 use Rattle.circuit_meaning.specs.Circuit.{Circuit}
 use Rattle.query_lines.specs.declared.unit.Item.{Item}
@@ -11,7 +11,7 @@ use Rattle.session_meaning.specs.declared.Verdict.{Verdict}
 use Rattle.session_meaning.specs.declared.Verdict.TheVariants.{Ask}
 use Rattle.session_meaning.specs.Verdicts.{verdict_of}
 
--- the wire of a reply that is a wave, of what the item with this name asks; another reply has none
+-- the wire of a reply that is a wave, for an item with this name; another reply has none
 abbrev pub wire_of : Circuit → List ℕ → Verdict → Reply → List Wire
 wire_of c name (Ask query) (replies.Wave runs) = answered name c query.signal query.from query.to ∷ []
 wire_of c name verdict reply = []

@@ -26,12 +26,12 @@ Tells x (Evicted signal start) = ⊥
 Tells x (Dropped q p) = ⊥
 Tells x (Spent q p held) = ⊥
 
--- cells stand in the order of their first times, and those with one first time in the order of their signals
+-- the order of cells: by first time, then by signal
 abbrev pub IsBefore : SignalCell → SignalCell → Type 0
 IsBefore x y = (x.cell.span.start < y.cell.span.start) ⊎ ((x.cell.span.start ≡ y.cell.span.start) × (x.signal < y.signal))
 
 -- These cells explain why the signal of a query for one time has this value: each follows from those above it, the value follows from
--- all of them, and each was told or filled in the query's batch, which closes the query.
+-- all of them, and each was told or filled in the query's batch. The entries close the query.
 pub record Explains (c : Circuit) (es : List Entry) (q : Query) (cells : List SignalCell) (v : Value) : Type 0 where
   pub justified : AreJustified c cells (length cells)
   pub follows : option_map (λ x. x.value) (answer c cells q.signal q.from) ≡ Some v
@@ -39,12 +39,12 @@ pub record Explains (c : Circuit) (es : List Entry) (q : Query) (cells : List Si
   pub told : All (λ x. (e : Entry) × Contains es e × Tells x e) cells
   pub closed : IsClosed c es q
 
--- The answer, over the entries of its batch: an explanation; or its budget, and the entries hold the cause.
+-- The answer, over the entries of its batch: an explanation; or the query's budget, and the entries hold the cause.
 abbrev pub IsWhyAnswer : Circuit → List Entry → Query → WhyAnswer → Type 0
 IsWhyAnswer c es q (Proof cells v) = Explains c es q cells v
 IsWhyAnswer c es q (Budget budget) = (budget ≡ q.budget) × IsSpent es q
 
--- What is replied as a proof is a justified one: whoever checks it believes neither the session nor its memo.
+-- A proof in a reply is justified, so its checker need trust neither the session nor its memo.
 abbrev pub IsChecked : Joined → Why → Query → WhyAnswer → Type 0
 IsChecked d why q (Proof cells v) = IsJustifiedProof d (record { name = why.name; time = why.time; value = v; cells = cells }) q.signal
 IsChecked d why q (Budget budget) = ⊤

@@ -14,21 +14,21 @@ use Rattle.reply_lines.specs.declared.reply.FirstReply.TheVariants as replies
 use Rattle.session_meaning.specs.declared.Verdict.{Verdict}
 use Rattle.session_meaning.specs.declared.Verdict.TheVariants.{Ask, Unknown, Past}
 
--- the first time from a on and below b at which the signal s has the value w
+-- the first time in [a, b) at which the signal s has the value w
 abbrev pub first_time : Circuit → ℕ → Value → ℕ → ℕ → Option ℕ
 first_time c s w a b = find (λ t. same_value (value c s t) w) (window a b)
 
--- a window that ends with this time, or where there is none with its end
+-- the end of a window cut after this time; the given end if there is none
 abbrev pub stop_at : Option ℕ → ℕ → ℕ
 stop_at None b = b
 stop_at (Some t) b = t + 1
 
--- What asks for the first time in the window of a query asks only up to that time, and needs no more.
+-- A question for the first time in the window of a query asks only up to that time.
 abbrev pub up_to_first : Circuit → Query → Value → Query
 up_to_first c q w = record q { to = stop_at (first_time c q.signal w q.from q.to) q.to }
 
--- The answer, over the entries of its batch: the first time, or that there is none, and the query up to it is closed; or its budget,
--- and the entries hold the cause.
+-- The answer, over the entries of its batch: the first time, or that there is none, and the query up to it is closed; or the query's
+-- budget, and the entries hold the cause.
 abbrev pub IsFirstAnswer : Circuit → List Entry → Query → Value → FirstAnswer → Type 0
 IsFirstAnswer c es q w (At t) = (first_time c q.signal w q.from q.to ≡ Some t) × IsClosed c es (up_to_first c q w)
 IsFirstAnswer c es q w Never = (first_time c q.signal w q.from q.to ≡ None) × IsClosed c es (up_to_first c q w)

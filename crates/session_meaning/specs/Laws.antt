@@ -1,4 +1,4 @@
--- What holds of every session.
+-- Laws of sessions.
 use Rattle.std.specs.Prelude.{◌≡◌, ℕ, ◌<◌, ◌≤◌, List, [], All}
 use Rattle.owned_text.specs.Made.{Made}
 use Rattle.circuit_meaning.specs.Circuit.{IsCircuit}
@@ -14,23 +14,23 @@ use Rattle.session_meaning.specs.Again.{AreFrugal}
 use Rattle.session_meaning.specs.Accepted.{AreAccepted}
 use Rattle.session_meaning.specs.Whole.{KeepsPromises, IsWhole}
 
--- each shard's lists are legal, each from the cells that those before it leave: what holds of legal journals holds of sessions
+-- each shard's lists are legal, each from the cells that the earlier lists leave, so the laws of journals hold of sessions
 abbrev pub SessionsAreLegal : Type 0
 SessionsAreLegal = (setup : Setup) (units : List ScriptUnit) (course : Course) → Session setup units course
     → (shard : ℕ) → shard < setup.shards → AreLegal shard [] course.sections
 
--- In a batch whose items have lines of their own, a query with a budget as great as its need has its wave.
+-- In a batch whose items have different lines, a query whose budget is at least its need has its wave.
 abbrev pub EnoughBudgetIsServed : Type 0
 EnoughBudgetIsServed = (setup : Setup) → IsCircuit setup.design.circuit → (now next : Course) (items : List Item)
     → HaveOwnLines items → (served : IsBatchServed setup now next items) → IsAmpleBatch setup items served.lists served.replies
 
--- So it is in the session of every script.
+-- The same holds in the session of every script.
 abbrev pub EnoughBudgetsAreServed : Type 0
 EnoughBudgetsAreServed = (setup : Setup) → IsCircuit setup.design.circuit → (script out journal : List ℕ) (dumps : List Made)
     → IsSessionOf setup script out journal dumps → IsAmpleSession setup script out journal dumps
 
--- In a session whose units are fit, each dump shows the waves of the last batch before its line,
--- and reading it back gives just these.
+-- In a session whose units are fit, each dump shows the waves of the last batch before its line, and reading it gives exactly
+-- these.
 abbrev pub DumpsShowOwnWaves : Type 0
 DumpsShowOwnWaves = (setup : Setup) → setup.design.circuit.horizon ≤ 1000000
     → (units : List ScriptUnit) → All (IsFit setup.design.circuit.horizon) units
@@ -43,21 +43,21 @@ SessionsAreFrugal = (setup : Setup) → IsCircuit setup.design.circuit
     → (units : List ScriptUnit) (course : Course) → Session setup units course
     → AreFrugal setup.shards course.sections
 
--- In a session whose units are fit, each explanation is a proof that its checker accepts.
+-- In a session whose units are fit, each explanation is a proof that the checker accepts.
 abbrev pub ExplanationsAreAccepted : Type 0
 ExplanationsAreAccepted = (setup : Setup) → IsDesign setup.design
     → (units : List ScriptUnit) → All (IsFit setup.design.circuit.horizon) units
     → (course : Course) (session : Session setup units course)
     → AreAccepted setup units course session
 
--- So every session whose units are fit keeps its promises,
+-- Every session whose units are fit keeps its promises.
 abbrev pub SessionsKeepPromises : Type 0
 SessionsKeepPromises = (setup : Setup) → IsDesign setup.design
     → (units : List ScriptUnit) → All (IsFit setup.design.circuit.horizon) units
     → (course : Course) (session : Session setup units course)
     → KeepsPromises setup units course session
 
--- and every session of a script is whole.
+-- Every session of a script is whole.
 abbrev pub SessionsAreWhole : Type 0
 SessionsAreWhole = (setup : Setup) → IsDesign setup.design
     → (script out journal : List ℕ) (dumps : List Made)

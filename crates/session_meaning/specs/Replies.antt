@@ -20,7 +20,7 @@ IsReply c es Past replies.Past = Unit {0}
 IsReply c es Bad replies.BadLine = Unit {0}
 IsReply c es verdict reply = ⊥
 
--- the texts of the replies to items, in their order
+-- the texts of the replies to items, in order
 abbrev pub replies_text : List Item → List Reply → List ℕ
 replies_text [] replies = []
 replies_text (item ∷ items) [] = []

@@ -1,4 +1,4 @@
--- A session: what is replied to the units of a script, and which sections its journal has. Each kind of unit has its case.
+-- A session: the replies to the units of a script, and the sections of its journal. Each kind of unit is a case.
 use Rattle.std.specs.Prelude.{◌≡◌, ℕ, ◌<◌, Bool, true, false, nat_lt, List, [], ◌∷◌, ◌++◌, length, get_or, map, drop, reverse, filter, sum_by, Option, Some, None, if◌then◌else◌}
 use Rattle.std.specs.List.{AllZip, list_any, range_with_len}
 use Rattle.std.specs.Str.{bytes_eq}
@@ -34,40 +34,40 @@ use Rattle.session_meaning.specs.declared.Verdict.{Verdict}
 use Rattle.session_meaning.specs.declared.Verdict.TheVariants.{Ask}
 use Rattle.session_meaning.specs.Written.{journal_text}
 
--- what is the same throughout a session: the design, how many shards the memo has, for how many cells each has room, and the names of
--- the session's own files
+-- the setup of a session: the design, the number of the memo's shards, the number of cells for which each has room, and the names of the
+-- session's other files
 pub record Setup : Type 0 where
   pub design : Joined
   pub shards : ℕ
   pub capacity : ℕ
   pub names : List (List ℕ)
 
--- what a session has come to: the sections of its journal, the text of its replies, the waves of its last batch if it had one, and the
--- files of its dumps
+-- the state of a session: the sections of its journal, the text of its replies, the waves of its last batch, if there was one, and its
+-- dumps
 pub record Course : Type 0 where
   pub sections : List SectionEntries
   pub out : List ℕ
   pub waves : Option (List Wire)
   pub dumps : List Made
 
--- as it begins
+-- the state at the beginning
 abbrev pub opened : Course
 opened = record { sections = []; out = []; waves = None; dumps = [] }
 
--- one reply more
+-- one more reply
 abbrev pub with_reply : Course → List ℕ → Course
 with_reply now text = record now { out = now.out ++ text }
 
--- one section more, and the replies that come with it
+-- one more section, and its replies
 abbrev pub with_section : Course → Purpose → List (List Entry) → List ℕ → Course
 with_section now purpose lists text =
     record now { sections = now.sections ++ record { purpose = purpose; lists = lists } ∷ []; out = now.out ++ text }
 
--- these sections more, with no reply
+-- more sections, without replies
 abbrev pub with_sections : Course → List SectionEntries → Course
 with_sections now more = record now { sections = now.sections ++ more }
 
--- these waves in place of those of the batch before
+-- these waves replace those of the last batch
 abbrev pub with_waves : Course → List Wire → Course
 with_waves now wires = record now { waves = Some wires }
 
@@ -82,7 +82,7 @@ batch_of setup items = record {
   site = None;
 }
 
--- Each shard has a list of entries, legal from the cells that the sections before leave, and each item a right reply.
+-- Each shard has a list of entries, legal from the cells that the earlier sections leave, and each item has a right reply.
 pub record IsBatchServed (setup : Setup) (now next : Course) (items : List Item) : Type 0 where
   pub lists : List (List Entry)
   pub replies : List Reply
@@ -92,9 +92,9 @@ pub record IsBatchServed (setup : Setup) (now next : Course) (items : List Item)
   pub right : AllZip (λ item reply. IsReply setup.design.circuit (of_batch lists) (verdict_of setup.design item) reply) items replies
   pub leads : next ≡ with_waves (with_section now (Asks (batch_of setup items)) lists (replies_text items replies)) (wires_of setup.design items replies)
 
--- A question that is a batch of its own.
+-- A question.
 
--- its batch, by the number of its line and what it asks
+-- the batch of a question, given its line and what it asks
 abbrev pub question_batch : Setup → ℕ → QuestionAsks → Batch
 question_batch setup line asks = record {
   circuit = setup.design.circuit;
@@ -104,20 +104,20 @@ question_batch setup line asks = record {
   site = question_site setup.design asks;
 }
 
--- the section of the memo of its own where a signal is stuck, if a query is asked
+-- the section of the second memo for a stuck signal, if a query is asked
 abbrev pub held_sections : Setup → Option Site → Verdict → List (List Entry) → List SectionEntries
 held_sections setup (Some site) (Ask query) lists = record { purpose = Forces (held_batch setup.design.circuit site query); lists = lists } ∷ []
 held_sections setup site verdict lists = []
 
--- the sections of a memo of its own; a question of another kind has none
+-- the sections of a second memo; a question of another kind has none
 abbrev pub own_sections : Setup → ℕ → QuestionAsks → List (List Entry) → List SectionEntries
 own_sections setup line (kinds.First first) held = []
 own_sections setup line (kinds.Why why) held = []
 own_sections setup line (kinds.Stuck stuck) held =
     held_sections setup (site_of setup.design stuck) (stuck_verdict setup.design line stuck) held
 
--- Each shard has a list of entries, legal from the cells that the sections before leave, and so has the memo of its own, if the question
--- has one; the reply is right.
+-- Each shard has a list of entries, legal from the cells that the earlier sections leave, and so has the second memo, if there is one. The
+-- reply is right.
 pub record IsQuestionServed (setup : Setup) (now next : Course) (question : Question) : Type 0 where
   pub lists : List (List Entry)
   pub held : List (List Entry)
@@ -133,11 +133,11 @@ pub record IsQuestionServed (setup : Setup) (now next : Course) (question : Ques
 
 -- A trim.
 
--- the entries that evict the least recent of the cells, until so many are left
+-- the evictions of the least recent cells, until this many are left
 abbrev pub trim_entries : ℕ → List SignalCell → List Entry
 trim_entries most cells = map (λ x. Evicted x.signal x.cell.span.start) (reverse (drop most cells))
 
--- In each shard the last cells are evicted until few enough are left, and no others.
+-- In each shard the last cells are evicted until few enough are left.
 pub record IsTrimServed (setup : Setup) (now next : Course) (most : ℕ) : Type 0 where
   pub lists : List (List Entry)
   pub count : length lists ≡ setup.shards
@@ -147,23 +147,23 @@ pub record IsTrimServed (setup : Setup) (now next : Course) (most : ℕ) : Type 
 
 -- A dump.
 
--- the name is that of one of the session's own files, or of a dump
+-- whether the name is that of a file in the setup or of a dump
 abbrev pub is_taken : Setup → Course → List ℕ → Bool
 is_taken setup now file = list_any (bytes_eq file) (setup.names ++ map (λ dump. dump.name) now.dumps)
 
--- one dump more
+-- one more dump
 abbrev pub with_dump : Course → List ℕ → List Wire → Course
 with_dump now file wires = record now {
   out = now.out ++ vcd_line file (dumps.Made (length wires));
   dumps = now.dumps ++ record { name = file; bytes = vcd_of wires } ∷ [];
 }
 
--- a dump of the last batch's waves, if there was a batch, and fewer than three dumps were made
+-- a dump of the last batch's waves, if there was a batch and fewer than three dumps were made
 abbrev pub with_last : Course → List ℕ → Option (List Wire) → Course
 with_last now file None = with_reply now (vcd_line file dumps.NoBatch)
 with_last now file (Some wires) = if nat_lt (length now.dumps) 3 then with_dump now file wires else with_reply now (vcd_line file dumps.Full)
 
--- what a line that asks for a dump under this name leads to
+-- the state after a request for a dump under this name
 abbrev pub with_vcd : Setup → Course → List ℕ → Course
 with_vcd setup now file = if is_taken setup now file then with_reply now (vcd_line file dumps.Taken) else with_last now file now.waves
 
@@ -181,11 +181,11 @@ abbrev pub is_eviction : Entry → Bool
 is_eviction (Evicted signal start) = true
 is_eviction entry = false
 
--- how many entries of the session's own memo pass the test
+-- how many entries of the session's memo pass the test
 abbrev pub entries_that : (Entry → Bool) → List SectionEntries → ℕ
 entries_that test sections = sum_by (λ section. sum_by (λ entries. count test (own section.purpose entries)) section.lists) sections
 
--- how many cells are stored in all shards
+-- the number of cells stored in all shards
 abbrev pub cells_stored : ℕ → List SectionEntries → ℕ
 cells_stored shards sections = sum_by (λ shard. length (cells_after shard sections)) (range_with_len 0 shards)
 
@@ -196,7 +196,7 @@ counts_line setup sections = stats_line
     (entries_that is_eviction sections)
     (cells_stored setup.shards sections)
 
--- One unit more. A new kind of unit is one more case.
+-- One more unit. A new kind of unit is one more case.
 abbrev pub IsServed : Setup → Course → ScriptUnit → Course → Type 0
 IsServed setup now (units.Batch items) next = IsBatchServed setup now next items
 IsServed setup now (units.Trim most) next = IsTrimServed setup now next most
@@ -204,13 +204,13 @@ IsServed setup now units.Stats next = next ≡ with_reply now (counts_line setup
 IsServed setup now (units.Question question) next = IsQuestionServed setup now next question
 IsServed setup now (units.Vcd file) next = next ≡ with_vcd setup now file
 
--- What a session comes to by these units, one after another.
+-- The state of a session after these units, one after another.
 pub data Session (setup : Setup) : List ScriptUnit → Course → Type 0 where
   Opened : Session setup [] opened
   Served : {units : List ScriptUnit} {now next : Course} (unit : ScriptUnit)
       → Session setup units now → IsServed setup now unit next → Session setup (units ++ unit ∷ []) next
 
--- The session of these units has these replies, this journal, whose head comes first, and these dumps.
+-- The session of these units has these replies, this journal, which begins with its head, and these dumps.
 pub record IsSession (setup : Setup) (units : List ScriptUnit) (out journal : List ℕ) (dumps : List Made) : Type 0 where
   pub course : Course
   pub served : Session setup units course
@@ -218,6 +218,6 @@ pub record IsSession (setup : Setup) (units : List ScriptUnit) (out journal : Li
   pub journal_is : journal ≡ journal_text setup.shards setup.capacity course.sections
   pub dumps_are : dumps ≡ course.dumps
 
--- The same of the units of a whole script.
+-- The same for the units of a whole script.
 abbrev pub IsSessionOf : Setup → List ℕ → List ℕ → List ℕ → List Made → Type 0
 IsSessionOf setup script out journal dumps = IsSession setup (script_units setup.design.circuit.horizon script) out journal dumps

@@ -1,4 +1,4 @@
--- What a waveform is where a signal is stuck, and which reply to the question is right.
+-- The waveform with a stuck signal, and which reply to the question is right.
 use Rattle.std.specs.Prelude.{◌≡◌, ⊤, ◌⊎◌, ℕ, List, [], ◌∷◌, All, Contains, Option, Some, None}
 use Rattle.valid_intervals.specs.declared.Cell.{Cell}
 use Rattle.valid_intervals.specs.declared.Point.{Point}
@@ -20,39 +20,39 @@ use Rattle.reply_lines.specs.declared.reply.StuckReply.TheVariants as replies
 use Rattle.session_meaning.specs.declared.Verdict.{Verdict}
 use Rattle.session_meaning.specs.declared.Verdict.TheVariants.{Ask, Unknown, Past}
 
--- The question is asked of two memos: that of the session for what is free of the site, and for all else one of its own, which is one
--- shard, begins with no cell, and ends with the question.
+-- The question is asked of two memos: the session's memo for what is free of the site, and a second memo for all else. The second memo is
+-- one shard. It begins empty and ends with the question.
 
 -- the circuit in which the site is stuck
 abbrev pub stuck_circuit : Circuit → Site → Circuit
 stuck_circuit c site = forced c site.signal site.value
 
--- what the memo of its own is asked
+-- the batch of the second memo
 abbrev pub held_batch : Circuit → Site → Query → Batch
 held_batch c site query = record { circuit = stuck_circuit c site; shards = 1; capacity = 65536; queries = query ∷ []; site = None }
 
--- The point has a base answer where the site is stuck, or an entry of the memo of its own says its cell, or it is free of the site and an
--- entry of the session's memo does.
+-- The point has a base answer in the stuck circuit, or an entry of the second memo says its cell, or it is free of the site and an entry of
+-- the session's memo says its cell.
 abbrev pub IsCoveredBy : Circuit → Site → List Entry → List Entry → Point → Type 0
 IsCoveredBy c site es own p = IsCovered (stuck_circuit c site) own p ⊎ (IsFree c site.signal p.signal × IsSaid es p)
 
--- The query is closed over the entries of both memos: its roots, and the children of what was evaluated in either.
+-- The query is closed over the entries of both memos: its roots are covered, and so are the children of every point evaluated in either.
 pub record IsClosedBy (c : Circuit) (site : Site) (es own : List Entry) (q : Query) : Type 0 where
   pub roots : (t : ℕ) → IsRoot (stuck_circuit c site) (window_of q) t → IsCoveredBy c site es own (record { signal = q.signal; time = t })
   pub children : (p : Point) (x : Cell) → Contains own (Filled q.number p x) → All (IsCoveredBy c site es own) (children (stuck_circuit c site) p.signal p.time)
   pub free : ChildrenCovered c es q.number
 
--- The answer, over the entries of both memos: the wave where the site is stuck, and the query is closed; or its budget, and the entries of
--- one of them hold the cause.
+-- The answer, over the entries of both memos: the wave in the stuck circuit, and the query is closed; or the query's budget, and the
+-- entries of one memo hold the cause.
 abbrev pub IsStuckAnswer : Circuit → Site → List Entry → List Entry → Query → StuckAnswer → Type 0
 IsStuckAnswer c site es own q (Wave runs) = (runs ≡ wave (stuck_circuit c site) q.signal q.from q.to) × IsClosedBy c site es own q
 IsStuckAnswer c site es own q (Budget budget) = (budget ≡ q.budget) × (IsSpent es q ⊎ IsSpent own q)
 
--- nothing that is free of the site is evaluated in the memo of its own
+-- the second memo evaluates nothing that is free of the site
 abbrev pub NoneIsFree : Circuit → Site → List Entry → Type 0
 NoneIsFree c site own = (q : ℕ) (p : Point) → Contains own (Claimed q p) → IsFree c site.signal p.signal → ⊥
 
--- what the memo of its own records of a query
+-- what the second memo records of a query
 pub record IsHeldJournal (c : Circuit) (site : Site) (query : Query) (own : List Entry) : Type 0 where
   pub legal : IsLegalBatch (held_batch c site query) 0 [] own
   pub reached : NoneIsFree c site own
@@ -65,7 +65,7 @@ IsStuckReply c (Some site) Unknown es own replies.Unknown = ⊤
 IsStuckReply c (Some site) Past es own replies.Past = ⊤
 IsStuckReply c site verdict es own reply = ⊥
 
--- The lists of the memo of its own: where a query is asked, the one of its one shard, and else none.
+-- The lists of the second memo: that of its one shard if a query is asked, and none otherwise.
 abbrev pub IsHeldMemo : Circuit → Option Site → Verdict → List (List Entry) → Type 0
 IsHeldMemo c (Some site) (Ask query) lists = (own : List Entry) × (lists ≡ own ∷ []) × IsHeldJournal c site query own
 IsHeldMemo c site verdict lists = lists ≡ []

@@ -1,4 +1,4 @@
--- What becomes of an item of a batch: the query that its line asks, or why there is none.
+-- What becomes of an item of a batch: the query of its line, or why there is none.
 use Rattle.std.specs.Prelude.{ℕ, ◌+◌, nat_le, List, [], ◌∷◌, flat_map, Option, Some, None, option_map, if◌then◌else◌}
 use Rattle.batch_meaning.specs.declared.Query.{Query}
 use Rattle.batch_meaning.specs.Batches.{Site}
@@ -13,7 +13,7 @@ use Rattle.design.specs.Join.{number}
 use Rattle.session_meaning.specs.declared.Verdict.{Verdict}
 use Rattle.session_meaning.specs.declared.Verdict.TheVariants.{Ask, Unknown, Past, Bad}
 
--- the verdict on a window of the signal, if there is one: it is asked if it ends with the horizon at the latest, and is past if not
+-- the verdict on a window of the signal, if there is one: it is asked if it ends no later than the horizon, and past otherwise
 abbrev pub window_verdict : ℕ → ℕ → ℕ → ℕ → ℕ → Option ℕ → Verdict
 window_verdict horizon line from to budget None = Unknown
 window_verdict horizon line from to budget (Some signal) =
@@ -30,33 +30,33 @@ what_verdict d line whats.Bad = Bad
 abbrev pub verdict_of : Joined → Item → Verdict
 verdict_of d item = what_verdict d item.line item.what
 
--- of a question for a first time, by the number of its line
+-- the verdict on a question for a first time, given the number of its line
 abbrev pub first_verdict : Joined → ℕ → First → Verdict
 first_verdict d line first = window_verdict d.circuit.horizon line first.from first.to first.budget (number d.netlist first.name)
 
--- of a question for an explanation, which asks for one time
+-- the verdict on a question for an explanation, which asks for one time
 abbrev pub why_verdict : Joined → ℕ → Why → Verdict
 why_verdict d line why = window_verdict d.circuit.horizon line why.time (why.time + 1) why.budget (number d.netlist why.name)
 
--- of a question for a wave where a signal is stuck: which signal that is, if it is one, and what is asked of it
+-- the verdict on a question for a wave with a stuck signal: the stuck signal, if there is one of that name, and the query
 abbrev pub site_of : Joined → Stuck → Option Site
 site_of d stuck = option_map (λ signal. record { signal = signal; value = stuck.value }) (number d.netlist stuck.site)
 
 abbrev pub stuck_verdict : Joined → ℕ → Stuck → Verdict
 stuck_verdict d line stuck = window_verdict d.circuit.horizon line stuck.from stuck.to stuck.budget (number d.netlist stuck.name)
 
--- the query that is asked, if one is
+-- the query that is asked, if there is one
 abbrev pub asked : Verdict → List Query
 asked (Ask query) = query ∷ []
 asked Unknown = []
 asked Past = []
 asked Bad = []
 
--- the same, where a site has to be known
+-- the same, but none if the site is unknown
 abbrev pub asked_at : Option Site → Verdict → List Query
 asked_at None verdict = []
 asked_at (Some site) verdict = asked verdict
 
--- the queries of a batch of these items
+-- the queries of a batch with these items
 abbrev pub queries_of : Joined → List Item → List Query
 queries_of d items = flat_map (λ item. asked (verdict_of d item)) items

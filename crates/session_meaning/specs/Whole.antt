@@ -1,4 +1,4 @@
--- What the session of a whole script is.
+-- The session of a whole script.
 use Rattle.std.specs.Prelude.{ℕ, List}
 use Rattle.owned_text.specs.Made.{Made}
 use Rattle.query_lines.specs.declared.unit.Unit.{Unit as ScriptUnit}
@@ -9,9 +9,9 @@ use Rattle.session_meaning.specs.Shown.{ShowsOwnWaves}
 use Rattle.session_meaning.specs.Again.{AreFrugal}
 use Rattle.session_meaning.specs.Accepted.{AreAccepted}
 
--- What a session promises: a query whose budget is ample has its wave; each dump shows the waves
--- of the last batch before its line, and reading it back gives just these; a point is evaluated
--- again only after the eviction of its cell; and each explanation is a proof that is accepted.
+-- The promises of a session: a query whose budget is ample has its wave; each dump shows, and is
+-- read as, the waves of the last batch before its line; a point is evaluated again only after the
+-- eviction of its cell; each explanation is a proof that the checker accepts.
 pub record KeepsPromises (setup : Setup) (all : List ScriptUnit) (course : Course)
     (session : Session setup all course) : Type 0 where
   pub ample : IsAmple setup all course session
@@ -19,7 +19,8 @@ pub record KeepsPromises (setup : Setup) (all : List ScriptUnit) (course : Cours
   pub frugal : AreFrugal setup.shards course.sections
   pub accepted : AreAccepted setup all course session
 
--- The session of the whole script has these replies, this journal and these dumps, and all that.
+-- The session of the whole script has these replies, this journal and these dumps, and keeps its
+-- promises.
 pub record IsWhole (setup : Setup) (script out journal : List ℕ) (dumps : List Made) : Type 0 where
   pub session : IsSessionOf setup script out journal dumps
   pub keeps : KeepsPromises setup (script_units setup.design.circuit.horizon script)

@@ -11,15 +11,15 @@ kind_of (Asks batch) = kinds.Batch
 kind_of Trims = kinds.Trim
 kind_of (Forces batch) = kinds.Held
 
--- a section under its number
+-- a section with its number
 abbrev pub numbered : ℕ → SectionEntries → WrittenSection
 numbered number section = record { kind = kind_of section.purpose; number = number; shards = section.lists }
 
--- sections under the numbers from this one on
+-- sections with the numbers from this one on
 abbrev pub numbered_from : ℕ → List SectionEntries → List WrittenSection
 numbered_from number [] = []
 numbered_from number (section ∷ sections) = numbered number section ∷ numbered_from (number + 1) sections
 
--- the text of the journal, for so many shards with room for so many cells
+-- the text of the journal, for this many shards with room for this many cells
 abbrev pub journal_text : ℕ → ℕ → List SectionEntries → List ℕ
 journal_text shards cells sections = journal_lines shards cells (numbered_from 1 sections)

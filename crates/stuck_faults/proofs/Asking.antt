@@ -35,7 +35,7 @@ use Rattle.plan_machine.specs.inner.Settle.{IsStanding}
 use Rattle.plan_machine.proofs.Shards.{found}
 use Rattle.plan_machine.proofs.Journals.{evictions-each, room-journal}
 use Rattle.plan_machine.proofs.Measure.{told-less, claimed-less, finished-less}
-use Rattle.plan_machine.proofs.Underway.{IsNoFill, contains-one, each-contains, goes-more, goes-heard, goes-claimed, goes-popped}
+use Rattle.plan_machine.proofs.Underway.{IsNoFill, contains-one, each-contains, none-refused, goes-more, goes-heard, goes-claimed, goes-popped}
 use Rattle.plan_machine.proofs.GivingUp.{asked-apart, stack-differ}
 use Rattle.demand_points.specs.Demands.{Demand, TakesStep}
 use Rattle.memo_shards.specs.KeptShards.{KeptShard}
@@ -45,9 +45,10 @@ use Rattle.asked_cells.specs.Memos.{entries_of}
 use Rattle.asked_cells.specs.inner.Standings.{live}
 use Rattle.asked_cells.proofs.Lists.{each-from}
 use Rattle.session_meaning.specs.StuckSignals.{held_batch, NoneIsFree}
+use Rattle.stuck_faults.specs.Asks.{Session, Own}
 use Rattle.stuck_faults.specs.declared.both.Question.{Question}
 use Rattle.stuck_faults.specs.inner.Both.{site_in, circuit_of, start_at, nothing, Mirrors, Asks, GivesUp, AreKept}
-use Rattle.stuck_faults.specs.inner.Turns.{AsksOn, IsNotFree}
+use Rattle.stuck_faults.specs.inner.Turns.{AsksFurther, IsNotFree}
 use Rattle.stuck_faults.proofs.Holding.{Holds, holds-heard, holds-claimed, holds-rest}
 use Rattle.stuck_faults.proofs.Held.{held-lawful}
 use Rattle.stuck_faults.proofs.Mirrors.{mirrors-more, mirrors-kept, mirrors-heard}
@@ -140,8 +141,15 @@ module _ (b : Batch) (opening : ℕ → List SignalCell) (question : Question) (
     holding : Holds q.number m.shard.state.claims s.strand.stack
     holding = record { held = asks.holds.held; holder = asks.holds.holder }
 
+    -- its entries are the query's, and none of them gives up
+    ours : AllByRecursion (IsFor q.number) m.shard.journal
+    ours = each-from (IsFor q.number) m.shard.journal (λ x h. each-contains (IsFor q.number) asks.mirror x asks.way.own (asks.mirrors.has x h))
+
+    going : AllByRecursion IsUnspent m.shard.journal
+    going = each-from IsUnspent m.shard.journal (λ x h. each-contains IsUnspent asks.mirror x asks.way.going (asks.mirrors.has x h))
+
     -- it is told a stored cell
-    pub tells-on : (new : KeptShard) (t : Demand) (p : Point) → next s.strand ≡ Ask p → Tells m new p s t → AsksOn b opening own question time ms new s t
+    pub tells-on : (new : KeptShard) (t : Demand) (p : Point) → next s.strand ≡ Ask p → Tells m new p s t → AsksFurther b opening own question time ms new s t
     tells-on new t p e f =
         let x = f.cell in
         let entry = Told s.strand.query.number p x.cell in
@@ -160,7 +168,7 @@ module _ (b : Batch) (opening : ℕ → List SignalCell) (question : Question) (
         }
 
     -- it claims the point, which is not free
-    pub claims-on : (new : KeptShard) (t : Demand) (p : Point) → next s.strand ≡ Ask p → IsNotFree b question p → ClaimsIt own m new p s t → AsksOn b opening own question time ms new s t
+    pub claims-on : (new : KeptShard) (t : Demand) (p : Point) → next s.strand ≡ Ask p → IsNotFree b question p → ClaimsIt own m new p s t → AsksFurther b opening own question time ms new s t
     claims-on new t p e away f =
         let entry = Claimed s.strand.query.number p in
         let more = entry ∷ [] in
@@ -182,7 +190,7 @@ module _ (b : Batch) (opening : ℕ → List SignalCell) (question : Question) (
 
     -- it is refused, and that is recorded
     pub spends-on : (new : KeptShard) (t : Demand) (p : Point) → next s.strand ≡ Ask p → Refuses m m p s t
-        → new ≡ with_shard m (recorded (Spent t.strand.query.number p (length t.strand.stack)) m.shard) → GivesUp b question time ms new t
+        → new ≡ with_shard m (recorded (Spent t.strand.query.number p (length t.strand.stack)) m.shard) → GivesUp b question time ms new t (Own p)
     spends-on new t p e f shard =
         let u = given_up s.strand in
         let query : t.strand.query ≡ q = ap (λ (z : Strand). z.query) f.strand.strand ∙ asks.way.query in
@@ -197,7 +205,7 @@ module _ (b : Batch) (opening : ℕ → List SignalCell) (question : Question) (
           reached = subst (NoneIsFree c site) (sym journal) (reached-more c site m.shard.journal (entry ∷ []) asks.reached (none-claimed c site (entry ∷ []) (tt, tt)));
           spent = ap (λ (z : Strand). z.spent) f.strand.strand;
           to = f.strand.to ∙ asks.to;
-          cause = inr (p, subst (λ es. IsGivingUp nothing a p es t.strand) (sym journal) (giving query));
+          cause = subst (λ es. IsGivingUp nothing a p es t.strand) (sym journal) (giving query);
         }
       where
         giving : t.strand.query ≡ q → IsGivingUp nothing a p (m.shard.journal ++ Spent t.strand.query.number p (length t.strand.stack) ∷ []) t.strand
@@ -221,12 +229,12 @@ module _ (b : Batch) (opening : ℕ → List SignalCell) (question : Question) (
                   let st : length t.strand.stack ≡ length s.strand.stack = ap (λ (z : Strand). length z.stack) f.strand.strand in
                   omega arith;
               fed = nothing-fed m.shard.journal;
-              own = each-from (IsFor q.number) m.shard.journal (λ x h. each-contains (IsFor q.number) asks.mirror x asks.way.own (asks.mirrors.has x h));
-              going = each-from IsUnspent m.shard.journal (λ x h. each-contains IsUnspent asks.mirror x asks.way.going (asks.mirrors.has x h));
+              own = ours;
+              going = going;
             }
 
     -- it fills its top
-    pub fills-on : (new : KeptShard) (t : Demand) (woken : List Demand) (p : Point) → next s.strand ≡ Fill p → FillsIt own m new p s t woken → AsksOn b opening own question time ms new s t
+    pub fills-on : (new : KeptShard) (t : Demand) (woken : List Demand) (p : Point) → next s.strand ≡ Fill p → FillsIt own m new p s t woken → AsksFurther b opening own question time ms new s t
     fills-on new t woken p e f =
         let x = cell_at d p in
         let n = s.strand.query.number in
@@ -263,7 +271,7 @@ module _ (b : Batch) (opening : ℕ → List SignalCell) (question : Question) (
 
     -- it hears a cell from the session's memo
     pub hears-on : (new_ms : List KeptShard) (first : List Shard) → IsStanding b opening q [] first (live new_ms) → AreKept (entries_of ms) (entries_of new_ms) → (t : Demand) (p : Point) → next s.strand ≡ Ask p
-        → IsFree c question.site p.signal → IsSaid (entries_of new_ms) p → TakesStep heard s t → AsksOn b opening own question time new_ms m s t
+        → IsFree c question.site p.signal → IsSaid (entries_of new_ms) p → TakesStep heard s t → AsksFurther b opening own question time new_ms m s t
     hears-on new_ms first stands kept t p e free said f =
         let x : Cell = record { span = record { start = p.time; stop = p.time + 1 }; value = X } in
         let entry = Told q.number p x in
@@ -284,7 +292,7 @@ module _ (b : Batch) (opening : ℕ → List SignalCell) (question : Question) (
         covers-itself p = and_from _ _ (and_from _ _ (eq-eqb p.signal p.signal refl) (le-leb p.time p.time (omega arith))) (lt-ltb p.time (p.time + 1) (omega arith))
 
     -- it is refused by the session's memo
-    pub refuses-on : (new_ms : List KeptShard) (t : Demand) → IsSpent (entries_of new_ms) q → TakesStep given_up s t → GivesUp b question time new_ms m t
+    pub refuses-on : (new_ms : List KeptShard) (t : Demand) → IsSpent (entries_of new_ms) q → TakesStep given_up s t → GivesUp b question time new_ms m t Session
     refuses-on new_ms t cause f =
         let h : Holds q.number m.shard.state.claims t.strand.stack = subst (λ (z : Strand). Holds q.number m.shard.state.claims z.stack) (sym f.strand) holding in
         record {
@@ -294,5 +302,12 @@ module _ (b : Batch) (opening : ℕ → List SignalCell) (question : Question) (
           reached = asks.reached;
           spent = ap (λ (z : Strand). z.spent) f.strand;
           to = f.to ∙ asks.to;
-          cause = inl cause;
+          cause = (
+            cause,
+            record {
+              ours = ours;
+              few = (let k = asks.way.charge in let l = asks.way.budget in let n = asks.mirrors.fills q.number in let w = is.charge in omega arith);
+              outcome = none-refused q.number m.shard.journal going;
+            },
+          );
         }

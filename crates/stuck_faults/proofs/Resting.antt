@@ -1,5 +1,6 @@
 -- What stands between two times of a question, and where it ends.
-use Rattle.std.proofs.Common.{◌≡◌, ◌≢◌, ℕ, Bool, ◌+◌, ◌-◌, ◌≤◌, nat_lt, true, false, List, [], ◌∷◌, ◌++◌, length, All, Contains, refl, sym, ap, subst, ◌∙◌, arith, inl, inr, Option, Some, None, true≢false, MatchOption}
+use Rattle.std.proofs.Common.{◌≡◌, ◌≢◌, ◌⊎◌, ℕ, Bool, ◌+◌, ◌-◌, ◌≤◌, nat_lt, true, false, List, [], ◌∷◌, ◌++◌, length, All, Contains, refl, sym, ap, subst, ◌∙◌, arith, inl, inr, Option, Some, None, true≢false, MatchOption}
+use Rattle.std.specs.List.{AllByRecursion}
 use Rattle.std.proofs.lemmas.Bool.{lt-ltb}
 use Rattle.std.proofs.lemmas.List.Elements.{All-weaker, All-contains_itself, recursion_from_All}
 use Rattle.valid_intervals.specs.declared.Cell.{Cell}
@@ -12,28 +13,33 @@ use Rattle.batch_meaning.specs.Batches.{Batch, Site}
 use Rattle.batch_meaning.specs.Pieces.{Start}
 use Rattle.journal_meaning.specs.declared.Entry.{Entry}
 use Rattle.journal_meaning.specs.declared.Entry.TheVariants.{Filled, Dropped, Spent}
-use Rattle.journal_meaning.specs.Answers.{IsCovered, IsSpent, filled, last_of}
+use Rattle.journal_meaning.specs.Answers.{IsCovered, IsSpent, is_fill_of, filled, last_of}
+use Rattle.journal_meaning.specs.Grown.{IsFor, is_spent_of, refusals}
 use Rattle.journal_meaning.specs.States.{Claim, without_point}
-use Rattle.journal_meaning.proofs.Grown.{grows-none}
-use Rattle.journal_meaning.proofs.Lists.{each-left, pairs_from, pairs_to}
+use Rattle.journal_meaning.proofs.Grown.{grows-none, count-append}
+use Rattle.journal_meaning.proofs.Lists.{each-append, each-left, each-right, pairs_from, pairs_to}
 use Rattle.strand_meaning.specs.declared.Next.TheVariants.{Fill, Drop, Done}
 use Rattle.strand_meaning.specs.Strands.{Frame, Strand, next, next_in, ask_or, started, roots_from, is_evaluable, dropped, IsStrand, IsChain, rest}
 use Rattle.strand_meaning.proofs.Stacks.{drop-top}
-use Rattle.plan_machine.specs.Alone.{IsUnderWay, IsGivingUp, IsDue, points_on, drops, roots_of}
+use Rattle.plan_machine.specs.Alone.{IsUnderWay, IsUnspent, IsGivingUp, IsRefusedAlone, IsDue, points_on, drops, roots_of}
 use Rattle.plan_machine.specs.Shards.{Shard}
+use Rattle.plan_machine.specs.Settle.{charge_of, root_start}
 use Rattle.plan_machine.specs.inner.Settle.{IsOpen}
 use Rattle.plan_machine.proofs.Ready.{has-ended}
 use Rattle.plan_machine.proofs.Settle.{begins-query}
-use Rattle.plan_machine.proofs.Underway.{contains-none, children-covered, roots-covered, evaluable-is}
-use Rattle.plan_machine.proofs.GivingUp.{goes-dropped, refused-last, gone-last, refused-filled, differ-left}
+use Rattle.plan_machine.proofs.Underway.{contains-none, each-contains, none-refused, children-covered, roots-covered, evaluable-is}
+use Rattle.plan_machine.proofs.GivingUp.{goes-dropped, refused-last, gone-last, refused-filled, refused-once, refused-own, differ-left}
 use Rattle.plan_core.specs.Parts.{shards_in}
 use Rattle.demand_points.specs.Demands.{Demand, IsLastHeard, IsKnownStrand, roots_left}
 use Rattle.memo_shards.specs.KeptShards.{KeptShard}
 use Rattle.memo_shards.specs.Ends.{DropsIt}
+use Rattle.asked_cells.specs.Asked.{AsksOn}
 use Rattle.asked_cells.specs.Memos.{AreFreeShards, at_time, entries_of}
+use Rattle.asked_cells.proofs.Lists.{each-from}
 use Rattle.session_meaning.specs.StuckSignals.{NoneIsFree, IsCoveredBy}
+use Rattle.stuck_faults.specs.Asks.{RefusedBy, Neither, Session, Own, is_refused, is_session, IsOutcomeOf, HearsRoot}
 use Rattle.stuck_faults.specs.declared.both.Question.{Question}
-use Rattle.stuck_faults.specs.inner.Both.{site_in, circuit_of, start_at, nothing, AreAllFed, Rests, IsRefused, Asks, GivesUp}
+use Rattle.stuck_faults.specs.inner.Both.{site_in, circuit_of, start_at, nothing, AreAllFed, Rests, LeavesOwn, IsRefused, Asks, IsGivingUpBy, GivesUp, Extends}
 use Rattle.stuck_faults.proofs.Holding.{Holds, holds-rest, holds-none}
 use Rattle.stuck_faults.proofs.Mirrors.{mirrors-covered, mirrors-all}
 use Rattle.stuck_faults.proofs.Asking.{reached-more, none-claimed}
@@ -71,6 +77,10 @@ module _ (b : Batch) (opening : ℕ → List SignalCell) (question : Question) w
     children = λ p x h. mirrors-all c site (entries_of ms) m.shard.journal r.mirror r.mirrors (children d p.signal p.time) (children-covered d r.mirror p (r.fed q.number p x (r.mirrors.has (Filled q.number p x) h)));
     free = open-covered c q (entries_of ms) r.stands.state;
   }
+
+  -- none of its entries gives up
+  rests-going : (ms : List KeptShard) (m : KeptShard) (charge : ℕ) → Rests b opening question ms m charge → AllByRecursion IsUnspent m.shard.journal
+  rests-going ms m charge r = each-from IsUnspent m.shard.journal (λ x h. each-contains IsUnspent r.mirror x r.going (r.mirrors.has x h))
 
   -- as the question begins
   pub rests-begin : (ms : List KeptShard) (m : KeptShard) → AreFreeShards b opening ms → entries_of ms ≡ [] → m.number ≡ 0 → m.shard.journal ≡ [] → m.shard.state.claims ≡ [] → Rests b opening question ms m 0
@@ -197,19 +207,73 @@ module _ (b : Batch) (opening : ℕ → List SignalCell) (question : Question) w
             by None k m = left m
             by (Some x) k m = absurd cc
 
+    -- what the strand leaves where it heard its root
+    pub leaves-heard : (ms : List KeptShard) (m : KeptShard) (charge : ℕ) → Rests b opening question ms m charge → IsCoveredBy c site (entries_of ms) m.shard.journal (at_time q time) → LeavesOwn c question time (entries_of ms) m.shard.journal Neither
+    leaves-heard ms m charge r covered = record {
+      ours = each-from (IsFor q.number) m.shard.journal (λ x h. each-contains (IsFor q.number) r.mirror x r.own (r.mirrors.has x h));
+      few = (let k = r.charged in let l = r.few in omega arith);
+      outcome = (covered, none-refused q.number m.shard.journal (rests-going ms m charge r));
+    }
+
+    -- a root was asked of both memos, from where they rested on
+    module _ (ms : List KeptShard) (m : KeptShard) (charge : ℕ) (r : Rests b opening question ms m charge) (new_ms : List KeptShard) (new : KeptShard) where
+      abbrev was : List Entry
+      was = m.shard.journal
+
+      abbrev own : List Entry
+      own = new.shard.journal
+
+      abbrev start : Start
+      start = root_start q time (charge_of was q)
+
+      pub hears : (who : RefusedBy) → AsksOn b opening q (shards_in ms) false (shards_in new_ms) (is_session who) → Extends was own → LeavesOwn c question time (entries_of new_ms) own who → (refused : Bool) → refused ≡ is_refused who
+          → HearsRoot b opening site start (shards_in ms) was (shards_in new_ms) own refused
+      hears who session extends leaves refused flag = record {
+        refused_by = who;
+        flag = flag;
+        session = session;
+        added = more;
+        journal = extends.1;
+        numbers = each-right (IsFor q.number) was more (subst (AllByRecursion (IsFor q.number)) extends.1 leaves.ours);
+        charge = (let k = leaves.few in omega (arith, k, fills));
+        outcome = outcome who leaves.outcome;
+      }
+        where
+          more : List Entry
+          more = extends.0
+
+          fills : filled own q.number ≡ filled was q.number + filled more q.number
+          fills = ap (λ l. filled l q.number) extends.1 ∙ count-append (is_fill_of q.number) was more
+
+          counts : refusals own q.number ≡ refusals more q.number
+          counts =
+              let k : refusals own q.number ≡ refusals was q.number + refusals more q.number = ap (λ l. refusals l q.number) extends.1 ∙ count-append (is_spent_of q.number) was more in
+              let l = none-refused q.number was (rests-going ms m charge r) in
+              omega arith
+
+          outcome : (who : RefusedBy) → IsOutcomeOf c site a (entries_of new_ms) own own who → IsOutcomeOf c site start (entries_of new_ms) more own who
+          outcome Neither k = (k.0, sym counts ∙ k.1)
+          outcome Session k = sym counts ∙ k
+          outcome (Own p) k = record {
+            given_up = k.given_up;
+            last = k.last;
+            different = k.different;
+            dropped = k.dropped;
+            budget = (let n = k.budget in let l = leaves.few in omega (arith, n, l, fills));
+            refusals = sym counts ∙ k.refusals;
+          }
+
     -- a spent strand drops its top
-    module _ (ms : List KeptShard) (m : KeptShard) (s : Demand) (gives : GivesUp b question time ms m s) where
+    module _ (ms : List KeptShard) (m : KeptShard) (s : Demand) (who : RefusedBy) (gives : GivesUp b question time ms m s who) where
       held : Holds q.number m.shard.state.claims s.strand.stack
       held = record { held = gives.holds.held; holder = gives.holds.holder }
 
       number : s.strand.query.number ≡ q.number
       number = ap (λ (z : Query). z.number) gives.query
 
-      pub drops-on : IsCircuit d → IsChain d s.strand.roots s.strand.stack → (new : KeptShard) (t : Demand) (woken : List Demand) (p : Point) → next s.strand ≡ Drop p → DropsIt m new p s t woken → GivesUp b question time ms new t
+      pub drops-on : IsCircuit d → IsChain d s.strand.roots s.strand.stack → (new : KeptShard) (t : Demand) (woken : List Demand) (p : Point) → next s.strand ≡ Drop p → DropsIt m new p s t woken → GivesUp b question time ms new t who
       drops-on ok chain new t woken p e f =
-          let entry = Dropped s.strand.query.number p in
           let top = drop-top s.strand p e in
-          let journal : new.shard.journal ≡ m.shard.journal ++ entry ∷ [] = ap (λ (z : Shard). z.journal) f.shard in
           let claims : new.shard.state.claims ≡ without_point m.shard.state.claims p = ap (λ (z : Shard). z.state.claims) f.shard in
           let h : Holds q.number new.shard.state.claims t.strand.stack =
           subst (λ (z : Strand). Holds q.number new.shard.state.claims z.stack) (sym f.strand.strand)
@@ -221,47 +285,95 @@ module _ (b : Batch) (opening : ℕ → List SignalCell) (question : Question) w
             reached = subst (NoneIsFree c site) (sym journal) (reached-more c site m.shard.journal (entry ∷ []) gives.reached (none-claimed c site (entry ∷ []) (tt, tt)));
             spent = ap (λ (z : Strand). z.spent) f.strand.strand ∙ gives.spent;
             to = f.strand.to ∙ gives.to;
-            cause = elim gives.cause [
-              | inl k ↦ inl k
-              | inr g ↦ inr (
-                g.0,
-                subst (λ es. IsGivingUp nothing a g.0 es t.strand) (sym (journal ∙ ap (λ n. m.shard.journal ++ Dropped n p ∷ []) number))
-                    (subst (λ (z : Strand). IsGivingUp nothing a g.0 (m.shard.journal ++ Dropped q.number p ∷ []) z) (sym f.strand.strand) (goes-dropped nothing a g.0 m.shard.journal s.strand p top g.1)),
-              )
-            ];
+            cause =
+                subst (λ es. IsGivingUpBy c question time (entries_of ms) es t.strand who) (sym journal)
+                (subst (λ (z : Strand). IsGivingUpBy c question time (entries_of ms) (m.shard.journal ++ entry ∷ []) z who) (sym f.strand.strand) (cause who gives.cause));
           }
+        where
+          entry : Entry
+          entry = Dropped q.number p
+
+          journal : new.shard.journal ≡ m.shard.journal ++ entry ∷ []
+          journal = ap (λ (z : Shard). z.journal) f.shard ∙ ap (λ n. m.shard.journal ++ Dropped n p ∷ []) number
+
+          cause : (who : RefusedBy) → IsGivingUpBy c question time (entries_of ms) m.shard.journal s.strand who → IsGivingUpBy c question time (entries_of ms) (m.shard.journal ++ entry ∷ []) (dropped s.strand) who
+          cause Neither k = k
+          cause Session k = (
+            k.0,
+            record {
+              ours = each-append (IsFor q.number) m.shard.journal (entry ∷ []) k.1.ours (refl, tt);
+              few = (let n = count-append (is_fill_of q.number) m.shard.journal (entry ∷ []) in let l = k.1.few in omega arith);
+              outcome = (let n = count-append (is_spent_of q.number) m.shard.journal (entry ∷ []) in let l = k.1.outcome in omega arith);
+            },
+          )
+          cause (Own x) g = goes-dropped nothing a x m.shard.journal s.strand p (drop-top s.strand p e) g
+
+      -- one of the memos refused it
+      pub gives-flag : true ≡ is_refused who
+      gives-flag = by who gives.cause
+        where
+          by : (who : RefusedBy) → IsGivingUpBy c question time (entries_of ms) m.shard.journal s.strand who → true ≡ is_refused who
+          by Neither k = absurd k
+          by Session k = refl
+          by (Own p) k = refl
 
       -- until it holds nothing
-      pub drops-end : s.strand.stack ≡ [] → IsRefused b question ms m
-      drops-end empty = record {
-        number = gives.number;
-        idle = holds-none q.number m.shard.state.claims s.strand.stack held empty;
-        reached = gives.reached;
-        cause = elim gives.cause [ inl k ↦ inl k | inr g ↦ inr (spent g.0 g.1) ];
-      }
-        where
-          spent : (p : Point) → IsGivingUp nothing a p m.shard.journal s.strand → IsSpent m.shard.journal q
-          spent p g =
-              let n = q.number in
-              let stack : length s.strand.stack ≡ 0 = ap length empty in
-              let count : length g.gone + length s.strand.stack ≡ length g.gone = omega arith in
-              let same : m.shard.journal ≡ g.before ++ Spent n p (length g.gone) ∷ drops n g.gone = g.added_is ∙ ap (λ k. g.before ++ Spent n p k ∷ drops n g.gone) count in
-              let apart = pairs_from (p ∷ g.gone ++ points_on s.strand.stack) g.different in
-              record {
-                point = p;
-                held = length g.gone;
-                last = ap (λ l. last_of l n p) same ∙ refused-last n g.before p (length g.gone) g.gone (each-left (λ y. p ≢ y) g.gone (points_on s.strand.stack) apart.0);
+      module _ (empty : s.strand.stack ≡ []) where
+        refused : (p : Point) → IsGivingUp nothing a p m.shard.journal s.strand → LeavesOwn c question time (entries_of ms) m.shard.journal (Own p)
+        refused p g =
+            let n = q.number in
+            let stack : length s.strand.stack ≡ 0 = ap length empty in
+            let count : length g.gone + length s.strand.stack ≡ length g.gone = omega arith in
+            let same : m.shard.journal ≡ g.before ++ Spent n p (length g.gone) ∷ drops n g.gone = g.added_is ∙ ap (λ k. g.before ++ Spent n p k ∷ drops n g.gone) count in
+            let apart = pairs_from (p ∷ g.gone ++ points_on s.strand.stack) g.different in
+            let fills : filled m.shard.journal n ≡ filled g.before n = ap (λ z. filled z n) same ∙ refused-filled n g.before p (length g.gone) g.gone in
+            let account = g.account in
+            record {
+              ours = subst (AllByRecursion (IsFor n)) (sym same) (refused-own n g.before p (length g.gone) g.gone g.own);
+              few = omega arith;
+              outcome = record {
                 given_up = g.gone;
+                last = ap (λ l. last_of l n p) same ∙ refused-last n g.before p (length g.gone) g.gone (each-left (λ y. p ≢ y) g.gone (points_on s.strand.stack) apart.0);
                 different = pairs_to g.gone (differ-left g.gone (points_on s.strand.stack) apart.1);
                 dropped = All-weaker (Contains g.gone) (λ x. last_of m.shard.journal n x ≡ Some (Dropped n x))
                     (λ x h. ap (λ l. last_of l n x) same ∙ gone-last n g.before p (length g.gone) g.gone x h) g.gone (All-contains_itself g.gone);
-                enough = omega arith;
-                budget =
-                    let k = g.account in
-                    let l = refused-filled n g.before p (length g.gone) g.gone in
-                    let e : filled m.shard.journal n ≡ filled (g.before ++ Spent n p (length g.gone) ∷ drops n g.gone) n = ap (λ z. filled z n) same in
-                    omega arith;
-              }
+                budget = omega arith;
+                refusals = ap (λ l. refusals l n) same ∙ refused-once n g.before p (length g.gone) g.gone g.going;
+              };
+            }
+
+        pub drops-leave : LeavesOwn c question time (entries_of ms) m.shard.journal who
+        drops-leave = by who gives.cause
+          where
+            by : (who : RefusedBy) → IsGivingUpBy c question time (entries_of ms) m.shard.journal s.strand who → LeavesOwn c question time (entries_of ms) m.shard.journal who
+            by Neither k = absurd k
+            by Session k = k.1
+            by (Own p) k = refused p k
+
+        pub drops-end : IsRefused b question ms m
+        drops-end = record {
+          number = gives.number;
+          idle = holds-none q.number m.shard.state.claims s.strand.stack held empty;
+          reached = gives.reached;
+          cause = by who gives.cause;
+        }
+          where
+            spent : (p : Point) → IsRefusedAlone a p m.shard.journal m.shard.journal → IsSpent m.shard.journal q
+            spent p k = record {
+              point = p;
+              held = length k.given_up;
+              last = k.last;
+              given_up = k.given_up;
+              different = k.different;
+              dropped = k.dropped;
+              enough = omega arith;
+              budget = (let n = k.budget in omega arith);
+            }
+
+            by : (who : RefusedBy) → IsGivingUpBy c question time (entries_of ms) m.shard.journal s.strand who → IsSpent (entries_of ms) q ⊎ IsSpent m.shard.journal q
+            by Neither k = absurd k
+            by Session k = inl k.0
+            by (Own p) k = inr (spent p (refused p k).outcome)
 
 -- a spent strand does not fill
 pub fills-unspent : (s : Strand) (p : Point) → next s ≡ Fill p → s.spent ≡ false

@@ -1,5 +1,5 @@
 -- The steps of a strand over the batch that the memo of its own names.
-use Rattle.std.proofs.Common.{◌≡◌, ℕ, Bool, ◌+◌, ◌≤◌, true, false, List, [], ◌∷◌, ◌++◌, length, Contains, refl, sym, ap, subst, ◌∙◌, arith, inl, inr, Option, Some, None, IsSome, append_assoc, true≢false, ◌<◌, Result, Ok, Err, OnOk, IfOk}
+use Rattle.std.proofs.Common.{◌≡◌, ℕ, Bool, ◌+◌, ◌≤◌, true, false, List, [], ◌∷◌, ◌++◌, length, Contains, refl, sym, ap, subst, ◌∙◌, arith, inl, inr, Option, Some, None, IsSome, append_assoc, append-nil, true≢false, ◌<◌, Result, Ok, Err, OnOk, IfOk}
 use Rattle.std.proofs.lemmas.List.Elements.{Contains-append_left}
 use Rattle.valid_intervals.specs.declared.Point.{Point}
 use Rattle.valid_intervals.specs.declared.SignalCell.{SignalCell}
@@ -19,7 +19,7 @@ use Rattle.journal_meaning.specs.States.{holder}
 use Rattle.strand_meaning.specs.declared.Next.TheVariants.{Ask, Fill}
 use Rattle.strand_meaning.specs.Strands.{Strand, next, heard, given_up, IsHeld, IsStrand, IsChain}
 use Rattle.strand_meaning.proofs.Stacks.{asks-first, earlier}
-use Rattle.plan_machine.specs.Alone.{IsUnderWay, IsGivingUp}
+use Rattle.plan_machine.specs.Alone.{IsUnderWay}
 use Rattle.plan_machine.specs.Shards.{Shard, recorded}
 use Rattle.plan_machine.specs.Bounds.{turns_left}
 use Rattle.plan_machine.specs.Journals.{evictions_for}
@@ -32,16 +32,18 @@ use Rattle.demand_points.specs.Demands.{Demand, TakesStep, IsKnownStrand, itself
 use Rattle.memo_shards.specs.KeptShards.{KeptShard}
 use Rattle.memo_shards.specs.Asks.{Tells, ClaimsIt, WaitsThere, Refuses}
 use Rattle.memo_shards.specs.Ends.{with_shard, FillsIt}
-use Rattle.asked_cells.specs.Asked.{HasAsked}
+use Rattle.asked_cells.specs.Asked.{HasAsked, AsksOn}
 use Rattle.asked_cells.specs.Memos.{entries_of, asked_at}
 use Rattle.asked_cells.specs.inner.Standings.{standing}
 use Rattle.asked_cells.proofs.Asked.{reaches, root-covered}
+use Rattle.asked_cells.proofs.Asking.{asks-point}
 use Rattle.session_meaning.specs.StuckSignals.{held_batch}
+use Rattle.stuck_faults.specs.Asks.{RefusedBy, Session, Own}
 use Rattle.stuck_faults.specs.declared.both.Question.{Question}
-use Rattle.stuck_faults.specs.inner.Both.{IsAsked, Asks, GivesUp, AreKept, site_in, circuit_of, start_at, nothing}
+use Rattle.stuck_faults.specs.inner.Both.{IsAsked, Asks, IsGivingUpBy, GivesUp, AreKept, Extends, site_in, circuit_of, start_at}
 use Rattle.stuck_faults.specs.declared.turn.Turn.{Turn}
 use Rattle.stuck_faults.specs.declared.turn.Turn.TheVariants.{GoesOn, Ended, Refused}
-use Rattle.stuck_faults.specs.inner.Turns.{AsksOn, IsNotFree, OfTurn}
+use Rattle.stuck_faults.specs.inner.Turns.{AsksFurther, IsNotFree, OfTurn}
 use Rattle.stuck_faults.proofs.Asking.{tells-on, claims-on, spends-on, fills-on, hears-on, refuses-on}
 use Rattle.stuck_faults.proofs.Lawful.{IsAskedOf, asked-of, free-cell, free-evaluable, free-needed}
 use Rattle.stuck_faults.proofs.Held.{asked-one, held-lawful}
@@ -61,13 +63,13 @@ module _ (b h : Batch) (opening : ℕ → List SignalCell) (question : Question)
   is = subst (λ z. IsStrand z s.strand) asked.own_is (knows.strand (let k = asks.to in omega arith))
 
   -- the batch of the shard is that of its definition
-  over : (new_ms : List KeptShard) (new : KeptShard) (t : Demand) → AsksOn b opening own question time new_ms new s t → AsksOn b opening h question time new_ms new s t
-  over new_ms new t k = subst (λ z. AsksOn b opening z question time new_ms new s t) (sym asked.own_is) k
+  over : (new_ms : List KeptShard) (new : KeptShard) (t : Demand) → AsksFurther b opening own question time new_ms new s t → AsksFurther b opening h question time new_ms new s t
+  over new_ms new t k = subst (λ z. AsksFurther b opening z question time new_ms new s t) (sym asked.own_is) k
 
-  pub turn-told : (new : KeptShard) (t : Demand) (p : Point) → next s.strand ≡ Ask p → Tells m new p s t → AsksOn b opening h question time ms new s t
+  pub turn-told : (new : KeptShard) (t : Demand) (p : Point) → next s.strand ≡ Ask p → Tells m new p s t → AsksFurther b opening h question time ms new s t
   turn-told new t p e f = over ms new t (tells-on b opening question time asked.lawful asked.queries ms m s asks is new t p e f)
 
-  pub turn-claimed : (new : KeptShard) (t : Demand) (p : Point) → next s.strand ≡ Ask p → IsNotFree b question p → ClaimsIt h m new p s t → AsksOn b opening h question time ms new s t
+  pub turn-claimed : (new : KeptShard) (t : Demand) (p : Point) → next s.strand ≡ Ask p → IsNotFree b question p → ClaimsIt h m new p s t → AsksFurther b opening h question time ms new s t
   turn-claimed new t p e away f = over ms new t (claims-on b opening question time asked.lawful asked.queries ms m s asks is new t p e away (subst (λ z. ClaimsIt z m new p s t) asked.own_is f))
 
   -- what it asks for is not claimed, so it never waits
@@ -82,12 +84,12 @@ module _ (b h : Batch) (opening : ℕ → List SignalCell) (question : Question)
           omega arith
 
   pub turn-spent : (mid new : KeptShard) (t : Demand) (p : Point) → next s.strand ≡ Ask p → Refuses m mid p s t
-      → new ≡ with_shard mid (recorded (Spent t.strand.query.number p (length t.strand.stack)) mid.shard) → GivesUp b question time ms new t
+      → new ≡ with_shard mid (recorded (Spent t.strand.query.number p (length t.strand.stack)) mid.shard) → GivesUp b question time ms new t (Own p)
   turn-spent mid new t p e f shard =
       spends-on b opening question time asked.lawful asked.queries ms m s asks is new t p e (subst (λ z. Refuses m z p s t) f.shard f)
       (subst (λ z. new ≡ with_shard z (recorded (Spent t.strand.query.number p (length t.strand.stack)) z.shard)) f.shard shard)
 
-  pub turn-filled : (new : KeptShard) (t : Demand) (woken : List Demand) (p : Point) → next s.strand ≡ Fill p → FillsIt h m new p s t woken → AsksOn b opening h question time ms new s t
+  pub turn-filled : (new : KeptShard) (t : Demand) (woken : List Demand) (p : Point) → next s.strand ≡ Fill p → FillsIt h m new p s t woken → AsksFurther b opening h question time ms new s t
   turn-filled new t woken p e f = over ms new t (fills-on b opening question time asked.lawful asked.queries ms m s asks is new t woken p e (subst (λ z. FillsIt z m new p s t woken) asked.own_is f))
 
   -- what it asks for
@@ -111,10 +113,15 @@ module _ (b h : Batch) (opening : ℕ → List SignalCell) (question : Question)
       after : IsStanding b opening q [] asks.first (standing new r)
       after = (reaches b asked.lawful opening q [] asks.first ms new (sub_query q p) p.time charge r asks.stands for has).0.stands
 
+      -- it is one that the query needs
+      pub turn-session : AsksOn b opening q (shards_in ms) false (shards_in new) r
+      turn-session =
+          asks-point b opening q ms new charge counts r p (λ _. free-needed b asked.lawful site q asked.queries p free asked.site (turn-asks p e).needed) has
+
       pub turn-kept : AreKept (entries_of ms) (entries_of new)
       turn-kept = has.journals.together.kept
 
-      pub turn-heard : r ≡ false → (t : Demand) → TakesStep heard s t → AsksOn b opening h question time new m s t
+      pub turn-heard : r ≡ false → (t : Demand) → TakesStep heard s t → AsksFurther b opening h question time new m s t
       turn-heard lacks t f =
           let whole = subst (HasAsked b opening (asked_at (sub_query q p) p.time charge) (shards_in ms) (shards_in new)) lacks has in
           over new m t (hears-on b opening question time asked.lawful asked.queries ms m s asks is new asks.first (subst (λ z. IsStanding b opening q [] asks.first (standing new z)) lacks after) turn-kept t p e free
@@ -124,22 +131,29 @@ module _ (b h : Batch) (opening : ℕ → List SignalCell) (question : Question)
           said (inl never) = absurd (never (free-evaluable b asked.lawful site q asked.queries p free (turn-asks p e).evaluable))
           said (inr k) = k
 
-      pub turn-refused : r ≡ true → (t : Demand) → TakesStep given_up s t → GivesUp b question time new m t
+      pub turn-refused : r ≡ true → (t : Demand) → TakesStep given_up s t → GivesUp b question time new m t Session
       turn-refused lacks t f =
           refuses-on b opening question time asked.lawful asked.queries ms m s asks is new t
           (subst (λ z. IsStanding b opening q [] asks.first (standing new z)) lacks after).state.0 f
 
 -- entries that come after others keep them
-pub kept-by : (old new more : List Entry) → new ≡ old ++ more → AreKept old new
-kept-by old new more is e h = subst (λ z. Contains z e) (sym is) (Contains-append_left old more e h)
+pub extends-kept : (old new : List Entry) → Extends old new → AreKept old new
+extends-kept old new x e h = subst (λ z. Contains z e) (sym x.1) (Contains-append_left old x.0 e h)
 
--- a fill keeps the entries before it
-pub fill-kept : (h : Batch) (m new : KeptShard) (s t : Demand) (woken : List Demand) (p : Point) → FillsIt h m new p s t woken → AreKept m.shard.journal new.shard.journal
-fill-kept h m new s t woken p f =
+pub extends-none : (es : List Entry) → Extends es es
+extends-none es = ([], sym (append-nil es))
+
+pub extends-then : (a b c : List Entry) → Extends a b → Extends b c → Extends a c
+extends-then a b c x y = (x.0 ++ y.0, y.1 ∙ ap (λ l. l ++ y.0) x.1 ∙ append_assoc a x.0 y.0)
+
+-- a fill adds entries at the end
+pub fill-extends : (h : Batch) (m new : KeptShard) (s t : Demand) (woken : List Demand) (p : Point) → FillsIt h m new p s t woken → Extends m.shard.journal new.shard.journal
+fill-extends h m new s t woken p f =
     let x = cell_at h.circuit p in
-    let entry = Filled s.strand.query.number p x in
-    kept-by m.shard.journal new.shard.journal (evictions_for h.capacity (cell_for p x) m.shard ++ entry ∷ [])
-    (ap (λ (z : Shard). z.journal) f.shard ∙ ap (λ l. l ++ entry ∷ []) (room-journal h.capacity (cell_for p x) m.shard) ∙ append_assoc m.shard.journal (evictions_for h.capacity (cell_for p x) m.shard) (entry ∷ []))
+    let entry = Filled s.strand.query.number p x in (
+      evictions_for h.capacity (cell_for p x) m.shard ++ entry ∷ [],
+      ap (λ (z : Shard). z.journal) f.shard ∙ ap (λ l. l ++ entry ∷ []) (room-journal h.capacity (cell_for p x) m.shard) ∙ append_assoc m.shard.journal (evictions_for h.capacity (cell_for p x) m.shard) (entry ∷ []),
+    )
 
 -- base answers that are heard change nothing that is seen
 pub asks-same : (b : Batch) (opening : ℕ → List SignalCell) (question : Question) (time : ℕ) (ms : List KeptShard) (m : KeptShard) (s t : Demand) → TakesStep itself s t → Asks b opening question time ms m s → Asks b opening question time ms m t
@@ -163,22 +177,26 @@ pub ok-of : {A E : Type 0} (r : Result A E) (P : Type 0) → P → OnOk r P
 ok-of (Ok x) P p = p
 ok-of (Err e) P p = tt
 
+pub if-ok : {A E : Type 0} (r : Result A E) (P Q : A → Type 0) → ((x : A) → P x → Q x) → IfOk r P → IfOk r Q
+if-ok (Ok x) P Q f p = f x p
+if-ok (Err e) P Q f p = tt
+
 pub session-kept : (ms new : List KeptShard) → new ≡ ms → AreKept (entries_of ms) (entries_of new)
 session-kept ms new is e h = subst (λ z. Contains (entries_of z) e) (sym is) h
 
-pub own-kept : (m new : KeptShard) → new ≡ m → AreKept m.shard.journal new.shard.journal
-own-kept m new is e h = subst (λ z. Contains z.shard.journal e) (sym is) h
+pub own-extends : (m new : KeptShard) → new ≡ m → Extends m.shard.journal new.shard.journal
+own-extends m new is = subst (λ (z : KeptShard). Extends m.shard.journal z.shard.journal) (sym is) (extends-none m.shard.journal)
 
 -- a turn after base answers were heard is a turn of the strand before
-pub turn-same : {X E : Type 0} (b : Batch) (opening : ℕ → List SignalCell) (own : Batch) (question : Question) (time : ℕ) (ms : List KeptShard) (m : KeptShard) (s t : Demand) → TakesStep itself s t
-    → (r : Result (Turn X) E) → IfOk r (OfTurn b opening own question time ms m t) → IfOk r (OfTurn b opening own question time ms m s)
-turn-same b opening own question time ms m s t f (Ok (GoesOn u)) h = record { asks = h.asks; less = subst (λ (z : Strand). turns_left own 1 u.strand < turns_left own 1 z) f.strand h.less }
-turn-same b opening own question time ms m s t f (Ok (Ended u)) h = h
-turn-same b opening own question time ms m s t f (Ok (Refused u)) h = h
-turn-same b opening own question time ms m s t f (Err e) h = tt
+pub turn-same : {X E : Type 0} (b : Batch) (opening : ℕ → List SignalCell) (own : Batch) (question : Question) (time : ℕ) (old ms : List KeptShard) (m : KeptShard) (s t : Demand) → TakesStep itself s t
+    → (r : Result (Turn X) E) → IfOk r (OfTurn b opening own question time old ms m t) → IfOk r (OfTurn b opening own question time old ms m s)
+turn-same b opening own question time old ms m s t f (Ok (GoesOn u)) h = (h.0, record { asks = h.1.asks; less = subst (λ (z : Strand). turns_left own 1 u.strand < turns_left own 1 z) f.strand h.1.less })
+turn-same b opening own question time old ms m s t f (Ok (Ended u)) h = h
+turn-same b opening own question time old ms m s t f (Ok (Refused u)) h = h
+turn-same b opening own question time old ms m s t f (Err e) h = tt
 
-pub gives-same : (b : Batch) (question : Question) (time : ℕ) (ms : List KeptShard) (m : KeptShard) (s t : Demand) → TakesStep itself s t → GivesUp b question time ms m s → GivesUp b question time ms m t
-gives-same b question time ms m s t f gives = record {
+pub gives-same : (b : Batch) (question : Question) (time : ℕ) (ms : List KeptShard) (m : KeptShard) (s t : Demand) → (who : RefusedBy) → TakesStep itself s t → GivesUp b question time ms m s who → GivesUp b question time ms m t who
+gives-same b question time ms m s t who f gives = record {
   holds = record {
     held = λ p h. gives.holds.held p (subst (λ (z : Strand). IsHeld z.stack p) f.strand h);
     holder = λ p n h. subst (λ (z : Strand). IsHeld z.stack p) (sym f.strand) (gives.holds.holder p n h);
@@ -188,7 +206,7 @@ gives-same b question time ms m s t f gives = record {
   reached = gives.reached;
   spent = ap (λ (z : Strand). z.spent) f.strand ∙ gives.spent;
   to = f.to ∙ gives.to;
-  cause = elim gives.cause [ inl k ↦ inl k | inr g ↦ inr (g.0, subst (λ (z : Strand). IsGivingUp nothing (start_at question time) g.0 m.shard.journal z) (sym f.strand) g.1) ];
+  cause = subst (λ (z : Strand). IsGivingUpBy b.circuit question time (entries_of ms) m.shard.journal z who) (sym f.strand) gives.cause;
 }
 
 -- what is known of a strand, over the batch of its definition

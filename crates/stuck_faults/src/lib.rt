@@ -5,8 +5,9 @@
 //! asked of the session's own memo, in a batch that names the site, and what is stored there is told again. All else is asked of a memo
 //! of its own, which is one shard, begins with no cell, and ends with the answer. Its journal is handed out beside the shards.
 //!
-//! The budget holds for each of the two memos by itself. Where one of them would take more evaluations, the query is refused, and that
-//! memo's entries hold the cause.
+//! The budget holds for each of the two memos by itself. Where one of them would take more evaluations, the query is refused, that
+//! memo's entries hold the cause, and neither is asked for more. Each strand counts for the query's number and is charged with what the
+//! query filled so far in the strand's memo (`specs/Asks`).
 //!
 //! The design in which the site is stuck has all but that in common with the session's (`Design::hold`), so no line copies the circuit. A
 //! question takes a flag for each signal, looks once at each pin that reads what the site reaches (`Design::reached`), and makes the store

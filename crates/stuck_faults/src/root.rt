@@ -5,8 +5,11 @@ ghost use Rattle.circuit_meaning.specs.Cells.{cell_at};
 ghost use Rattle.circuit_meaning.specs.Need.{IsRoot};
 ghost use Rattle.batch_meaning.specs.Batches.{window_of};
 ghost use Rattle.session_meaning.specs.StuckSignals.{IsCoveredBy};
-ghost use Rattle.asked_cells.specs.Memos.{IsChargedMemo, at_time, entries_of};
-ghost use Rattle.stuck_faults.specs.inner.Both.{IsAsked, Rests, GivesUp, IsRefused, AreKept, circuit_of, site_in};
+ghost use Rattle.plan_machine.specs.Settle.{charge_of, root_start};
+ghost use Rattle.plan_core.specs.Parts.{shards_in};
+ghost use Rattle.asked_cells.specs.Memos.{IsChargedMemo, at_time, entries_of, is_missing};
+ghost use Rattle.stuck_faults.specs.Asks.{RefusedBy, HearsRoot};
+ghost use Rattle.stuck_faults.specs.inner.Both.{IsAsked, Rests, GivesUp, LeavesOwn, IsRefused, AreKept, Extends, circuit_of, site_in};
 
 use crate::both::{Held, Memos, Question};
 use crate::turn::{Turn, take_turn};
@@ -28,9 +31,14 @@ fn drop_all<B: BatchName, H: BatchName>(
 )
     requires asked { IsAsked B.batch H.batch question design.now.circuit held.now.design.circuit
         held.now.reached }
-    requires gives_up { GivesUp B.batch question time memos.old.session memos.old.own strand }
+    requires gives_up { (who : RefusedBy) ×
+        GivesUp B.batch question time memos.old.session memos.old.own strand who }
     ensures refused { IsRefused B.batch question memos.new.session memos.new.own }
-    ensures kept { AreKept memos.old.own.shard.journal memos.new.own.shard.journal }
+    ensures leaves { (who : RefusedBy)
+        → GivesUp B.batch question time memos.old.session memos.old.own strand who
+        → LeavesOwn B.batch.circuit question time (entries_of memos.new.session)
+        memos.new.own.shard.journal who }
+    ensures extends { Extends memos.old.own.shard.journal memos.new.own.shard.journal }
     ensures session { memos.new.session ≡ memos.old.session }
     ensures charge { memos.new.charge ≡ memos.old.charge }
 {
@@ -70,7 +78,7 @@ pub fn hear_root<B: BatchName, H: BatchName>(
         memos.new.charge) }
     ensures kept_session { OnOk result (AreKept (entries_of memos.old.session)
         (entries_of memos.new.session)) }
-    ensures kept_own { OnOk result (AreKept memos.old.own.shard.journal
+    ensures extends { OnOk result (Extends memos.old.own.shard.journal
         memos.new.own.shard.journal) }
     ensures cell { IfOk result (λ r. IfSome r
         (λ cell. cell ≡ cell_at (circuit_of B.batch question) (at_time question.query time))) }
@@ -81,6 +89,10 @@ pub fn hear_root<B: BatchName, H: BatchName>(
         memos.new.own.shard.journal (at_time question.query time))) }
     ensures refused { IfOk result (λ r. IfNone r
         (IsRefused B.batch question memos.new.session memos.new.own)) }
+    ensures asks { let q = question.query in let was = memos.old.own.shard.journal in
+        IfOk result (λ r. HearsRoot B.batch B.opening (site_in question)
+        (root_start q time (charge_of was q)) (shards_in memos.old.session) was
+        (shards_in memos.new.session) memos.new.own.shard.journal (is_missing r)) }
 {
     let query = question.query;
     if let Some(cell) = held.design.base(query.signal, time) {

@@ -5,7 +5,7 @@ ghost use Rattle.strand_meaning.specs.Strands.{next as next_of};
 ghost use Rattle.strand_meaning.specs.declared.Next.TheVariants.{Ask as AskNext, Fill as FillNext};
 ghost use Rattle.asked_cells.specs.Memos.{IsChargedMemo, entries_of};
 ghost use Rattle.circuit_meaning.specs.Forced.{IsFree};
-ghost use Rattle.stuck_faults.specs.inner.Both.{IsAsked, Asks, AreKept};
+ghost use Rattle.stuck_faults.specs.inner.Both.{IsAsked, Asks, AreKept, Extends};
 ghost use Rattle.stuck_faults.specs.inner.Turns.{OfTurn, IsNotFree};
 
 use crate::both::{Held, Memos, Question};
@@ -43,9 +43,9 @@ fn fill<B: BatchName, H: BatchName>(
         held.now.reached }
     requires asks { Asks B.batch B.opening question time memos.old.session memos.old.own strand }
     requires fills { next_of strand.strand ≡ FillNext p }
-    ensures turn { IfOk result (OfTurn B.batch B.opening H.batch question time memos.new.session
-        memos.new.own strand) }
-    ensures kept_own { OnOk result (AreKept memos.old.own.shard.journal
+    ensures turn { IfOk result (OfTurn B.batch B.opening H.batch question time memos.old.session
+        memos.new.session memos.new.own strand) }
+    ensures extends { OnOk result (Extends memos.old.own.shard.journal
         memos.new.own.shard.journal) }
     ensures session { memos.new.session ≡ memos.old.session }
     ensures charge { memos.new.charge ≡ memos.old.charge }
@@ -73,9 +73,9 @@ fn ask_own<B: BatchName, H: BatchName>(
     requires asks { Asks B.batch B.opening question time memos.old.session memos.old.own strand }
     requires next { next_of strand.strand ≡ AskNext p }
     requires reached { IsNotFree B.batch question p }
-    ensures turn { IfOk result (OfTurn B.batch B.opening H.batch question time memos.new.session
-        memos.new.own strand) }
-    ensures kept_own { OnOk result (AreKept memos.old.own.shard.journal
+    ensures turn { IfOk result (OfTurn B.batch B.opening H.batch question time memos.old.session
+        memos.new.session memos.new.own strand) }
+    ensures extends { OnOk result (Extends memos.old.own.shard.journal
         memos.new.own.shard.journal) }
     ensures session { memos.new.session ≡ memos.old.session }
     ensures charge { memos.new.charge ≡ memos.old.charge }
@@ -113,8 +113,8 @@ fn ask_session<B: BatchName, H: BatchName>(
     requires free { IsFree B.batch.circuit question.site p.signal }
     ensures session { OnOk result (IsChargedMemo B.batch B.opening memos.new.session question.query
         memos.new.charge) }
-    ensures turn { IfOk result (OfTurn B.batch B.opening H.batch question time memos.new.session
-        memos.new.own strand) }
+    ensures turn { IfOk result (OfTurn B.batch B.opening H.batch question time memos.old.session
+        memos.new.session memos.new.own strand) }
     ensures kept_session { OnOk result (AreKept (entries_of memos.old.session)
         (entries_of memos.new.session)) }
     ensures own { memos.new.own ≡ memos.old.own }
@@ -157,11 +157,11 @@ pub fn take_turn<B: BatchName, H: BatchName>(
     requires asks { Asks B.batch B.opening question time memos.old.session memos.old.own strand }
     ensures session { OnOk result (IsChargedMemo B.batch B.opening memos.new.session question.query
         memos.new.charge) }
-    ensures turn { IfOk result (OfTurn B.batch B.opening H.batch question time memos.new.session
-        memos.new.own strand) }
+    ensures turn { IfOk result (OfTurn B.batch B.opening H.batch question time memos.old.session
+        memos.new.session memos.new.own strand) }
     ensures kept_session { OnOk result (AreKept (entries_of memos.old.session)
         (entries_of memos.new.session)) }
-    ensures kept_own { OnOk result (AreKept memos.old.own.shard.journal
+    ensures extends { OnOk result (Extends memos.old.own.shard.journal
         memos.new.own.shard.journal) }
 {
     let mut strand = strand;

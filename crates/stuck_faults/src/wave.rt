@@ -8,6 +8,7 @@ ghost use Rattle.plan_machine.specs.Settle.{entries_in};
 ghost use Rattle.plan_core.specs.Parts.{shards_in};
 ghost use Rattle.asked_cells.specs.Shards.{AreNumbered, AreUnused};
 ghost use Rattle.asked_cells.specs.Memos.{AreFreeShards, IsChargedMemo, entries_of};
+ghost use Rattle.stuck_faults.specs.Asks.{AsksRoots, AsksBoth, is_budget};
 ghost use Rattle.stuck_faults.specs.inner.Both.{IsAsked, Rests, site_in};
 
 use crate::both::{Held, Memos, Question};
@@ -58,6 +59,10 @@ fn walk<B: BatchName, H: BatchName>(
         memos.new.own.shard.journal) }
     ensures answer { IfOk result (IsStuckAnswer B.batch.circuit (site_in question)
         (entries_of memos.new.session) memos.new.own.shard.journal question.query) }
+    ensures asks { let site = site_in question in
+        IfOk result (λ answer. AsksRoots B.batch B.opening site question.query
+        (shards_in memos.old.session) memos.old.own.shard.journal
+        (shards_in memos.new.session) memos.new.own.shard.journal (is_budget answer)) }
 {
     let query = question.query;
     let mut walk = WindowWalk::new(alloc, query.from, query.to);
@@ -91,6 +96,9 @@ fn answer<B: BatchName, H: BatchName>(
         question.query done.held.items) }
     ensures answer { IfOk result (λ done. IsStuckAnswer B.batch.circuit (site_in question)
         (entries_in (shards_in done.shards.items)) done.held.items question.query done.answer) }
+    ensures asks { let site = site_in question in
+        IfOk result (λ done. AsksRoots B.batch B.opening site question.query (shards_in session) []
+        (shards_in done.shards.items) done.held.items (is_budget done.answer)) }
 {
     let store = CellStore::new(alloc, OWN_CELLS)?;
     let mut memos = Memos::<B, H> {
@@ -135,6 +143,9 @@ pub fn stuck_wave<B: BatchName>(
     ensures answer { IfOk result (λ done. IsStuckAnswer B.batch.circuit
         (record { signal = site; value = value }) (entries_in (shards_in done.shards.items))
         done.held.items query done.answer) }
+    ensures asks { IfOk result (λ done. AsksBoth B.batch B.opening
+        (record { signal = site; value = value }) query (shards_in shards.items)
+        (shards_in done.shards.items) done.held.items (is_budget done.answer)) }
 {
     let held = Held {
         design: design.hold(alloc, site, value)?,

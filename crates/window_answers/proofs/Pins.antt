@@ -18,7 +18,7 @@ use Rattle.plan_machine.specs.inner.Settle.{IsAskedFor}
 use Rattle.plan_machine.specs.Settle.{child_start, root_start, charge_of}
 use Rattle.plan_machine.proofs.Steps.{wanted-time}
 use Rattle.plan_machine.proofs.Settle.{child-start, child-needed, child-asked, root-asked}
-use Rattle.demand_points.specs.Frames.{IsPoint, looked_at}
+use Rattle.pin_walks.specs.PinWalks.{IsPoint, looked_at}
 use Rattle.window_answers.specs.inner.Sources.{IsSourceCovered}
 
 somes-has : (os : List (Option Point)) (n : ℕ) (x : Point) → get_or os n None ≡ Some x → Contains (somes os) x

@@ -1,4 +1,5 @@
--- Settlement in two phases: first what each query filled is visited, and then each window is walked.
+-- Settlement in two phases: first the fills of each query are visited, and then each window is
+-- walked.
 use Rattle.std.specs.Prelude.{◌≡◌, Bool, true, false, List, [], ◌∷◌, map}
 use Rattle.circuit_meaning.specs.Circuit.{Circuit}
 use Rattle.circuit_meaning.specs.Forward.{wave}

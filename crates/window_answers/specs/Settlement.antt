@@ -12,7 +12,7 @@ use Rattle.asked_cells.specs.Asked.{AsksOn}
 use Rattle.asked_cells.specs.Shards.{AreNumbered}
 use Rattle.window_answers.specs.Phases.{AreReplies, refused_of}
 
--- It asks for one query after another, from shards to shards. Each query was refused before or not, and is refused after that or not.
+-- The queries ask one after another, from shards to shards. The flags say whether each query was refused before, and after.
 abbrev pub AskInTurn : Batch → (ℕ → List SignalCell) → List Query → List Shard → List Bool → List Shard → List Bool → Type 0
 AskInTurn b opening [] old [] new [] = new ≡ old
 AskInTurn b opening (q ∷ qs) old (was ∷ before) new (is ∷ after) = (now : List Shard) × AsksOn b opening q old was now is × AskInTurn b opening qs now before new after
@@ -22,7 +22,7 @@ AskInTurn b opening qs old before new after = ⊥
 abbrev pub none_refused : List Query → List Bool
 none_refused qs = map (λ _. false) qs
 
--- Once the claims are freed, it goes by all queries twice: at first no query is refused by it, and one that is then is asked for no more.
+-- Once the claims are freed, all queries ask twice, in order. At first none is refused, and a refused query asks for nothing more.
 pub record AsksTwice (b : Batch) (opening : ℕ → List SignalCell) (old new : List Shard) (refused : List Bool) : Type 0 where
   pub freed : List Shard
   pub frees : AreFreed old freed
@@ -31,8 +31,8 @@ pub record AsksTwice (b : Batch) (opening : ℕ → List SignalCell) (old new : 
   pub visits : AskInTurn b opening b.queries freed (none_refused b.queries) visited refused_then
   pub walks : AskInTurn b opening b.queries visited refused_then new refused
 
--- The shards stand in order, each journal that was handed in is a prefix of its new one, and no claim is left. Each query is replied its
--- waveform, and is closed, where settlement recorded no refusal of it; else its budget, which has its cause, and one refusal.
+-- The shards are in order, each old journal is a prefix of its new one, and no claim is left. If settlement recorded no refusal of a query,
+-- the reply is its waveform, and it is closed. Otherwise the reply is its budget, with one refusal, which has its cause.
 pub record HasSettled (b : Batch) (opening : ℕ → List SignalCell) (old new : List KeptShard) (replies : List Reply) : Type 0 where
   pub numbers : AreNumbered new
   pub settled : AreSettled b opening (shards_in old) (shards_in new) (refused_of replies)

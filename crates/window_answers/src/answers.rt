@@ -28,14 +28,14 @@ use reply_lines::Reply;
 use std::alloc::Global;
 use valid_intervals::Point;
 
-/// What a query is charged once its fills are visited, and whether it was refused.
+/// The charge of a query after its fills are visited, and whether it was refused.
 #[derive(Clone, Copy)]
 pub struct Fed {
     pub charge: u32,
     pub refused: bool,
 }
 
-/// So many fills, at most the budget.
+/// The number of fills, at most the budget.
 fn charge_at(fills: usize, budget: u32) -> u32
     ensures { result ≡ min fills budget }
 {
@@ -46,7 +46,7 @@ fn charge_at(fills: usize, budget: u32) -> u32
     }
 }
 
-/// Visits the points that a query had filled as settlement began.
+/// Visits the points that a query had filled before settlement.
 fn feed_one<B: BatchName>(
     memo: &mut Memo<B>,
     design: &Design,
@@ -74,8 +74,8 @@ fn feed_one<B: BatchName>(
     Ok(Fed { charge, refused })
 }
 
-/// Visits what each query filled. The fills of all queries are gathered before the first is visited: the strands that run alone
-/// meanwhile fill for the query that is visited, and for no other.
+/// Visits what each query filled. The fills of all queries are gathered before the first visit: the strands that then run alone
+/// fill only for the query that is visited.
 pub fn feed_all<B: BatchName>(
     alloc: Global,
     memo: &mut Memo<B>,

@@ -15,8 +15,8 @@ use std::alloc::Global;
 use std::collections::BTreeMap;
 use valid_intervals::Point;
 
-/// The points that queries filled, by the numbers of the queries. For n numbers one point more takes O(log n) steps, and so does a
-/// look-up.
+/// The points that queries filled, by the numbers of the queries. Among n numbers, adding a point and a look-up take O(log n)
+/// steps each.
 #[derive(Drop)]
 pub struct FilledPoints {
     alloc: Global,
@@ -24,7 +24,7 @@ pub struct FilledPoints {
 }
 
 impl FilledPoints {
-    /// Nothing is filled.
+    /// No point is filled.
     fn new(alloc: Global) -> FilledPoints
         ensures { (n : ℕ) → points_in (get nat_cmp result.by_query n) ≡ [] }
     {
@@ -75,7 +75,7 @@ impl FilledPoints {
         Ok(())
     }
 
-    /// The points that the queries of a batch filled, gathered by one scan of the journals.
+    /// Gathers the points in one scan of the journals.
     pub fn gather<B: BatchName>(
         alloc: Global,
         shards: &[Shard<B>],
@@ -90,7 +90,7 @@ impl FilledPoints {
         Ok(filled)
     }
 
-    /// The points that the query with this number filled, as often as it filled each.
+    /// The points that the query with this number filled, each as often as it filled it.
     pub fn of(&self, number: u32) -> &[Point]
         ensures { result.now ≡ points_in (get nat_cmp self.now.by_query number) }
     {

@@ -15,16 +15,16 @@ use owned_text::OutOfMemory;
 use reply_lines::Reply;
 use std::alloc::Global;
 
-/// What settlement replies to the queries, and the shards that it leaves.
+/// The replies of settlement to the queries, and the shards after it.
 #[derive(Drop)]
 pub struct Settled<B: BatchName> {
     pub replies: Vec<Reply>,
     pub shards: Vec<Shard<B>>,
 }
 
-/// Settles a batch. The claims that are left are freed. Then what the queries filled is visited: the children of these points that
-/// neither an entry of the batch nor a base answer says are asked for alone. Then each window is walked, and what is not covered is
-/// asked for alone. Both go by the queries in order.
+/// Settles a batch. First the claims that are left are freed. Then the fills of the queries are visited: a strand alone asks for
+/// each of their children that neither an entry of the batch nor a base answer gives. Then each window is walked, and a strand
+/// alone asks for what is not covered. Both steps take the queries in order.
 pub fn settle<B: BatchName>(
     alloc: Global,
     design: &Design,

@@ -21,7 +21,7 @@ fn next_cut(t: u32) -> u64
     (t as u64 / 65_536 + 1) * 65_536
 }
 
-/// How many pieces a window has.
+/// The number of pieces of a window.
 fn count_pieces(q: Query) -> u32
     ensures count { result ≡ length (spans_of q) }
     ensures some { 1 ≤ result }
@@ -59,7 +59,7 @@ fn push_piece<B: BatchName>(
     Ok(())
 }
 
-/// One strand for each piece of a window, and each has its part of the budget.
+/// One strand for each piece of a window, each with its part of the budget.
 fn push_pieces<B: BatchName>(
     alloc: Global,
     strands: &mut Vec<Strand<B>>,

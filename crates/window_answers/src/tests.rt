@@ -22,7 +22,7 @@ use std::test::Fail;
 use stimulus_file::read_stimulus;
 use timing_file::read_timing;
 
-/// The text, where it is short.
+/// The text's bytes, or none if there are over 1,000.
 fn short(text: &str) -> &[u8]
     ensures { length result.now ≤ 1000 }
 {
@@ -43,7 +43,7 @@ fn joined(
     Ok(Design::join(alloc, netlist, &timing, &stimulus))
 }
 
-/// A chain of three buffers, with a delay of 1 each, and an input that is 1 from the start on.
+/// A chain of three buffers, with a delay of 1 each, and an input that is always 1.
 fn chain(alloc: Global) -> Result<Result<Design, JoinFault>, Fail> {
     joined(
         alloc,
@@ -75,7 +75,7 @@ fn outcome_of(reply: &Reply) -> Outcome {
     }
 }
 
-/// What came of a batch: its turns, how many entries there were after these, the replies, and the journals as text.
+/// The result of a batch: its turns, the number of entries after these, the replies, and the journals as text.
 #[derive(Drop)]
 struct Seen {
     turns: Vec<Turned>,
@@ -84,7 +84,7 @@ struct Seen {
     journal: Vec<u8>,
 }
 
-/// How many entries the shards have.
+/// The number of entries in the shards.
 fn count_entries<B: BatchName>(shards: &[Shard<B>]) -> usize {
     shards.iter().fold(
         0usize,
@@ -125,7 +125,7 @@ fn planned<B: BatchName>(
     Ok(plan)
 }
 
-/// The turns of the strands with these numbers, but of those that wait.
+/// The turns of the strands with these numbers, except those that wait.
 fn turn_all<B: BatchName>(
     alloc: Global,
     plan: &mut Plan<B>,
@@ -144,7 +144,7 @@ fn turn_all<B: BatchName>(
     Ok(turns)
 }
 
-/// What settlement replies after these turns.
+/// The replies of settlement after these turns.
 fn settled<B: BatchName>(
     alloc: Global,
     design: &Design,
@@ -173,7 +173,7 @@ fn settled<B: BatchName>(
     })
 }
 
-/// Runs the strands of the queries as the schedule says, and settles.
+/// Runs the strands of the queries by the schedule, and settles.
 fn served<B: BatchName>(
     alloc: Global,
     design: &Design,
@@ -214,7 +214,7 @@ fn at(number: u32, signal: u32, time: u32, budget: u32) -> Query
     }
 }
 
-/// Two queries for `n3` at 5, of which the first has a budget of one claim.
+/// Two queries for `n3` at 5. The first has a budget of one claim.
 fn one_point_twice(alloc: Global, design: &Design) -> Result<Option<Seen>, OutOfMemory> {
     design.facts();
     let Some(signal) = design.netlist().id_of(b"n3") else {

@@ -1,4 +1,4 @@
-//! What the items of a batch ask, and what the questions do that are batches of their own.
+//! What the items of a batch and the questions ask.
 
 ghost use Rattle.std.specs.Prelude.{◌≡◌, map, IfOk};
 ghost use Rattle.design.specs.Join.{number};
@@ -93,14 +93,14 @@ pub fn why_verdict_of(design: &Design, line: u32, why: &Why) -> Verdict
     window_verdict(design, line, &why.name, why.time, stop, why.budget)
 }
 
-/// The number of the signal that a question takes to be stuck, if its name is one: one look-up by hashing.
+/// The number of the stuck signal in a question, if there is one of that name: one look-up by hashing.
 pub fn stuck_site_of(design: &Design, stuck: &Stuck) -> Option<u32>
     ensures { result ≡ number design.now.netlist stuck.now.site }
 {
     design.netlist().id_of(stuck.site.bytes())
 }
 
-/// What a question for a wave where a signal is stuck asks, if its site is a signal: one look-up of its name by hashing.
+/// What a question for a wave with a stuck signal asks, if its site is a signal: one look-up of its name by hashing.
 pub fn stuck_verdict_of(design: &Design, line: u32, stuck: &Stuck) -> Verdict
     ensures { result ≡ stuck_verdict design.now line stuck.now }
 {

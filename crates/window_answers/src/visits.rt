@@ -1,7 +1,8 @@
-//! Settlement: what is missing of a batch is asked for by one strand after another, each alone.
+//! Settlement: one strand after another, each alone, asks for what is missing of a batch.
 
 ghost use Rattle.std.specs.Prelude.{◌≡◌, ◌<◌, ◌≤◌, ◌+◌, ◌++◌, ℕ, List, All, Contains, Option, None, length, true, false, is_some, IfOk, IfSome, OnOk};
 ghost use Rattle.circuit_meaning.specs.Forward.{wave};
+ghost use Rattle.pin_walks.specs.PinWalks.{IsPinWalk, IsLooking, LooksOn, next_point};
 ghost use Rattle.journal_meaning.specs.declared.Entry.{Entry as EntryRecord};
 ghost use Rattle.journal_meaning.specs.Answers.{IsCovered};
 ghost use Rattle.batch_meaning.specs.Batches.{IsNeededBy};
@@ -9,7 +10,6 @@ ghost use Rattle.batch_meaning.specs.Lawful.{IsLawful};
 ghost use Rattle.plan_machine.specs.Shards.{Shard as ShardRecord};
 ghost use Rattle.plan_machine.specs.inner.Settle.{IsStanding, Advances, IsVisited, IsCoveredTo};
 ghost use Rattle.plan_machine.specs.Settle.{entries_in};
-ghost use Rattle.demand_points.specs.Frames.{IsFrame, IsLooking, LooksOn, next_point};
 ghost use Rattle.plan_core.specs.Parts.{shards_in};
 ghost use Rattle.asked_cells.specs.Asked.{AsksOn};
 ghost use Rattle.asked_cells.specs.Memos.{IsChargedMemo, entries_of, is_missing};
@@ -18,30 +18,31 @@ ghost use Rattle.window_answers.specs.inner.Sources.{IsSourceCovered};
 
 use asked_cells::{Memo, reach};
 use batch_meaning::Query;
-use demand_points::{BatchName, Frame};
+use demand_points::BatchName;
 use design::Design;
 use owned_text::OutOfMemory;
+use pin_walks::PinWalk;
 use std::alloc::Global;
 use valid_intervals::Point;
 use window_walks::{Runs, WindowWalk};
 
-/// Looks at the next pin of a filled point; none where the query is refused.
+/// Looks at the next pin of a filled point; none if the query is refused.
 fn look<B: BatchName>(
     memo: &mut Memo<B>,
     design: &Design,
     q: Query,
-    frame: &Frame,
+    walk: &PinWalk,
     charge: &mut u32,
-) -> Result<Option<Frame>, OutOfMemory>
+) -> Result<Option<PinWalk>, OutOfMemory>
     requires lawful { IsLawful B.batch }
     requires design { design.now.circuit ≡ B.batch.circuit }
     requires known { Contains B.batch.queries q }
-    requires frame { IsFrame design.now.circuit frame.now }
-    requires looking { IsLooking design.now.circuit frame.now }
-    requires needed { IsNeededBy B.batch q frame.now.point }
+    requires walk { IsPinWalk design.now.circuit walk.now }
+    requires looking { IsLooking design.now.circuit walk.now }
+    requires needed { IsNeededBy B.batch q walk.now.point }
     requires asking { IsChargedMemo B.batch B.opening memo.old q charge.old }
     ensures asking { OnOk result (IsChargedMemo B.batch B.opening memo.new q charge.new) }
-    ensures frame { IfOk result (λ r. IfSome r (LooksOn design.now.circuit frame.now)) }
+    ensures walk { IfOk result (λ r. IfSome r (LooksOn design.now.circuit walk.now)) }
     ensures advances { (start : List EntryRecord) (first : List ShardRecord)
         → IsStanding B.batch B.opening q start first (live memo.old)
         → IfOk result (λ r. Advances B.batch B.opening q start first (live memo.old)
@@ -50,12 +51,12 @@ fn look<B: BatchName>(
         → IsStanding B.batch B.opening q start first (live memo.old)
         → IfOk result (λ r. is_missing r ≡ false
         → IsSourceCovered B.batch.circuit (entries_of memo.new)
-        (next_point design.now.circuit frame.now)) }
+        (next_point design.now.circuit walk.now)) }
     ensures asks { IfOk result (λ r. AsksOn B.batch B.opening q (shards_in memo.old) false
         (shards_in memo.new) (is_missing r)) }
 {
-    let Some(x) = frame.next_source(design) else {
-        return Ok(Some(frame.see(design, None)));
+    let Some(x) = walk.next_source(design) else {
+        return Ok(Some(walk.see(design, None)));
     };
     let query = Query {
         number: q.number,
@@ -66,11 +67,11 @@ fn look<B: BatchName>(
     };
     match reach(memo, design, query, x.time, charge)? {
         None => Ok(None),
-        Some(cell) => Ok(Some(frame.see(design, Some(cell)))),
+        Some(cell) => Ok(Some(walk.see(design, Some(cell)))),
     }
 }
 
-/// Asks for the children of a filled point that are missing; whether the query is refused.
+/// Asks for the missing children of a filled point. Returns whether the query is refused.
 fn settle_children<B: BatchName>(
     memo: &mut Memo<B>,
     design: &Design,
@@ -95,17 +96,17 @@ fn settle_children<B: BatchName>(
     ensures asks { IfOk result (AsksOn B.batch B.opening q (shards_in memo.old) false
         (shards_in memo.new)) }
 {
-    let mut frame = Frame::new(design, p);
-    'pins: while !frame.is_done(design) {
-        match look(memo, design, q, &frame, charge)? {
+    let mut walk = PinWalk::new(design, p);
+    'pins: while !walk.is_done(design) {
+        match look(memo, design, q, &walk, charge)? {
             None => return Ok(true),
-            Some(next) => frame = next,
+            Some(next) => walk = next,
         }
     }
     Ok(false)
 }
 
-/// Visits points that the query filled; whether it is refused.
+/// Visits points that the query filled. Returns whether the query is refused.
 pub fn settle_fills<B: BatchName>(
     memo: &mut Memo<B>,
     design: &Design,
@@ -139,7 +140,7 @@ pub fn settle_fills<B: BatchName>(
     Ok(false)
 }
 
-/// Walks the window of a query, and asks for what is missing; none where it is refused.
+/// Walks the window of a query, and asks for what is missing; none if the query is refused.
 pub fn settle_window<B: BatchName>(
     alloc: Global,
     memo: &mut Memo<B>,

@@ -1,5 +1,5 @@
 -- A question asked of two memos: what is the same throughout it, and what stands between two of its times.
-use Rattle.std.specs.Prelude.{◌≡◌, ◌⊎◌, ◌↔◌, ℕ, ◌+◌, ◌≤◌, ◌<◌, Bool, true, false, IsTrue, List, [], ◌∷◌, length, All, Contains, Some}
+use Rattle.std.specs.Prelude.{◌≡◌, ◌⊎◌, ◌↔◌, ℕ, ◌+◌, ◌≤◌, ◌<◌, Bool, true, false, IsTrue, List, [], ◌∷◌, ◌++◌, length, All, Contains, Some}
 use Rattle.std.specs.List.{AllByRecursion, slice_index_or}
 use Rattle.valid_intervals.specs.declared.Cell.{Cell}
 use Rattle.valid_intervals.specs.declared.Point.{Point}
@@ -16,7 +16,7 @@ use Rattle.journal_meaning.specs.declared.Entry.TheVariants.{Told, Filled}
 use Rattle.journal_meaning.specs.Answers.{ChildrenCovered, IsSpent, filled}
 use Rattle.journal_meaning.specs.Grown.{IsSaid, IsFor}
 use Rattle.journal_meaning.specs.States.{holder}
-use Rattle.strand_meaning.specs.Strands.{IsHeld}
+use Rattle.strand_meaning.specs.Strands.{Strand, IsHeld}
 use Rattle.plan_machine.specs.Shards.{Shard}
 use Rattle.plan_machine.specs.Alone.{AreFed, IsUnspent, IsUnderWay, IsGivingUp}
 use Rattle.plan_machine.specs.inner.Settle.{IsStanding}
@@ -25,6 +25,7 @@ use Rattle.memo_shards.specs.KeptShards.{KeptShard}
 use Rattle.session_meaning.specs.StuckSignals.{stuck_circuit, held_batch, IsCoveredBy, NoneIsFree}
 use Rattle.asked_cells.specs.Memos.{entries_of}
 use Rattle.asked_cells.specs.inner.Standings.{live}
+use Rattle.stuck_faults.specs.Asks.{RefusedBy, Neither, Session, Own, IsOutcomeOf}
 use Rattle.stuck_faults.specs.declared.both.Question.{Question}
 
 abbrev pub site_in : Question → Site
@@ -111,16 +112,33 @@ pub record Asks (b : Batch) (opening : ℕ → List SignalCell) (question : Ques
 abbrev pub nothing : Circuit
 nothing = record { horizon = 0; drivers = [] }
 
+-- What a strand leaves in the memo of its own, over the entries since the question began: they are the query's, and its fills are at
+-- most its budget.
+pub record LeavesOwn (c : Circuit) (question : Question) (time : ℕ) (es own : List Entry) (who : RefusedBy) : Type 0 where
+  pub ours : AllByRecursion (IsFor question.query.number) own
+  pub few : filled own question.query.number ≤ question.query.budget
+  pub outcome : IsOutcomeOf c (site_in question) (start_at question time) es own own who
+
+-- why a strand gives up: the session's memo refused it, or its own did at a point
+abbrev pub IsGivingUpBy : Circuit → Question → ℕ → List Entry → List Entry → Strand → RefusedBy → Type 0
+IsGivingUpBy c question time es own s Neither = ⊥
+IsGivingUpBy c question time es own s Session = IsSpent es question.query × LeavesOwn c question time es own Session
+IsGivingUpBy c question time es own s (Own p) = IsGivingUp nothing (start_at question time) p own s
+
 -- It was refused, and holds claims still.
-pub record GivesUp (b : Batch) (question : Question) (time : ℕ) (ms : List KeptShard) (m : KeptShard) (s : Demand) : Type 0 where
+pub record GivesUp (b : Batch) (question : Question) (time : ℕ) (ms : List KeptShard) (m : KeptShard) (s : Demand) (who : RefusedBy) : Type 0 where
   pub holds : HoldsAll question m s
   pub query : s.strand.query ≡ question.query
   pub number : m.number ≡ 0
   pub reached : NoneIsFree b.circuit (site_in question) m.shard.journal
   pub spent : s.strand.spent ≡ true
   pub to : s.to ≡ time + 1
-  pub cause : IsSpent (entries_of ms) question.query ⊎ ((p : Point) × IsGivingUp nothing (start_at question time) p m.shard.journal s.strand)
+  pub cause : IsGivingUpBy b.circuit question time (entries_of ms) m.shard.journal s.strand who
 
 -- the entries are kept
 abbrev pub AreKept : List Entry → List Entry → Type 0
 AreKept old new = (e : Entry) → Contains old e → Contains new e
+
+-- entries were added at the end
+abbrev pub Extends : List Entry → List Entry → Type 0
+Extends old new = (added : List Entry) × (new ≡ old ++ added)

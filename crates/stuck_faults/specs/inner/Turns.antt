@@ -1,5 +1,5 @@
 -- What comes of one step of a strand that asks for a time.
-use Rattle.std.specs.Prelude.{◌≡◌, ℕ, ◌<◌, List}
+use Rattle.std.specs.Prelude.{◌≡◌, ℕ, ◌<◌, false, List}
 use Rattle.valid_intervals.specs.declared.SignalCell.{SignalCell}
 use Rattle.valid_intervals.specs.declared.Point.{Point}
 use Rattle.circuit_meaning.specs.Forced.{IsFree}
@@ -9,13 +9,16 @@ use Rattle.strand_meaning.specs.Strands.{next}
 use Rattle.plan_machine.specs.Bounds.{turns_left}
 use Rattle.demand_points.specs.Demands.{Demand}
 use Rattle.memo_shards.specs.KeptShards.{KeptShard}
+use Rattle.plan_core.specs.Parts.{shards_in}
+use Rattle.asked_cells.specs.Asked.{AsksOn}
+use Rattle.stuck_faults.specs.Asks.{RefusedBy, is_session}
 use Rattle.stuck_faults.specs.declared.both.Question.{Question}
 use Rattle.stuck_faults.specs.declared.turn.Turn.{Turn}
 use Rattle.stuck_faults.specs.declared.turn.Turn.TheVariants.{GoesOn, Ended, Refused}
 use Rattle.stuck_faults.specs.inner.Both.{Asks, GivesUp}
 
 -- it asks on, and has fewer steps left
-pub record AsksOn (b : Batch) (opening : ℕ → List SignalCell) (own : Batch) (question : Question) (time : ℕ) (ms : List KeptShard) (m : KeptShard) (old new : Demand) : Type 0 where
+pub record AsksFurther (b : Batch) (opening : ℕ → List SignalCell) (own : Batch) (question : Question) (time : ℕ) (ms : List KeptShard) (m : KeptShard) (old new : Demand) : Type 0 where
   pub asks : Asks b opening question time ms m new
   pub less : turns_left own 1 new.strand < turns_left own 1 old.strand
 
@@ -24,10 +27,11 @@ pub record HasHeardAll (b : Batch) (opening : ℕ → List SignalCell) (question
   pub asks : Asks b opening question time ms m s
   pub done : next s.strand ≡ Done
 
-abbrev pub OfTurn : {X : Type 0} → Batch → (ℕ → List SignalCell) → Batch → Question → ℕ → List KeptShard → KeptShard → Demand → Turn X → Type 0
-OfTurn b opening own question time ms m s (GoesOn t) = AsksOn b opening own question time ms m s t
-OfTurn b opening own question time ms m s (Ended t) = HasHeardAll b opening question time ms m t
-OfTurn b opening own question time ms m s (Refused t) = GivesUp b question time ms m t
+-- the strand, and what was asked of the session's memo, from its old shards on
+abbrev pub OfTurn : {X : Type 0} → Batch → (ℕ → List SignalCell) → Batch → Question → ℕ → List KeptShard → List KeptShard → KeptShard → Demand → Turn X → Type 0
+OfTurn b opening own question time old ms m s (GoesOn t) = AsksOn b opening question.query (shards_in old) false (shards_in ms) false × AsksFurther b opening own question time ms m s t
+OfTurn b opening own question time old ms m s (Ended t) = AsksOn b opening question.query (shards_in old) false (shards_in ms) false × HasHeardAll b opening question time ms m t
+OfTurn b opening own question time old ms m s (Refused t) = (who : RefusedBy) × AsksOn b opening question.query (shards_in old) false (shards_in ms) (is_session who) × GivesUp b question time ms m t who
 
 -- the point is not free of the site
 abbrev pub IsNotFree : Batch → Question → Point → Type 0

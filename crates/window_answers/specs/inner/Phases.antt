@@ -1,4 +1,4 @@
--- What only the proofs and the private functions of this crate speak of, beside `Phases`.
+-- Definitions for proofs and private functions, beside `Phases`.
 use Rattle.std.specs.Prelude.{◌≡◌, Bool, true, false, List, [], ◌∷◌, map}
 use Rattle.std.specs.List.{AllByRecursion}
 use Rattle.circuit_meaning.specs.Circuit.{Circuit}
@@ -14,16 +14,16 @@ use Rattle.reply_lines.specs.declared.reply.Reply.{Reply}
 use Rattle.window_answers.specs.declared.answers.Fed.{Fed}
 use Rattle.window_answers.specs.Phases.{AreReplies, refused_of}
 
--- which queries were refused as what they filled was visited
+-- which queries were refused while their fills were visited
 abbrev pub refused_in : List Fed → List Bool
 refused_in fs = map (λ (f : Fed). f.refused) fs
 
--- what a query filled before settlement is visited, or it was refused
+-- what a query filled before settlement is visited, or the query was refused
 abbrev pub IsFed : Circuit → Query → List Entry → List Entry → Bool → Type 0
 IsFed c q start now false = IsOpen c q start now × AreVisited c q start now
 IsFed c q start now true = IsSettled c q start now true
 
--- and this is what it is charged
+-- the same, and this is the charge of the query
 pub record IsFedWith (c : Circuit) (q : Query) (start now : List Entry) (f : Fed) : Type 0 where
   pub fed : IsFed c q start now f.refused
   pub counts : f.charge ≡ charge_of now q
@@ -40,7 +40,7 @@ pub record FeedsQuery (b : Batch) (q : Query) (start : List Entry) (first new : 
   pub own : AllByRecursion (IsFor q.number) added
   pub fed : IsFedWith b.circuit q start (entries_in new) f
 
--- between two queries of the first phase; for those that are left, nothing was filled since settlement began
+-- between two queries of the first phase; since settlement began, nothing was filled for those that are left
 pub record IsFeeding (b : Batch) (start : List Entry) (first now : List Shard) (done : List Query) (fed : List Fed) (left : List Query) : Type 0 where
   pub added : List Entry
   pub journals : AreAdded (journals_of first) added (journals_of now)

@@ -5,7 +5,7 @@ use Rattle.circuit_meaning.specs.Circuit.{Circuit}
 use Rattle.journal_meaning.specs.declared.Entry.{Entry}
 use Rattle.journal_meaning.specs.Answers.{IsCovered}
 
--- the source of a pin is covered, where there is one
+-- the source of a pin is covered, if there is one
 abbrev pub IsSourceCovered : Circuit → List Entry → Option Point → Type 0
 IsSourceCovered c es None = Unit {0}
 IsSourceCovered c es (Some x) = IsCovered c es x

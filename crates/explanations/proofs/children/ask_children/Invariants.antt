@@ -1,8 +1,10 @@
-use Rattle.std.proofs.Common.{◌≡◌, ◌-◌, List, [], length, take}
+use Rattle.std.proofs.Common.{◌≡◌, ◌-◌, List, [], false, length, take}
 use Rattle.std.specs.BTreeMap.{get}
 use Rattle.plan_machine.specs.Shards.{Shard}
 use Rattle.plan_machine.specs.inner.Settle.{IsStanding, Advances}
-use Rattle.demand_points.specs.Frames.{IsFrame, looked_at}
+use Rattle.pin_walks.specs.PinWalks.{IsPinWalk, looked_at}
+use Rattle.plan_core.specs.Parts.{shards_in}
+use Rattle.asked_cells.specs.Asked.{AsksOn}
 use Rattle.asked_cells.specs.Memos.{IsChargedMemo, entries_of}
 use Rattle.asked_cells.specs.inner.Standings.{live}
 use Rattle.explanations.specs.inner.Waiting.{place_cmp}
@@ -11,13 +13,14 @@ use Rattle.explanations.proofs.children.ask_children.Given as goal
 
 abbrev pub invariant-pins : goal.invariant-pins
 invariant-pins g l = record {
-  frame : IsFrame l.design.circuit l.frame;
-  point : l.frame.point ≡ l.fn.p;
+  walk : IsPinWalk l.design.circuit l.walk;
+  point : l.walk.point ≡ l.fn.p;
   asking : IsChargedMemo g.B.BatchName.batch g.B.BatchName.opening l.memo l.query l.charge;
   advances : (first : List Shard) → IsStanding g.B.BatchName.batch g.B.BatchName.opening l.query [] first (live l.initial.memo)
       → Advances g.B.BatchName.batch g.B.BatchName.opening l.query [] first (live l.initial.memo) (live l.memo);
-  looks : Looks g.B.BatchName.batch.circuit (entries_of l.initial.memo) (entries_of l.memo) (get place_cmp l.initial.waiting.cells) (get place_cmp l.waiting.cells) (take l.frame.looked (looked_at g.B.BatchName.batch.circuit l.fn.p));
+  looks : Looks g.B.BatchName.batch.circuit (entries_of l.initial.memo) (entries_of l.memo) (get place_cmp l.initial.waiting.cells) (get place_cmp l.waiting.cells) (take l.walk.looked (looked_at g.B.BatchName.batch.circuit l.fn.p));
+  asks : AsksOn g.B.BatchName.batch g.B.BatchName.opening l.query (shards_in l.initial.memo) false (shards_in l.memo) false;
 }
 
 abbrev pub decreases-pins : goal.decreases-pins
-decreases-pins g l = length (looked_at l.design.circuit l.frame.point) - l.frame.looked
+decreases-pins g l = length (looked_at l.design.circuit l.walk.point) - l.walk.looked

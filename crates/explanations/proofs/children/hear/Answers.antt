@@ -1,4 +1,4 @@
-use Rattle.std.proofs.Common.{◌≡◌, [], subst, refl, arith}
+use Rattle.std.proofs.Common.{◌≡◌, [], false, subst, refl, arith}
 use Rattle.std.specs.BTreeMap.{get}
 use Rattle.valid_intervals.specs.declared.Cell.{Cell}
 use Rattle.circuit_meaning.specs.Circuit.{Circuit}
@@ -9,9 +9,10 @@ use Rattle.plan_machine.specs.Settle.{sub_query}
 use Rattle.plan_machine.proofs.Settle.{child-start}
 use Rattle.plan_core.specs.Parts.{shards_in}
 use Rattle.asked_cells.specs.Memos.{asked_at, is_missing}
-use Rattle.asked_cells.specs.Asked.{HasAsked}
+use Rattle.asked_cells.specs.Asked.{HasAsked, AsksOn, Nothing}
 use Rattle.asked_cells.specs.inner.Standings.{live, standing}
 use Rattle.asked_cells.proofs.Alone.{none-of, some-of}
+use Rattle.asked_cells.proofs.Asking.{asks-point}
 use Rattle.explanations.specs.declared.waiting.Asked.{Asked}
 use Rattle.explanations.specs.inner.Waiting.{place_cmp}
 use Rattle.explanations.proofs.Asking.{asked-reached, asked-looks}
@@ -51,3 +52,24 @@ returns-clause-looks g c =
     let evaluable = subst (λ (d : Circuit). IsEvaluable d p.signal p.time) c.requires.design (none-of c.base.result (IsEvaluable c.args.design.now.circuit p.signal p.time) c.base.ensures.none c.in_default.is) in
     let a : Asked = record { signal = p.signal; time = p.time; cell = c.in-Some-2.cell } in
     asked-looks b c.requires.lawful g.B.BatchName.opening q p old new c.args.charge.now c.requires.asking.counts h evaluable (get place_cmp c.args.waiting.now.cells) (get place_cmp c.add.new.self.cells) a refl right c.in_ok-add.ensures
+
+pub returns-in-Some-clause-asks : goal.returns-in-Some-clause-asks
+returns-in-Some-clause-asks g c = Nothing
+
+pub returns-in_default-2-clause-asks : goal.returns-in_default-2-clause-asks
+returns-in_default-2-clause-asks g c =
+    let b = g.B.BatchName.batch in
+    let q = c.args.query in
+    let old = c.args.memo.now in
+    let new = c.reach.new.memo in
+    subst (λ o. AsksOn b g.B.BatchName.opening q (shards_in old) false (shards_in new) (is_missing o)) c.in_default-2.is
+    (asks-point b g.B.BatchName.opening q old new c.args.charge.now c.requires.asking.counts (is_missing c.in_ok-cell.field-0) c.args.p c.requires.needed c.in_ok-cell.ensures.asked)
+
+pub returns-clause-asks : goal.returns-clause-asks
+returns-clause-asks g c =
+    let b = g.B.BatchName.batch in
+    let q = c.args.query in
+    let old = c.args.memo.now in
+    let new = c.reach.new.memo in
+    subst (λ o. AsksOn b g.B.BatchName.opening q (shards_in old) false (shards_in new) (is_missing o)) c.in-Some-2.is
+    (asks-point b g.B.BatchName.opening q old new c.args.charge.now c.requires.asking.counts (is_missing c.in_ok-cell.field-0) c.args.p c.requires.needed c.in_ok-cell.ensures.asked)

@@ -1,8 +1,10 @@
-use Rattle.std.proofs.Common.{◌≡◌, [], Some, None, get_or, sym, subst, ◌∙◌}
+use Rattle.std.proofs.Common.{◌≡◌, [], Some, None, false, get_or, sym, subst, ◌∙◌}
 use Rattle.circuit_meaning.specs.Circuit.{Circuit}
 use Rattle.plan_machine.specs.inner.Settle.{Advances}
 use Rattle.plan_machine.proofs.Settle.{child-needed}
-use Rattle.demand_points.specs.Frames.{looked_at}
+use Rattle.pin_walks.specs.PinWalks.{looked_at}
+use Rattle.plan_core.specs.Parts.{shards_in}
+use Rattle.asked_cells.specs.Asked.{AsksOn, Nothing}
 use Rattle.asked_cells.specs.Memos.{is_missing}
 use Rattle.asked_cells.specs.inner.Standings.{live, standing}
 use Rattle.explanations.proofs.Moves.{source-child}
@@ -11,8 +13,8 @@ use Rattle.explanations.proofs.children.look.Goals as goal
 pub hear-requires-clause-needed : goal.hear-requires-clause-needed
 hear-requires-clause-needed g c = λ e.
     let b = g.B.BatchName.batch in
-    let x = c.args.frame.now.point in
-    let n = c.args.frame.now.looked in
+    let x = c.args.walk.now.point in
+    let n = c.args.walk.now.looked in
     let p = c.in-Some.p in
     let there : get_or (looked_at c.args.design.now.circuit x) n None ≡ Some p = sym c.next_source.ensures.source ∙ c.in-Some.is in
     let here : get_or (looked_at b.circuit x) n None ≡ Some p = subst (λ (d : Circuit). get_or (looked_at d x) n None ≡ Some p) c.requires.design there in
@@ -21,3 +23,14 @@ hear-requires-clause-needed g c = λ e.
 pub returns-in-None-clause-advances : goal.returns-in-None-clause-advances
 returns-in-None-clause-advances g c = λ first s.
     subst (λ o. Advances g.B.BatchName.batch g.B.BatchName.opening c.args.query [] first (live c.args.memo.now) (standing c.hear.new.memo (is_missing o))) c.in-None.is (c.in_ok-hear.ensures.reaches first s).0
+
+pub returns-in_default-clause-asks : goal.returns-in_default-clause-asks
+returns-in_default-clause-asks g c = Nothing
+
+pub returns-in-None-clause-asks : goal.returns-in-None-clause-asks
+returns-in-None-clause-asks g c =
+    subst (λ o. AsksOn g.B.BatchName.batch g.B.BatchName.opening c.args.query (shards_in c.args.memo.now) false (shards_in c.hear.new.memo) (is_missing o)) c.in-None.is c.in_ok-hear.ensures.asks
+
+pub returns-in-Some-2-clause-asks : goal.returns-in-Some-2-clause-asks
+returns-in-Some-2-clause-asks g c =
+    subst (λ o. AsksOn g.B.BatchName.batch g.B.BatchName.opening c.args.query (shards_in c.args.memo.now) false (shards_in c.hear.new.memo) (is_missing o)) c.in-Some-2.is c.in_ok-hear.ensures.asks

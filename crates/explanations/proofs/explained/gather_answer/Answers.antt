@@ -1,4 +1,4 @@
-use Rattle.std.proofs.Common.{◌≡◌, List, [], ◌∷◌, Some, sym, subst}
+use Rattle.std.proofs.Common.{◌≡◌, true, false, List, [], ◌∷◌, Some, sym, subst}
 use Rattle.std.specs.BTreeMap.{get}
 use Rattle.std.specs.Global.{Vec}
 use Rattle.valid_intervals.specs.declared.Cell.{Cell}
@@ -7,9 +7,11 @@ use Rattle.circuit_meaning.specs.Cells.{cell_at, point_at}
 use Rattle.session_meaning.specs.Explanations.{Explains}
 use Rattle.plan_machine.specs.inner.Settle.{IsStanding, Advances}
 use Rattle.plan_core.specs.Parts.{shards_in}
+use Rattle.asked_cells.specs.Asked.{AsksOn}
 use Rattle.asked_cells.specs.Memos.{entries_of, is_missing}
 use Rattle.asked_cells.specs.inner.Standings.{live, standing}
 use Rattle.asked_cells.proofs.Alone.{some-of}
+use Rattle.asked_cells.proofs.Asking.{asks-then}
 use Rattle.explanations.specs.inner.Waiting.{place_cmp}
 use Rattle.explanations.specs.inner.Gathered.{Looks, AreExplained}
 use Rattle.explanations.proofs.Answering.{known, root-needed, begins-standing, is-heard, answers-proof, answers-budget, journals-grown}
@@ -106,3 +108,29 @@ returns-in-Some-2-clause-answer g c =
     let e = some-of (λ (xs : Vec SignalCell). AreExplained b.circuit (entries_of new) q xs.items) c.in_ok-gather.field-0 c.in-Some-2.lines c.in_ok-gather.ensures.lines c.in-Some-2.is in
     subst (λ (cells : List SignalCell). Explains b.circuit (entries_of new) q cells cell.value) (sym c.from_vec.ensures)
     (answers-proof b lawful opening q c.requires.queries c.requires.window first heard new cell c.in-Some-2.lines.items right h.covered a e)
+
+pub returns-in_default-clause-asks : goal.returns-in_default-clause-asks
+returns-in_default-clause-asks g c =
+    subst (λ o. AsksOn g.B.BatchName.batch g.B.BatchName.opening c.args.query (shards_in c.args.memo.now) false (shards_in c.hear.new.memo) (is_missing o)) c.in_default.is c.in_ok-cell.ensures.asks
+
+pub returns-in-None-clause-asks : goal.returns-in-None-clause-asks
+returns-in-None-clause-asks g c =
+    let b = g.B.BatchName.batch in
+    let q = c.args.query in
+    let old = c.args.memo.now in
+    let heard = c.hear.new.memo in
+    let new = c.gather.new.memo in
+    asks-then b g.B.BatchName.opening q (shards_in old) false (shards_in heard) (shards_in new) true
+    (subst (λ o. AsksOn b g.B.BatchName.opening q (shards_in old) false (shards_in heard) (is_missing o)) c.in-Some.is c.in_ok-cell.ensures.asks)
+    (subst (λ o. AsksOn b g.B.BatchName.opening q (shards_in heard) false (shards_in new) (is_missing o)) c.in-None.is c.in_ok-gather.ensures.asks)
+
+pub returns-in-Some-2-clause-asks : goal.returns-in-Some-2-clause-asks
+returns-in-Some-2-clause-asks g c =
+    let b = g.B.BatchName.batch in
+    let q = c.args.query in
+    let old = c.args.memo.now in
+    let heard = c.hear.new.memo in
+    let new = c.gather.new.memo in
+    asks-then b g.B.BatchName.opening q (shards_in old) false (shards_in heard) (shards_in new) false
+    (subst (λ o. AsksOn b g.B.BatchName.opening q (shards_in old) false (shards_in heard) (is_missing o)) c.in-Some.is c.in_ok-cell.ensures.asks)
+    (subst (λ o. AsksOn b g.B.BatchName.opening q (shards_in heard) false (shards_in new) (is_missing o)) c.in-Some-2.is c.in_ok-gather.ensures.asks)

@@ -1,18 +1,35 @@
-use Rattle.std.proofs.Common.{◌≡◌, ◌<◌, ◌≤◌, ◌∷◌, true, false, List, [], Contains, length, reverse, sym, subst}
+use Rattle.std.proofs.Common.{◌≡◌, ◌<◌, ◌≤◌, ◌∷◌, true, false, List, [], Contains, length, reverse, sym, ap, subst}
 use Rattle.std.specs.BTreeMap.{get}
 use Rattle.valid_intervals.specs.declared.Point.{Point}
 use Rattle.valid_intervals.specs.declared.SignalCell.{SignalCell}
 use Rattle.circuit_meaning.specs.Circuit.{Circuit}
 use Rattle.plan_machine.specs.inner.Settle.{Advances}
-use Rattle.plan_machine.proofs.Settle.{then}
-use Rattle.demand_points.specs.Frames.{IsPoint, looked_at}
+use Rattle.plan_machine.proofs.Settle.{stays, then}
+use Rattle.plan_machine.proofs.Underway.{contains-none}
+use Rattle.pin_walks.specs.PinWalks.{IsPoint, looked_at}
+use Rattle.plan_core.specs.Parts.{shards_in}
+use Rattle.asked_cells.specs.Asked.{AsksOn, Nothing}
 use Rattle.asked_cells.specs.Memos.{entries_of}
 use Rattle.asked_cells.specs.inner.Standings.{live, standing}
+use Rattle.asked_cells.proofs.Asking.{asks-then}
 use Rattle.explanations.specs.inner.Waiting.{place_cmp, line_of, point_of}
 use Rattle.explanations.specs.inner.Gathered.{Looks, AreGathered, AreSourcesKept, AreExplained, rank}
 use Rattle.explanations.proofs.Gathering.{taken-first, wanted-point, steps, takes-less}
 use Rattle.explanations.proofs.Following.{explained}
 use Rattle.explanations.proofs.lines.gather.Goals as goal
+
+pub cells-init : goal.cells-init
+cells-init g c =
+    let b = g.B.BatchName.batch in
+    let q = c.args.query in
+    let none : c.new-lines.result.items ≡ [] = c.new-lines.ensures.items in
+    record {
+      asking = c.requires.asking;
+      advances = λ first s. stays b g.B.BatchName.opening q [] first (live c.args.memo.now) s;
+      gathered = subst (λ (l : List SignalCell). AreGathered b q (entries_of c.args.memo.now) (reverse l) (get place_cmp c.args.waiting.cells)) (sym none) c.requires.gathered;
+      sources = λ x h. absurd (contains-none x (reverse c.new-lines.result.items) (ap reverse none) h);
+      asks = Nothing;
+    }
 
 pub ask_children-requires-clause-point : goal.ask_children-requires-clause-point
 ask_children-requires-clause-point g c =
@@ -61,6 +78,8 @@ cells-preserved g c =
           then b g.B.BatchName.opening q [] first (live c.args.memo.now) (live mid) (standing new false) a (subst (λ r. Advances b g.B.BatchName.opening q [] first (live mid) (standing new r)) c.if-branch.false (c.in_ok-ask_children.ensures.advances first a.stands));
       gathered = subst (λ (l : List SignalCell). AreGathered b q (entries_of new) l after) (sym more) step.gathered;
       sources = subst (λ (l : List SignalCell). (x : SignalCell) → Contains l x → AreSourcesKept b.circuit l after x) (sym more) step.sources;
+      asks = asks-then b g.B.BatchName.opening q (shards_in c.args.memo.now) false (shards_in mid) (shards_in new) false c.cells.invariant.asks
+          (subst (AsksOn b g.B.BatchName.opening q (shards_in mid) false (shards_in new)) c.if-branch.false c.in_ok-ask_children.ensures.asks);
     }
 
 pub returns-clause-lines : goal.returns-clause-lines
@@ -71,3 +90,12 @@ returns-clause-lines g c =
     let k = c.cells.invariant in
     subst (AreExplained b.circuit es q) (sym {A = List SignalCell} c.reverse.ensures.items)
     (explained b c.requires.lawful q c.requires.known es (reverse c.cells.lines.items) (get place_cmp c.cells.waiting.cells) k.gathered c.in_default.ensures.none k.sources)
+
+pub returns-then-branch-clause-asks : goal.returns-then-branch-clause-asks
+returns-then-branch-clause-asks g c =
+    let b = g.B.BatchName.batch in
+    let q = c.args.query in
+    let mid = c.cells.memo in
+    let new = c.ask_children.new.memo in
+    asks-then b g.B.BatchName.opening q (shards_in c.args.memo.now) false (shards_in mid) (shards_in new) true c.cells.invariant.asks
+    (subst (AsksOn b g.B.BatchName.opening q (shards_in mid) false (shards_in new)) c.if-branch.true c.in_ok-ask_children.ensures.asks)

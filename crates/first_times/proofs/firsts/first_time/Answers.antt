@@ -6,8 +6,10 @@ use Rattle.plan_machine.specs.Settle.{journals_of}
 use Rattle.plan_machine.proofs.Freed.{all-freed}
 use Rattle.memo_shards.specs.KeptShards.{KeptShard}
 use Rattle.plan_core.specs.Parts.{shards_in}
+use Rattle.asked_cells.specs.Asked.{AsksFreed}
 use Rattle.asked_cells.proofs.Unused.{unused-freed}
-use Rattle.first_times.specs.Asks.{AsksUpToFirst}
+use Rattle.session_meaning.specs.FirstTimes.{up_to_first}
+use Rattle.first_times.specs.Asks.{is_budget}
 use Rattle.first_times.proofs.firsts.first_time.Goals as goal
 
 pub walk-requires-clause-unused : goal.walk-requires-clause-unused
@@ -26,5 +28,6 @@ returns-clause-journals g c =
 
 pub returns-clause-asks : goal.returns-clause-asks
 returns-clause-asks g c =
-    subst (λ (ms : List KeptShard). AsksUpToFirst g.B.BatchName.batch g.B.BatchName.opening c.args.query c.args.value (shards_in c.args.shards.items) (shards_in ms) c.in_ok-answer.answer) (sym c.into_shards.ensures)
+    let b = g.B.BatchName.batch in
+    subst (λ (ms : List KeptShard). AsksFreed b g.B.BatchName.opening (up_to_first b.circuit c.args.query c.args.value) (shards_in c.args.shards.items) (shards_in ms) (is_budget c.in_ok-answer.answer)) (sym c.into_shards.ensures)
     (record { freed = shards_in c.in_ok-memo.memo; frees = c.in_ok-memo.ensures.freed; asks = c.in_ok-answer.ensures.asks })

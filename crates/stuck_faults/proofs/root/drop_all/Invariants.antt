@@ -1,11 +1,14 @@
 use Rattle.std.proofs.Common.{◌≡◌, length}
-use Rattle.stuck_faults.specs.inner.Both.{GivesUp, AreKept}
+use Rattle.stuck_faults.specs.Asks.{RefusedBy}
+use Rattle.stuck_faults.specs.inner.Both.{GivesUp, Extends}
 use Rattle.stuck_faults.proofs.root.drop_all.Given as goal
 
 abbrev pub invariant-claims : goal.invariant-claims
 invariant-claims g l = record {
-  gives_up : GivesUp g.B.BatchName.batch l.fn.question l.fn.time l.memos.session l.memos.own l.strand;
-  kept : AreKept l.initial.memos.own.shard.journal l.memos.own.shard.journal;
+  gives_up : (who : RefusedBy) × GivesUp g.B.BatchName.batch l.fn.question l.fn.time l.memos.session l.memos.own l.strand who;
+  goes : (who : RefusedBy) → GivesUp g.B.BatchName.batch l.fn.question l.fn.time l.initial.memos.session l.initial.memos.own l.fn.strand who
+      → GivesUp g.B.BatchName.batch l.fn.question l.fn.time l.memos.session l.memos.own l.strand who;
+  extends : Extends l.initial.memos.own.shard.journal l.memos.own.shard.journal;
   session : l.memos.session ≡ l.initial.memos.session;
   charge : l.memos.charge ≡ l.initial.memos.charge;
 }

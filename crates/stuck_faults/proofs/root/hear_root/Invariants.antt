@@ -1,6 +1,9 @@
+use Rattle.std.proofs.Common.{false}
 use Rattle.plan_machine.specs.Bounds.{turns_left}
+use Rattle.plan_core.specs.Parts.{shards_in}
+use Rattle.asked_cells.specs.Asked.{AsksOn}
 use Rattle.asked_cells.specs.Memos.{IsChargedMemo, entries_of}
-use Rattle.stuck_faults.specs.inner.Both.{Asks, AreKept}
+use Rattle.stuck_faults.specs.inner.Both.{Asks, AreKept, Extends}
 use Rattle.stuck_faults.proofs.root.hear_root.Given as goal
 
 abbrev pub invariant-turns : goal.invariant-turns
@@ -8,7 +11,8 @@ invariant-turns g l = record {
   session : IsChargedMemo g.B.BatchName.batch g.B.BatchName.opening l.memos.session l.question.query l.memos.charge;
   asks : Asks g.B.BatchName.batch g.B.BatchName.opening l.question l.time l.memos.session l.memos.own l.strand;
   kept_session : AreKept (entries_of l.initial.memos.session) (entries_of l.memos.session);
-  kept_own : AreKept l.initial.memos.own.shard.journal l.memos.own.shard.journal;
+  extends : Extends l.initial.memos.own.shard.journal l.memos.own.shard.journal;
+  session_asks : AsksOn g.B.BatchName.batch g.B.BatchName.opening l.question.query (shards_in l.initial.memos.session) false (shards_in l.memos.session) false;
 }
 
 abbrev pub decreases-turns : goal.decreases-turns

@@ -1,9 +1,12 @@
-use Rattle.std.proofs.Common.{◌≡◌, sym, ap, ◌∙◌, arith}
+use Rattle.std.proofs.Common.{◌≡◌, false, sym, ap, subst, ◌∙◌, arith}
 use Rattle.valid_intervals.specs.declared.Cell.{Cell}
 use Rattle.circuit_meaning.specs.Cells.{cell_at}
+use Rattle.plan_core.specs.Parts.{shards_in}
+use Rattle.asked_cells.specs.Asked.{AsksOn}
 use Rattle.asked_cells.specs.Memos.{is_missing}
 use Rattle.asked_cells.proofs.Alone.{some-of}
-use Rattle.stuck_faults.proofs.Turns.{turn-asks, turn-starts, turn-cell, turn-heard, turn-refused}
+use Rattle.stuck_faults.specs.Asks.{Session}
+use Rattle.stuck_faults.proofs.Turns.{turn-asks, turn-starts, turn-cell, turn-session, turn-heard, turn-refused}
 use Rattle.stuck_faults.proofs.turn.ask_session.Goals as goal
 
 pub overflow_add-one : goal.overflow_add-one
@@ -39,13 +42,26 @@ heard-requires-clause-answer g c = (
 )
 
 pub returns-in-Some-clause-turn : goal.returns-in-Some-clause-turn
-returns-in-Some-clause-turn g c =
-    turn-heard g.B.BatchName.batch g.H.BatchName.batch g.B.BatchName.opening c.args.question c.args.design.now.circuit c.args.held.now.design.circuit c.args.held.now.reached c.requires.asked
-    c.args.time c.args.memos.now.session c.args.memos.now.own c.args.strand c.requires.asks c.facts.ensures c.args.p c.requires.next c.requires.free c.args.memos.now.charge c.requires.session.counts
-    c.reach.new.memo (is_missing c.in_ok-cell.field-0) c.in_ok-cell.ensures.asked (ap is_missing c.in-Some.is) c.heard.new.self c.heard.ensures
+returns-in-Some-clause-turn g c = (
+  subst (λ o. AsksOn g.B.BatchName.batch g.B.BatchName.opening c.args.question.query (shards_in c.args.memos.now.session) false (shards_in c.reach.new.memo) (is_missing o)) c.in-Some.is
+      (turn-session g.B.BatchName.batch g.H.BatchName.batch g.B.BatchName.opening c.args.question c.args.design.now.circuit c.args.held.now.design.circuit c.args.held.now.reached c.requires.asked
+      c.args.time c.args.memos.now.session c.args.memos.now.own c.args.strand c.requires.asks c.facts.ensures c.args.p c.requires.next c.requires.free c.args.memos.now.charge c.requires.session.counts
+      c.reach.new.memo (is_missing c.in_ok-cell.field-0) c.in_ok-cell.ensures.asked),
+  turn-heard g.B.BatchName.batch g.H.BatchName.batch g.B.BatchName.opening c.args.question c.args.design.now.circuit c.args.held.now.design.circuit c.args.held.now.reached c.requires.asked
+      c.args.time c.args.memos.now.session c.args.memos.now.own c.args.strand c.requires.asks c.facts.ensures c.args.p c.requires.next c.requires.free c.args.memos.now.charge c.requires.session.counts
+      c.reach.new.memo (is_missing c.in_ok-cell.field-0) c.in_ok-cell.ensures.asked
+      (ap is_missing c.in-Some.is) c.heard.new.self c.heard.ensures,
+)
 
 pub returns-in-None-clause-turn : goal.returns-in-None-clause-turn
-returns-in-None-clause-turn g c =
-    turn-refused g.B.BatchName.batch g.H.BatchName.batch g.B.BatchName.opening c.args.question c.args.design.now.circuit c.args.held.now.design.circuit c.args.held.now.reached c.requires.asked
-    c.args.time c.args.memos.now.session c.args.memos.now.own c.args.strand c.requires.asks c.facts.ensures c.args.p c.requires.next c.requires.free c.args.memos.now.charge c.requires.session.counts
-    c.reach.new.memo (is_missing c.in_ok-cell.field-0) c.in_ok-cell.ensures.asked (ap is_missing c.in-None.is) c.give_up.new.self c.give_up.ensures
+returns-in-None-clause-turn g c = (
+  Session,
+  subst (λ o. AsksOn g.B.BatchName.batch g.B.BatchName.opening c.args.question.query (shards_in c.args.memos.now.session) false (shards_in c.reach.new.memo) (is_missing o)) c.in-None.is
+      (turn-session g.B.BatchName.batch g.H.BatchName.batch g.B.BatchName.opening c.args.question c.args.design.now.circuit c.args.held.now.design.circuit c.args.held.now.reached c.requires.asked
+      c.args.time c.args.memos.now.session c.args.memos.now.own c.args.strand c.requires.asks c.facts.ensures c.args.p c.requires.next c.requires.free c.args.memos.now.charge c.requires.session.counts
+      c.reach.new.memo (is_missing c.in_ok-cell.field-0) c.in_ok-cell.ensures.asked),
+  turn-refused g.B.BatchName.batch g.H.BatchName.batch g.B.BatchName.opening c.args.question c.args.design.now.circuit c.args.held.now.design.circuit c.args.held.now.reached c.requires.asked
+      c.args.time c.args.memos.now.session c.args.memos.now.own c.args.strand c.requires.asks c.facts.ensures c.args.p c.requires.next c.requires.free c.args.memos.now.charge c.requires.session.counts
+      c.reach.new.memo (is_missing c.in_ok-cell.field-0) c.in_ok-cell.ensures.asked
+      (ap is_missing c.in-None.is) c.give_up.new.self c.give_up.ensures,
+)

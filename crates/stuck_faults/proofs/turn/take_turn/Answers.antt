@@ -1,6 +1,7 @@
 use Rattle.std.proofs.Common.{false, sym, ◌∙◌, arith, true≢false}
+use Rattle.asked_cells.specs.Asked.{Nothing}
 use Rattle.asked_cells.proofs.Lists.{or-at}
-use Rattle.stuck_faults.proofs.Turns.{turn-asks, turn-same, asks-same, ok-of, session-kept, own-kept}
+use Rattle.stuck_faults.proofs.Turns.{turn-asks, turn-same, asks-same, ok-of, session-kept, extends-none, own-extends}
 use Rattle.stuck_faults.proofs.turn.take_turn.Goals as goal
 
 pub fill-requires-clause-asks : goal.fill-requires-clause-asks
@@ -35,10 +36,13 @@ ask_session-requires-clause-free g c cone =
     true≢false (sym ((c.requires.asked.reads c.in-Ask.p.signal k).1 cone) ∙ or-at c.args.held.now.reached c.in-Ask.p.signal c.get.result false c.get.ensures ∙ c.if-get.false)
 
 pub returns-in-Done-clause-turn : goal.returns-in-Done-clause-turn
-returns-in-Done-clause-turn g c = record {
-  asks = asks-same g.B.BatchName.batch g.B.BatchName.opening c.args.question c.args.time c.args.memos.now.session c.args.memos.now.own c.args.strand c.next_step.new.self c.next_step.ensures.steps c.requires.asks;
-  done = sym c.next_step.ensures.next ∙ c.in-Done.is;
-}
+returns-in-Done-clause-turn g c = (
+  Nothing,
+  record {
+    asks = asks-same g.B.BatchName.batch g.B.BatchName.opening c.args.question c.args.time c.args.memos.now.session c.args.memos.now.own c.args.strand c.next_step.new.self c.next_step.ensures.steps c.requires.asks;
+    done = sym c.next_step.ensures.next ∙ c.in-Done.is;
+  },
+)
 
 pub returns-then-get-clause-kept_session : goal.returns-then-get-clause-kept_session
 returns-then-get-clause-kept_session g c = ok-of c.ask_own.result _ (session-kept c.args.memos.now.session c.ask_own.new.memos.session c.ask_own.ensures.session)
@@ -47,13 +51,16 @@ pub returns-in-Fill-clause-kept_session : goal.returns-in-Fill-clause-kept_sessi
 returns-in-Fill-clause-kept_session g c = ok-of c.fill.result _ (session-kept c.args.memos.now.session c.fill.new.memos.session c.fill.ensures.session)
 
 pub returns-in-Fill-clause-turn : goal.returns-in-Fill-clause-turn
-returns-in-Fill-clause-turn g c = turn-same g.B.BatchName.batch g.B.BatchName.opening g.H.BatchName.batch c.args.question c.args.time c.fill.new.memos.session c.fill.new.memos.own c.args.strand c.next_step.new.self c.next_step.ensures.steps c.fill.result c.fill.ensures.turn
+returns-in-Fill-clause-turn g c = turn-same g.B.BatchName.batch g.B.BatchName.opening g.H.BatchName.batch c.args.question c.args.time c.args.memos.now.session c.fill.new.memos.session c.fill.new.memos.own c.args.strand c.next_step.new.self c.next_step.ensures.steps c.fill.result c.fill.ensures.turn
 
 pub returns-then-get-clause-turn : goal.returns-then-get-clause-turn
-returns-then-get-clause-turn g c = turn-same g.B.BatchName.batch g.B.BatchName.opening g.H.BatchName.batch c.args.question c.args.time c.ask_own.new.memos.session c.ask_own.new.memos.own c.args.strand c.next_step.new.self c.next_step.ensures.steps c.ask_own.result c.ask_own.ensures.turn
+returns-then-get-clause-turn g c = turn-same g.B.BatchName.batch g.B.BatchName.opening g.H.BatchName.batch c.args.question c.args.time c.args.memos.now.session c.ask_own.new.memos.session c.ask_own.new.memos.own c.args.strand c.next_step.new.self c.next_step.ensures.steps c.ask_own.result c.ask_own.ensures.turn
 
 pub returns-else-get-clause-turn : goal.returns-else-get-clause-turn
-returns-else-get-clause-turn g c = turn-same g.B.BatchName.batch g.B.BatchName.opening g.H.BatchName.batch c.args.question c.args.time c.ask_session.new.memos.session c.ask_session.new.memos.own c.args.strand c.next_step.new.self c.next_step.ensures.steps c.ask_session.result c.ask_session.ensures.turn
+returns-else-get-clause-turn g c = turn-same g.B.BatchName.batch g.B.BatchName.opening g.H.BatchName.batch c.args.question c.args.time c.args.memos.now.session c.ask_session.new.memos.session c.ask_session.new.memos.own c.args.strand c.next_step.new.self c.next_step.ensures.steps c.ask_session.result c.ask_session.ensures.turn
 
-pub returns-else-get-clause-kept_own : goal.returns-else-get-clause-kept_own
-returns-else-get-clause-kept_own g c = ok-of c.ask_session.result _ (own-kept c.args.memos.now.own c.ask_session.new.memos.own c.ask_session.ensures.own)
+pub returns-else-get-clause-extends : goal.returns-else-get-clause-extends
+returns-else-get-clause-extends g c = ok-of c.ask_session.result _ (own-extends c.args.memos.now.own c.ask_session.new.memos.own c.ask_session.ensures.own)
+
+pub returns-in-Done-clause-extends : goal.returns-in-Done-clause-extends
+returns-in-Done-clause-extends g c = extends-none c.args.memos.now.own.shard.journal

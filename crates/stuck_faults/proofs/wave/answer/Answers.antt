@@ -1,7 +1,9 @@
-use Rattle.std.proofs.Common.{List, sym, ap, subst}
+use Rattle.std.proofs.Common.{List, [], sym, ap, subst}
 use Rattle.journal_meaning.specs.declared.Entry.{Entry}
 use Rattle.batch_meaning.specs.Lawful.{IsLawful}
 use Rattle.session_meaning.specs.StuckSignals.{IsHeldJournal}
+use Rattle.plan_core.specs.Parts.{shards_in}
+use Rattle.stuck_faults.specs.Asks.{AsksRoots, is_budget}
 use Rattle.stuck_faults.specs.inner.Both.{site_in}
 use Rattle.memo_shards.specs.KeptShards.{KeptShard}
 use Rattle.stuck_faults.proofs.Held.{held-lawful, ends-held}
@@ -26,3 +28,17 @@ pub walk-requires-clause-rests : goal.walk-requires-clause-rests
 walk-requires-clause-rests g c =
     rests-begin g.B.BatchName.batch g.B.BatchName.opening c.args.question c.args.session c.begin.result c.requires.session c.requires.unused
     (ap (λ (m : KeptShard). m.number) c.begin.ensures) (ap (λ (m : KeptShard). m.shard.journal) c.begin.ensures) (ap (λ (m : KeptShard). m.shard.state.claims) c.begin.ensures)
+
+pub returns-clause-asks : goal.returns-clause-asks
+returns-clause-asks g c =
+    let b = g.B.BatchName.batch in
+    let opening = g.B.BatchName.opening in
+    let site = site_in c.args.question in
+    let q = c.args.question.query in
+    let first = shards_in c.args.session in
+    let refused = is_budget c.in_ok-answer.answer in
+    let new = shards_in c.walk.new.memos.session in
+    let own = c.walk.new.memos.own.shard.journal in
+    subst (λ (ms : List KeptShard). AsksRoots b opening site q first [] (shards_in ms) c.end_batch-journal.result.1.items refused) (sym c.into_shards.ensures)
+    (subst (λ es. AsksRoots b opening site q first [] new es refused) (sym c.end_batch-journal.ensures.journal)
+    (subst (λ es. AsksRoots b opening site q first es new own refused) (ap (λ (m : KeptShard). m.shard.journal) c.begin.ensures) c.in_ok-answer.ensures.asks))

@@ -2,16 +2,20 @@ use Rattle.std.proofs.Common.{◌≡◌, ◌+◌, ◌<◌, ◌≤◌, OnSome, sy
 use Rattle.valid_intervals.specs.declared.Cell.{Cell}
 use Rattle.circuit_meaning.specs.Cells.{cell_at, span}
 use Rattle.circuit_meaning.specs.Forward.{wave}
+use Rattle.circuit_meaning.specs.Need.{IsRoot}
 use Rattle.circuit_meaning.proofs.Alike.{held-fits}
-use Rattle.batch_meaning.specs.Batches.{Batch}
+use Rattle.batch_meaning.specs.Batches.{Batch, window_of}
 use Rattle.session_meaning.specs.StuckSignals.{stuck_circuit, IsCoveredBy}
+use Rattle.plan_machine.specs.Settle.{charge_of, root_start}
 use Rattle.plan_machine.proofs.Settle.{right-of}
 use Rattle.plan_core.specs.Parts.{shards_in}
-use Rattle.asked_cells.specs.Memos.{at_time, entries_of}
+use Rattle.asked_cells.specs.Memos.{at_time, entries_of, is_missing}
 use Rattle.asked_cells.proofs.Alone.{some-of}
+use Rattle.stuck_faults.specs.Asks.{HearsRoot, Nothing, Root}
 use Rattle.stuck_faults.specs.inner.Both.{Rests, site_in}
 use Rattle.stuck_faults.proofs.Held.{window-within}
 use Rattle.stuck_faults.proofs.Resting.{rests-fed}
+use Rattle.stuck_faults.proofs.Turns.{extends-kept}
 use Rattle.stuck_faults.proofs.Walks.{AreRight, own-right, begins-walking, ends-later, goes-on, ends-closed}
 use Rattle.stuck_faults.proofs.wave.walk.Goals as goal
 
@@ -25,6 +29,7 @@ cells-init g c =
       rests = c.requires.rests;
       walking = begins-walking b.circuit lawful.circuit question (window-within b lawful question.query c.requires.asked.queries) (entries_of c.args.memos.now.session) c.args.memos.now.own.shard.journal c.new-walk.result
           c.new-walk.ensures.start c.new-walk.ensures.stop c.new-walk.ensures.time (c.new-walk.ensures.walked (stuck_circuit b.circuit (site_in question)) question.query.signal);
+      asks = Nothing;
     }
 
 pub cells-smaller : goal.cells-smaller
@@ -52,6 +57,7 @@ cells-preserved g c =
     let d = stuck_circuit b.circuit site in
     let es = entries_of c.hear_root.new.memos.session in
     let own = c.hear_root.new.memos.own.shard.journal in
+    let was = c.cells.memos.own.shard.journal in
     let t = c.cells.walk.time in
     let here : c.in-Some.time ≡ t = c.in-Some.ensures.some.0 in
     let told : c.in-Some-2.cell ≡ cell_at d (at_time q c.in-Some.time) = some-of (λ (x : Cell). x ≡ cell_at d (at_time q c.in-Some.time)) c.in_ok-cell.field-0 c.in-Some-2.cell c.in_ok-cell.ensures.cell c.in-Some-2.is in
@@ -63,9 +69,11 @@ cells-preserved g c =
     record {
       session = c.in_ok-cell.ensures.session;
       rests = subst (λ o. OnSome o (Rests b g.B.BatchName.opening question c.hear_root.new.memos.session c.hear_root.new.memos.own c.hear_root.new.memos.filled)) c.in-Some-2.is c.in_ok-cell.ensures.rests;
-      walking = goes-on b.circuit lawful.circuit question (window-within b lawful q c.requires.asked.queries) (entries_of c.cells.memos.session) es c.cells.memos.own.shard.journal own c.in_ok-cell.ensures.kept_session c.in_ok-cell.ensures.kept_own
+      walking = goes-on b.circuit lawful.circuit question (window-within b lawful q c.requires.asked.queries) (entries_of c.cells.memos.session) es c.cells.memos.own.shard.journal own c.in_ok-cell.ensures.kept_session (extends-kept c.cells.memos.own.shard.journal own c.in_ok-cell.ensures.extends)
           (right-of b lawful g.B.BatchName.opening (shards_in c.hear_root.new.memos.session) c.in_ok-cell.ensures.session.kept.fresh) own_right c.cells.walk c.push.new.self c.cells.invariant.walking before covered
           c.in_ok-push.ensures.start c.in_ok-push.ensures.stop (c.in_ok-push.ensures.time ∙ ap (λ (x : Cell). x.span.stop) right) (c.in_ok-push.ensures.walked d q.signal c.cells.invariant.walking.walked right);
+      asks = Root c.cells.invariant.asks c.in-Some.time (subst (IsRoot d (window_of q)) (sym here) (c.cells.invariant.walking.root before))
+          (subst (λ o. HearsRoot b g.B.BatchName.opening site (root_start q c.in-Some.time (charge_of was q)) (shards_in c.cells.memos.session) was (shards_in c.hear_root.new.memos.session) own (is_missing o)) c.in-Some-2.is c.in_ok-cell.ensures.asks);
     }
 
 pub returns-clause-answer : goal.returns-clause-answer
@@ -85,3 +93,17 @@ returns-clause-answer g c =
       runs ∙ ap (λ n. wave d q.signal n walk.stop) walking.start ∙ ap (wave d q.signal q.from) walking.stop,
       ends-closed b.circuit lawful.circuit question within (entries_of c.cells.memos.session) c.cells.memos.own.shard.journal walk walking end (rests-fed b g.B.BatchName.opening question c.cells.memos.session c.cells.memos.own c.cells.memos.filled c.cells.invariant.rests),
     )
+
+pub returns-in_default-2-clause-asks : goal.returns-in_default-2-clause-asks
+returns-in_default-2-clause-asks g c =
+    let b = g.B.BatchName.batch in
+    let question = c.args.question in
+    let q = question.query in
+    let site = site_in question in
+    let d = stuck_circuit b.circuit site in
+    let was = c.cells.memos.own.shard.journal in
+    let t = c.in-Some.time in
+    let here : t ≡ c.cells.walk.time = c.in-Some.ensures.some.0 in
+    let before : c.cells.walk.time < q.to = subst (λ n. c.cells.walk.time < n) c.cells.invariant.walking.stop (subst (λ u. u < c.cells.walk.stop) here c.in-Some.ensures.some.1) in
+    Root c.cells.invariant.asks t (subst (IsRoot d (window_of q)) (sym here) (c.cells.invariant.walking.root before))
+    (subst (λ o. HearsRoot b g.B.BatchName.opening site (root_start q t (charge_of was q)) (shards_in c.cells.memos.session) was (shards_in c.hear_root.new.memos.session) c.hear_root.new.memos.own.shard.journal (is_missing o)) c.in_default-2.is c.in_ok-cell.ensures.asks)

@@ -1,6 +1,8 @@
-use Rattle.std.proofs.Common.{◌-◌}
+use Rattle.std.proofs.Common.{◌-◌, false}
+use Rattle.plan_core.specs.Parts.{shards_in}
 use Rattle.asked_cells.specs.Memos.{IsChargedMemo, entries_of}
-use Rattle.stuck_faults.specs.inner.Both.{Rests}
+use Rattle.stuck_faults.specs.Asks.{AsksRoots}
+use Rattle.stuck_faults.specs.inner.Both.{Rests, site_in}
 use Rattle.stuck_faults.proofs.Walks.{IsWalking}
 use Rattle.stuck_faults.proofs.wave.walk.Given as goal
 
@@ -9,6 +11,7 @@ invariant-cells g l = record {
   session : IsChargedMemo g.B.BatchName.batch g.B.BatchName.opening l.memos.session l.question.query l.memos.charge;
   rests : Rests g.B.BatchName.batch g.B.BatchName.opening l.question l.memos.session l.memos.own l.memos.filled;
   walking : IsWalking g.B.BatchName.batch.circuit l.question (entries_of l.memos.session) l.memos.own.shard.journal l.walk;
+  asks : AsksRoots g.B.BatchName.batch g.B.BatchName.opening (site_in l.question) l.question.query (shards_in l.initial.memos.session) l.initial.memos.own.shard.journal (shards_in l.memos.session) l.memos.own.shard.journal false;
 }
 
 abbrev pub decreases-cells : goal.decreases-cells

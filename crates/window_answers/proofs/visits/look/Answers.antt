@@ -2,7 +2,7 @@ use Rattle.std.proofs.Common.{◌≡◌, Some, None, false, sym, ap, subst, ◌�
 use Rattle.circuit_meaning.specs.Circuit.{Circuit}
 use Rattle.plan_machine.specs.inner.Settle.{Advances}
 use Rattle.plan_machine.proofs.Settle.{child-needed}
-use Rattle.demand_points.specs.Frames.{looked_at}
+use Rattle.pin_walks.specs.PinWalks.{looked_at}
 use Rattle.plan_core.specs.Parts.{shards_in}
 use Rattle.asked_cells.specs.Asked.{AsksOn, Nothing}
 use Rattle.asked_cells.specs.Memos.{entries_of, is_missing}
@@ -17,8 +17,8 @@ use Rattle.window_answers.proofs.visits.look.Goals as goal
 pub reach-requires-clause-start : goal.reach-requires-clause-start
 reach-requires-clause-start g c =
     let b = g.B.BatchName.batch in
-    let p = c.args.frame.now.point in
-    let n = c.args.frame.now.looked in
+    let p = c.args.walk.now.point in
+    let n = c.args.walk.now.looked in
     let x = c.in-Some.x in
     let there : get_or (looked_at c.args.design.now.circuit p) n None ≡ Some x = sym c.next_source.ensures.source ∙ c.in-Some.is in
     let here : get_or (looked_at b.circuit p) n None ≡ Some x = subst (λ (d : Circuit). get_or (looked_at d p) n None ≡ Some x) c.requires.design there in
@@ -52,8 +52,8 @@ pub returns-in-None-clause-asks : goal.returns-in-None-clause-asks
 returns-in-None-clause-asks g c =
     let b = g.B.BatchName.batch in
     let ms = c.args.memo.now in
-    let p = c.args.frame.now.point in
-    let n = c.args.frame.now.looked in
+    let p = c.args.walk.now.point in
+    let n = c.args.walk.now.looked in
     let x = c.in-Some.x in
     let there : get_or (looked_at c.args.design.now.circuit p) n None ≡ Some x = sym c.next_source.ensures.source ∙ c.in-Some.is in
     let here : get_or (looked_at b.circuit p) n None ≡ Some x = subst (λ (d : Circuit). get_or (looked_at d p) n None ≡ Some x) c.requires.design there in
@@ -64,8 +64,8 @@ pub returns-in-Some-2-clause-asks : goal.returns-in-Some-2-clause-asks
 returns-in-Some-2-clause-asks g c =
     let b = g.B.BatchName.batch in
     let ms = c.args.memo.now in
-    let p = c.args.frame.now.point in
-    let n = c.args.frame.now.looked in
+    let p = c.args.walk.now.point in
+    let n = c.args.walk.now.looked in
     let x = c.in-Some.x in
     let there : get_or (looked_at c.args.design.now.circuit p) n None ≡ Some x = sym c.next_source.ensures.source ∙ c.in-Some.is in
     let here : get_or (looked_at b.circuit p) n None ≡ Some x = subst (λ (d : Circuit). get_or (looked_at d p) n None ≡ Some x) c.requires.design there in

@@ -2,7 +2,7 @@ use Rattle.std.proofs.Common.{◌≡◌, ◌<◌, ◌-◌, ℕ, List, None, fals
 use Rattle.journal_meaning.specs.declared.Entry.{Entry}
 use Rattle.plan_machine.specs.Shards.{Shard}
 use Rattle.plan_machine.specs.inner.Settle.{IsStanding, Advances}
-use Rattle.demand_points.specs.Frames.{IsFrame, looked_at}
+use Rattle.pin_walks.specs.PinWalks.{IsPinWalk, looked_at}
 use Rattle.plan_core.specs.Parts.{shards_in}
 use Rattle.asked_cells.specs.Asked.{AsksOn}
 use Rattle.asked_cells.specs.Memos.{IsChargedMemo, entries_of}
@@ -12,15 +12,15 @@ use Rattle.window_answers.proofs.visits.settle_children.Given as goal
 
 abbrev pub invariant-pins : goal.invariant-pins
 invariant-pins g l = record {
-  frame : IsFrame l.design.circuit l.frame;
-  point : l.frame.point ≡ l.fn.p;
+  walk : IsPinWalk l.design.circuit l.walk;
+  point : l.walk.point ≡ l.fn.p;
   asking : IsChargedMemo g.B.BatchName.batch g.B.BatchName.opening l.memo l.q l.charge;
   advances : (start : List Entry) (first : List Shard) → IsStanding g.B.BatchName.batch g.B.BatchName.opening l.q start first (live l.initial.memo)
       → Advances g.B.BatchName.batch g.B.BatchName.opening l.q start first (live l.initial.memo) (live l.memo);
   covered : (start : List Entry) (first : List Shard) → IsStanding g.B.BatchName.batch g.B.BatchName.opening l.q start first (live l.initial.memo)
-      → (i : ℕ) → i < l.frame.looked → IsSourceCovered g.B.BatchName.batch.circuit (entries_of l.memo) (get_or (looked_at l.design.circuit l.fn.p) i None);
+      → (i : ℕ) → i < l.walk.looked → IsSourceCovered g.B.BatchName.batch.circuit (entries_of l.memo) (get_or (looked_at l.design.circuit l.fn.p) i None);
   asks : AsksOn g.B.BatchName.batch g.B.BatchName.opening l.q (shards_in l.initial.memo) false (shards_in l.memo) false;
 }
 
 abbrev pub decreases-pins : goal.decreases-pins
-decreases-pins g l = length (looked_at l.design.circuit l.frame.point) - l.frame.looked
+decreases-pins g l = length (looked_at l.design.circuit l.walk.point) - l.walk.looked

@@ -57,7 +57,7 @@ returns-in_default-2-clause-asks g c =
     let new = c.reach.new.memo in
     asks-then b g.B.BatchName.opening q (shards_in c.args.memo.now) false (shards_in ms) (shards_in new) true i.asks
     (subst (λ o. AsksOn b g.B.BatchName.opening q (shards_in ms) false (shards_in new) (is_missing o)) c.in_default-2.is
-    (asks-root b g.B.BatchName.opening q ms new c.roots.charge i.asking.counts (is_missing c.in_ok-cell.field-0) t root c.in_ok-cell.ensures.asked))
+    (asks-root b g.B.BatchName.opening q ms new c.roots.charge i.asking.counts (is_missing c.in_ok-cell.field-0) c.requires.site t root c.in_ok-cell.ensures.asked))
 
 pub roots-smaller : goal.roots-smaller
 roots-smaller g c =
@@ -107,7 +107,7 @@ roots-preserved g c =
           subst (IsCoveredTo b.circuit q (standing new false)) (sym end) w.covered;
       asks = asks-then b g.B.BatchName.opening q (shards_in c.args.memo.now) false (shards_in ms) (shards_in new) false i.asks
           (subst (λ o. AsksOn b g.B.BatchName.opening q (shards_in ms) false (shards_in new) (is_missing o)) c.in-Some-2.is
-          (asks-root b g.B.BatchName.opening q ms new c.roots.charge i.asking.counts (is_missing c.in_ok-cell.field-0) t root c.in_ok-cell.ensures.asked));
+          (asks-root b g.B.BatchName.opening q ms new c.roots.charge i.asking.counts (is_missing c.in_ok-cell.field-0) c.requires.site t root c.in_ok-cell.ensures.asked));
     }
 
 pub returns-clause-covered : goal.returns-clause-covered
