@@ -6,8 +6,8 @@
 //! which are files too: at most three of a session, and none under one of the four names. A fault that ends a session, or a lack
 //! of memory, is told on standard error, and every end by the exit status.
 //!
-//! - The crate `circuit_files` reads and joins the three files. The crate `session_loop` reads the script and serves its units, and the workers of
-//!   `batch_crew` evaluate what they need.
+//! - The crate `circuit_files` reads and joins the three files. The crate `session_loop` reads the script and serves its units, and
+//!   the workers of `worker_gate` evaluate what they need.
 //! - `serve` is all of it over any files, source and sink. Its contract says which status comes only where
 //!   which count of faults rose, and what was written of the files' design and the script where a session
 //!   ends or refuses something (`specs/Session`, `specs/Refused`): the replies, the journal, and after it the dumps, which can be

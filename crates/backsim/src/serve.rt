@@ -10,30 +10,35 @@ ghost use Rattle.backsim.specs.inner.Stops.{EndsWith, EndExplains};
 use crate::refusal::Stop;
 use crate::status::{Place, Status};
 use crate::usage::write_usage;
-use crate::work::serve_workload;
+use crate::work::{Workload, serve_workload};
 use backsim_io::{Files, Sink, Source, write_all};
-use batch_crew::Workers;
 use circuit_files::read_design;
 use command_words::{Words, read_words};
-use session_loop::serve_session;
+use session_loop::{Setting, serve_session};
 use session_meaning::sessions_are_whole;
 use std::alloc::Global;
 use std::mem;
 use std::sync::Wait;
 use std::thread::Threads;
 use unit_answers::Sizes;
-use worker_gate::Gate;
+use worker_gate::{Gate, Workers};
+
+/// What the words of a session ask for.
+#[derive(Clone, Copy)]
+struct Session<'a> {
+    netlist: &'a str,
+    timing: &'a str,
+    stimulus: &'a str,
+    journal: &'a str,
+    workers: u32,
+    sizes: Sizes,
+}
 
 /// Serves a session over four files.
 fn serve_files<F: Files, Q: Source, S: Sink, G: Gate, R: Threads + Wait + Sync>(
     rt: &R,
     alloc: Global,
-    netlist: &str,
-    timing: &str,
-    stimulus: &str,
-    journal: &str,
-    workers: u32,
-    sizes: Sizes,
+    asked: &Session<'_>,
     files: &mut F,
     queries: &mut Q,
     out: &mut S,
@@ -41,12 +46,14 @@ fn serve_files<F: Files, Q: Source, S: Sink, G: Gate, R: Threads + Wait + Sync>(
 ) -> Status
     requires started { (F.state files.old).started ≡ 0 }
     requires created { (F.state files.old).created ≡ 0 }
-    requires workers { (0 < workers) × (workers ≤ 64) }
-    requires shards { (0 < sizes.shards) × (sizes.shards ≤ 64) }
-    requires cells { (0 < sizes.cells) × (sizes.cells ≤ 65536) }
-    ensures serves { ServesSession
-        (command_of netlist.now timing.now stimulus.now journal.now
-        workers sizes.shards sizes.cells)
+    requires workers { (0 < asked.now.workers) × (asked.now.workers ≤ 64) }
+    requires shards { (0 < asked.now.sizes.shards) × (asked.now.sizes.shards ≤ 64) }
+    requires cells { (0 < asked.now.sizes.cells) × (asked.now.sizes.cells ≤ 65536) }
+    ensures serves { let asks = asked.now in
+        let sizes = asks.sizes in
+        ServesSession
+        (command_of asks.netlist.now asks.timing.now asks.stimulus.now asks.journal.now
+        asks.workers sizes.shards sizes.cells)
         (record {
           outside = record {
             outputs = record { files = F.state files.old; replies = S.faults out.old };
@@ -67,6 +74,14 @@ fn serve_files<F: Files, Q: Source, S: Sink, G: Gate, R: Threads + Wait + Sync>(
     ensures at_most { (script : List ℕ) → (Q.state queries.old).left ≡ Some script
         → ConsumesUpTo (Some script) (Q.state queries.new).left 16777217 }
 {
+    let Session {
+        netlist,
+        timing,
+        stimulus,
+        journal,
+        workers,
+        sizes,
+    } = *asked;
     let design = match read_design(alloc, netlist, timing, stimulus, files) {
         Ok(design) => design,
         Err(stop) => return end_stopped(alloc, Stop::from(stop), out),
@@ -74,10 +89,13 @@ fn serve_files<F: Files, Q: Source, S: Sink, G: Gate, R: Threads + Wait + Sync>(
     design.facts();
     sessions_are_whole();
     let crew = Workers::new(rt, gate, workers);
+    let setting = Setting {
+        alloc,
+        design: &design,
+        sizes,
+    };
     let inputs = [netlist, timing, stimulus];
-    match serve_session(
-        &crew, alloc, &design, sizes, &inputs, journal, files, queries, out,
-    ) {
+    match serve_session(&crew, &setting, &inputs, journal, files, queries, out) {
         Ok(()) => {
             // its memory goes with the process
             mem::forget(design);
@@ -161,20 +179,17 @@ pub fn serve<F: Files, Q: Source, S: Sink, G: Gate, R: Threads + Wait + Sync>(
                     cells,
                 },
             ),
-        ) => serve_files(
-            rt,
-            alloc,
-            netlist,
-            timing,
-            stimulus,
-            journal,
-            workers,
-            Sizes { shards, cells },
-            files,
-            queries,
-            out,
-            gate,
-        ),
+        ) => {
+            let asked = Session {
+                netlist,
+                timing,
+                stimulus,
+                journal,
+                workers,
+                sizes: Sizes { shards, cells },
+            };
+            serve_files(rt, alloc, &asked, files, queries, out, gate)
+        }
         Ok(
             Some(
                 Words::Workload {
@@ -183,6 +198,13 @@ pub fn serve<F: Files, Q: Source, S: Sink, G: Gate, R: Threads + Wait + Sync>(
                     workers,
                 },
             ),
-        ) => serve_workload(rt, alloc, number, journal, workers, files, out, gate),
+        ) => {
+            let asked = Workload {
+                number,
+                journal,
+                workers,
+            };
+            serve_workload(rt, alloc, &asked, files, out, gate)
+        }
     }
 }

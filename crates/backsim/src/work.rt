@@ -11,40 +11,45 @@ use crate::refusal::Stop;
 use crate::serve::end_stopped;
 use crate::status::{Place, Status};
 use backsim_io::{Files, Sink, write_all};
-use batch_crew::Workers;
 use gate_values::Value;
 use query_lines::script_units_are_fit;
 use reply_lines::Reply;
-use session_loop::serve_work;
+use session_loop::{Setting, serve_work};
 use std::alloc::{AllocError, Global};
 use std::mem;
 use std::sync::Wait;
 use std::thread::Threads;
 use unit_answers::Sizes;
 use window_walks::Run;
-use worker_gate::Gate;
+use worker_gate::{Gate, Workers};
 use workload::workload;
 
 /// The horizon of every workload. That its stimulus text names it isn't proved, so it is looked at.
 const HORIZON: u32 = 100_000;
 
+/// What the words of a workload ask for.
+#[derive(Clone, Copy)]
+pub struct Workload<'a> {
+    pub number: u32,
+    pub journal: &'a str,
+    pub workers: u32,
+}
+
 /// Serves the workload of this number, of 31 bits. In place of the replies one line is written, which counts them.
 pub fn serve_workload<F: Files, S: Sink, G: Gate, R: Threads + Wait + Sync>(
     rt: &R,
     alloc: Global,
-    number: u32,
-    journal: &str,
-    workers: u32,
+    asked: &Workload<'_>,
     files: &mut F,
     out: &mut S,
     gate: &G,
 ) -> Status
-    requires number { number ≤ 2147483647 }
+    requires number { asked.now.number ≤ 2147483647 }
     requires started { (F.state files.old).started ≡ 0 }
     requires created { (F.state files.old).created ≡ 0 }
-    requires workers { (0 < workers) × (workers ≤ 64) }
+    requires workers { (0 < asked.now.workers) × (asked.now.workers ≤ 64) }
     ensures no_usage { ¬ (result ≡ Status.Words) }
-    ensures serves { (script : SourceState) → ServesWorkload number journal.now
+    ensures serves { (script : SourceState) → ServesWorkload asked.now.number asked.now.journal.now
         (record {
           outside = record {
             outputs = record { files = F.state files.old; replies = S.faults out.old };
@@ -63,6 +68,11 @@ pub fn serve_workload<F: Files, S: Sink, G: Gate, R: Threads + Wait + Sync>(
         })
         result }
 {
+    let Workload {
+        number,
+        journal,
+        workers,
+    } = *asked;
     let Ok(work) = workload(alloc, number) else {
         return Status::OutOfMemory;
     };
@@ -75,15 +85,12 @@ pub fn serve_workload<F: Files, S: Sink, G: Gate, R: Threads + Wait + Sync>(
         shards: 8,
         cells: 16_384,
     };
-    match serve_work(
-        &crew,
+    let setting = Setting {
         alloc,
-        &work.design,
-        work.items.as_slice(),
+        design: &work.design,
         sizes,
-        journal,
-        files,
-    ) {
+    };
+    match serve_work(&crew, &setting, work.items.as_slice(), journal, files) {
         Ok(replies) => {
             // its memory goes with the process
             mem::forget(work);

@@ -9,7 +9,8 @@ use Rattle.backsim_io.specs.Counts.{Grows}
 use Rattle.owned_text.specs.Made.{Made}
 use Rattle.backsim_io.specs.Held.{FileGrows}
 use Rattle.journal_meaning.specs.declared.Entry.{Entry}
-use Rattle.journal_text.specs.Spelling.{field, line_feed, entry_line, shard_lines, kind_word, section_lines}
+use Rattle.text_fields.specs.Spelling.{field}
+use Rattle.journal_text.specs.Spelling.{line_feed, entry_line, shard_lines, kind_word, section_lines}
 use Rattle.query_lines.specs.declared.unit.Item.{Item}
 use Rattle.reply_lines.specs.declared.reply.Reply.{Reply}
 use Rattle.reply_lines.specs.Replies.{text_of}

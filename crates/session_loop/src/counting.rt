@@ -79,7 +79,7 @@ fn counted_lists(kind: SectionKind, lists: &[EntryList]) -> &[EntryList]
 }
 
 /// One section more, unless the counts are too great for their types.
-pub fn counted(counts: Counts, kind: SectionKind, lists: &[EntryList]) -> Option<Counts>
+pub fn count_section(counts: Counts, kind: SectionKind, lists: &[EntryList]) -> Option<Counts>
     ensures { IfSome result (λ later. IsCounted counts kind lists.now later) }
 {
     let lists = counted_lists(kind, lists);

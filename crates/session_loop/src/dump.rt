@@ -17,13 +17,13 @@ ghost use Rattle.session_loop.specs.inner.Outside.{RepliesChanges, DumpChanges, 
 
 use crate::desk::{Desk, Dumps};
 use crate::section::write_reply;
+use crate::setting::Setting;
 use crate::stop::Stop;
 use backsim_io::{Files, Sink, write_file};
-use design::Design;
 use owned_text::{OutOfMemory, Text};
 use reply_lines::{VcdReply, dump_text};
 use std::alloc::Global;
-use unit_answers::{Sizes, dump_waves};
+use unit_answers::dump_waves;
 
 /// The most dumps that a session makes.
 const MOST_DUMPS: usize = 3;
@@ -100,9 +100,7 @@ fn push_copy(alloc: Global, name: &Text, names: &mut Vec<Text>) -> Result<(), Ou
 
 /// Makes a dump of the last batch's waves under a name that is free: its file, which is finished, and then its reply.
 fn make_dump<F: Files, S: Sink>(
-    alloc: Global,
-    design: &Design,
-    sizes: Sizes,
+    setting: &Setting<'_>,
     file: Text,
     desk: Desk,
     files: &mut F,
@@ -110,16 +108,19 @@ fn make_dump<F: Files, S: Sink>(
 ) -> Result<Desk, Stop>
     requires named { IsTrue (texts.is_name file) }
     requires free { refused desk.dumps file ≡ None }
-    requires desk { IsDesk (setup_of design.now sizes) desk }
+    requires desk { IsDesk (setup_of setting.now.design.now setting.now.sizes) desk }
     requires files { (F.state files.old).created ≡ length desk.dumps.made.items + 1 }
-    ensures desk { IfOk result (λ later. IsDesk (setup_of design.now sizes) later) }
+    ensures desk { let setup = setup_of setting.now.design.now setting.now.sizes in
+        IfOk result (λ later. IsDesk setup later) }
     ensures count { IfOk result (λ later.
         (F.state files.new).created ≡ length later.dumps.made.items + 1) }
-    ensures served { (names : List (List ℕ)) → let setup = session_of design.now sizes names in
+    ensures served { (names : List (List ℕ)) →
+        let setup = session_of setting.now.design.now setting.now.sizes names in
         IfOk result (λ later. Serves setup desk later (kinds.Vcd file ∷ [])
         (S.written out.old) (S.written out.new)
         (F.made files.old) (F.made files.new)) }
-    ensures stopped { (names : List (List ℕ)) → let setup = session_of design.now sizes names in
+    ensures stopped { (names : List (List ℕ)) →
+        let setup = session_of setting.now.design.now setting.now.sizes names in
         IfErr result (Stops setup desk (kinds.Vcd file ∷ [])
         (S.written out.old) (S.written out.new)
         (F.made files.old) (F.made files.new) (F.state files.new).created) }
@@ -128,6 +129,8 @@ fn make_dump<F: Files, S: Sink>(
         (record { files = F.state files.new; replies = S.faults out.new })
         result }
 {
+    let alloc = setting.alloc;
+    let design = setting.design;
     let mut desk = desk;
     let Some(last) = &desk.dumps.last else {
         unreachable!()
@@ -146,25 +149,26 @@ fn make_dump<F: Files, S: Sink>(
 /// Serves a line that asks for a dump of the last batch's waves: the file, which is written and finished, and then its reply; or the
 /// reply that says why there is none.
 pub fn serve_vcd<F: Files, S: Sink>(
-    alloc: Global,
-    design: &Design,
-    sizes: Sizes,
+    setting: &Setting<'_>,
     file: Text,
     desk: Desk,
     files: &mut F,
     out: &mut S,
 ) -> Result<Desk, Stop>
     requires named { IsTrue (texts.is_name file) }
-    requires desk { IsDesk (setup_of design.now sizes) desk }
+    requires desk { IsDesk (setup_of setting.now.design.now setting.now.sizes) desk }
     requires files { (F.state files.old).created ≡ length desk.dumps.made.items + 1 }
-    ensures desk { IfOk result (λ later. IsDesk (setup_of design.now sizes) later) }
+    ensures desk { let setup = setup_of setting.now.design.now setting.now.sizes in
+        IfOk result (λ later. IsDesk setup later) }
     ensures count { IfOk result (λ later.
         (F.state files.new).created ≡ length later.dumps.made.items + 1) }
-    ensures served { (names : List (List ℕ)) → let setup = session_of design.now sizes names in
+    ensures served { (names : List (List ℕ)) →
+        let setup = session_of setting.now.design.now setting.now.sizes names in
         IfOk result (λ later. Serves setup desk later (kinds.Vcd file ∷ [])
         (S.written out.old) (S.written out.new)
         (F.made files.old) (F.made files.new)) }
-    ensures stopped { (names : List (List ℕ)) → let setup = session_of design.now sizes names in
+    ensures stopped { (names : List (List ℕ)) →
+        let setup = session_of setting.now.design.now setting.now.sizes names in
         IfErr result (Stops setup desk (kinds.Vcd file ∷ [])
         (S.written out.old) (S.written out.new)
         (F.made files.old) (F.made files.new) (F.state files.new).created) }
@@ -173,11 +177,12 @@ pub fn serve_vcd<F: Files, S: Sink>(
         (record { files = F.state files.new; replies = S.faults out.new })
         result }
 {
+    let alloc = setting.alloc;
     match refusal_of(&desk.dumps, &file) {
         Some(reply) => {
             refuse_dump(alloc, &file, reply, out)?;
             Ok(desk)
         }
-        None => make_dump(alloc, design, sizes, file, desk, files, out),
+        None => make_dump(setting, file, desk, files, out),
     }
 }

@@ -3,7 +3,7 @@
 //!
 //! [`serve_session`] is a session of a script, and [`serve_work`] one of a single batch without a script. Both create the journal,
 //! write its head, serve over empty stores and finish the journal. What a unit comes to is the matter of `unit_answers`, and who
-//! runs the strands of a batch that of a `batch_crew::Crew`: no handle appears here. What a session means, whole or broken off, is
+//! runs the strands of a batch that of a `worker_gate::Crew`: no handle appears here. What a session means, whole or broken off, is
 //! `session_meaning`; `specs/Halting` says what stands in the journal, in the replies and of the dumps at each end, and
 //! `specs/Outside` what the files, the source and the sink did.
 //!
@@ -29,8 +29,8 @@
 //! process, since each cell has memory of its own.
 //!
 //! ```text
-//! let sizes = Sizes { shards: 4, cells: 16_384 };
-//! serve_session(&crew, alloc, &design, sizes, &["netlist"], "journal", &mut files, &mut queries, &mut out)?;
+//! let setting = Setting { alloc, design: &design, sizes: Sizes { shards: 4, cells: 16_384 } };
+//! serve_session(&crew, &setting, &["netlist"], "journal", &mut files, &mut queries, &mut out)?;
 //! ```
 #![tactic(auto)]
 
@@ -43,6 +43,7 @@ mod question;
 mod script;
 mod section;
 mod session;
+mod setting;
 mod stop;
 mod stores;
 mod unit;
@@ -50,5 +51,6 @@ mod work;
 
 pub use halt::Halt;
 pub use session::serve_session;
+pub use setting::Setting;
 pub use stop::Stop;
 pub use work::serve_work;

@@ -14,19 +14,19 @@ ghost use Rattle.session_loop.specs.inner.Growing.{FileGrowsPart};
 ghost use Rattle.session_loop.specs.inner.Serving.{IsAnswered, Serves, Stops, held_text};
 ghost use Rattle.session_loop.specs.inner.Outside.{JournalChanges, UnitChanges};
 
-use crate::counting::counted;
+use crate::counting::count_section;
 use crate::desk::{Counts, Desk, Dumps};
 use crate::journal::JOURNAL;
 use crate::section::{write_reply, write_section};
+use crate::setting::Setting;
 use crate::stop::Stop;
 use backsim_io::{Files, Sink};
 use cell_store::CellStore;
-use design::Design;
 use journal_text::{EntryList, SectionKind};
 use query_lines::Question;
 use reply_lines::question_text;
 use std::alloc::Global;
-use unit_answers::{Sizes, answer_question};
+use unit_answers::answer_question;
 
 /// The text of the reply to a question, the journal of each shard, that of a memo of its own if it had one, and the stores that are left.
 #[derive(Drop)]
@@ -56,7 +56,7 @@ fn write_held<F: Files>(
     if lists.is_empty() {
         return Ok(counts);
     }
-    let Some(later) = counted(counts, SectionKind::Held, lists) else {
+    let Some(later) = count_section(counts, SectionKind::Held, lists) else {
         return Err(Stop::OutOfMemory);
     };
     write_section(
@@ -104,7 +104,7 @@ fn write_answered<F: Files, S: Sink>(
         (record { files = F.state files.new; replies = S.faults out.new })
         result }
 {
-    let Some(counts) = counted(counts, SectionKind::Batch, &answered.lists) else {
+    let Some(counts) = count_section(counts, SectionKind::Batch, &answered.lists) else {
         return Err(Stop::OutOfMemory);
     };
     write_reply(&answered.text, out)?;
@@ -126,26 +126,27 @@ fn write_answered<F: Files, S: Sink>(
 
 /// Serves a question: its reply, then its section, which is a batch's, and that of a memo of its own, if it has one.
 pub fn serve_question<F: Files, S: Sink>(
-    alloc: Global,
-    design: &Design,
+    setting: &Setting<'_>,
     question: &Question,
-    sizes: Sizes,
     desk: Desk,
     files: &mut F,
     out: &mut S,
 ) -> Result<Desk, Stop>
-    requires shards { (0 < sizes.shards) × (sizes.shards ≤ 64) }
-    requires desk { IsDesk (setup_of design.now sizes) desk }
+    requires shards { (0 < setting.now.sizes.shards) × (setting.now.sizes.shards ≤ 64) }
+    requires desk { IsDesk (setup_of setting.now.design.now setting.now.sizes) desk }
     requires files { (F.state files.old).created ≡ length desk.dumps.made.items + 1 }
     requires unfinished { Contains (F.state files.old).unfinished 0 }
-    ensures desk { IfOk result (λ later. IsDesk (setup_of design.now sizes) later) }
+    ensures desk { let setup = setup_of setting.now.design.now setting.now.sizes in
+        IfOk result (λ later. IsDesk setup later) }
     ensures count { IfOk result (λ later.
         (F.state files.new).created ≡ length later.dumps.made.items + 1) }
-    ensures served { (names : List (List ℕ)) → let setup = session_of design.now sizes names in
+    ensures served { (names : List (List ℕ)) →
+        let setup = session_of setting.now.design.now setting.now.sizes names in
         IfOk result (λ later. Serves setup desk later (kinds.Question question.now ∷ [])
         (S.written out.old) (S.written out.new)
         (F.made files.old) (F.made files.new)) }
-    ensures stopped { (names : List (List ℕ)) → let setup = session_of design.now sizes names in
+    ensures stopped { (names : List (List ℕ)) →
+        let setup = session_of setting.now.design.now setting.now.sizes names in
         IfErr result (Stops setup desk (kinds.Question question.now ∷ [])
         (S.written out.old) (S.written out.new)
         (F.made files.old) (F.made files.new) (F.state files.new).created) }
@@ -154,6 +155,9 @@ pub fn serve_question<F: Files, S: Sink>(
         (record { files = F.state files.new; replies = S.faults out.new })
         result }
 {
+    let alloc = setting.alloc;
+    let design = setting.design;
+    let sizes = setting.sizes;
     let Desk {
         stores,
         counts,

@@ -10,17 +10,15 @@ ghost use Rattle.session_loop.specs.Serving.{session_of, IsStopped};
 ghost use Rattle.session_loop.specs.inner.Outside.{UnitsChanges, ScriptChanges};
 
 use crate::desk::{Counts, Desk, Dumps};
+use crate::setting::Setting;
 use crate::stop::Stop;
 use crate::unit::serve_units;
 use backsim_io::{Files, Sink, Source};
-use batch_crew::Crew;
 use cell_store::CellStore;
-use design::Design;
 use owned_text::Text;
 use query_lines::ScriptReader;
-use std::alloc::Global;
 use std::mem;
-use unit_answers::Sizes;
+use worker_gate::Crew;
 
 /// The most bytes that a script has.
 const SCRIPT_LIMIT: u32 = 16_777_216;
@@ -40,32 +38,34 @@ impl Script {
     fn serve_bytes<C: Crew, F: Files, S: Sink>(
         &mut self,
         crew: &C,
-        alloc: Global,
-        design: &Design,
+        setting: &Setting<'_>,
         bytes: &[u8],
-        sizes: Sizes,
         desk: Desk,
         files: &mut F,
         out: &mut S,
     ) -> Result<Desk, Stop>
         requires limit { self.old.taken + length bytes.now ≤ 16777216 }
-        requires horizon { design.now.circuit.horizon ≤ 1000000 }
-        requires read { HasTaken design.now.circuit.horizon self.old.taken self.old.reader }
-        requires shards { (0 < sizes.shards) × (sizes.shards ≤ 64) }
-        requires desk { IsDesk (setup_of design.now sizes) desk }
+        requires horizon { setting.now.design.now.circuit.horizon ≤ 1000000 }
+        requires read { let horizon = setting.now.design.now.circuit.horizon in
+            HasTaken horizon self.old.taken self.old.reader }
+        requires shards { (0 < setting.now.sizes.shards) × (setting.now.sizes.shards ≤ 64) }
+        requires desk { IsDesk (setup_of setting.now.design.now setting.now.sizes) desk }
         requires files { (F.state files.old).created ≡ length desk.dumps.made.items + 1 }
         requires unfinished { Contains (F.state files.old).unfinished 0 }
         ensures taken { OnOk result (self.new.taken ≡ self.old.taken + length bytes.now) }
-        ensures read { let horizon = design.now.circuit.horizon in
+        ensures read { let horizon = setting.now.design.now.circuit.horizon in
             OnOk result (HasTaken horizon self.new.taken self.new.reader) }
-        ensures desk { IfOk result (λ later. IsDesk (setup_of design.now sizes) later) }
+        ensures desk { let setup = setup_of setting.now.design.now setting.now.sizes in
+            IfOk result (λ later. IsDesk setup later) }
         ensures count { IfOk result (λ later.
             (F.state files.new).created ≡ length later.dumps.made.items + 1) }
-        ensures served { (names : List (List ℕ)) → let setup = session_of design.now sizes names in
+        ensures served { (names : List (List ℕ)) →
+            let setup = session_of setting.now.design.now setting.now.sizes names in
             IfOk result (λ later. TakesServed setup self.old.reader self.new.reader bytes.now
             desk later (S.written out.old) (S.written out.new)
             (F.made files.old) (F.made files.new)) }
-        ensures stopped { (names : List (List ℕ)) → let setup = session_of design.now sizes names in
+        ensures stopped { (names : List (List ℕ)) →
+            let setup = session_of setting.now.design.now setting.now.sizes names in
             IfErr result (TakesStopped setup self.old.reader bytes.now desk
             (S.written out.old) (S.written out.new)
             (F.made files.old) (F.made files.new) (F.state files.new).created) }
@@ -78,7 +78,7 @@ impl Script {
         for byte in bytes {
             let units = self.reader.take(*byte)?;
             self.taken += 1;
-            desk = serve_units(crew, alloc, design, units, sizes, desk, files, out)?;
+            desk = serve_units(crew, setting, units, desk, files, out)?;
         }
         Ok(desk)
     }
@@ -87,27 +87,27 @@ impl Script {
     fn serve_end<C: Crew, F: Files, S: Sink>(
         self,
         crew: &C,
-        alloc: Global,
-        design: &Design,
-        sizes: Sizes,
+        setting: &Setting<'_>,
         desk: Desk,
         files: &mut F,
         out: &mut S,
     ) -> Result<Desk, Stop>
         requires limit { self.taken ≤ 16777216 }
-        requires horizon { design.now.circuit.horizon ≤ 1000000 }
-        requires read { HasTaken design.now.circuit.horizon self.taken self.reader }
-        requires shards { (0 < sizes.shards) × (sizes.shards ≤ 64) }
-        requires desk { IsDesk (setup_of design.now sizes) desk }
+        requires horizon { setting.now.design.now.circuit.horizon ≤ 1000000 }
+        requires read { HasTaken setting.now.design.now.circuit.horizon self.taken self.reader }
+        requires shards { (0 < setting.now.sizes.shards) × (setting.now.sizes.shards ≤ 64) }
+        requires desk { IsDesk (setup_of setting.now.design.now setting.now.sizes) desk }
         requires files { (F.state files.old).created ≡ length desk.dumps.made.items + 1 }
         requires unfinished { Contains (F.state files.old).unfinished 0 }
         ensures count { IfOk result (λ later.
             (F.state files.new).created ≡ length later.dumps.made.items + 1) }
-        ensures served { (names : List (List ℕ)) → let setup = session_of design.now sizes names in
+        ensures served { (names : List (List ℕ)) →
+            let setup = session_of setting.now.design.now setting.now.sizes names in
             IfOk result (λ later. EndsServed setup self.reader desk later
             (S.written out.old) (S.written out.new)
             (F.made files.old) (F.made files.new)) }
-        ensures stopped { (names : List (List ℕ)) → let setup = session_of design.now sizes names in
+        ensures stopped { (names : List (List ℕ)) →
+            let setup = session_of setting.now.design.now setting.now.sizes names in
             IfErr result (EndsStopped setup self.reader desk
             (S.written out.old) (S.written out.new)
             (F.made files.old) (F.made files.new) (F.state files.new).created) }
@@ -117,37 +117,36 @@ impl Script {
             result }
     {
         let units = self.reader.end()?;
-        serve_units(crew, alloc, design, units, sizes, desk, files, out)
+        serve_units(crew, setting, units, desk, files, out)
     }
 }
 
 /// Serves a script to its end. It is read again only when each unit that was complete is served.
 pub fn serve_script<C: Crew, F: Files, Q: Source, S: Sink>(
     crew: &C,
-    alloc: Global,
-    design: &Design,
-    sizes: Sizes,
+    setting: &Setting<'_>,
     stores: Vec<CellStore>,
     names: Vec<Text>,
     files: &mut F,
     queries: &mut Q,
     out: &mut S,
 ) -> Result<(), Stop>
-    requires shards { (0 < sizes.shards) × (sizes.shards ≤ 64) }
-    requires stores { AreStores (setup_of design.now sizes) stores.items }
-    requires empty { (shard : ℕ) → shard < sizes.shards → cells_of stores.items shard ≡ [] }
+    requires shards { (0 < setting.now.sizes.shards) × (setting.now.sizes.shards ≤ 64) }
+    requires stores { AreStores (setup_of setting.now.design.now setting.now.sizes) stores.items }
+    requires empty { (shard : ℕ) → shard < setting.now.sizes.shards
+        → cells_of stores.items shard ≡ [] }
     requires files { (F.state files.old).created ≡ 1 }
     requires unfinished { Contains (F.state files.old).unfinished 0 }
     ensures at_most { (script : List ℕ) → (Q.state queries.old).left ≡ Some script
         → ConsumesUpTo (Some script) (Q.state queries.new).left 16777217 }
     ensures short { (script : List ℕ) → (Q.state queries.old).left ≡ Some script
         → OnOk result (length script ≤ 16777216) }
-    ensures served { let setup = session_of design.now sizes names.items in
+    ensures served { let setup = session_of setting.now.design.now setting.now.sizes names.items in
         (script : List ℕ) → (Q.state queries.old).left ≡ Some script
         → OnOk result (Wrote setup (IsSessionOf setup script)
         (S.written out.old) (S.written out.new)
         (F.made files.old) (F.made files.new) (F.state files.new).created) }
-    ensures stopped { let setup = session_of design.now sizes names.items in
+    ensures stopped { let setup = session_of setting.now.design.now setting.now.sizes names.items in
         (script : List ℕ) → (Q.state queries.old).left ≡ Some script
         → IfErr result (λ stop. Wrote setup (IsStopped setup script (Q.state queries.new).left stop)
         (S.written out.old) (S.written out.new)
@@ -163,6 +162,8 @@ pub fn serve_script<C: Crew, F: Files, Q: Source, S: Sink>(
         })
         result }
 {
+    let alloc = setting.alloc;
+    let design = setting.design;
     let mut script = Script {
         reader: ScriptReader::new(alloc, design.horizon()),
         taken: 0,
@@ -189,21 +190,12 @@ pub fn serve_script<C: Crew, F: Files, Q: Source, S: Sink>(
             return Err(Stop::ScriptUnread);
         };
         if n == 0 {
-            let last = script.serve_end(crew, alloc, design, sizes, desk, files, out)?;
+            let last = script.serve_end(crew, setting, desk, files, out)?;
             // left to the end of the process: each cell has memory of its own
             mem::forget(last);
             return Ok(());
         }
-        desk = script.serve_bytes(
-            crew,
-            alloc,
-            design,
-            &block[..n.min(left)],
-            sizes,
-            desk,
-            files,
-            out,
-        )?;
+        desk = script.serve_bytes(crew, setting, &block[..n.min(left)], desk, files, out)?;
         if n > left {
             return Err(Stop::ScriptTooLong);
         }

@@ -10,13 +10,12 @@ ghost use Rattle.session_loop.specs.Outside.{SessionChanges};
 use crate::halt::Halt;
 use crate::journal::{begin_journal, finish_journal};
 use crate::script::serve_script;
+use crate::setting::Setting;
 use crate::stores::empty_stores;
 use backsim_io::{Files, Sink, Source};
-use batch_crew::Crew;
-use design::Design;
 use owned_text::{OutOfMemory, Text};
 use std::alloc::Global;
-use unit_answers::Sizes;
+use worker_gate::Crew;
 
 /// The names of a session's own files: those of its inputs, and that of its journal.
 fn own_names(alloc: Global, inputs: &[&str], journal: &str) -> Result<Vec<Text>, OutOfMemory>
@@ -38,19 +37,17 @@ fn own_names(alloc: Global, inputs: &[&str], journal: &str) -> Result<Vec<Text>,
 /// most 16,777,216 bytes and one more are read.
 pub fn serve_session<C: Crew, F: Files, Q: Source, S: Sink>(
     crew: &C,
-    alloc: Global,
-    design: &Design,
-    sizes: Sizes,
+    setting: &Setting<'_>,
     inputs: &[&str],
     journal: &str,
     files: &mut F,
     queries: &mut Q,
     out: &mut S,
 ) -> Result<(), Halt>
-    requires shards { (0 < sizes.shards) × (sizes.shards ≤ 64) }
-    requires cells { (0 < sizes.cells) × (sizes.cells ≤ 65536) }
+    requires shards { (0 < setting.now.sizes.shards) × (setting.now.sizes.shards ≤ 64) }
+    requires cells { (0 < setting.now.sizes.cells) × (setting.now.sizes.cells ≤ 65536) }
     requires files { (F.state files.old).created ≡ 0 }
-    ensures served { let setup = session_of design.now sizes
+    ensures served { let setup = session_of setting.now.design.now setting.now.sizes
         (map (λ name. name.now) inputs.now ++ journal.now ∷ []) in
         (script : List ℕ) → (Q.state queries.old).left ≡ Some script
         → OnOk result (WroteFiles (IsSessionOf setup script) journal.now
@@ -58,7 +55,7 @@ pub fn serve_session<C: Crew, F: Files, Q: Source, S: Sink>(
         (F.made files.old) (F.made files.new) (F.state files.new).created) }
     ensures short { (script : List ℕ) → (Q.state queries.old).left ≡ Some script
         → OnOk result (length script ≤ 16777216) }
-    ensures halted { let setup = session_of design.now sizes
+    ensures halted { let setup = session_of setting.now.design.now setting.now.sizes
         (map (λ name. name.now) inputs.now ++ journal.now ∷ []) in
         (script : List ℕ) → (Q.state queries.old).left ≡ Some script
         → IfErr result (IsHalted setup journal.now script
@@ -82,11 +79,11 @@ pub fn serve_session<C: Crew, F: Files, Q: Source, S: Sink>(
         })
         result }
 {
+    let alloc = setting.alloc;
+    let sizes = setting.sizes;
     begin_journal(alloc, sizes, journal, files)?;
     let stores = empty_stores(alloc, sizes)?;
     let names = own_names(alloc, inputs, journal)?;
-    serve_script(
-        crew, alloc, design, sizes, stores, names, files, queries, out,
-    )?;
+    serve_script(crew, setting, stores, names, files, queries, out)?;
     finish_journal(files)
 }

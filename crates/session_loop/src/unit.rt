@@ -10,48 +10,48 @@ ghost use Rattle.session_loop.specs.inner.Desks.{IsDesk};
 ghost use Rattle.session_loop.specs.inner.Serving.{Serves, Stops};
 ghost use Rattle.session_loop.specs.inner.Outside.{UnitChanges, UnitsChanges};
 
-use crate::counting::{cells_in, counted, entries_in};
+use crate::counting::{cells_in, count_section, entries_in};
 use crate::desk::{Desk, LastBatch};
 use crate::dump::serve_vcd;
 use crate::journal::JOURNAL;
 use crate::question::serve_question;
 use crate::section::{write_replies, write_reply, write_section};
+use crate::setting::Setting;
 use crate::stop::Stop;
 use backsim_io::{Files, Sink};
-use batch_crew::Crew;
-use design::Design;
 use journal_text::SectionKind;
 use query_lines::{ItemList, Unit, UnitList};
 use reply_lines::{stats_text, trimmed_text};
-use std::alloc::Global;
-use unit_answers::{Sizes, answer_batch, trim_stores};
+use unit_answers::{answer_batch, trim_stores};
+use worker_gate::Crew;
 
 /// Serves a batch: its replies in the order of the items, then its section.
 pub fn serve_batch<C: Crew, F: Files, S: Sink>(
     crew: &C,
-    alloc: Global,
-    design: &Design,
+    setting: &Setting<'_>,
     items: ItemList,
-    sizes: Sizes,
     desk: Desk,
     files: &mut F,
     out: &mut S,
 ) -> Result<Desk, Stop>
-    requires shards { (0 < sizes.shards) × (sizes.shards ≤ 64) }
-    requires within { IsWithin design.now.circuit.horizon items }
+    requires shards { (0 < setting.now.sizes.shards) × (setting.now.sizes.shards ≤ 64) }
+    requires within { IsWithin setting.now.design.now.circuit.horizon items }
     requires lines { HaveOwnLines items }
     requires named { All (λ item. AsksByName item.what) items }
-    requires desk { IsDesk (setup_of design.now sizes) desk }
+    requires desk { IsDesk (setup_of setting.now.design.now setting.now.sizes) desk }
     requires files { (F.state files.old).created ≡ length desk.dumps.made.items + 1 }
     requires unfinished { Contains (F.state files.old).unfinished 0 }
-    ensures desk { IfOk result (λ later. IsDesk (setup_of design.now sizes) later) }
+    ensures desk { let setup = setup_of setting.now.design.now setting.now.sizes in
+        IfOk result (λ later. IsDesk setup later) }
     ensures count { IfOk result (λ later.
         (F.state files.new).created ≡ length later.dumps.made.items + 1) }
-    ensures served { (names : List (List ℕ)) → let setup = session_of design.now sizes names in
+    ensures served { (names : List (List ℕ)) →
+        let setup = session_of setting.now.design.now setting.now.sizes names in
         IfOk result (λ later. Serves setup desk later (kinds.Batch items ∷ [])
         (S.written out.old) (S.written out.new)
         (F.made files.old) (F.made files.new)) }
-    ensures stopped { (names : List (List ℕ)) → let setup = session_of design.now sizes names in
+    ensures stopped { (names : List (List ℕ)) →
+        let setup = session_of setting.now.design.now setting.now.sizes names in
         IfErr result (Stops setup desk (kinds.Batch items ∷ [])
         (S.written out.old) (S.written out.new)
         (F.made files.old) (F.made files.new) (F.state files.new).created) }
@@ -60,6 +60,9 @@ pub fn serve_batch<C: Crew, F: Files, S: Sink>(
         (record { files = F.state files.new; replies = S.faults out.new })
         result }
 {
+    let alloc = setting.alloc;
+    let design = setting.design;
+    let sizes = setting.sizes;
     let Desk {
         stores,
         counts,
@@ -68,7 +71,7 @@ pub fn serve_batch<C: Crew, F: Files, S: Sink>(
     // The last batch is given up before the next one is answered.
     dumps.last = None;
     let done = answer_batch(crew, alloc, design, items.as_slice(), sizes, stores)?;
-    let Some(counts) = counted(counts, SectionKind::Batch, &done.lists) else {
+    let Some(counts) = count_section(counts, SectionKind::Batch, &done.lists) else {
         return Err(Stop::OutOfMemory);
     };
     write_replies(alloc, items.as_slice(), &done.replies, out)?;
@@ -93,25 +96,27 @@ pub fn serve_batch<C: Crew, F: Files, S: Sink>(
 
 /// Serves a trim: its reply, then its section.
 pub fn serve_trim<F: Files, S: Sink>(
-    alloc: Global,
-    design: &Design,
+    setting: &Setting<'_>,
     most: u32,
-    sizes: Sizes,
     desk: Desk,
     files: &mut F,
     out: &mut S,
 ) -> Result<Desk, Stop>
-    requires desk { IsDesk (setup_of design.now sizes) desk }
+    requires shards { (0 < setting.now.sizes.shards) × (setting.now.sizes.shards ≤ 64) }
+    requires desk { IsDesk (setup_of setting.now.design.now setting.now.sizes) desk }
     requires files { (F.state files.old).created ≡ length desk.dumps.made.items + 1 }
     requires unfinished { Contains (F.state files.old).unfinished 0 }
-    ensures desk { IfOk result (λ later. IsDesk (setup_of design.now sizes) later) }
+    ensures desk { let setup = setup_of setting.now.design.now setting.now.sizes in
+        IfOk result (λ later. IsDesk setup later) }
     ensures count { IfOk result (λ later.
         (F.state files.new).created ≡ length later.dumps.made.items + 1) }
-    ensures served { (names : List (List ℕ)) → let setup = session_of design.now sizes names in
+    ensures served { (names : List (List ℕ)) →
+        let setup = session_of setting.now.design.now setting.now.sizes names in
         IfOk result (λ later. Serves setup desk later (kinds.Trim most ∷ [])
         (S.written out.old) (S.written out.new)
         (F.made files.old) (F.made files.new)) }
-    ensures stopped { (names : List (List ℕ)) → let setup = session_of design.now sizes names in
+    ensures stopped { (names : List (List ℕ)) →
+        let setup = session_of setting.now.design.now setting.now.sizes names in
         IfErr result (Stops setup desk (kinds.Trim most ∷ [])
         (S.written out.old) (S.written out.new)
         (F.made files.old) (F.made files.new) (F.state files.new).created) }
@@ -120,6 +125,9 @@ pub fn serve_trim<F: Files, S: Sink>(
         (record { files = F.state files.new; replies = S.faults out.new })
         result }
 {
+    let alloc = setting.alloc;
+    let design = setting.design;
+    let sizes = setting.sizes;
     let Desk {
         stores,
         counts,
@@ -127,7 +135,7 @@ pub fn serve_trim<F: Files, S: Sink>(
     } = desk;
     let done = trim_stores(alloc, design, most, sizes, stores)?;
     let (Some(counts), Some(removed)) = (
-        counted(counts, SectionKind::Trim, &done.lists),
+        count_section(counts, SectionKind::Trim, &done.lists),
         entries_in(&done.lists),
     ) else {
         return Err(Stop::OutOfMemory);
@@ -151,24 +159,25 @@ pub fn serve_trim<F: Files, S: Sink>(
 
 /// Tells the counts.
 pub fn serve_stats<F: Files, S: Sink>(
-    alloc: Global,
-    design: &Design,
-    sizes: Sizes,
+    setting: &Setting<'_>,
     desk: Desk,
     files: &mut F,
     out: &mut S,
 ) -> Result<Desk, Stop>
-    requires desk { IsDesk (setup_of design.now sizes) desk }
+    requires desk { IsDesk (setup_of setting.now.design.now setting.now.sizes) desk }
     requires files { (F.state files.old).created ≡ length desk.dumps.made.items + 1 }
     requires unfinished { Contains (F.state files.old).unfinished 0 }
-    ensures desk { IfOk result (λ later. IsDesk (setup_of design.now sizes) later) }
+    ensures desk { let setup = setup_of setting.now.design.now setting.now.sizes in
+        IfOk result (λ later. IsDesk setup later) }
     ensures count { IfOk result (λ later.
         (F.state files.new).created ≡ length later.dumps.made.items + 1) }
-    ensures served { (names : List (List ℕ)) → let setup = session_of design.now sizes names in
+    ensures served { (names : List (List ℕ)) →
+        let setup = session_of setting.now.design.now setting.now.sizes names in
         IfOk result (λ later. Serves setup desk later (kinds.Stats ∷ [])
         (S.written out.old) (S.written out.new)
         (F.made files.old) (F.made files.new)) }
-    ensures stopped { (names : List (List ℕ)) → let setup = session_of design.now sizes names in
+    ensures stopped { (names : List (List ℕ)) →
+        let setup = session_of setting.now.design.now setting.now.sizes names in
         IfErr result (Stops setup desk (kinds.Stats ∷ [])
         (S.written out.old) (S.written out.new)
         (F.made files.old) (F.made files.new) (F.state files.new).created) }
@@ -177,6 +186,7 @@ pub fn serve_stats<F: Files, S: Sink>(
         (record { files = F.state files.new; replies = S.faults out.new })
         result }
 {
+    let alloc = setting.alloc;
     let Some(cells) = cells_in(&desk.stores) else {
         return Err(Stop::OutOfMemory);
     };
@@ -189,27 +199,28 @@ pub fn serve_stats<F: Files, S: Sink>(
 /// Serves a unit.
 pub fn serve_unit<C: Crew, F: Files, S: Sink>(
     crew: &C,
-    alloc: Global,
-    design: &Design,
+    setting: &Setting<'_>,
     unit: Unit,
-    sizes: Sizes,
     desk: Desk,
     files: &mut F,
     out: &mut S,
 ) -> Result<Desk, Stop>
-    requires shards { (0 < sizes.shards) × (sizes.shards ≤ 64) }
-    requires fit { IsFit design.now.circuit.horizon unit }
-    requires desk { IsDesk (setup_of design.now sizes) desk }
+    requires shards { (0 < setting.now.sizes.shards) × (setting.now.sizes.shards ≤ 64) }
+    requires fit { IsFit setting.now.design.now.circuit.horizon unit }
+    requires desk { IsDesk (setup_of setting.now.design.now setting.now.sizes) desk }
     requires files { (F.state files.old).created ≡ length desk.dumps.made.items + 1 }
     requires unfinished { Contains (F.state files.old).unfinished 0 }
-    ensures desk { IfOk result (λ later. IsDesk (setup_of design.now sizes) later) }
+    ensures desk { let setup = setup_of setting.now.design.now setting.now.sizes in
+        IfOk result (λ later. IsDesk setup later) }
     ensures count { IfOk result (λ later.
         (F.state files.new).created ≡ length later.dumps.made.items + 1) }
-    ensures served { (names : List (List ℕ)) → let setup = session_of design.now sizes names in
+    ensures served { (names : List (List ℕ)) →
+        let setup = session_of setting.now.design.now setting.now.sizes names in
         IfOk result (λ later. Serves setup desk later (unit ∷ [])
         (S.written out.old) (S.written out.new)
         (F.made files.old) (F.made files.new)) }
-    ensures stopped { (names : List (List ℕ)) → let setup = session_of design.now sizes names in
+    ensures stopped { (names : List (List ℕ)) →
+        let setup = session_of setting.now.design.now setting.now.sizes names in
         IfErr result (Stops setup desk (unit ∷ [])
         (S.written out.old) (S.written out.new)
         (F.made files.old) (F.made files.new) (F.state files.new).created) }
@@ -219,40 +230,39 @@ pub fn serve_unit<C: Crew, F: Files, S: Sink>(
         result }
 {
     match unit {
-        Unit::Batch(items) => { serve_batch(crew, alloc, design, items, sizes, desk, files, out) }
-        Unit::Trim(most) => serve_trim(alloc, design, most, sizes, desk, files, out),
-        Unit::Stats => serve_stats(alloc, design, sizes, desk, files, out),
-        Unit::Question(question) => {
-            serve_question(alloc, design, &question, sizes, desk, files, out)
-        }
-        Unit::Vcd(file) => serve_vcd(alloc, design, sizes, file, desk, files, out),
+        Unit::Batch(items) => { serve_batch(crew, setting, items, desk, files, out) }
+        Unit::Trim(most) => serve_trim(setting, most, desk, files, out),
+        Unit::Stats => serve_stats(setting, desk, files, out),
+        Unit::Question(question) => { serve_question(setting, &question, desk, files, out) }
+        Unit::Vcd(file) => serve_vcd(setting, file, desk, files, out),
     }
 }
 
 /// Serves units, one after another.
 pub fn serve_units<C: Crew, F: Files, S: Sink>(
     crew: &C,
-    alloc: Global,
-    design: &Design,
+    setting: &Setting<'_>,
     units: UnitList,
-    sizes: Sizes,
     desk: Desk,
     files: &mut F,
     out: &mut S,
 ) -> Result<Desk, Stop>
-    requires shards { (0 < sizes.shards) × (sizes.shards ≤ 64) }
-    requires fit { All (IsFit design.now.circuit.horizon) units }
-    requires desk { IsDesk (setup_of design.now sizes) desk }
+    requires shards { (0 < setting.now.sizes.shards) × (setting.now.sizes.shards ≤ 64) }
+    requires fit { All (IsFit setting.now.design.now.circuit.horizon) units }
+    requires desk { IsDesk (setup_of setting.now.design.now setting.now.sizes) desk }
     requires files { (F.state files.old).created ≡ length desk.dumps.made.items + 1 }
     requires unfinished { Contains (F.state files.old).unfinished 0 }
-    ensures desk { IfOk result (λ later. IsDesk (setup_of design.now sizes) later) }
+    ensures desk { let setup = setup_of setting.now.design.now setting.now.sizes in
+        IfOk result (λ later. IsDesk setup later) }
     ensures count { IfOk result (λ later.
         (F.state files.new).created ≡ length later.dumps.made.items + 1) }
-    ensures served { (names : List (List ℕ)) → let setup = session_of design.now sizes names in
+    ensures served { (names : List (List ℕ)) →
+        let setup = session_of setting.now.design.now setting.now.sizes names in
         IfOk result (λ later. Serves setup desk later units
         (S.written out.old) (S.written out.new)
         (F.made files.old) (F.made files.new)) }
-    ensures stopped { (names : List (List ℕ)) → let setup = session_of design.now sizes names in
+    ensures stopped { (names : List (List ℕ)) →
+        let setup = session_of setting.now.design.now setting.now.sizes names in
         IfErr result (Stops setup desk units
         (S.written out.old) (S.written out.new)
         (F.made files.old) (F.made files.new) (F.state files.new).created) }
@@ -263,7 +273,7 @@ pub fn serve_units<C: Crew, F: Files, S: Sink>(
 {
     let mut desk = desk;
     for unit in units.into_vec() {
-        desk = serve_unit(crew, alloc, design, unit, sizes, desk, files, out)?;
+        desk = serve_unit(crew, setting, unit, desk, files, out)?;
     }
     Ok(desk)
 }

@@ -10,41 +10,41 @@ ghost use Rattle.session_loop.specs.Outside.{WorkChanges};
 use crate::halt::Halt;
 use crate::journal::{JOURNAL, begin_journal, finish_journal};
 use crate::section::write_section;
+use crate::setting::Setting;
 use crate::stores::empty_stores;
 use backsim_io::Files;
-use batch_crew::Crew;
-use design::Design;
 use journal_text::SectionKind;
 use query_lines::Item;
 use reply_lines::Reply;
-use std::alloc::Global;
 use std::mem;
-use unit_answers::{Sizes, answer_batch};
+use unit_answers::answer_batch;
+use worker_gate::Crew;
 
 /// Creates the journal and writes its head, answers the items as one batch over empty stores, writes the section of the batch, and
 /// finishes the journal. The replies are handed back, in the order of the items.
 pub fn serve_work<C: Crew, F: Files>(
     crew: &C,
-    alloc: Global,
-    design: &Design,
+    setting: &Setting<'_>,
     items: &[Item],
-    sizes: Sizes,
     journal: &str,
     files: &mut F,
 ) -> Result<Vec<Reply>, Halt>
-    requires shards { (0 < sizes.shards) × (sizes.shards ≤ 64) }
-    requires cells { (0 < sizes.cells) × (sizes.cells ≤ 65536) }
-    requires within { IsWithin design.now.circuit.horizon items.now }
+    requires shards { (0 < setting.now.sizes.shards) × (setting.now.sizes.shards ≤ 64) }
+    requires cells { (0 < setting.now.sizes.cells) × (setting.now.sizes.cells ≤ 65536) }
+    requires within { IsWithin setting.now.design.now.circuit.horizon items.now }
     requires lines { HaveOwnLines items.now }
     requires files { (F.state files.old).created ≡ 0 }
-    ensures worked { let setup = setup_of design.now sizes in
+    ensures worked { let setup = setup_of setting.now.design.now setting.now.sizes in
         IfOk result (λ replies. WroteJournal (IsWork setup items.now replies.items) journal.now
         (F.made files.old) (F.made files.new)) }
-    ensures halted { let setup = setup_of design.now sizes in
+    ensures halted { let setup = setup_of setting.now.design.now setting.now.sizes in
         IfErr result (IsWorkHalted setup items.now journal.now
         (F.made files.old) (F.made files.new)) }
     ensures state { WorkChanges (F.state files.old) (F.state files.new) result }
 {
+    let alloc = setting.alloc;
+    let design = setting.design;
+    let sizes = setting.sizes;
     begin_journal(alloc, sizes, journal, files)?;
     let stores = empty_stores(alloc, sizes)?;
     let done = answer_batch(crew, alloc, design, items, sizes, stores)?;

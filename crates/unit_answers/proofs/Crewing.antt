@@ -18,7 +18,7 @@ use Rattle.demand_points.specs.Demands.{Demand}
 use Rattle.memo_shards.specs.KeptShards.{KeptShard}
 use Rattle.plan_core.specs.Parts.{shards_in, strands_in}
 use Rattle.window_answers.specs.Settlement.{HasSettled}
-use Rattle.batch_crew.specs.Crews.{task_of, booked_in, AreEnds, AreFilled}
+use Rattle.worker_gate.specs.Ends.{task_of, booked_in, AreEnds, AreFilled}
 use Rattle.unit_answers.specs.Crewed.{IsEndOf, HasCrewed}
 use Rattle.unit_answers.proofs.Running.{map-twice}
 

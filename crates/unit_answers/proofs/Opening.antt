@@ -6,7 +6,7 @@ use Rattle.cell_store.specs.Recency.{Contents, contents}
 use Rattle.journal_meaning.specs.declared.Entry.{Entry}
 use Rattle.batch_meaning.specs.Batches.{Batch}
 use Rattle.memo_shards.specs.KeptShards.{KeptShard, shard_at}
-use Rattle.batch_crew.specs.Crews.{AreInOrder}
+use Rattle.worker_gate.specs.Ends.{AreInOrder}
 use Rattle.unit_answers.specs.inner.Runs.{store_of, AreOpened, AreBegun}
 
 none-left : {X : Type 0} (left : List X) → length left ≡ 0 → left ≡ []

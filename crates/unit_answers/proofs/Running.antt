@@ -27,7 +27,7 @@ use Rattle.asked_cells.specs.Shards.{AreNumbered}
 use Rattle.window_answers.specs.Strands.{IsInOrder}
 use Rattle.window_answers.specs.Settlement.{HasSettled}
 use Rattle.session_meaning.specs.Session.{Setup, batch_of}
-use Rattle.batch_crew.specs.Crews.{AreInOrder, AreNew}
+use Rattle.worker_gate.specs.Ends.{AreInOrder, AreNew}
 use Rattle.unit_answers.specs.Stores.{AreStores, cells_of}
 use Rattle.unit_answers.specs.inner.Runs.{asks_at, store_of, AreOpened, HasRun}
 use Rattle.session_meaning.proofs.Asked.{queries-signals, queries-within, queries-apart}

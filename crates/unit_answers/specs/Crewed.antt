@@ -8,7 +8,7 @@ use Rattle.strand_meaning.specs.Strands.{Strand, next}
 use Rattle.strand_meaning.specs.declared.Next.TheVariants.{Done}
 use Rattle.demand_points.specs.Demands.{Demand}
 
--- A strand that was started so has ended: it is spent only at its full budget, and has claimed and filled a point so often.
+-- A strand with this start has ended. It is spent only at its full budget, and the count is the number of its claims and fills.
 pub record IsEndOf (a : Start) (s : Strand) (count : ℕ) : Type 0 where
   pub query : s.query ≡ a.query
   pub budget : s.budget ≡ a.budget
@@ -16,8 +16,8 @@ pub record IsEndOf (a : Start) (s : Strand) (count : ℕ) : Type 0 where
   pub spent : s.spent ≡ true → s.charged ≡ s.budget
   pub amount : count ≡ s.charged + s.filled
 
--- A crew ran a strand for each piece, and left journals to which settlement added what it did. The counts of the strands add up to the
--- claims and fills that the crew left; each strand that came back has ended, with its count; at an open gate all came back.
+-- A crew ran a strand for each piece, and left journals to which settlement added entries. The counts of the strands add up to the claims
+-- and fills in the crew's journals. Each strand that came back has ended, with its count. With an open gate all came back.
 pub record HasCrewed (pieces : List Start) (is_open : Bool) (lists : List (List Entry)) : Type 0 where
   pub left : List (List Entry)
   pub added : List Entry

@@ -1,4 +1,4 @@
--- What a unit comes to over the stores.
+-- The result of a unit over the stores.
 use Rattle.std.specs.Prelude.{◌≡◌, ℕ, ◌<◌, List, [], length, get_or}
 use Rattle.std.specs.List.{AllZip}
 use Rattle.cell_store.specs.Recency.{Contents}
@@ -17,7 +17,7 @@ use Rattle.session_meaning.specs.Replies.{IsReply}
 use Rattle.session_meaning.specs.Session.{Setup, batch_of, question_batch, trim_entries}
 use Rattle.unit_answers.specs.Stores.{AreStores, cells_of}
 
--- A batch: legal journals from the cells in the stores, a right reply to each item, and the stores as the journals leave them.
+-- A batch: journals that are legal from the cells in the stores, a right reply to each item, and the stores as the journals leave them.
 pub record IsBatchDone (setup : Setup) (items : List Item) (opening : List Contents) (replies : List Reply) (lists : List (List Entry)) (left : List Contents) : Type 0 where
   pub count : length lists ≡ setup.shards
   pub legal : (shard : ℕ) → shard < setup.shards
@@ -28,8 +28,8 @@ pub record IsBatchDone (setup : Setup) (items : List Item) (opening : List Conte
   pub leaves : (shard : ℕ) → shard < setup.shards
       → cells_of left shard ≡ (replay (fresh (cells_of opening shard)) (get_or lists shard [])).cells
 
--- A question that is a batch of its own, by the number of its line and what it asks: legal journals from the cells in the stores, the
--- lists of a memo of its own if it has one, a right reply, and the stores as the journals leave them.
+-- A question, given the number of its line and what it asks: journals that are legal from the cells in the stores, the lists of a second
+-- memo, if there is one, a right reply, and the stores as the journals leave them.
 pub record IsQuestionDone (setup : Setup) (line : ℕ) (asks : Asks) (opening : List Contents) (reply : QuestionReply) (lists held : List (List Entry)) (left : List Contents) : Type 0 where
   pub count : length lists ≡ setup.shards
   pub legal : (shard : ℕ) → shard < setup.shards

@@ -13,7 +13,7 @@ use Rattle.session_meaning.specs.declared.Verdict.{Verdict}
 use Rattle.session_meaning.specs.declared.Verdict.TheVariants.{Ask, Unknown, Past, Bad}
 use Rattle.session_meaning.specs.Verdicts.{verdict_of}
 
--- a reply that is a wave is that of what is asked
+-- a reply that is a wave is that of the query
 abbrev pub IsOwnWave : Circuit → Verdict → Reply → Type 0
 IsOwnWave c (Ask query) (replies.Wave runs) = runs ≡ wave c query.signal query.from query.to
 IsOwnWave c Unknown (replies.Wave runs) = ⊥
@@ -21,7 +21,7 @@ IsOwnWave c Past (replies.Wave runs) = ⊥
 IsOwnWave c Bad (replies.Wave runs) = ⊥
 IsOwnWave c verdict reply = ⊤
 
--- A batch's items, with names by the rules, and the replies to them, of which each wave is that of what its item asks.
+-- A batch's items, whose names follow the rules, and the replies to them. Each wave is that of its item's query.
 pub record AreReplied (d : Joined) (items : List Item) (answers : List Reply) : Type 0 where
   pub within : IsWithin d.circuit.horizon items
   pub named : All (λ item. AsksByName item.what) items

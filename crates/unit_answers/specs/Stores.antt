@@ -7,7 +7,7 @@ use Rattle.design.specs.Joined.{Joined}
 use Rattle.session_meaning.specs.Session.{Setup}
 use Rattle.unit_answers.specs.declared.sizes.Sizes.{Sizes}
 
--- a design with a memo of these sizes; what a unit comes to over the stores does not depend on the names of files
+-- the setup of a design with a memo of these sizes; the result of a unit does not depend on the names of files
 abbrev pub setup_of : Joined → Sizes → Setup
 setup_of design sizes = record { design = design; shards = sizes.shards; capacity = sizes.cells; names = [] }
 
@@ -15,7 +15,7 @@ setup_of design sizes = record { design = design; shards = sizes.shards; capacit
 abbrev pub cells_of : List Contents → ℕ → List SignalCell
 cells_of stores shard = (get_or stores shard (contents 0 [])).cells
 
--- one store for each shard, with room for as many cells as each has, and with right cells
+-- one store for each shard, with the shard's room, and with right cells
 pub record AreStores (setup : Setup) (stores : List Contents) : Type 0 where
   pub count : length stores ≡ setup.shards
   pub capacity : All (λ s. s.capacity ≡ setup.capacity) stores

@@ -8,10 +8,9 @@ ghost use Rattle.unit_answers.specs.Crewed.{HasCrewed};
 ghost use Rattle.unit_answers.specs.Stores.{setup_of, AreStores};
 ghost use Rattle.unit_answers.specs.Done.{IsBatchDone};
 
-use crate::replies::{placed, queries_of};
+use crate::replies::{place_replies, queries_of};
 use crate::run::{have_room, run_batch};
 use crate::sizes::Sizes;
-use batch_crew::Crew;
 use cell_store::CellStore;
 use design::Design;
 use journal_text::EntryList;
@@ -21,8 +20,9 @@ use reply_lines::Reply;
 use std::alloc::Global;
 use std::marker::Brand;
 use window_answers::verdicts_of;
+use worker_gate::Crew;
 
-/// What came of a batch: the reply to each item, the journal of each shard, and the stores that are left.
+/// The result of a batch: the reply to each item, the journal of each shard, and the stores after it.
 #[derive(Drop)]
 pub struct BatchDone {
     pub replies: Vec<Reply>,
@@ -30,8 +30,8 @@ pub struct BatchDone {
     pub stores: Vec<CellStore>,
 }
 
-/// Answers the items of a batch over the stores. The crew runs the strands of the queries; what it leaves undone, settlement does.
-/// Where memory runs out, the stores are given up.
+/// Answers the items of a batch over the stores. The crew runs the strands of the queries, and settlement does the rest. If memory
+/// runs out, the stores are dropped.
 pub fn answer_batch<C: Crew>(
     crew: &C,
     alloc: Global,
@@ -55,7 +55,7 @@ pub fn answer_batch<C: Crew>(
     let verdicts = verdicts_of(alloc, design, items)?;
     let queries = queries_of(alloc, &verdicts)?;
     let ran = run_batch::<Brand, C>(crew, alloc, design, &queries, sizes, stores)?;
-    let replies = placed(alloc, &verdicts, ran.replies)?;
+    let replies = place_replies(alloc, &verdicts, ran.replies)?;
     Ok(BatchDone {
         replies,
         lists: ran.lists,

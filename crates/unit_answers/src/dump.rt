@@ -1,4 +1,4 @@
-//! The dump of the waves that a batch was replied.
+//! The dump of the waves in the replies to a batch.
 
 ghost use Rattle.std.specs.Prelude.{◌≡◌, length, IsTrue, IfOk, OnOk, ◌++◌};
 ghost use Rattle.std.specs.List.{list_all};
@@ -17,7 +17,7 @@ use reply_lines::Reply;
 use std::alloc::Global;
 use vcd_answers::{Wire, WireList, vcd_text, wire_of};
 
-/// The text of a dump, and how many wires it shows.
+/// The text of a dump, and the number of its wires.
 #[derive(Drop)]
 pub struct Dump {
     pub text: Vec<u8>,
@@ -53,7 +53,7 @@ fn push_wire(
     Ok(())
 }
 
-/// The dump of the waves that were replied to the items of a batch: a wire for each, in the order of the items.
+/// The dump of the waves in the replies to the items of a batch: a wire for each, in the order of the items.
 pub fn dump_waves(
     alloc: Global,
     design: &Design,

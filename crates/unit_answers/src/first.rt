@@ -9,7 +9,7 @@ ghost use Rattle.session_meaning.specs.Verdicts.{first_verdict};
 ghost use Rattle.unit_answers.specs.Stores.{setup_of, cells_of, AreStores};
 ghost use Rattle.unit_answers.specs.Done.{IsQuestionDone};
 
-use crate::outcome::{QuestionDone, unasked};
+use crate::outcome::{QuestionDone, reply_unasked};
 use crate::run::{begin_all, end_all, have_room};
 use crate::sizes::Sizes;
 use batch_meaning::Query;
@@ -57,8 +57,8 @@ fn run_first<B: BatchName>(
     })
 }
 
-/// Answers at which time of its window a signal first has a value, over the stores. It asks for one cell after another up to that time,
-/// and for nothing behind it.
+/// Answers at which time of its window a signal first has a value, over the stores. Asks for one cell after another up to that time,
+/// and for nothing after it.
 pub fn answer_first(
     alloc: Global,
     design: &Design,
@@ -79,8 +79,8 @@ pub fn answer_first(
         Verdict::Ask(query) => {
             run_first::<Brand>(alloc, design, line, first, query, sizes, stores)
         }
-        Verdict::Unknown => unasked(alloc, QuestionReply::First(FirstReply::Unknown), stores),
-        Verdict::Past => unasked(alloc, QuestionReply::First(FirstReply::Past), stores),
+        Verdict::Unknown => reply_unasked(alloc, QuestionReply::First(FirstReply::Unknown), stores),
+        Verdict::Past => reply_unasked(alloc, QuestionReply::First(FirstReply::Past), stores),
         Verdict::Bad => unreachable!(),
     }
 }

@@ -1,4 +1,4 @@
-//! What comes of a question that is a batch of its own.
+//! The result of a question.
 
 ghost use Rattle.std.specs.Prelude.{ℕ, [], IfOk};
 ghost use Rattle.query_lines.specs.declared.unit.Asks.{Asks as QuestionAsks};
@@ -14,18 +14,18 @@ use owned_text::OutOfMemory;
 use reply_lines::QuestionReply;
 use std::alloc::Global;
 
-/// What came of a question: the reply, the journal of each shard, and the stores that are left.
+/// The result of a question: the reply, the journal of each shard, and the stores after it.
 #[derive(Drop)]
 pub struct QuestionDone {
     pub reply: QuestionReply,
     pub lists: Vec<EntryList>,
-    /// The journal of a memo of its own, where the question has one, and else none.
+    /// The journal of a second memo, if the question has one, and otherwise none.
     pub held: Vec<EntryList>,
     pub stores: Vec<CellStore>,
 }
 
-/// What comes of a question that asks nothing: no shard records an entry, and the stores stay as they are.
-pub fn unasked(
+/// The result of a question that asks nothing: no shard records an entry, and the stores stay as they are.
+pub fn reply_unasked(
     alloc: Global,
     reply: QuestionReply,
     stores: Vec<CellStore>,

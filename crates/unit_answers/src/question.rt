@@ -1,4 +1,4 @@
-//! A question that is a batch of its own.
+//! A question.
 
 ghost use Rattle.std.specs.Prelude.{◌<◌, ◌≤◌, IfOk};
 ghost use Rattle.unit_answers.specs.Stores.{setup_of, AreStores};
@@ -15,8 +15,8 @@ use owned_text::OutOfMemory;
 use query_lines::{Asks, Question};
 use std::alloc::Global;
 
-/// Answers a question over the stores, with no crew: when a signal first has a value, why it has its value at a time, or which waveform
-/// it has where another is stuck. Where memory runs out, the stores are given up.
+/// Answers a question over the stores, without a crew: when a signal first has a value, why it has its value at a time, or which
+/// waveform it has if another signal is stuck. If memory runs out, the stores are dropped.
 pub fn answer_question(
     alloc: Global,
     design: &Design,

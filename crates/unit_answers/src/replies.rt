@@ -25,7 +25,7 @@ pub fn queries_of(alloc: Global, verdicts: &[Verdict]) -> Result<Vec<Query>, Out
     Ok(queries)
 }
 
-/// The reply to an item, of which a query's is the next one.
+/// The reply to an item. That to a query is the next answer.
 fn next_reply(verdict: Verdict, answers: &mut IntoIter<Reply>) -> Reply
     requires { length (asked verdict) ≤ into_iter_len answers.old }
     ensures reply { result ≡ reply_to verdict (into_iter_items answers.old) }
@@ -41,7 +41,7 @@ fn next_reply(verdict: Verdict, answers: &mut IntoIter<Reply>) -> Reply
 }
 
 /// Puts the replies to the queries at the places of their items.
-pub fn placed(
+pub fn place_replies(
     alloc: Global,
     verdicts: &[Verdict],
     answers: Vec<Reply>,

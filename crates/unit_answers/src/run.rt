@@ -9,7 +9,6 @@ ghost use Rattle.unit_answers.specs.Crewed.{HasCrewed};
 ghost use Rattle.unit_answers.specs.inner.Runs.{asks, store_of, AreOpened, AreBegun, HasRun};
 
 use crate::sizes::Sizes;
-use batch_crew::Crew;
 use batch_meaning::Query;
 use cell_store::CellStore;
 use demand_points::BatchName;
@@ -20,8 +19,9 @@ use owned_text::OutOfMemory;
 use reply_lines::Reply;
 use std::alloc::Global;
 use window_answers::{Settled, settle, strands_of};
+use worker_gate::Crew;
 
-/// What came of the queries of a batch: the reply to each, the journal of each shard, and the stores that are left.
+/// The result of the queries of a batch: the reply to each, the journal of each shard, and the stores after it.
 #[derive(Drop)]
 pub struct BatchRun {
     pub replies: Vec<Reply>,
@@ -29,7 +29,7 @@ pub struct BatchRun {
     pub stores: Vec<CellStore>,
 }
 
-/// What is known of the stores: each has room for a cell.
+/// What holds of the stores: each has room for a cell.
 pub fn have_room(design: &Design, sizes: Sizes, stores: &[CellStore])
     requires stores { AreStores (setup_of design.now sizes) stores.now }
     requires some { 0 < sizes.shards }
@@ -76,7 +76,7 @@ pub fn end_all<B: BatchName>(
     Ok((lists, stores))
 }
 
-/// Has the strands of the queries run by the crew, in the batch that B names, and settles it.
+/// Has the crew run the strands of the queries, in the batch that B names, and settles the batch.
 pub fn run_batch<B: BatchName + Send + Sync, C: Crew>(
     crew: &C,
     alloc: Global,

@@ -1,6 +1,7 @@
 //! The sizes of a memo.
 
-/// How many shards the memo has, and for how many cells each has room.
+/// The number of shards of the memo, and the number of cells for which
+/// each has room.
 #[derive(Clone, Copy, Debug, PartialEq, Eq)]
 pub struct Sizes {
     pub shards: u32,

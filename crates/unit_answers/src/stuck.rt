@@ -1,4 +1,4 @@
-//! A question for a wave where a signal is stuck.
+//! A question for a wave with a stuck signal.
 
 ghost use Rattle.std.specs.Prelude.{◌≡◌, ◌<◌, ◌≤◌, Some, IfOk};
 ghost use Rattle.batch_meaning.specs.Lawful.{IsLawful};
@@ -9,7 +9,7 @@ ghost use Rattle.session_meaning.specs.Verdicts.{site_of, stuck_verdict};
 ghost use Rattle.unit_answers.specs.Stores.{setup_of, cells_of, AreStores};
 ghost use Rattle.unit_answers.specs.Done.{IsQuestionDone};
 
-use crate::outcome::{QuestionDone, unasked};
+use crate::outcome::{QuestionDone, reply_unasked};
 use crate::run::{begin_all, end_all, have_room};
 use crate::sizes::Sizes;
 use batch_meaning::Query;
@@ -25,7 +25,7 @@ use std::marker::Brand;
 use stuck_faults::stuck_wave;
 use window_answers::{Verdict, stuck_site_of, stuck_verdict_of};
 
-/// What is asked where a signal is stuck: which signal that is, and the query.
+/// The stuck signal, and the query.
 #[derive(Clone, Copy)]
 struct StuckQuery {
     site: u32,
@@ -70,8 +70,8 @@ fn run_stuck<B: BatchName>(
     })
 }
 
-/// Answers which waveform a signal has where another is stuck, over the stores. What is free of the stuck signal is asked of them, and
-/// all else of a memo of its own.
+/// Answers which waveform a signal has if another signal is stuck. The stores are asked for what is free of the stuck signal, and a
+/// second memo for all else.
 pub fn answer_stuck(
     alloc: Global,
     design: &Design,
@@ -89,15 +89,15 @@ pub fn answer_stuck(
     design.facts();
     have_room(design, sizes, &stores);
     let Some(site) = stuck_site_of(design, stuck) else {
-        return unasked(alloc, QuestionReply::Stuck(StuckReply::UnknownSite), stores);
+        return reply_unasked(alloc, QuestionReply::Stuck(StuckReply::UnknownSite), stores);
     };
     match stuck_verdict_of(design, line, stuck) {
         Verdict::Ask(query) => {
             let asked = StuckQuery { site, query };
             run_stuck::<Brand>(alloc, design, line, stuck, asked, sizes, stores)
         }
-        Verdict::Unknown => unasked(alloc, QuestionReply::Stuck(StuckReply::Unknown), stores),
-        Verdict::Past => unasked(alloc, QuestionReply::Stuck(StuckReply::Past), stores),
+        Verdict::Unknown => reply_unasked(alloc, QuestionReply::Stuck(StuckReply::Unknown), stores),
+        Verdict::Past => reply_unasked(alloc, QuestionReply::Stuck(StuckReply::Past), stores),
         Verdict::Bad => unreachable!(),
     }
 }

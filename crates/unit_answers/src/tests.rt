@@ -1,11 +1,10 @@
-//! A batch, questions for a first time, for an explanation and for a wave where a signal is stuck, and a trim over two shards.
+//! A batch, questions for a first time, for an explanation and for a wave with a stuck signal, and a trim, over two shards.
 
 ghost use Rattle.std.specs.Prelude.{◌≡◌, ◌≤◌, false, [], ◌∷◌, length, IfOk};
 ghost use Rattle.cell_store.specs.Recency.{contents};
 ghost use Rattle.unit_answers.specs.Stores.{setup_of, AreStores};
 
 use super::*;
-use batch_crew::Workers;
 use bench_reader::read_bench;
 use cell_store::CellStore;
 use circuit_meaning::Run;
@@ -21,12 +20,12 @@ use std::test::Fail;
 use std::thread::Threads;
 use stimulus_file::read_stimulus;
 use timing_file::read_timing;
-use worker_gate::{Gate, Pass};
+use worker_gate::{Gate, Pass, Workers};
 
 /// Signal 0 is the input a, and signal 1 is the buffer y.
 const NETLIST: &str = "INPUT(a)\nOUTPUT(y)\ny = BUFF(a)\n";
 
-/// What shows y at the time 5 and nothing else.
+/// The dump that shows only y at the time 5.
 const DUMP: &str =
     "$timescale 1 ns $end\n$scope module top $end\n$var wire 1 ! y $end\n$upscope $end\n$enddefinitions $end\n#0\nx!\n#5\n1!\n#6\nx!\n";
 
@@ -35,7 +34,7 @@ const SIZES: Sizes = Sizes {
     cells: 4,
 };
 
-/// The text, where it is short.
+/// The text's bytes, or none if there are over 1,000.
 fn short(text: &str) -> &[u8]
     ensures { length result.now ≤ 1000 }
 {
@@ -116,7 +115,7 @@ fn journals_text(alloc: Global, lists: &[EntryList]) -> Result<Vec<u8>, OutOfMem
     Ok(text)
 }
 
-/// What came of a batch and of the trim of all cells after it: the replies and their dump, and the journals of both.
+/// The result of a batch and of the trim of all cells after it: the replies and their dump, and the journals of both.
 #[derive(Drop)]
 struct BatchSeen {
     replies: Vec<Reply>,
@@ -183,7 +182,7 @@ fn a_batch_is_answered_and_trimmed(rt: HostRuntime) -> Result<(), Fail> {
     Ok(())
 }
 
-/// What came of a question for a first time: the reply's text, the journals, and how many stores are left.
+/// The result of a question for a first time: the reply's text, the journals, and the number of stores after it.
 #[derive(Drop)]
 struct FirstSeen {
     text: Vec<u8>,
@@ -245,7 +244,7 @@ fn a_first_time_that_is_not_asked(rt: HostRuntime) -> Result<(), Fail> {
     Ok(())
 }
 
-/// What came of a question for an explanation: the reply's text, how many journals there are, and how many entries the second has.
+/// The result of a question for an explanation: the reply's text, the number of journals, and the number of entries in the second.
 #[derive(Drop)]
 struct WhySeen {
     text: Vec<u8>,
@@ -297,7 +296,7 @@ fn values_are_explained(rt: HostRuntime) -> Result<(), Fail> {
     Ok(())
 }
 
-/// What came of a question for a wave where a signal is stuck: the reply's text, the journals, and those of the memo of its own.
+/// The result of a question for a wave with a stuck signal: the reply's text, the journals, and those of the second memo.
 #[derive(Drop)]
 struct StuckSeen {
     text: Vec<u8>,
@@ -305,7 +304,7 @@ struct StuckSeen {
     held: Vec<u8>,
 }
 
-/// The wave of the signal of this name from time 0 on, where the signal `site` is stuck at 0, over empty stores.
+/// The wave of the signal of this name from time 0 on, with the signal `site` stuck at 0, over empty stores.
 fn stuck_of(
     alloc: Global,
     design: &Design,

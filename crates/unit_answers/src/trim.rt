@@ -13,7 +13,7 @@ use journal_text::EntryList;
 use owned_text::OutOfMemory;
 use std::alloc::Global;
 
-/// What came of a trim: the entries of each shard, and the stores that are left.
+/// The result of a trim: the entries of each shard, and the stores after it.
 #[derive(Drop)]
 pub struct TrimDone {
     pub lists: Vec<EntryList>,
@@ -34,7 +34,7 @@ fn evictions(alloc: Global, keys: &[Key]) -> Result<Vec<Entry>, OutOfMemory>
     Ok(entries)
 }
 
-/// Evicts the least recent cells of a store, until so many are left at most. Answers the entries.
+/// Evicts the least recent cells of a store, until at most this many are left. Returns the entries.
 fn trim_store(alloc: Global, most: u32, store: &mut CellStore) -> Result<EntryList, OutOfMemory>
     ensures entries { IfOk result (λ entries. entries ≡ entries_at most store.old) }
     ensures left { OnOk result (store.new ≡ trimmed most store.old) }
@@ -43,7 +43,8 @@ fn trim_store(alloc: Global, most: u32, store: &mut CellStore) -> Result<EntryLi
     Ok(EntryList::from_vec(evictions(alloc, &keys)?))
 }
 
-/// Evicts the least recent cells of each store, until so many are left at most. Where memory runs out, the stores are given up.
+/// Evicts the least recent cells of each store, until at most this many are left in it. If memory runs out, the stores are
+/// dropped.
 pub fn trim_stores(
     alloc: Global,
     design: &Design,

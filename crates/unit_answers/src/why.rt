@@ -9,7 +9,7 @@ ghost use Rattle.session_meaning.specs.Verdicts.{why_verdict};
 ghost use Rattle.unit_answers.specs.Stores.{setup_of, cells_of, AreStores};
 ghost use Rattle.unit_answers.specs.Done.{IsQuestionDone};
 
-use crate::outcome::{QuestionDone, unasked};
+use crate::outcome::{QuestionDone, reply_unasked};
 use crate::run::{begin_all, end_all, have_room};
 use crate::sizes::Sizes;
 use batch_meaning::Query;
@@ -56,7 +56,7 @@ fn run_why<B: BatchName>(
     })
 }
 
-/// Answers why a signal has its value at a time, over the stores, by a proof. It asks for the value and then for the cells that it follows
+/// Answers why a signal has its value at a time, over the stores, by a proof. Asks for the value, and then for the cells that it follows
 /// from.
 pub fn answer_why(
     alloc: Global,
@@ -76,8 +76,8 @@ pub fn answer_why(
     have_room(design, sizes, &stores);
     match why_verdict_of(design, line, why) {
         Verdict::Ask(query) => run_why::<Brand>(alloc, design, line, why, query, sizes, stores),
-        Verdict::Unknown => unasked(alloc, QuestionReply::Why(WhyReply::Unknown), stores),
-        Verdict::Past => unasked(alloc, QuestionReply::Why(WhyReply::Past), stores),
+        Verdict::Unknown => reply_unasked(alloc, QuestionReply::Why(WhyReply::Unknown), stores),
+        Verdict::Past => reply_unasked(alloc, QuestionReply::Why(WhyReply::Past), stores),
         Verdict::Bad => unreachable!(),
     }
 }

@@ -1,6 +1,7 @@
 -- Two places that texts are written to: a sink, and a created file.
 use Rattle.std.specs.Prelude.{◌≡◌, ℕ, ◌⊎◌, List, [], ◌∷◌, ◌++◌, length, codes}
-use Rattle.journal_text.specs.Spelling.{field, line_feed}
+use Rattle.text_fields.specs.Spelling.{field}
+use Rattle.journal_text.specs.Spelling.{line_feed}
 use Rattle.backsim_io.specs.Counts.{Grows}
 use Rattle.owned_text.specs.Made.{Made}
 use Rattle.backsim_io.specs.Held.{FileGrows}

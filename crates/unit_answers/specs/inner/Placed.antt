@@ -5,7 +5,7 @@ use Rattle.reply_lines.specs.declared.reply.Reply.TheVariants as replies
 use Rattle.session_meaning.specs.declared.Verdict.{Verdict}
 use Rattle.session_meaning.specs.declared.Verdict.TheVariants.{Ask, Unknown, Past, Bad}
 
--- The reply to an item: an item that asks gets the next one of those to the queries.
+-- The reply to an item. If the item asks, this is the next reply to the queries.
 abbrev pub reply_to : Verdict → List Reply → Reply
 reply_to (Ask query) [] = replies.Budget query.budget
 reply_to (Ask query) (reply ∷ rest) = reply
@@ -13,7 +13,7 @@ reply_to Unknown answers = replies.Unknown
 reply_to Past answers = replies.Past
 reply_to Bad answers = replies.BadLine
 
--- and those that are left for the items after it
+-- the replies that are left for the items after it
 abbrev pub left_by : Verdict → List Reply → List Reply
 left_by (Ask query) [] = []
 left_by (Ask query) (reply ∷ rest) = rest

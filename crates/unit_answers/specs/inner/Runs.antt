@@ -13,9 +13,9 @@ use Rattle.reply_lines.specs.declared.reply.Reply.{Reply}
 use Rattle.memo_shards.specs.KeptShards.{KeptShard}
 use Rattle.window_answers.specs.Phases.{AreReplies, refused_of}
 use Rattle.session_meaning.specs.Session.{Setup}
-use Rattle.batch_crew.specs.Crews.{AreInOrder}
+use Rattle.worker_gate.specs.Ends.{AreInOrder}
 
--- the batch of these queries, of the circuit in which a signal is forced if there is a site
+-- the batch of these queries; with a site, of the circuit in which the site is forced
 abbrev pub asks_at : Setup → Option Site → List Query → Batch
 asks_at setup site queries = record {
   circuit = setup.design.circuit;
@@ -25,17 +25,17 @@ asks_at setup site queries = record {
   site = site;
 }
 
--- the same, with no site
+-- the same, without a site
 abbrev pub asks : Setup → List Query → Batch
 asks setup queries = asks_at setup None queries
 
--- The batch begins with these stores: there is one for each shard, and it has the shard's room and the cells that the shard opens with.
+-- The batch begins with these stores: one for each shard, with its room and its opening cells.
 pub record AreOpened (b : Batch) (opening : ℕ → List SignalCell) (stores : List Contents) : Type 0 where
   pub count : length stores ≡ b.shards
   pub stored : (n : ℕ) → n < b.shards → get_or stores n (contents 0 []) ≡ contents b.capacity (opening n)
   pub right : (n : ℕ) → n < b.shards → AllByRecursion (IsRight b.circuit) (opening n)
 
--- the shards of so many stores, as a batch begins
+-- the shards over these stores, at the start of a batch
 pub record AreBegun (stores : List Contents) (shards : List KeptShard) : Type 0 where
   pub count : length shards ≡ length stores
   pub order : AreInOrder shards
@@ -45,7 +45,7 @@ pub record AreBegun (stores : List Contents) (shards : List KeptShard) : Type 0 
 abbrev pub store_of : ℕ → Shard → Contents
 store_of capacity h = contents capacity h.state.cells
 
--- The shards of the batch are settled, each query has its reply, and what is left are the journals and the stores of the shards.
+-- The shards of the batch are settled, each query has its reply, and the journals and the stores are those of the shards.
 pub record HasRun (b : Batch) (opening : ℕ → List SignalCell) (replies : List Reply) (lists : List (List Entry)) (left : List Contents) : Type 0 where
   pub handed : List Shard
   pub shards : List Shard

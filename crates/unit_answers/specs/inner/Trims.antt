@@ -1,4 +1,4 @@
--- What a trim makes of one store.
+-- What a trim leaves of one store.
 use Rattle.std.specs.Prelude.{ℕ, List, take}
 use Rattle.cell_store.specs.declared.Key.{Key}
 use Rattle.cell_store.specs.Recency.{Contents, with_cells}
@@ -9,10 +9,10 @@ use Rattle.session_meaning.specs.Session.{trim_entries}
 abbrev pub eviction_of : Key → Entry
 eviction_of key = Evicted key.signal key.start
 
--- its first cells are left
+-- the first cells of the store are left
 abbrev pub trimmed : ℕ → Contents → Contents
 trimmed most store = with_cells store (take most store.cells)
 
--- and the entries of the others
+-- the entries that evict the others
 abbrev pub entries_at : ℕ → Contents → List Entry
 entries_at most store = trim_entries most store.cells

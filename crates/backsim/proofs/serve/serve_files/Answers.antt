@@ -26,7 +26,7 @@ pub returns-in-Err-clause-serves : goal.returns-in-Err-clause-serves
 returns-in-Err-clause-serves g c =
     let stop = c.in-Err.stop in
     let status = c.end_stopped.result in
-    let command : Command = command_of c.args.netlist.now c.args.timing.now c.args.stimulus.now c.args.journal.now c.args.workers c.args.sizes.shards c.args.sizes.cells in
+    let command : Command = command_of c.args.asked.now.netlist.now c.args.asked.now.timing.now c.args.asked.now.stimulus.now c.args.asked.now.journal.now c.args.asked.now.workers c.args.asked.now.sizes.shards c.args.asked.now.sizes.cells in
     let before : Seen = record { outside = record { outputs = record { files = g.F.Files.state c.args.files.now; replies = g.S.Sink.faults c.args.out.now }; script = g.Q.Source.state c.args.queries.now }; written = g.S.Sink.written c.args.out.now; made = g.F.Files.made c.args.files.now } in
     let after : Seen = record { outside = record { outputs = record { files = g.F.Files.state c.read_design.new.files; replies = g.S.Sink.faults c.end_stopped.new.out }; script = g.Q.Source.state c.args.queries.now }; written = g.S.Sink.written c.end_stopped.new.out; made = g.F.Files.made c.read_design.new.files } in
     let old = g.F.Files.state c.args.files.now in
@@ -63,7 +63,7 @@ returns-in-Err-clause-serves g c =
 -- the session ended
 pub returns-in-Ok-serve_session-clause-serves : goal.returns-in-Ok-serve_session-clause-serves
 returns-in-Ok-serve_session-clause-serves g c =
-    let command : Command = command_of c.args.netlist.now c.args.timing.now c.args.stimulus.now c.args.journal.now c.args.workers c.args.sizes.shards c.args.sizes.cells in
+    let command : Command = command_of c.args.asked.now.netlist.now c.args.asked.now.timing.now c.args.asked.now.stimulus.now c.args.asked.now.journal.now c.args.asked.now.workers c.args.asked.now.sizes.shards c.args.asked.now.sizes.cells in
     let before : Seen = record { outside = record { outputs = record { files = g.F.Files.state c.args.files.now; replies = g.S.Sink.faults c.args.out.now }; script = g.Q.Source.state c.args.queries.now }; written = g.S.Sink.written c.args.out.now; made = g.F.Files.made c.args.files.now } in
     let after : Seen = record { outside = record { outputs = record { files = g.F.Files.state c.serve_session.new.files; replies = g.S.Sink.faults c.serve_session.new.out }; script = g.Q.Source.state c.serve_session.new.queries }; written = g.S.Sink.written c.serve_session.new.out; made = g.F.Files.made c.serve_session.new.files } in
     let old = g.F.Files.state c.args.files.now in
@@ -93,7 +93,7 @@ pub returns-in-Err-serve_session-clause-serves : goal.returns-in-Err-serve_sessi
 returns-in-Err-serve_session-clause-serves g c =
     let halt = c.in-Err-serve_session.halt in
     let status = c.end_stopped-in-Err-serve_session.result in
-    let command : Command = command_of c.args.netlist.now c.args.timing.now c.args.stimulus.now c.args.journal.now c.args.workers c.args.sizes.shards c.args.sizes.cells in
+    let command : Command = command_of c.args.asked.now.netlist.now c.args.asked.now.timing.now c.args.asked.now.stimulus.now c.args.asked.now.journal.now c.args.asked.now.workers c.args.asked.now.sizes.shards c.args.asked.now.sizes.cells in
     let before : Seen = record { outside = record { outputs = record { files = g.F.Files.state c.args.files.now; replies = g.S.Sink.faults c.args.out.now }; script = g.Q.Source.state c.args.queries.now }; written = g.S.Sink.written c.args.out.now; made = g.F.Files.made c.args.files.now } in
     let after : Seen = record { outside = record { outputs = record { files = g.F.Files.state c.serve_session.new.files; replies = g.S.Sink.faults c.end_stopped-in-Err-serve_session.new.out }; script = g.Q.Source.state c.serve_session.new.queries }; written = g.S.Sink.written c.end_stopped-in-Err-serve_session.new.out; made = g.F.Files.made c.serve_session.new.files } in
     let old = g.F.Files.state c.args.files.now in

@@ -19,19 +19,19 @@ pub returns-in_err-dump-clause-stopped : goal.returns-in_err-dump-clause-stopped
 returns-in_err-dump-clause-stopped g c names =
     let p = err_from_is_err_and c.from_residual.result c.from_residual.ensures.1 in
     rw (p.1, p.2)
-    (unit-unbegun (session_of c.args.design.now c.args.sizes names) c.args.desk _ (g.S.Sink.written c.args.out.now) (g.F.Files.made c.args.files.now) (g.F.Files.state c.args.files.now).created c.requires.files)
+    (unit-unbegun (session_of c.args.setting.now.design.now c.args.setting.now.sizes names) c.args.desk _ (g.S.Sink.written c.args.out.now) (g.F.Files.made c.args.files.now) (g.F.Files.state c.args.files.now).created c.requires.files)
 
 pub returns-in_err-reply-clause-stopped : goal.returns-in_err-reply-clause-stopped
 returns-in_err-reply-clause-stopped g c names =
     let p = err_from_is_err_and c.from_residual-in_err-reply.result c.from_residual-in_err-reply.ensures.1 in
     rw (p.1, p.2)
-    (unit-unbegun (session_of c.args.design.now c.args.sizes names) c.args.desk _ (g.S.Sink.written c.args.out.now) (g.F.Files.made c.args.files.now) (g.F.Files.state c.args.files.now).created c.requires.files)
+    (unit-unbegun (session_of c.args.setting.now.design.now c.args.setting.now.sizes names) c.args.desk _ (g.S.Sink.written c.args.out.now) (g.F.Files.made c.args.files.now) (g.F.Files.state c.args.files.now).created c.requires.files)
 
 pub returns-in_err-push_copy-clause-stopped : goal.returns-in_err-push_copy-clause-stopped
 returns-in_err-push_copy-clause-stopped g c names =
     let p = err_from_is_err_and c.from_residual-in_err-push_copy.result c.from_residual-in_err-push_copy.ensures.1 in
     rw (p.1, p.2)
-    (unit-unbegun (session_of c.args.design.now c.args.sizes names) c.args.desk _ (g.S.Sink.written c.args.out.now) (g.F.Files.made c.args.files.now) (g.F.Files.state c.args.files.now).created c.requires.files)
+    (unit-unbegun (session_of c.args.setting.now.design.now c.args.setting.now.sizes names) c.args.desk _ (g.S.Sink.written c.args.out.now) (g.F.Files.made c.args.files.now) (g.F.Files.state c.args.files.now).created c.requires.files)
 
 -- a name is text
 pub unreachable-requires-in_default-from_utf8 : goal.unreachable-requires-in_default-from_utf8
@@ -41,14 +41,14 @@ unreachable-requires-in_default-from_utf8 g c = c.in_default-from_utf8.ensures.c
 pub returns-in_err-write_dump-clause-stopped : goal.returns-in_err-write_dump-clause-stopped
 returns-in_err-write_dump-clause-stopped g c names =
     let p = err_from_is_err_and c.from_residual-in_err-write_dump.result c.from_residual-in_err-write_dump.ensures.1 in
-    let design = c.args.design.now in
+    let design = c.args.setting.now.design.now in
     let same : c.in-Ok.name.now ≡ c.args.file = c.in-Ok.ensures.cases.0 ∙ c.bytes.ensures in
     let text : c.deref-2.result.now ≡ vcd_of (wires_of design c.in-Some.last.items c.in-Some.last.replies.items) =
     c.deref-2.ensures.value ∙ c.in_ok-dump.ensures.text ∙ ap₂ (λ items replies. vcd_of (wires_of design items replies)) c.as_slice.ensures c.deref.ensures.value in
     let begun = c.in_err-write_dump.ensures.begun in
     let count = (g.F.Files.state c.args.files.now).created in
     rw (p.1, p.2)
-    (dump-stopped (session_of design c.args.sizes names) c.args.desk c.args.file c.in-Some.last c.in-Some.is c.requires.free c.deref-2.result.now text count c.requires.files
+    (dump-stopped (session_of design c.args.setting.now.sizes names) c.args.desk c.args.file c.in-Some.last c.in-Some.is c.requires.free c.deref-2.result.now text count c.requires.files
     (g.S.Sink.written c.args.out.now) (g.S.Sink.written c.args.out.now) (g.F.Files.made c.args.files.now) (g.F.Files.made c.write_dump.new.files)
     (g.F.Files.state c.write_dump.new.files).created begun.0 (g.F.Files.state c.args.files.now) (g.F.Files.state c.write_dump.new.files) c.in_err-write_dump.field-0.0 c.in_err-write_dump.ensures.state
     (subst (λ name. IsDumpPart name c.deref-2.result.now begun.0) same begun.1) begun.2 begun.3)
@@ -57,7 +57,7 @@ returns-in_err-write_dump-clause-stopped g c names =
 pub returns-in_err-write_reply-clause-stopped : goal.returns-in_err-write_reply-clause-stopped
 returns-in_err-write_reply-clause-stopped g c names =
     let p = err_from_is_err_and c.from_residual-in_err-write_reply.result c.from_residual-in_err-write_reply.ensures.1 in
-    let design = c.args.design.now in
+    let design = c.args.setting.now.design.now in
     let same : c.in-Ok.name.now ≡ c.args.file = c.in-Ok.ensures.cases.0 ∙ c.bytes.ensures in
     let text : c.deref-2.result.now ≡ vcd_of (wires_of design c.in-Some.last.items c.in-Some.last.replies.items) =
     c.deref-2.ensures.value ∙ c.in_ok-dump.ensures.text ∙ ap₂ (λ items replies. vcd_of (wires_of design items replies)) c.as_slice.ensures c.deref.ensures.value in
@@ -65,7 +65,7 @@ returns-in_err-write_reply-clause-stopped g c names =
     c.deref-3.ensures.value ∙ c.in_ok-reply.ensures ∙ ap (λ n. vcd_line c.args.file (replies.Made n)) (c.in_ok-dump.ensures.wires ∙ ap₂ (λ items replies. length (wires_of design items replies)) c.as_slice.ensures c.deref.ensures.value) in
     let count = (g.F.Files.state c.args.files.now).created in
     rw (p.1, p.2)
-    (reply-stopped (session_of design c.args.sizes names) c.args.desk c.args.file c.in-Some.last c.in-Some.is c.requires.free c.deref-2.result.now text count c.requires.files
+    (reply-stopped (session_of design c.args.setting.now.sizes names) c.args.desk c.args.file c.in-Some.last c.in-Some.is c.requires.free c.deref-2.result.now text count c.requires.files
     (g.S.Sink.written c.args.out.now) (g.S.Sink.written c.write_reply.new.out) (g.F.Files.made c.args.files.now) (g.F.Files.made c.write_dump.new.files)
     c.deref-3.result.now line
     (subst (λ name. Adds (g.F.Files.made c.args.files.now) (g.F.Files.made c.write_dump.new.files) count (record { name = name; bytes = c.deref-2.result.now } ∷ [])) same c.in_ok-write_dump.ensures.written)
@@ -74,14 +74,14 @@ returns-in_err-write_reply-clause-stopped g c names =
 
 pub returns-clause-served : goal.returns-clause-served
 returns-clause-served g c names =
-    let design = c.args.design.now in
+    let design = c.args.setting.now.design.now in
     let same : c.in-Ok.name.now ≡ c.args.file = c.in-Ok.ensures.cases.0 ∙ c.bytes.ensures in
     let text : c.deref-2.result.now ≡ vcd_of (wires_of design c.in-Some.last.items c.in-Some.last.replies.items) =
     c.deref-2.ensures.value ∙ c.in_ok-dump.ensures.text ∙ ap₂ (λ items replies. vcd_of (wires_of design items replies)) c.as_slice.ensures c.deref.ensures.value in
     let line : c.deref-3.result.now ≡ vcd_line c.args.file (replies.Made (length (wires_of design c.in-Some.last.items c.in-Some.last.replies.items))) =
     c.deref-3.ensures.value ∙ c.in_ok-reply.ensures ∙ ap (λ n. vcd_line c.args.file (replies.Made n)) (c.in_ok-dump.ensures.wires ∙ ap₂ (λ items replies. length (wires_of design items replies)) c.as_slice.ensures c.deref.ensures.value) in
     let count = (g.F.Files.state c.args.files.now).created in
-    dump-served (session_of design c.args.sizes names) c.args.desk c.args.file c.in-Some.last c.in-Some.is c.requires.free c.deref-2.result.now text count c.requires.files
+    dump-served (session_of design c.args.setting.now.sizes names) c.args.desk c.args.file c.in-Some.last c.in-Some.is c.requires.free c.deref-2.result.now text count c.requires.files
     (g.S.Sink.written c.args.out.now) (g.S.Sink.written c.write_reply.new.out) (g.F.Files.made c.args.files.now) (g.F.Files.made c.write_dump.new.files)
     c.deref-3.result.now line
     (subst (λ name. Adds (g.F.Files.made c.args.files.now) (g.F.Files.made c.write_dump.new.files) count (record { name = name; bytes = c.deref-2.result.now } ∷ [])) same c.in_ok-write_dump.ensures.written)

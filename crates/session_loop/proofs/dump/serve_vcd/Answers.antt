@@ -12,7 +12,7 @@ pub returns-in_err-refuse_dump-in-Some-clause-stopped : goal.returns-in_err-refu
 returns-in_err-refuse_dump-in-Some-clause-stopped g c names =
     let p = err_from_is_err_and c.from_residual.result c.from_residual.ensures.1 in
     rw (p.1, p.2)
-    (refusal-stopped (session_of c.args.design.now c.args.sizes names) c.args.desk c.args.file c.in-Some.reply (sym c.in-Some.ensures)
+    (refusal-stopped (session_of c.args.setting.now.design.now c.args.setting.now.sizes names) c.args.desk c.args.file c.in-Some.reply (sym c.in-Some.ensures)
     (g.S.Sink.written c.args.out.now) (g.S.Sink.written c.refuse_dump.new.out) (g.F.Files.made c.args.files.now) (g.F.Files.state c.args.files.now).created
     (g.S.Sink.faults c.args.out.now) (g.S.Sink.faults c.refuse_dump.new.out) c.in_err-refuse_dump-in-Some.field-0.0 c.requires.files
     c.in_err-refuse_dump-in-Some.ensures.state c.in_err-refuse_dump-in-Some.ensures.begun)
@@ -20,7 +20,7 @@ returns-in_err-refuse_dump-in-Some-clause-stopped g c names =
 -- the reply says why no dump is made
 pub returns-in_ok-refuse_dump-in-Some-clause-served : goal.returns-in_ok-refuse_dump-in-Some-clause-served
 returns-in_ok-refuse_dump-in-Some-clause-served g c names =
-    refusal-served (session_of c.args.design.now c.args.sizes names) c.args.desk c.args.file c.in-Some.reply (sym c.in-Some.ensures)
+    refusal-served (session_of c.args.setting.now.design.now c.args.setting.now.sizes names) c.args.desk c.args.file c.in-Some.reply (sym c.in-Some.ensures)
     (g.S.Sink.written c.args.out.now) (g.S.Sink.written c.refuse_dump.new.out) (g.F.Files.made c.args.files.now) c.in_ok-refuse_dump-in-Some.ensures.written
 
 pub returns-in_err-refuse_dump-in-Some-clause-state : goal.returns-in_err-refuse_dump-in-Some-clause-state

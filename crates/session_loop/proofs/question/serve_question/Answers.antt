@@ -22,21 +22,21 @@ write_answered-requires-clause-few g c = let count = c.in_ok-done.ensures.count 
 pub write_answered-requires-clause-few_held : goal.write_answered-requires-clause-few_held
 write_answered-requires-clause-few_held g c =
     let question = c.args.question.now in
-    let few = held-few c.args.design.now question.line question.asks c.in_ok-done.done.held.items c.in_ok-done.ensures.memo in
+    let few = held-few c.args.setting.now.design.now question.line question.asks c.in_ok-done.done.held.items c.in_ok-done.ensures.memo in
     omega (arith, few)
 
 -- no journals were made
 pub returns-in_err-done-clause-stopped : goal.returns-in_err-done-clause-stopped
 returns-in_err-done-clause-stopped g c names =
-    err-is _ _ c.from_residual.result c.from_residual.ensures.1 (stops-none (session_of c.args.design.now c.args.sizes names) c.args.desk _ _ _ _ c.requires.files)
+    err-is _ _ c.from_residual.result c.from_residual.ensures.1 (stops-none (session_of c.args.setting.now.design.now c.args.setting.now.sizes names) c.args.desk _ _ _ _ c.requires.files)
 
 pub returns-in_err-question_text-clause-stopped : goal.returns-in_err-question_text-clause-stopped
 returns-in_err-question_text-clause-stopped g c names =
-    err-is _ _ c.from_residual-in_err-question_text.result c.from_residual-in_err-question_text.ensures.1 (stops-none (session_of c.args.design.now c.args.sizes names) c.args.desk _ _ _ _ c.requires.files)
+    err-is _ _ c.from_residual-in_err-question_text.result c.from_residual-in_err-question_text.ensures.1 (stops-none (session_of c.args.setting.now.design.now c.args.setting.now.sizes names) c.args.desk _ _ _ _ c.requires.files)
 
 pub returns-clause-served : goal.returns-clause-served
 returns-clause-served g c names =
-    let setup = session_of c.args.design.now c.args.sizes names in
+    let setup = session_of c.args.setting.now.design.now c.args.setting.now.sizes names in
     let question = c.args.question.now in
     let done = c.in_ok-done.done in
     let batch = question_batch setup question.line question.asks in
@@ -44,11 +44,11 @@ returns-clause-served g c names =
     c.write_answered.ensures.served setup c.args.desk (Question question) batch own refl refl
     (subst (λ (text : List ℕ). IsAnswered setup c.args.desk (Question question) batch own text done.lists.items done.held.items done.stores.items) (sym c.in_ok-question_text.ensures)
     (question-answered setup question c.args.desk done.reply done.lists.items done.held.items done.stores.items
-    (question-named (setup_of c.args.design.now c.args.sizes) names question.line question.asks c.args.desk.stores.items done.reply done.lists.items done.held.items done.stores.items c.in_ok-done.ensures)))
+    (question-named (setup_of c.args.setting.now.design.now c.args.setting.now.sizes) names question.line question.asks c.args.desk.stores.items done.reply done.lists.items done.held.items done.stores.items c.in_ok-done.ensures)))
 
 pub returns-clause-stopped : goal.returns-clause-stopped
 returns-clause-stopped g c names =
-    let setup = session_of c.args.design.now c.args.sizes names in
+    let setup = session_of c.args.setting.now.design.now c.args.setting.now.sizes names in
     let question = c.args.question.now in
     let done = c.in_ok-done.done in
     let batch = question_batch setup question.line question.asks in
@@ -56,7 +56,7 @@ returns-clause-stopped g c names =
     c.write_answered.ensures.stopped setup c.args.desk (Question question) batch own refl refl
     (subst (λ (text : List ℕ). IsAnswered setup c.args.desk (Question question) batch own text done.lists.items done.held.items done.stores.items) (sym c.in_ok-question_text.ensures)
     (question-answered setup question c.args.desk done.reply done.lists.items done.held.items done.stores.items
-    (question-named (setup_of c.args.design.now c.args.sizes) names question.line question.asks c.args.desk.stores.items done.reply done.lists.items done.held.items done.stores.items c.in_ok-done.ensures)))
+    (question-named (setup_of c.args.setting.now.design.now c.args.setting.now.sizes) names question.line question.asks c.args.desk.stores.items done.reply done.lists.items done.held.items done.stores.items c.in_ok-done.ensures)))
 
 -- nothing was written
 pub returns-in_err-done-clause-state : goal.returns-in_err-done-clause-state

@@ -12,7 +12,7 @@ use Rattle.session_loop.proofs.script.serve_script.Goals as goal
 
 pub loop-n-init : goal.loop-n-init
 loop-n-init g c =
-    let setup = session_of c.args.design.now c.args.sizes c.args.names.items in
+    let setup = session_of c.args.setting.now.design.now c.args.setting.now.sizes c.args.names.items in
     let desk : Desk = record { stores = c.args.stores; counts = no_counts; dumps = record { last = None; own = c.args.names; made = c.new-2.result } } in
     record {
       block = refl;
@@ -24,13 +24,13 @@ loop-n-init g c =
       served = has-none setup desk (fresh-desk setup desk c.requires.empty refl refl refl c.new-2.ensures.items) (g.Q.Source.state c.args.queries.now).left c.new.result (g.S.Sink.written c.args.out.now) (g.F.Files.made c.args.files.now) at-horizon;
     }
   where
-    at-horizon : HasRead c.args.design.now.circuit.horizon [] [] c.new.result
+    at-horizon : HasRead c.args.setting.now.design.now.circuit.horizon [] [] c.new.result
     at-horizon = subst (λ h. HasRead h [] [] c.new.result) c.horizon.ensures.horizon c.new.ensures
 
 -- a block more was taken and served
 pub loop-n-preserved : goal.loop-n-preserved
 loop-n-preserved g c =
-    let setup = session_of c.args.design.now c.args.sizes c.args.names.items in
+    let setup = session_of c.args.setting.now.design.now c.args.setting.now.sizes c.args.names.items in
     let desk : Desk = record { stores = c.args.stores; counts = no_counts; dumps = record { last = None; own = c.args.names; made = c.new-2.result } } in
     let W = g.S.Sink.written in
     let M = g.F.Files.made in
@@ -59,18 +59,18 @@ loop-n-preserved g c =
 -- the next block was not read
 pub returns-in_default-clause-stopped : goal.returns-in_default-clause-stopped
 returns-in_default-clause-stopped g c script is =
-    let setup = session_of c.args.design.now c.args.sizes c.args.names.items in
+    let setup = session_of c.args.setting.now.design.now c.args.setting.now.sizes c.args.names.items in
     let desk : Desk = record { stores = c.args.stores; counts = no_counts; dumps = record { last = None; own = c.args.names; made = c.new-2.result } } in
     unread setup desk (fresh-desk setup desk c.requires.empty refl refl refl c.new-2.ensures.items) script (g.Q.Source.state c.args.queries.now).left is c.loop-n.script.taken (g.Q.Source.state c.loop-n.queries).left (g.Q.Source.state c.read.new.self).left c.loop-n.script.reader c.loop-n.desk
     (g.S.Sink.written c.args.out.now) (g.S.Sink.written c.loop-n.out) (g.F.Files.made c.args.files.now) (g.F.Files.made c.loop-n.files) _ small c.loop-n.invariant.served c.loop-n.invariant.count (ap (λ s. s.left) c.in_default.ensures.failed.same)
   where
-    small : c.args.design.now.circuit.horizon ≤ 1000000
+    small : c.args.setting.now.design.now.circuit.horizon ≤ 1000000
     small = subst (λ h. h ≤ 1000000) c.horizon.ensures.horizon c.horizon.ensures.limit
 
 -- the script ended, and the session broke off in what was left of it
 pub returns-in_err-last-clause-stopped : goal.returns-in_err-last-clause-stopped
 returns-in_err-last-clause-stopped g c script is =
-    let setup = session_of c.args.design.now c.args.sizes c.args.names.items in
+    let setup = session_of c.args.setting.now.design.now c.args.setting.now.sizes c.args.names.items in
     let desk : Desk = record { stores = c.args.stores; counts = no_counts; dumps = record { last = None; own = c.args.names; made = c.new-2.result } } in
     let W = g.S.Sink.written in
     let M = g.F.Files.made in
@@ -82,13 +82,13 @@ returns-in_err-last-clause-stopped g c script is =
     (W c.args.out.now) (W c.loop-n.out) (W c.serve_end.new.out) (M c.args.files.now) (M c.loop-n.files) (M c.serve_end.new.files) _
     small c.loop-n.invariant.served read.bytes.1 c.if-n-eq0.true (read.end c.if-n-eq0.true (omega (arith, c.min-room.ensures, c.loop-n.invariant.block, length-take {A = ℕ}))) c.in_err-last.ensures.state (c.in_err-last.ensures.stopped c.args.names.items))
   where
-    small : c.args.design.now.circuit.horizon ≤ 1000000
+    small : c.args.setting.now.design.now.circuit.horizon ≤ 1000000
     small = subst (λ h. h ≤ 1000000) c.horizon.ensures.horizon c.horizon.ensures.limit
 
 -- the script ended, and what was left of it was served
 pub returns-then-n-eq0-clause-served : goal.returns-then-n-eq0-clause-served
 returns-then-n-eq0-clause-served g c script is =
-    let setup = session_of c.args.design.now c.args.sizes c.args.names.items in
+    let setup = session_of c.args.setting.now.design.now c.args.setting.now.sizes c.args.names.items in
     let desk : Desk = record { stores = c.args.stores; counts = no_counts; dumps = record { last = None; own = c.args.names; made = c.new-2.result } } in
     let W = g.S.Sink.written in
     let M = g.F.Files.made in
@@ -100,7 +100,7 @@ returns-then-n-eq0-clause-served g c script is =
 -- the session broke off in a block
 pub returns-in_err-desk-clause-stopped : goal.returns-in_err-desk-clause-stopped
 returns-in_err-desk-clause-stopped g c script is =
-    let setup = session_of c.args.design.now c.args.sizes c.args.names.items in
+    let setup = session_of c.args.setting.now.design.now c.args.setting.now.sizes c.args.names.items in
     let desk : Desk = record { stores = c.args.stores; counts = no_counts; dumps = record { last = None; own = c.args.names; made = c.new-2.result } } in
     let W = g.S.Sink.written in
     let M = g.F.Files.made in
@@ -112,12 +112,12 @@ returns-in_err-desk-clause-stopped g c script is =
     (W c.args.out.now) (W c.loop-n.out) (W c.serve_bytes.new.out) (M c.args.files.now) (M c.loop-n.files) (M c.serve_bytes.new.files) _
     small c.loop-n.invariant.served read.bytes.1 (omega (arith, c.min.ensures)) read.bound.0 c.in_err-desk.ensures.state (c.in_err-desk.ensures.stopped c.args.names.items))
   where
-    small : c.args.design.now.circuit.horizon ≤ 1000000
+    small : c.args.setting.now.design.now.circuit.horizon ≤ 1000000
     small = subst (λ h. h ≤ 1000000) c.horizon.ensures.horizon c.horizon.ensures.limit
 
 pub returns-in_err-desk-clause-at_most : goal.returns-in_err-desk-clause-at_most
 returns-in_err-desk-clause-at_most g c script is =
-    let setup = session_of c.args.design.now c.args.sizes c.args.names.items in
+    let setup = session_of c.args.setting.now.design.now c.args.setting.now.sizes c.args.names.items in
     let desk : Desk = record { stores = c.args.stores; counts = no_counts; dumps = record { last = None; own = c.args.names; made = c.new-2.result } } in
     let read = c.in-Ok.ensures in
     read-some setup desk (fresh-desk setup desk c.requires.empty refl refl refl c.new-2.ensures.items) script (g.Q.Source.state c.args.queries.now).left is c.loop-n.script.taken 16777217 (g.Q.Source.state c.loop-n.queries).left (g.Q.Source.state c.read.new.self).left c.loop-n.script.reader c.loop-n.desk (take c.in-Ok.n c.read.new.into)
@@ -127,7 +127,7 @@ returns-in_err-desk-clause-at_most g c script is =
 -- the script is too long
 pub returns-then-n-left-clause-stopped : goal.returns-then-n-left-clause-stopped
 returns-then-n-left-clause-stopped g c script is =
-    let setup = session_of c.args.design.now c.args.sizes c.args.names.items in
+    let setup = session_of c.args.setting.now.design.now c.args.setting.now.sizes c.args.names.items in
     let desk : Desk = record { stores = c.args.stores; counts = no_counts; dumps = record { last = None; own = c.args.names; made = c.new-2.result } } in
     let W = g.S.Sink.written in
     let M = g.F.Files.made in
@@ -136,12 +136,12 @@ returns-then-n-left-clause-stopped g c script is =
     (W c.args.out.now) (W c.loop-n.out) (W c.serve_bytes.new.out) (M c.args.files.now) (M c.loop-n.files) (M c.serve_bytes.new.files) _
     small c.loop-n.invariant.served read.bytes.1 (omega (arith, c.min.ensures, c.if-n-left.true)) read.bound.0 (omega (arith, c.min.ensures, c.if-n-left.true, c.loop-n.invariant.most)) c.in_ok-desk.ensures.count (c.in_ok-desk.ensures.served c.args.names.items)
   where
-    small : c.args.design.now.circuit.horizon ≤ 1000000
+    small : c.args.setting.now.design.now.circuit.horizon ≤ 1000000
     small = subst (λ h. h ≤ 1000000) c.horizon.ensures.horizon c.horizon.ensures.limit
 
 pub returns-then-n-left-clause-at_most : goal.returns-then-n-left-clause-at_most
 returns-then-n-left-clause-at_most g c script is =
-    let setup = session_of c.args.design.now c.args.sizes c.args.names.items in
+    let setup = session_of c.args.setting.now.design.now c.args.setting.now.sizes c.args.names.items in
     let desk : Desk = record { stores = c.args.stores; counts = no_counts; dumps = record { last = None; own = c.args.names; made = c.new-2.result } } in
     let read = c.in-Ok.ensures in
     read-some setup desk (fresh-desk setup desk c.requires.empty refl refl refl c.new-2.ensures.items) script (g.Q.Source.state c.args.queries.now).left is c.loop-n.script.taken 16777217 (g.Q.Source.state c.loop-n.queries).left (g.Q.Source.state c.read.new.self).left c.loop-n.script.reader c.loop-n.desk (take c.in-Ok.n c.read.new.into)

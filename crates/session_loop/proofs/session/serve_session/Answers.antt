@@ -20,7 +20,7 @@ returns-in_err-begin_journal-clause-halted g c script is =
     let p = err_from_is_err_and c.from_residual.result c.from_residual.ensures.1 in
     let F = g.F.Files.state in
     rw (p.1, p.2)
-    (head-halted (session_of c.args.design.now c.args.sizes names) c.args.journal.now script (g.Q.Source.state c.args.queries.now).left (g.S.Sink.written c.args.out.now)
+    (head-halted (session_of c.args.setting.now.design.now c.args.setting.now.sizes names) c.args.journal.now script (g.Q.Source.state c.args.queries.now).left (g.S.Sink.written c.args.out.now)
     (g.F.Files.made c.args.files.now) (g.F.Files.made c.begin_journal.new.files) (F c.args.files.now) (F c.begin_journal.new.files) c.in_err-begin_journal.field-0.0 c.requires.files c.in_err-begin_journal.ensures.state c.in_err-begin_journal.ensures.halted)
 
 -- there are no stores
@@ -28,9 +28,9 @@ pub returns-in_err-stores-clause-halted : goal.returns-in_err-stores-clause-halt
 returns-in_err-stores-clause-halted g c script is =
     let names : List (List ℕ) = map (λ name. name.now) c.args.inputs.now ++ c.args.journal.now ∷ [] in
     let p = err_from_is_err_and c.from_residual-in_err-stores.result c.from_residual-in_err-stores.ensures.1 in
-    let head = head_line c.args.sizes.shards c.args.sizes.cells in
+    let head = head_line c.args.setting.now.sizes.shards c.args.setting.now.sizes.cells in
     rw (p.1, p.2)
-    (inl (unbegun (session_of c.args.design.now c.args.sizes names) c.args.journal.now (g.Q.Source.state c.args.queries.now).left OutOfMemory head (g.S.Sink.written c.args.out.now)
+    (inl (unbegun (session_of c.args.setting.now.design.now c.args.setting.now.sizes names) c.args.journal.now (g.Q.Source.state c.args.queries.now).left OutOfMemory head (g.S.Sink.written c.args.out.now)
     (g.F.Files.made c.args.files.now) (g.F.Files.made c.begin_journal.new.files) (g.F.Files.state c.begin_journal.new.files).created tt (prefix-same head) c.in_ok-begin_journal.ensures.begun
     (ap (λ f. f.created) c.in_ok-begin_journal.ensures.state ∙ ap (λ n. n + 1) c.requires.files)))
 
@@ -39,17 +39,17 @@ pub returns-in_err-names-clause-halted : goal.returns-in_err-names-clause-halted
 returns-in_err-names-clause-halted g c script is =
     let names : List (List ℕ) = map (λ name. name.now) c.args.inputs.now ++ c.args.journal.now ∷ [] in
     let p = err_from_is_err_and c.from_residual-in_err-names.result c.from_residual-in_err-names.ensures.1 in
-    let head = head_line c.args.sizes.shards c.args.sizes.cells in
+    let head = head_line c.args.setting.now.sizes.shards c.args.setting.now.sizes.cells in
     rw (p.1, p.2)
-    (inl (unbegun (session_of c.args.design.now c.args.sizes names) c.args.journal.now (g.Q.Source.state c.args.queries.now).left OutOfMemory head (g.S.Sink.written c.args.out.now)
+    (inl (unbegun (session_of c.args.setting.now.design.now c.args.setting.now.sizes names) c.args.journal.now (g.Q.Source.state c.args.queries.now).left OutOfMemory head (g.S.Sink.written c.args.out.now)
     (g.F.Files.made c.args.files.now) (g.F.Files.made c.begin_journal.new.files) (g.F.Files.state c.begin_journal.new.files).created tt (prefix-same head) c.in_ok-begin_journal.ensures.begun
     (ap (λ f. f.created) c.in_ok-begin_journal.ensures.state ∙ ap (λ n. n + 1) c.requires.files)))
 
 pub serve_script-requires-clause-stores : goal.serve_script-requires-clause-stores
-serve_script-requires-clause-stores g c = λ κs w. empty-are-stores c.args.design.now c.args.sizes c.in_ok-stores.stores.items c.in_ok-stores.ensures
+serve_script-requires-clause-stores g c = λ κs w. empty-are-stores c.args.setting.now.design.now c.args.setting.now.sizes c.in_ok-stores.stores.items c.in_ok-stores.ensures
 
 pub serve_script-requires-clause-empty : goal.serve_script-requires-clause-empty
-serve_script-requires-clause-empty g c = λ κs w shard within. empty-cells c.args.sizes.shards c.args.sizes.cells c.in_ok-stores.stores.items shard c.in_ok-stores.ensures within
+serve_script-requires-clause-empty g c = λ κs w shard within. empty-cells c.args.setting.now.sizes.shards c.args.setting.now.sizes.cells c.in_ok-stores.stores.items shard c.in_ok-stores.ensures within
 
 pub serve_script-requires-clause-unfinished : goal.serve_script-requires-clause-unfinished
 serve_script-requires-clause-unfinished g c = λ κs w.
@@ -59,7 +59,7 @@ serve_script-requires-clause-unfinished g c = λ κs w.
 pub returns-in_err-serve_script-clause-halted : goal.returns-in_err-serve_script-clause-halted
 returns-in_err-serve_script-clause-halted g c script is =
     let names : List (List ℕ) = map (λ name. name.now) c.args.inputs.now ++ c.args.journal.now ∷ [] in
-    let setup = session_of c.args.design.now c.args.sizes names in
+    let setup = session_of c.args.setting.now.design.now c.args.setting.now.sizes names in
     let p = err_from_is_err_and c.from_residual-in_err-serve_script.result c.from_residual-in_err-serve_script.ensures.1 in
     let W = g.S.Sink.written in
     let M = g.F.Files.made in
@@ -69,7 +69,7 @@ returns-in_err-serve_script-clause-halted g c script is =
     rw (p.1, p.2)
     (inr (wrote-files setup c.args.journal.now (IsStopped setup script left stop) (W c.args.out.now) (W c.serve_script.new.out) (M c.args.files.now) (M c.begin_journal.new.files) (M c.serve_script.new.files) (F c.serve_script.new.files).created
     c.in_ok-begin_journal.ensures.begun
-    (subst (λ (ns : List (List ℕ)). Wrote (session_of c.args.design.now c.args.sizes ns) (IsStopped (session_of c.args.design.now c.args.sizes ns) script left stop) (W c.args.out.now) (W c.serve_script.new.out) (M c.begin_journal.new.files) (M c.serve_script.new.files) (F c.serve_script.new.files).created)
+    (subst (λ (ns : List (List ℕ)). Wrote (session_of c.args.setting.now.design.now c.args.setting.now.sizes ns) (IsStopped (session_of c.args.setting.now.design.now c.args.setting.now.sizes ns) script left stop) (W c.args.out.now) (W c.serve_script.new.out) (M c.begin_journal.new.files) (M c.serve_script.new.files) (F c.serve_script.new.files).created)
     c.in_ok-names.ensures (c.in_err-serve_script.ensures.stopped script is))))
 
 pub finish_journal-requires : goal.finish_journal-requires
@@ -80,20 +80,20 @@ finish_journal-requires g c =
 pub returns-clause-served : goal.returns-clause-served
 returns-clause-served g c script is =
     let names : List (List ℕ) = map (λ name. name.now) c.args.inputs.now ++ c.args.journal.now ∷ [] in
-    let setup = session_of c.args.design.now c.args.sizes names in
+    let setup = session_of c.args.setting.now.design.now c.args.setting.now.sizes names in
     let W = g.S.Sink.written in
     let M = g.F.Files.made in
     let F = g.F.Files.state in
     session-served setup c.args.journal.now script (W c.args.out.now) (W c.serve_script.new.out) (M c.args.files.now) (M c.serve_script.new.files) (M c.finish_journal.new.files) (F c.serve_script.new.files) (F c.finish_journal.new.files) c.finish_journal.result
     (wrote-files setup c.args.journal.now (IsSessionOf setup script) (W c.args.out.now) (W c.serve_script.new.out) (M c.args.files.now) (M c.begin_journal.new.files) (M c.serve_script.new.files) (F c.serve_script.new.files).created
     c.in_ok-begin_journal.ensures.begun
-    (subst (λ (ns : List (List ℕ)). Wrote (session_of c.args.design.now c.args.sizes ns) (IsSessionOf (session_of c.args.design.now c.args.sizes ns) script) (W c.args.out.now) (W c.serve_script.new.out) (M c.begin_journal.new.files) (M c.serve_script.new.files) (F c.serve_script.new.files).created)
+    (subst (λ (ns : List (List ℕ)). Wrote (session_of c.args.setting.now.design.now c.args.setting.now.sizes ns) (IsSessionOf (session_of c.args.setting.now.design.now c.args.setting.now.sizes ns) script) (W c.args.out.now) (W c.serve_script.new.out) (M c.begin_journal.new.files) (M c.serve_script.new.files) (F c.serve_script.new.files).created)
     c.in_ok-names.ensures (c.in_ok-serve_script.ensures.served script is))) c.finish_journal.ensures.made c.finish_journal.ensures.state
 
 pub returns-clause-halted : goal.returns-clause-halted
 returns-clause-halted g c script is =
     let names : List (List ℕ) = map (λ name. name.now) c.args.inputs.now ++ c.args.journal.now ∷ [] in
-    let setup = session_of c.args.design.now c.args.sizes names in
+    let setup = session_of c.args.setting.now.design.now c.args.setting.now.sizes names in
     let W = g.S.Sink.written in
     let M = g.F.Files.made in
     let F = g.F.Files.state in
@@ -101,7 +101,7 @@ returns-clause-halted g c script is =
     (c.in_ok-serve_script.ensures.short script is)
     (wrote-files setup c.args.journal.now (IsSessionOf setup script) (W c.args.out.now) (W c.serve_script.new.out) (M c.args.files.now) (M c.begin_journal.new.files) (M c.serve_script.new.files) (F c.serve_script.new.files).created
     c.in_ok-begin_journal.ensures.begun
-    (subst (λ (ns : List (List ℕ)). Wrote (session_of c.args.design.now c.args.sizes ns) (IsSessionOf (session_of c.args.design.now c.args.sizes ns) script) (W c.args.out.now) (W c.serve_script.new.out) (M c.begin_journal.new.files) (M c.serve_script.new.files) (F c.serve_script.new.files).created)
+    (subst (λ (ns : List (List ℕ)). Wrote (session_of c.args.setting.now.design.now c.args.setting.now.sizes ns) (IsSessionOf (session_of c.args.setting.now.design.now c.args.setting.now.sizes ns) script) (W c.args.out.now) (W c.serve_script.new.out) (M c.begin_journal.new.files) (M c.serve_script.new.files) (F c.serve_script.new.files).created)
     c.in_ok-names.ensures (c.in_ok-serve_script.ensures.served script is))) c.finish_journal.ensures.made c.finish_journal.ensures.state
 
 -- What it changes of the outside.

@@ -22,10 +22,10 @@ use Rattle.session_loop.proofs.unit.serve_batch.Goals as goal
 -- no journals were made
 pub returns-in_err-done-clause-stopped : goal.returns-in_err-done-clause-stopped
 returns-in_err-done-clause-stopped g c names =
-    err-is _ _ c.from_residual.result c.from_residual.ensures.1 (stops-none (session_of c.args.design.now c.args.sizes names) c.args.desk _ _ _ _ c.requires.files)
+    err-is _ _ c.from_residual.result c.from_residual.ensures.1 (stops-none (session_of c.args.setting.now.design.now c.args.setting.now.sizes names) c.args.desk _ _ _ _ c.requires.files)
 
 pub returns-in_default-clause-stopped : goal.returns-in_default-clause-stopped
-returns-in_default-clause-stopped g c names = stops-none (session_of c.args.design.now c.args.sizes names) c.args.desk _ _ _ _ c.requires.files
+returns-in_default-clause-stopped g c names = stops-none (session_of c.args.setting.now.design.now c.args.setting.now.sizes names) c.args.desk _ _ _ _ c.requires.files
 
 -- the replies were begun
 pub returns-in_err-write_replies-clause-stopped : goal.returns-in_err-write_replies-clause-stopped
@@ -35,8 +35,8 @@ returns-in_err-write_replies-clause-stopped g c names =
     let W = g.S.Sink.written in
     let M = g.F.Files.made in
     err-is _ _ c.from_residual-in_err-write_replies.result c.from_residual-in_err-write_replies.ensures.1
-    (batch-stopped (session_of c.args.design.now c.args.sizes names) items c.args.desk done.replies.items done.lists.items done.stores.items
-    (batch-named (setup_of c.args.design.now c.args.sizes) names items c.as_slice.result.now c.args.desk.stores.items done.replies.items done.lists.items done.stores.items c.as_slice.ensures c.in_ok-done.ensures.done)
+    (batch-stopped (session_of c.args.setting.now.design.now c.args.setting.now.sizes names) items c.args.desk done.replies.items done.lists.items done.stores.items
+    (batch-named (setup_of c.args.setting.now.design.now c.args.setting.now.sizes) names items c.as_slice.result.now c.args.desk.stores.items done.replies.items done.lists.items done.stores.items c.as_slice.ensures c.in_ok-done.ensures.done)
     c.in-Some.counts (subst (λ l. IsCounted c.args.desk.counts Batch l c.in-Some.counts) c.deref.ensures.value c.in-Some.ensures)
     (W c.args.out.now) (W c.write_replies.new.out) (M c.args.files.now) (M c.args.files.now)
     (g.F.Files.state c.args.files.now).created c.in_err-write_replies.field-0.0 c.requires.files (replies-of-unit _ _ _ c.in_err-write_replies.ensures.state)
@@ -51,8 +51,8 @@ returns-in_err-write_section-clause-stopped g c names =
     let W = g.S.Sink.written in
     let M = g.F.Files.made in
     err-is _ _ c.from_residual-in_err-write_section.result c.from_residual-in_err-write_section.ensures.1
-    (batch-stopped (session_of c.args.design.now c.args.sizes names) items c.args.desk done.replies.items done.lists.items done.stores.items
-    (batch-named (setup_of c.args.design.now c.args.sizes) names items c.as_slice.result.now c.args.desk.stores.items done.replies.items done.lists.items done.stores.items c.as_slice.ensures c.in_ok-done.ensures.done)
+    (batch-stopped (session_of c.args.setting.now.design.now c.args.setting.now.sizes names) items c.args.desk done.replies.items done.lists.items done.stores.items
+    (batch-named (setup_of c.args.setting.now.design.now c.args.setting.now.sizes) names items c.as_slice.result.now c.args.desk.stores.items done.replies.items done.lists.items done.stores.items c.as_slice.ensures c.in_ok-done.ensures.done)
     c.in-Some.counts (subst (λ l. IsCounted c.args.desk.counts Batch l c.in-Some.counts) c.deref.ensures.value c.in-Some.ensures)
     (W c.args.out.now) (W c.write_replies.new.out) (M c.args.files.now) (M c.write_section.new.files)
     (g.F.Files.state c.write_section.new.files).created c.in_err-write_section.field-0.0 (journal-created _ _ _ c.in_err-write_section.ensures.state ∙ c.requires.files) (journal-of-unit _ _ _ c.in_err-write_section.ensures.state)
@@ -66,7 +66,7 @@ returns-clause-desk g c =
     let done = c.in_ok-done.done in
     record {
       stores = c.in_ok-done.ensures.done.stores;
-      shown = batch-shown (setup_of c.args.design.now c.args.sizes) c.args.items c.as_slice.result.now c.args.desk.stores.items done.replies.items done.lists.items done.stores.items c.as_slice.ensures c.in_ok-done.ensures.done c.requires.within c.requires.named;
+      shown = batch-shown (setup_of c.args.setting.now.design.now c.args.setting.now.sizes) c.args.items c.as_slice.result.now c.args.desk.stores.items done.replies.items done.lists.items done.stores.items c.as_slice.ensures c.in_ok-done.ensures.done c.requires.within c.requires.named;
     }
 
 pub returns-clause-served : goal.returns-clause-served
@@ -77,8 +77,8 @@ returns-clause-served g c names =
     let M = g.F.Files.made in
     let last : LastBatch = record { items = items; replies = done.replies } in
     let dumps : Dumps = record { last = Some last; own = c.args.desk.dumps.own; made = c.args.desk.dumps.made } in
-    batch-served (session_of c.args.design.now c.args.sizes names) items c.args.desk done.replies.items done.lists.items done.stores.items
-    (batch-named (setup_of c.args.design.now c.args.sizes) names items c.as_slice.result.now c.args.desk.stores.items done.replies.items done.lists.items done.stores.items c.as_slice.ensures c.in_ok-done.ensures.done)
+    batch-served (session_of c.args.setting.now.design.now c.args.setting.now.sizes names) items c.args.desk done.replies.items done.lists.items done.stores.items
+    (batch-named (setup_of c.args.setting.now.design.now c.args.setting.now.sizes) names items c.as_slice.result.now c.args.desk.stores.items done.replies.items done.lists.items done.stores.items c.as_slice.ensures c.in_ok-done.ensures.done)
     c.in-Some.counts (subst (λ l. IsCounted c.args.desk.counts Batch l c.in-Some.counts) c.deref.ensures.value c.in-Some.ensures)
     (W c.args.out.now) (W c.write_replies.new.out) (M c.args.files.now) (M c.write_section.new.files)
     (record { stores = done.stores; counts = c.in-Some.counts; dumps = dumps }) last refl refl refl refl refl

@@ -14,11 +14,11 @@ use Rattle.session_loop.proofs.Served.{replies-of-unit, stops-none, stats-served
 use Rattle.session_loop.proofs.unit.serve_stats.Goals as goal
 
 pub returns-in_default-clause-stopped : goal.returns-in_default-clause-stopped
-returns-in_default-clause-stopped g c names = stops-none (session_of c.args.design.now c.args.sizes names) c.args.desk _ _ _ _ c.requires.files
+returns-in_default-clause-stopped g c names = stops-none (session_of c.args.setting.now.design.now c.args.setting.now.sizes names) c.args.desk _ _ _ _ c.requires.files
 
 pub returns-in_err-text-clause-stopped : goal.returns-in_err-text-clause-stopped
 returns-in_err-text-clause-stopped g c names =
-    err-is _ _ c.from_residual.result c.from_residual.ensures.1 (stops-none (session_of c.args.design.now c.args.sizes names) c.args.desk _ _ _ _ c.requires.files)
+    err-is _ _ c.from_residual.result c.from_residual.ensures.1 (stops-none (session_of c.args.setting.now.design.now c.args.setting.now.sizes names) c.args.desk _ _ _ _ c.requires.files)
 
 -- the reply was begun
 pub returns-in_err-write_reply-clause-stopped : goal.returns-in_err-write_reply-clause-stopped
@@ -26,7 +26,7 @@ returns-in_err-write_reply-clause-stopped g c names =
     let desk = c.args.desk in
     let W = g.S.Sink.written in
     err-is _ _ c.from_residual-in_err-write_reply.result c.from_residual-in_err-write_reply.ensures.1
-    (stats-stopped (session_of c.args.design.now c.args.sizes names) desk (stores-named (setup_of c.args.design.now c.args.sizes) names desk.stores.items c.requires.desk.stores)
+    (stats-stopped (session_of c.args.setting.now.design.now c.args.setting.now.sizes names) desk (stores-named (setup_of c.args.setting.now.design.now c.args.setting.now.sizes) names desk.stores.items c.requires.desk.stores)
     (W c.args.out.now) (W c.write_reply.new.out) (g.F.Files.made c.args.files.now)
     (g.F.Files.state c.args.files.now).created c.in_err-write_reply.field-0.0 c.requires.files (replies-of-unit _ _ _ c.in_err-write_reply.ensures.state)
     (subst (GrowsPart (W c.args.out.now) (W c.write_reply.new.out))
@@ -36,7 +36,7 @@ pub returns-clause-served : goal.returns-clause-served
 returns-clause-served g c names =
     let desk = c.args.desk in
     let W = g.S.Sink.written in
-    stats-served (session_of c.args.design.now c.args.sizes names) desk (stores-named (setup_of c.args.design.now c.args.sizes) names desk.stores.items c.requires.desk.stores)
+    stats-served (session_of c.args.setting.now.design.now c.args.setting.now.sizes names) desk (stores-named (setup_of c.args.setting.now.design.now c.args.setting.now.sizes) names desk.stores.items c.requires.desk.stores)
     (W c.args.out.now) (W c.write_reply.new.out) (g.F.Files.made c.args.files.now)
     (subst (Grows (W c.args.out.now) (W c.write_reply.new.out))
     (c.deref-2.ensures.value ∙ c.in_ok-text.ensures ∙ ap (stats_line desk.counts.batches desk.counts.fills desk.counts.evictions) (c.in-Some.ensures ∙ ap (sum_by (λ store. length store.cells)) c.deref.ensures.value)) c.in_ok-write_reply.ensures.written)

@@ -20,14 +20,14 @@ use Rattle.session_loop.proofs.unit.serve_trim.Goals as goal
 -- no entries were made
 pub returns-in_err-done-clause-stopped : goal.returns-in_err-done-clause-stopped
 returns-in_err-done-clause-stopped g c names =
-    err-is _ _ c.from_residual.result c.from_residual.ensures.1 (stops-none (session_of c.args.design.now c.args.sizes names) c.args.desk _ _ _ _ c.requires.files)
+    err-is _ _ c.from_residual.result c.from_residual.ensures.1 (stops-none (session_of c.args.setting.now.design.now c.args.setting.now.sizes names) c.args.desk _ _ _ _ c.requires.files)
 
 pub returns-in_default-clause-stopped : goal.returns-in_default-clause-stopped
-returns-in_default-clause-stopped g c names = stops-none (session_of c.args.design.now c.args.sizes names) c.args.desk _ _ _ _ c.requires.files
+returns-in_default-clause-stopped g c names = stops-none (session_of c.args.setting.now.design.now c.args.setting.now.sizes names) c.args.desk _ _ _ _ c.requires.files
 
 pub returns-in_err-text-clause-stopped : goal.returns-in_err-text-clause-stopped
 returns-in_err-text-clause-stopped g c names =
-    err-is _ _ c.from_residual-in_err-text.result c.from_residual-in_err-text.ensures.1 (stops-none (session_of c.args.design.now c.args.sizes names) c.args.desk _ _ _ _ c.requires.files)
+    err-is _ _ c.from_residual-in_err-text.result c.from_residual-in_err-text.ensures.1 (stops-none (session_of c.args.setting.now.design.now c.args.setting.now.sizes names) c.args.desk _ _ _ _ c.requires.files)
 
 -- the reply was begun
 pub returns-in_err-write_reply-clause-stopped : goal.returns-in_err-write_reply-clause-stopped
@@ -37,8 +37,8 @@ returns-in_err-write_reply-clause-stopped g c names =
     let W = g.S.Sink.written in
     let M = g.F.Files.made in
     err-is _ _ c.from_residual-in_err-write_reply.result c.from_residual-in_err-write_reply.ensures.1
-    (trim-stopped (session_of c.args.design.now c.args.sizes names) c.args.most c.args.desk done.lists.items done.stores.items
-    (trim-named (setup_of c.args.design.now c.args.sizes) names c.args.most c.args.desk.stores.items done.lists.items done.stores.items c.in_ok-done.ensures)
+    (trim-stopped (session_of c.args.setting.now.design.now c.args.setting.now.sizes names) c.args.most c.args.desk done.lists.items done.stores.items
+    (trim-named (setup_of c.args.setting.now.design.now c.args.setting.now.sizes) names c.args.most c.args.desk.stores.items done.lists.items done.stores.items c.in_ok-done.ensures)
     some.counts (subst (λ l. IsCounted c.args.desk.counts Trim l some.counts) c.deref.ensures.value some.ensures)
     (W c.args.out.now) (W c.write_reply.new.out) (M c.args.files.now) (M c.args.files.now)
     (g.F.Files.state c.args.files.now).created c.in_err-write_reply.field-0.0 c.requires.files (replies-of-unit _ _ _ c.in_err-write_reply.ensures.state)
@@ -53,8 +53,8 @@ returns-in_err-write_section-clause-stopped g c names =
     let W = g.S.Sink.written in
     let M = g.F.Files.made in
     err-is _ _ c.from_residual-in_err-write_section.result c.from_residual-in_err-write_section.ensures.1
-    (trim-stopped (session_of c.args.design.now c.args.sizes names) c.args.most c.args.desk done.lists.items done.stores.items
-    (trim-named (setup_of c.args.design.now c.args.sizes) names c.args.most c.args.desk.stores.items done.lists.items done.stores.items c.in_ok-done.ensures)
+    (trim-stopped (session_of c.args.setting.now.design.now c.args.setting.now.sizes names) c.args.most c.args.desk done.lists.items done.stores.items
+    (trim-named (setup_of c.args.setting.now.design.now c.args.setting.now.sizes) names c.args.most c.args.desk.stores.items done.lists.items done.stores.items c.in_ok-done.ensures)
     some.counts (subst (λ l. IsCounted c.args.desk.counts Trim l some.counts) c.deref.ensures.value some.ensures)
     (W c.args.out.now) (W c.write_reply.new.out) (M c.args.files.now) (M c.write_section.new.files)
     (g.F.Files.state c.write_section.new.files).created c.in_err-write_section.field-0.0 (journal-created _ _ _ c.in_err-write_section.ensures.state ∙ c.requires.files) (journal-of-unit _ _ _ c.in_err-write_section.ensures.state)
@@ -68,8 +68,8 @@ returns-clause-served g c names =
     let some = c.in-Some-Some in
     let W = g.S.Sink.written in
     let M = g.F.Files.made in
-    trim-served (session_of c.args.design.now c.args.sizes names) c.args.most c.args.desk done.lists.items done.stores.items
-    (trim-named (setup_of c.args.design.now c.args.sizes) names c.args.most c.args.desk.stores.items done.lists.items done.stores.items c.in_ok-done.ensures)
+    trim-served (session_of c.args.setting.now.design.now c.args.setting.now.sizes names) c.args.most c.args.desk done.lists.items done.stores.items
+    (trim-named (setup_of c.args.setting.now.design.now c.args.setting.now.sizes) names c.args.most c.args.desk.stores.items done.lists.items done.stores.items c.in_ok-done.ensures)
     some.counts (subst (λ l. IsCounted c.args.desk.counts Trim l some.counts) c.deref.ensures.value some.ensures)
     (W c.args.out.now) (W c.write_reply.new.out) (M c.args.files.now) (M c.write_section.new.files)
     (record { stores = done.stores; counts = some.counts; dumps = c.args.desk.dumps }) refl refl refl

@@ -21,10 +21,10 @@ returns-in_err-begin_journal-clause-halted g c =
     let F = g.F.Files.state in
     let M = g.F.Files.made in
     rw (p.1, p.2)
-    (work-head-halted (setup_of c.args.design.now c.args.sizes) c.args.items.now c.args.journal.now (M c.args.files.now) (M c.begin_journal.new.files) (F c.args.files.now).created (F c.begin_journal.new.files).created c.in_err-begin_journal.field-0.0 c.in_err-begin_journal.ensures.halted)
+    (work-head-halted (setup_of c.args.setting.now.design.now c.args.setting.now.sizes) c.args.items.now c.args.journal.now (M c.args.files.now) (M c.begin_journal.new.files) (F c.args.files.now).created (F c.begin_journal.new.files).created c.in_err-begin_journal.field-0.0 c.in_err-begin_journal.ensures.halted)
 
 pub answer_batch-requires-clause-stores : goal.answer_batch-requires-clause-stores
-answer_batch-requires-clause-stores g c = λ κs w. empty-are-stores c.args.design.now c.args.sizes c.in_ok-stores.stores.items c.in_ok-stores.ensures
+answer_batch-requires-clause-stores g c = λ κs w. empty-are-stores c.args.setting.now.design.now c.args.setting.now.sizes c.in_ok-stores.stores.items c.in_ok-stores.ensures
 
 pub write_section-requires-clause-unfinished : goal.write_section-requires-clause-unfinished
 write_section-requires-clause-unfinished g c =
@@ -37,8 +37,8 @@ returns-in_err-write_section-clause-halted g c =
     let done = c.in_ok-done.done in
     let M = g.F.Files.made in
     rw (p.1, p.2)
-    (work-stopped (setup_of c.args.design.now c.args.sizes) c.args.items.now c.args.journal.now c.in_ok-stores.stores.items done.stores.items
-    (λ shard within. empty-cells c.args.sizes.shards c.args.sizes.cells c.in_ok-stores.stores.items shard c.in_ok-stores.ensures within) done.replies.items done.lists.items c.in_ok-done.ensures.done
+    (work-stopped (setup_of c.args.setting.now.design.now c.args.setting.now.sizes) c.args.items.now c.args.journal.now c.in_ok-stores.stores.items done.stores.items
+    (λ shard within. empty-cells c.args.setting.now.sizes.shards c.args.setting.now.sizes.cells c.in_ok-stores.stores.items shard c.in_ok-stores.ensures within) done.replies.items done.lists.items c.in_ok-done.ensures.done
     (M c.args.files.now) (M c.begin_journal.new.files) (M c.write_section.new.files) c.in_ok-begin_journal.ensures.begun
     (subst (λ l. FileGrowsPart (M c.begin_journal.new.files) (M c.write_section.new.files) 0 (section_lines (record { kind = Batch; number = 1; shards = l }))) c.deref.ensures.value c.in_err-write_section.ensures.begun))
 
@@ -50,7 +50,7 @@ finish_journal-requires g c =
 pub returns-in_err-finish_journal-clause-halted : goal.returns-in_err-finish_journal-clause-halted
 returns-in_err-finish_journal-clause-halted g c =
     let p = err_from_is_err_and c.from_residual-in_err-finish_journal.result c.from_residual-in_err-finish_journal.ensures.1 in
-    let setup = setup_of c.args.design.now c.args.sizes in
+    let setup = setup_of c.args.setting.now.design.now c.args.setting.now.sizes in
     let done = c.in_ok-done.done in
     let M = g.F.Files.made in
     rw (p.1, p.2)
@@ -58,19 +58,19 @@ returns-in_err-finish_journal-clause-halted g c =
     (work-done setup c.args.items.now c.args.journal.now done.replies.items (M c.args.files.now) (M c.finish_journal.new.files)
     (work-same setup c.args.items.now c.args.journal.now (IsWork setup c.args.items.now done.replies.items) (M c.args.files.now) (M c.write_section.new.files) (M c.finish_journal.new.files)
     (worked setup c.args.items.now c.args.journal.now c.in_ok-stores.stores.items done.stores.items
-    (λ shard within. empty-cells c.args.sizes.shards c.args.sizes.cells c.in_ok-stores.stores.items shard c.in_ok-stores.ensures within) done.replies.items done.lists.items c.in_ok-done.ensures.done
+    (λ shard within. empty-cells c.args.setting.now.sizes.shards c.args.setting.now.sizes.cells c.in_ok-stores.stores.items shard c.in_ok-stores.ensures within) done.replies.items done.lists.items c.in_ok-done.ensures.done
     (M c.args.files.now) (M c.begin_journal.new.files) (M c.write_section.new.files) c.in_ok-begin_journal.ensures.begun
     (subst (λ l. FileGrows (M c.begin_journal.new.files) (M c.write_section.new.files) 0 (section_lines (record { kind = Batch; number = 1; shards = l }))) c.deref.ensures.value c.in_ok-write_section.ensures.written))
     c.finish_journal.ensures.made)) c.in_err-finish_journal.ensures.state)
 
 pub returns-clause-worked : goal.returns-clause-worked
 returns-clause-worked g c =
-    let setup = setup_of c.args.design.now c.args.sizes in
+    let setup = setup_of c.args.setting.now.design.now c.args.setting.now.sizes in
     let done = c.in_ok-done.done in
     let M = g.F.Files.made in
     work-same setup c.args.items.now c.args.journal.now (IsWork setup c.args.items.now done.replies.items) (M c.args.files.now) (M c.write_section.new.files) (M c.finish_journal.new.files)
     (worked setup c.args.items.now c.args.journal.now c.in_ok-stores.stores.items done.stores.items
-    (λ shard within. empty-cells c.args.sizes.shards c.args.sizes.cells c.in_ok-stores.stores.items shard c.in_ok-stores.ensures within) done.replies.items done.lists.items c.in_ok-done.ensures.done
+    (λ shard within. empty-cells c.args.setting.now.sizes.shards c.args.setting.now.sizes.cells c.in_ok-stores.stores.items shard c.in_ok-stores.ensures within) done.replies.items done.lists.items c.in_ok-done.ensures.done
     (M c.args.files.now) (M c.begin_journal.new.files) (M c.write_section.new.files) c.in_ok-begin_journal.ensures.begun
     (subst (λ l. FileGrows (M c.begin_journal.new.files) (M c.write_section.new.files) 0 (section_lines (record { kind = Batch; number = 1; shards = l }))) c.deref.ensures.value c.in_ok-write_section.ensures.written))
     c.finish_journal.ensures.made

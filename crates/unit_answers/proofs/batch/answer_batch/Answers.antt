@@ -28,8 +28,8 @@ run_batch-requires-clause-few g c κs within =
     let queries = asked-by d c.args.items.now c.in_ok-verdicts.verdicts.items c.deref-2.result.now c.in_ok-queries.queries.items c.deref-3.result.now c.in_ok-verdicts.ensures c.deref-2.ensures.value c.in_ok-queries.ensures c.deref-3.ensures.value in
     subst (λ (qs : List Query). length (flat_map pieces qs) ≤ 256) (sym queries) (batch-few d c.args.items.now c.requires.within)
 
-pub placed-requires : goal.placed-requires
-placed-requires g c =
+pub place_replies-requires : goal.place_replies-requires
+place_replies-requires g c =
     let d = c.args.design.now in
     let setup : Setup = setup_of d c.args.sizes in
     let ran : HasRun (asks setup c.deref-3.result.now) (cells_of c.args.stores.items) c.in_ok-ran.ran.replies.items c.in_ok-ran.ran.lists.items c.in_ok-ran.ran.stores.items = c.in_ok-ran.ensures.run in

@@ -2,7 +2,7 @@ use Rattle.std.proofs.Common.{◌≡◌, ℕ, List, None, flat_map, sum, sum_by,
 use Rattle.valid_intervals.specs.declared.SignalCell.{SignalCell}
 use Rattle.batch_meaning.specs.Batches.{Batch}
 use Rattle.batch_meaning.specs.Pieces.{pieces}
-use Rattle.batch_crew.specs.Crews.{AreInOrder, booked_in}
+use Rattle.worker_gate.specs.Ends.{AreInOrder, booked_in}
 use Rattle.unit_answers.specs.Stores.{setup_of, cells_of}
 use Rattle.unit_answers.specs.inner.Runs.{asks, AreOpened, HasRun}
 use Rattle.unit_answers.proofs.Crewing.{has-crewed}

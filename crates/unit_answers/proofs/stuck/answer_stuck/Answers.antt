@@ -17,7 +17,7 @@ returns-in_default c =
     let line = c.args.line in
     let stuck = c.args.stuck.now in
     let unknown = site-unknown setup line stuck (sym c.stuck_site_of.ensures ∙ c.in_default.is) in
-    c.unasked.ensures setup line (kinds.Stuck stuck) c.requires.stores (stuck-nowhere setup line stuck unknown) (nowhere-unheld setup line stuck unknown)
+    c.reply_unasked.ensures setup line (kinds.Stuck stuck) c.requires.stores (stuck-nowhere setup line stuck unknown) (nowhere-unheld setup line stuck unknown)
 
 pub returns-in-Unknown : goal.returns-in-Unknown
 returns-in-Unknown c =
@@ -26,7 +26,7 @@ returns-in-Unknown c =
     let stuck = c.args.stuck.now in
     let known = site-known setup line stuck c.in-Some.site (sym c.stuck_site_of.ensures ∙ c.in-Some.is) in
     let is = sym c.stuck_verdict_of.ensures ∙ c.in-Unknown.is in
-    c.unasked-in-Unknown.ensures setup line (kinds.Stuck stuck) c.requires.stores (stuck-unknown setup line stuck _ known is) (unknown-unheld setup line stuck _ known is)
+    c.reply_unasked-in-Unknown.ensures setup line (kinds.Stuck stuck) c.requires.stores (stuck-unknown setup line stuck _ known is) (unknown-unheld setup line stuck _ known is)
 
 pub returns-in-Past : goal.returns-in-Past
 returns-in-Past c =
@@ -35,4 +35,4 @@ returns-in-Past c =
     let stuck = c.args.stuck.now in
     let known = site-known setup line stuck c.in-Some.site (sym c.stuck_site_of.ensures ∙ c.in-Some.is) in
     let is = sym c.stuck_verdict_of.ensures ∙ c.in-Past.is in
-    c.unasked-in-Past.ensures setup line (kinds.Stuck stuck) c.requires.stores (stuck-past setup line stuck _ known is) (past-unheld setup line stuck _ known is)
+    c.reply_unasked-in-Past.ensures setup line (kinds.Stuck stuck) c.requires.stores (stuck-past setup line stuck _ known is) (past-unheld setup line stuck _ known is)

@@ -13,10 +13,10 @@ pub returns-in-Unknown : goal.returns-in-Unknown
 returns-in-Unknown c =
     let setup = setup_of c.args.design.now c.args.sizes in
     let why = c.args.why.now in
-    c.unasked.ensures setup c.args.line (kinds.Why why) c.requires.stores (why-unknown setup c.args.line why (sym c.why_verdict_of.ensures ∙ c.in-Unknown.is)) refl
+    c.reply_unasked.ensures setup c.args.line (kinds.Why why) c.requires.stores (why-unknown setup c.args.line why (sym c.why_verdict_of.ensures ∙ c.in-Unknown.is)) refl
 
 pub returns-in-Past : goal.returns-in-Past
 returns-in-Past c =
     let setup = setup_of c.args.design.now c.args.sizes in
     let why = c.args.why.now in
-    c.unasked-in-Past.ensures setup c.args.line (kinds.Why why) c.requires.stores (why-past setup c.args.line why (sym c.why_verdict_of.ensures ∙ c.in-Past.is)) refl
+    c.reply_unasked-in-Past.ensures setup c.args.line (kinds.Why why) c.requires.stores (why-past setup c.args.line why (sym c.why_verdict_of.ensures ∙ c.in-Past.is)) refl

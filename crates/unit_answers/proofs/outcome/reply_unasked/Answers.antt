@@ -1,6 +1,6 @@
 use Rattle.std.proofs.Common.{◌∙◌, ap, map}
 use Rattle.unit_answers.proofs.Questions.{none_for, unasked-done}
-use Rattle.unit_answers.proofs.outcome.unasked.Goals as goal
+use Rattle.unit_answers.proofs.outcome.reply_unasked.Goals as goal
 
 pub returns : goal.returns
 returns c setup line asks stores right none =

@@ -2,7 +2,7 @@ use Rattle.std.proofs.Common.{◌≡◌, ◌++◌, drop, length, flat_map}
 use Rattle.std.specs.Vec.Iter.{into_iter_items, into_iter_len}
 use Rattle.session_meaning.specs.Verdicts.{asked}
 use Rattle.unit_answers.specs.inner.Placed.{placed}
-use Rattle.unit_answers.proofs.replies.placed.Given as goal
+use Rattle.unit_answers.proofs.replies.place_replies.Given as goal
 
 abbrev pub invariant-loop-verdict : goal.invariant-loop-verdict
 invariant-loop-verdict l = record {

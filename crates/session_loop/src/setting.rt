@@ -1,0 +1,13 @@
+//! What a session is served with.
+
+use design::Design;
+use std::alloc::Global;
+use unit_answers::Sizes;
+
+/// The allocator, the circuit with its stimulus, and the sizes of the memo.
+#[derive(Drop)]
+pub struct Setting<'a> {
+    pub alloc: Global,
+    pub design: &'a Design,
+    pub sizes: Sizes,
+}
