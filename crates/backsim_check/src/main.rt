@@ -1,8 +1,8 @@
 //! The program that checks explanations: whether a signal of a circuit has a value at a time, as a proof claims.
 //!
-//! It is given the names of four files: a netlist, its timing, a stimulus, and the proof, which may come from anybody. It writes one
-//! line and ends with a status; nothing is written to standard error. All of it is `check` of the crate `proof_check`, here over the
-//! files and the standard output of the system, which tell only their counts of faults.
+//! It takes the names of four files: a netlist, its timing, a stimulus, and the proof, which may come from any source. It writes one
+//! line to standard output, nothing to standard error, and ends with a status. `check` of `proof_check` does all this, over the
+//! system's files and standard output, of which only the counts of faults are known.
 //!
 //! ```text
 //! $ backsim_check chain.bench chain.timing chain.stim chain.proof

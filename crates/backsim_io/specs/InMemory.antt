@@ -1,4 +1,4 @@
--- What the objects in memory show: their content and faults, and which of their calls fail.
+-- The state of the objects in memory: their content and faults, and which of their calls fail.
 use Rattle.std.specs.Prelude.{ℕ, ◌+◌, ◌≤◌, ◌≡◌, List, Some, drop, vec_len, vec_capacity}
 use Rattle.owned_text.specs.Made.{Made}
 use Rattle.backsim_io.specs.Calls.{CallsState}
@@ -15,7 +15,7 @@ source_state source = record { left = Some (drop source.at source.bytes.items); 
 abbrev pub source_calls : MemSource → CallsState
 source_calls source = source.calls
 
--- how many bytes a read gives at most
+-- the greatest number of bytes that a read gives
 abbrev pub source_piece : MemSource → ℕ
 source_piece source = source.piece
 
@@ -28,11 +28,11 @@ sink_faults sink = sink.faults
 abbrev pub sink_calls : MemSink → CallsState
 sink_calls sink = sink.calls
 
--- how many bytes a write takes at most
+-- the greatest number of bytes that a write takes
 abbrev pub sink_piece : MemSink → ℕ
 sink_piece sink = sink.piece
 
--- the sink has memory for so many bytes more
+-- the sink has memory for this many more bytes
 abbrev pub SinkHasRoom : MemSink → ℕ → Type 0
 SinkHasRoom sink more = vec_len sink.bytes + more ≤ vec_capacity sink.bytes
 
@@ -54,6 +54,6 @@ files_made files made = made ≡ files_of files.created.items
 abbrev pub files_calls : MemFiles → CallsState
 files_calls files = files.calls
 
--- the created file at this place has memory for so many bytes more
+-- the created file at this place has memory for this many more bytes
 abbrev pub FileHasRoom : MemFiles → ℕ → ℕ → Type 0
 FileHasRoom files slot more = HasRoomAt files.created.items slot more

@@ -1,11 +1,11 @@
--- What an object with a limited room keeps of the bytes that it is given.
+-- What an object with limited room keeps of its bytes.
 use Rattle.std.specs.Prelude.{ℕ, List, ◌++◌, take}
 
--- room for so many bytes, and the bytes kept
+-- the room in bytes, and the kept bytes
 pub record Kept : Type 0 where
   pub room : ℕ
   pub bytes : List ℕ
 
--- further bytes are kept as far as there is room
+-- further bytes are kept while there is room
 abbrev pub kept_more : Kept → List ℕ → Kept
 kept_more kept more = record kept { bytes = take kept.room (kept.bytes ++ more) }

@@ -1,4 +1,4 @@
--- How many bytes sure files keep of each file that they create.
+-- How many bytes of each created file sure files keep.
 use Rattle.std.specs.Prelude.{ℕ}
 use Rattle.backsim_io.specs.declared.sure_files.SureFiles.{SureFiles}
 

@@ -1,10 +1,11 @@
-//! A call of a source, a sink or files fails and is counted.
+//! The error for a failed call.
 ghost use Rattle.backsim_io.specs.State.{Rises};
 
 use std::error::Error;
 use std::fmt;
 
-/// A call of a source, a sink or files failed. The object has counted it.
+/// A call of a source, a sink or files failed, and the object has counted
+/// it.
 #[derive(Clone, Copy, Debug, PartialEq, Eq)]
 pub struct Failed;
 
@@ -16,7 +17,7 @@ impl fmt::Display for Failed {
 
 impl Error for Failed {}
 
-/// The count after one fault more. It stays at its last value.
+/// The count after one more fault. The greatest `u64` stays as it is.
 pub(crate) fn raised(count: u64) -> u64
     ensures { Rises count result }
 {

@@ -5,7 +5,7 @@ ghost use Rattle.backsim_io.specs.inner.Held.{bytes_at};
 use crate::copies::copy_next;
 use owned_text::Text;
 
-/// Files in memory, by name, one of which is being read.
+/// Files in memory, by name. One of them is being read.
 #[derive(Drop)]
 pub(crate) struct HeldFiles {
     files: Vec<(Text, Vec<u8>)>,
@@ -29,7 +29,7 @@ impl HeldFiles {
         }
     }
 
-    /// The place of the first file of this name.
+    /// The place of the first file with this name.
     pub(crate) fn place_of(&self, name: &str) -> Option<usize>
         ensures bytes { OnSome result (bytes_under self.now.files.items name.now ≡ Some
             (bytes_at self.now.files.items result)) }
@@ -43,7 +43,7 @@ impl HeldFiles {
         None
     }
 
-    /// Begins to read the file at this place, or an empty file.
+    /// Starts to read the file at this place, or an empty file if there is no place.
     pub(crate) fn start(&mut self, place: Option<usize>)
         requires { self.old.started < 4 }
         ensures rest { drop self.new.at (bytes_at self.new.files.items self.new.reading) ≡ bytes_at
@@ -56,7 +56,7 @@ impl HeldFiles {
         self.started += 1;
     }
 
-    /// The file that is being read, which is empty where there is none.
+    /// The file that is being read. It is empty if there is none.
     fn current(&self) -> &[u8]
         ensures { result.now ≡ bytes_at self.now.files.items self.now.reading }
     {
@@ -69,7 +69,7 @@ impl HeldFiles {
         }
     }
 
-    /// Copies the next bytes of the file that is being read into the front of a buffer.
+    /// Copies the next bytes of the file that is being read to the front of a buffer.
     pub(crate) fn next(&mut self, into: &mut [u8]) -> usize
         ensures bound { result ≤ length into.new }
         ensures bytes { drop self.old.at (bytes_at self.old.files.items self.old.reading) ≡ take

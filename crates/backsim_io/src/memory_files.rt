@@ -1,4 +1,4 @@
-//! Files in memory, some of whose calls fail.
+//! Files in memory.
 ghost use Rattle.std.specs.Prelude.{◌≡◌, List, [], ◌∷◌, ◌++◌, Some, length, take, option_map, slice_get, IsNone, IsErr, IsTrue, OnOk, OnErr, IfOk, Contains, ◌↔◌, ◌⊎◌, ◌+◌, ◌<◌, ◌≤◌, true};
 ghost use Rattle.std.specs.Io.{ReadsAtMost, WritesAtMost};
 ghost use Rattle.std.specs.Io.KnownBytes.{IsAtEnd};
@@ -18,7 +18,7 @@ use crate::{Failed, Files};
 use owned_text::Text;
 use std::alloc::Global;
 
-/// Files in memory, some of whose calls fail. The calls of all five kinds are counted together.
+/// Files in memory, some of whose calls fail. One count numbers the calls of all five kinds.
 #[derive(Drop)]
 pub struct MemFiles {
     alloc: Global,
@@ -37,9 +37,8 @@ pub struct MemFiles {
 impl MemFiles {
     ghost use Rattle.backsim_io.specs.InMemory.{files_calls};
 
-    /// Files that hold these bytes under these names; of two equal names the first counts. A call
-    /// fails where `failing` lists its number, the first call being number 0. So does `start_read` for
-    /// a name that isn't held, and a `create` or a `write` for which there is no memory.
+    /// Files with these names and bytes. If two names are equal, the first counts. A call fails if `failing` lists its number; the first
+    /// call has number 0. `start_read` also fails for a missing name, and `create` and `write` fail if there is no memory.
     pub fn new(alloc: Global, held: Vec<(Text, Vec<u8>)>, failing: Vec<u64>) -> MemFiles
         ensures state { ⟦<MemFiles as Files>⟧.state result ≡ fresh_files (bytes_under held.items)
             (Some []) }
@@ -71,7 +70,7 @@ impl MemFiles {
     }
 }
 
-/// Appends an empty file of this name. Answers `false` where there is no memory for it.
+/// Appends an empty file of this name. Returns `false` if there is no memory for it.
 fn create_empty(alloc: Global, created: &mut Vec<(Text, Vec<u8>)>, name: &str) -> bool
     ensures created { OnTrue result (files_of created.new.items ≡ files_of
         created.old.items ++ record { name = name.now; bytes = [] } ∷ []) }
@@ -84,7 +83,7 @@ fn create_empty(alloc: Global, created: &mut Vec<(Text, Vec<u8>)>, name: &str) -
     }
 }
 
-/// Appends bytes to the file at this place. Answers `false` where there is no memory for them.
+/// Appends bytes to the file at this place. Returns `false` if there is no memory for them.
 fn write_more(created: &mut Vec<(Text, Vec<u8>)>, place: usize, piece: &[u8]) -> bool
     requires { place < length created.old.items }
     ensures grown { OnTrue result (files_of created.new.items ≡ grown (files_of created.old.items)
@@ -107,7 +106,7 @@ impl Files for MemFiles {
 
     ghost places = { λ s. s.fit };
 
-    /// It fails exactly where its number is listed or the name isn't held.
+    /// Fails exactly when its number is listed or there is no file of this name.
     fn start_read(&mut self, name: &str) -> Result<(), Failed>
         requires { (files_state self.old).started < 4 }
         ensures opens { OnOk result (files_state self.new ≡ record (files_state self.old) {
@@ -132,7 +131,7 @@ impl Files for MemFiles {
         Ok(())
     }
 
-    /// It fails exactly where its number is listed.
+    /// Fails exactly when its number is listed.
     fn read(&mut self, into: &mut [u8]) -> Result<usize, Failed>
         ensures bound { ReadsAtMost result into.new }
         ensures bytes { IfOk result (λ n. Reads (files_state self.old) (files_state self.new)
@@ -151,7 +150,7 @@ impl Files for MemFiles {
         Ok(self.held.next(into))
     }
 
-    /// It fails where its number is listed, and else only where there is no memory.
+    /// Fails if its number is listed, or else only if there is no memory.
     fn create(&mut self, name: &str) -> Result<u32, Failed>
         requires { (files_state self.old).created < 4 }
         ensures place { IfOk result (λ place. place ≡ (files_state self.old).created) }
@@ -176,7 +175,7 @@ impl Files for MemFiles {
         Ok(place)
     }
 
-    /// It fails where its number is listed, and else only where it asks for memory. It takes all.
+    /// Fails if its number is listed, or else only if it has to allocate. Takes all bytes.
     fn write(&mut self, slot: u32, piece: &[u8]) -> Result<usize, Failed>
         requires { Contains (files_state self.old).unfinished slot }
         ensures bound { WritesAtMost result piece.now }
@@ -198,7 +197,7 @@ impl Files for MemFiles {
         Ok(piece.len())
     }
 
-    /// It fails exactly where its number is listed.
+    /// Fails exactly when its number is listed.
     fn finish(&mut self, slot: u32) -> Result<(), Failed>
         requires { Contains (files_state self.old).unfinished slot }
         ensures finishes { OnOk result (files_state self.new ≡ record (files_state self.old)

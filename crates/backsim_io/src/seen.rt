@@ -6,7 +6,7 @@ use std::fs::Metadata;
 use std::marker::Model;
 use std::os::unix::fs::MetadataExt;
 
-/// Which file of the system: its device, and its number there.
+/// The identity of a file: its device, and its number there.
 #[derive(Clone, Copy, Debug, PartialEq, Eq)]
 pub(crate) struct FileId {
     device: u64,
@@ -14,7 +14,7 @@ pub(crate) struct FileId {
 }
 
 impl FileId {
-    /// Which file this is told of.
+    /// The identity in this metadata.
     pub(crate) fn of(metadata: &Metadata) -> FileId {
         FileId {
             device: metadata.dev(),
@@ -23,10 +23,10 @@ impl FileId {
     }
 }
 
-/// How many files are seen at most: four that are read and four that are created.
+/// The greatest number of files: four for reading and four created.
 const MOST: usize = 8;
 
-/// Files of the system, up to eight.
+/// Up to eight files of the system.
 #[derive(Drop)]
 pub(crate) struct SeenFiles {
     ids: [FileId; MOST],
@@ -62,7 +62,7 @@ impl SeenFiles {
         self.ids[..self.count].contains(&id)
     }
 
-    /// Adds a file, if there is one.
+    /// Adds a file if there is one.
     pub(crate) fn add(&mut self, id: Option<FileId>)
         requires { length self.old < 8 }
         ensures { self.new ≡ self.old ++ option_to_list id }

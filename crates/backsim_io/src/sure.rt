@@ -1,4 +1,4 @@
-//! Objects in memory that never fail and take no memory after they are made.
+//! A source and a sink in memory that never fail.
 ghost use Rattle.std.specs.Prelude.{◌≡◌, ℕ, [], Some, length, take, drop, IfOk, vec_len, vec_capacity, ◌≤◌};
 ghost use Rattle.backsim_io.specs.KeptBytes.{Kept, kept_more};
 
@@ -8,7 +8,7 @@ use owned_text::OutOfMemory;
 use std::alloc::Global;
 use std::marker::Model;
 
-/// A source in memory that never fails: its count of faults is the constant 0.
+/// A source in memory that never fails.
 #[derive(Drop)]
 pub struct SureSource {
     bytes: Vec<u8>,
@@ -36,8 +36,8 @@ impl Source for SureSource {
     }
 }
 
-/// A sink in memory that never fails: its count of faults is the constant 0. It keeps the first
-/// bytes, as many as it has room for, and takes the others without keeping them.
+/// A sink in memory that never fails. It keeps the first bytes, as many as it has room for, and discards
+/// the others.
 #[derive(Drop)]
 pub struct SureSink {
     kept: Vec<u8>,
@@ -53,7 +53,7 @@ impl Model for SureSink {
 }
 
 impl SureSink {
-    /// A sink that keeps the first `room` bytes. The room is taken here, and no call takes more.
+    /// A sink that keeps the first `room` bytes. This call allocates the room, and no later call allocates.
     pub fn new(alloc: Global, room: usize) -> Result<SureSink, OutOfMemory>
         ensures { IfOk result (λ s. s ≡ record { room = room; bytes = [] }) }
     {
@@ -68,7 +68,7 @@ impl SureSink {
         &self.kept
     }
 
-    /// Keeps the bytes that there is room for.
+    /// Keeps the bytes for which there is room.
     pub(crate) fn keep(&mut self, piece: &[u8])
         ensures { self.new ≡ kept_more self.old piece.now }
     {

@@ -1,4 +1,4 @@
-//! Files in memory that never fail and take no memory after they are made.
+//! Files in memory that never fail.
 ghost use Rattle.std.specs.Prelude.{◌≡◌, List, [], Some, map, take, drop, length, All, option_map, slice_get, vec_len, vec_capacity, IsNone, IfOk, ◌↔◌, ◌+◌, ◌<◌, ◌≤◌, true};
 ghost use Rattle.std.specs.Option.{option_copied};
 ghost use Rattle.owned_text.specs.Made.{Made};
@@ -16,13 +16,13 @@ use owned_text::{OutOfMemory, Text};
 use std::alloc::Global;
 use std::marker::Model;
 
-/// How many files may be created.
+/// The greatest number of created files.
 const FILES: usize = 4;
 
 /// How many bytes of a created file's name are kept.
 const NAME: usize = 255;
 
-/// A created file, or a place for one: the first bytes of its name and of what was written.
+/// A created file, or room for one: the first bytes of its name and of its content.
 #[derive(Drop)]
 struct SureFile {
     name: SureSink,
@@ -38,7 +38,7 @@ impl Model for SureFile {
 }
 
 impl SureFile {
-    /// A place for a file of this room.
+    /// Room for a file of this size.
     fn new(alloc: Global, room: usize) -> Result<SureFile, OutOfMemory>
         ensures { IfOk result (λ file. IsBlank room file) }
     {
@@ -55,7 +55,7 @@ impl SureFile {
         self.name.keep(name.as_bytes());
     }
 
-    /// Keeps the bytes that there is room for.
+    /// Keeps the bytes for which there is room.
     fn keep(&mut self, piece: &[u8])
         ensures { self.new ≡ record self.old { bytes = kept_more self.old.bytes piece.now } }
     {
@@ -70,9 +70,8 @@ impl SureFile {
     }
 }
 
-/// Files in memory that never fail: their three counts of faults are the constant 0. Each created file
-/// keeps its first bytes, as many as there is room for, and takes the others without keeping them. Of
-/// its name it keeps the first 255 bytes.
+/// Files in memory that never fail. Of each created file they keep the first bytes, as many as there is room for, and the first 255 bytes
+/// of its name. Other bytes are discarded.
 #[derive(Drop)]
 pub struct SureFiles {
     held: HeldFiles,
@@ -88,7 +87,7 @@ pub struct SureFiles {
     ghost blank: { All (IsBlank room) spare.items },
 }
 
-/// Four places for files of this room.
+/// Room for four files of this size.
 fn blank_files(alloc: Global, room: usize) -> Result<Vec<SureFile>, OutOfMemory>
     ensures four { IfOk result (λ files. vec_len files ≡ 4) }
     ensures blank { IfOk result (λ files. All (IsBlank room) files.items) }
@@ -103,8 +102,8 @@ fn blank_files(alloc: Global, room: usize) -> Result<Vec<SureFile>, OutOfMemory>
 impl SureFiles {
     ghost use Rattle.backsim_io.specs.SureRoom.{room_of};
 
-    /// Files that hold these bytes under these names, of two equal names the first, and an empty file
-    /// under every other name. The room for four created files is taken here, and no call takes more.
+    /// Files with these names and bytes. If two names are equal, the first counts. Every other name has an empty file. This call allocates
+    /// the room for four created files, and no later call allocates.
     pub fn new(
         alloc: Global,
         held: Vec<(Text, Vec<u8>)>,
@@ -126,7 +125,7 @@ impl SureFiles {
         })
     }
 
-    /// The bytes that were kept of the created file at this place.
+    /// The kept bytes of the created file at this place.
     pub fn made(&self, slot: u32) -> Option<&[u8]>
         ensures bytes { (files : List Made) → ⟦<SureFiles as Files>⟧.made self.now files
             → option_copied result ≡ option_map (λ file. take (room_of self.now) file.bytes)

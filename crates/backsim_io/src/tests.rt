@@ -6,12 +6,12 @@ use owned_text::Text;
 use std::alloc::Global;
 use std::test::Fail;
 
-/// A file to hold, of this name and these bytes.
+/// A file with this name and these bytes.
 fn file(alloc: Global, name: &[u8], bytes: &[u8]) -> Result<(Text, Vec<u8>), Fail> {
     Ok((Text::from_bytes(alloc, name)?, bytes.to_vec(alloc)?))
 }
 
-/// Whether a file was read, and these are its bytes.
+/// Whether a file was read and has these bytes.
 fn is_text(read: Result<Vec<u8>, ReadFile>, bytes: &[u8]) -> bool {
     match read {
         Ok(read) => read.as_slice() == bytes,

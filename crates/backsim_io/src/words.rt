@@ -1,4 +1,4 @@
-//! The words that a process was given.
+//! The words that the process was given.
 
 ghost use Rattle.std.specs.Prelude.{◌≡◌, [], drop, IfOk, IfErr, IsErr, IsOkAnd};
 ghost use Rattle.std.specs.IoError.{error_kind};
@@ -8,8 +8,8 @@ use owned_text::OutOfMemory;
 use std::alloc::Global;
 use std::io;
 
-/// The words after the first, which is the program's name, of those that std gives. Where one of them is no text there are none: no
-/// form of words that the programs know is empty, so that is told as a wrong form.
+/// The words that std gives, without the first, which is the program's name. If a word is not valid text, the list is empty: no
+/// program accepts an empty list, so it reports a wrong form.
 pub fn words_after_name(
     alloc: Global,
     given: io::Result<Vec<String>>,

@@ -1,4 +1,4 @@
--- The points that are answered at once, without an evaluation: those of an input, of a gate before its least delay, and of a flip-flop before its first shown edge.
+-- The points that need no evaluation: those of an input, of a gate before its least delay, and of a flip-flop before its first shown edge.
 use Rattle.std.specs.Prelude.{ℕ, ◌+◌, nat_lt, min, if◌then◌else◌, Option, Some, None}
 use Rattle.gate_values.specs.declared.Value.{Value}
 use Rattle.gate_values.specs.declared.Value.TheVariants.{X}
@@ -17,12 +17,12 @@ abbrev pub flop_base : ℕ → FlipFlop → Option ℕ → Option Cell
 flop_base limit f None = Some (cell_with (flop_span limit f.delay f.clock None) f.initial)
 flop_base limit f (Some e) = None
 
--- what a driver answers at once at t
+-- the base answer of a driver at t
 abbrev pub base_from : ℕ → ℕ → Driver → Option Cell
 base_from limit t (Input settings) = Some (cell_with (from_to (input_start (last_setting settings t)) (next_setting settings t limit)) (input_value (last_setting settings t)))
 base_from limit t (Gate kind pins) = if nat_lt t (least_delay pins) then Some (cell_with (from_to 0 (min (least_delay pins) limit)) X) else None
 base_from limit t (Flop f) = flop_base limit f (shown_edge f.clock f.delay t)
 
--- the cell of the signal s at the time t, where it needs no evaluation
+-- the cell of the signal s at the time t, if it needs no evaluation
 unfoldable pub base_answer : Circuit → ℕ → ℕ → Option Cell
 base_answer c s t = base_from (c.horizon + 1) t (driver c s)

@@ -9,7 +9,7 @@ use Rattle.valid_intervals.specs.declared.Point.{Point}
 use Rattle.circuit_meaning.specs.Forward.{row_at, last_setting, seen, value}
 use Rattle.flip_flops.specs.Edges.{shown_edge, flop_span}
 
--- the least time of a setting after t, or else the limit
+-- the least time of a setting after t; if there is none, the limit
 unfoldable pub next_setting : List Setting → ℕ → ℕ → ℕ
 next_setting [] t limit = limit
 next_setting (s ∷ rest) t limit = if nat_lt t s.time then min s.time (next_setting rest t limit) else next_setting rest t limit
@@ -23,7 +23,7 @@ least_delay (p ∷ rest) = fold (λ m q. min m q.delay) p.delay rest
 abbrev pub looked : Circuit → ℕ → Kind → List Pin → List Pin
 looked c t kind pins = up_to_first (λ p. decides kind (seen (value c) t p)) pins
 
--- the times about t at which a pin of a gate sees what it sees at t, where before s u is the interval of the signal s at an earlier time u
+-- the times around t at which a pin of a gate sees what it sees at t; before s u is the interval of the signal s at an earlier time u
 abbrev pub pin_span : (ℕ → ℕ → Span) → ℕ → Pin → Span
 pin_span before t p = if nat_lt t p.delay then from_to 0 p.delay else moved p.delay (before p.signal (t - p.delay))
 
@@ -32,7 +32,7 @@ abbrev pub input_start : Option Setting → ℕ
 input_start None = 0
 input_start (Some s) = s.time
 
--- the interval of a gate whose least delay is m: that of x before it, and then the times that its looked pins have in common
+-- the interval of a gate with least delay m: before m that of x, and from m on the times common to its looked pins
 abbrev pub gate_span : ℕ → ℕ → ℕ → List Span → Span
 gate_span limit t m pins = if nat_lt t m then from_to 0 (min m limit) else fold meet (from_to m limit) pins
 

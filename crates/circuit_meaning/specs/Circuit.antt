@@ -1,4 +1,4 @@
--- A circuit: what drives each signal, and how long it is watched.
+-- A circuit: what drives each signal, and its horizon.
 use Rattle.std.specs.Prelude.{◌≡◌, ℕ, ◌≤◌, ◌<◌, IsTrue, List, [], ◌∷◌, length, get_or, map, All, AllPairs, ◌≢◌, IfSome, sum_by}
 use Rattle.gate_values.specs.declared.Kind.{Kind}
 use Rattle.gate_values.specs.Gates.{is_unary}
@@ -9,7 +9,7 @@ use Rattle.flip_flops.specs.Edges.{IsClock}
 use Rattle.gate_values.specs.declared.Value.TheVariants.{Z}
 pub use Rattle.circuit_meaning.specs.declared.FlipFlop.{FlipFlop}
 
--- What a signal's value comes from.
+-- What drives a signal.
 pub data Driver : Type 0 where
   Input : List Setting → Driver
   Gate : Kind → List Pin → Driver
@@ -19,7 +19,7 @@ pub record Circuit : Type 0 where
   pub horizon : ℕ
   pub drivers : List Driver
 
--- A number that is no signal stands for an input without settings.
+-- the driver of a signal; a number that is no signal stands for an input without settings
 abbrev pub driver : Circuit → ℕ → Driver
 driver c s = get_or c.drivers s (Input [])
 
@@ -29,12 +29,12 @@ read_by (Input settings) = []
 read_by (Gate kind pins) = map (λ p. p.signal) pins
 read_by (Flop f) = f.pin ∷ []
 
--- The settings of an input may stand in any order, none of them after the horizon; no two have one time.
+-- The settings of an input are in any order. None is after the horizon, and no two have the same time.
 pub record AreSettings (horizon : ℕ) (settings : List Setting) : Type 0 where
   pub within : All (λ s. s.time ≤ horizon) settings
   pub different : AllPairs (λ a b. a.time ≢ b.time) settings
 
--- a gate has from 1 to 64 pins, a unary gate one; each pin reads a signal of the circuit, at least one instant back
+-- a gate has 1 to 64 pins, a unary gate one; each pin reads a signal of the circuit with a delay of at least 1
 pub record ArePins (signals : ℕ) (kind : Kind) (pins : List Pin) : Type 0 where
   pub some : 1 ≤ length pins
   pub few : length pins ≤ 64
@@ -59,11 +59,11 @@ IsDriver signals horizon (Flop f) = IsFlipFlop signals f
 abbrev pub IsCircuit : Circuit → Type 0
 IsCircuit c = All (IsDriver (length c.drivers) c.horizon) c.drivers
 
--- the delay and the clock of a flip-flop are those that the files may state
+-- the delay and the clock of a flip-flop are within the limits of the files
 abbrev pub AreFlopLimits : FlipFlop → Type 0
 AreFlopLimits f = (f.delay ≤ 1000000) × IfSome f.clock IsClock
 
--- the numbers of a driver are those that the files may state
+-- the numbers of a driver are within the limits of the files
 abbrev pub AreDriverLimits : Driver → Type 0
 AreDriverLimits (Input settings) = Unit {0}
 AreDriverLimits (Gate kind pins) = All (λ p. p.delay ≤ 1000000) pins

@@ -1,5 +1,5 @@
--- Forward simulation: the value of every signal at every time, each row of values from the rows before it. Delays are
--- transport delays: a pin sees its signal's value of exactly so long ago, and no pulse is swallowed.
+-- Forward simulation: the value of every signal at every time. Each row of values is made from the earlier rows. Delays are transport
+-- delays: a pin sees its signal's value of exactly one delay ago, and every pulse passes.
 use Rattle.std.specs.Prelude.{ℕ, zero, suc, ◌+◌, ◌-◌, nat_lt, nat_le, if◌then◌else◌, not, ◌||◌, ◌==◌, List, [], ◌∷◌, ◌++◌, length, get_or, map, filter, Option, Some, None}
 use Rattle.std.specs.List.{range_with_len}
 use Rattle.gate_values.specs.declared.Value.{Value}
@@ -10,11 +10,11 @@ use Rattle.circuit_meaning.specs.Circuit.{Setting, Pin, FlipFlop, Driver, Input,
 use Rattle.circuit_meaning.specs.declared.Run.{Run}
 use Rattle.flip_flops.specs.Edges.{shown_edge}
 
--- one row more, made from the rows so far
+-- one more row, made from the rows so far
 abbrev pub one_more : {A : Type 0} → (List A → A) → List A → List A
 one_more next rows = rows ++ next rows ∷ []
 
--- the rows for the times below t, each made from those before it
+-- the rows for the times below t, each made from the earlier rows
 unfoldable pub rows_below : {A : Type 0} → (List A → A) → ℕ → List A
 rows_below next zero = []
 rows_below next (suc t) = one_more next (rows_below next t)
@@ -23,12 +23,12 @@ rows_below next (suc t) = one_more next (rows_below next t)
 unfoldable pub row_at : {A : Type 0} → (List A → A) → ℕ → A
 row_at next t = next (rows_below next t)
 
--- of the two settings the one with the greater time
+-- the later of the two settings
 abbrev pub later : Setting → Option Setting → Option Setting
 later a None = Some a
 later a (Some b) = Some (if nat_lt a.time b.time then b else a)
 
--- the setting with the greatest time at or before t
+-- the latest setting at or before t
 unfoldable pub last_setting : List Setting → ℕ → Option Setting
 last_setting [] t = None
 last_setting (s ∷ rest) t = if nat_le s.time t then later s (last_setting rest t) else last_setting rest t
@@ -37,7 +37,7 @@ abbrev pub input_value : Option Setting → Value
 input_value None = X
 input_value (Some s) = s.value
 
--- what a pin of a gate sees at t, where before s u is the value of the signal s at an earlier time u; before time 0 it is x
+-- what a pin of a gate sees at t; before s u is the value of the signal s at an earlier time u; before time 0 the pin sees x
 abbrev pub seen : (ℕ → ℕ → Value) → ℕ → Pin → Value
 seen before t p = if nat_lt t p.delay then X else before p.signal (t - p.delay)
 
@@ -52,7 +52,7 @@ value_from before t (Input settings) = input_value (last_setting settings t)
 value_from before t (Gate kind pins) = gate_value kind (map (seen before t) pins)
 value_from before t (Flop f) = flop_value before f (shown_edge f.clock f.delay t)
 
--- the entry of the signal s in the row of the time t; where there is none, x
+-- the entry of the signal s in the row of the time t; x if there is none
 abbrev pub entry : List (List Value) → ℕ → ℕ → Value
 entry rows s t = get_or (get_or rows t []) s X
 
@@ -68,10 +68,10 @@ forward c = rows_below (next_row c) (c.horizon + 1)
 unfoldable pub value : Circuit → ℕ → ℕ → Value
 value c s t = get_or (row_at (next_row c) t) s X
 
--- the times from a on and below b
+-- the times [a, b)
 abbrev pub window : ℕ → ℕ → List ℕ
 window a b = range_with_len a (b - a)
 
--- the waveform of the signal s in the window from a to b: its runs, one where the window begins and one at each change of the value
+-- the waveform of the signal s in the window from a to b: a run at the start of the window, and one at each change of the value
 unfoldable pub wave : Circuit → ℕ → ℕ → ℕ → List Run
 wave c s a b = map (λ t. record { time = t; value = value c s t }) (filter (λ t. (t == a) || not (same_value (value c s t) (value c s (t - 1)))) (window a b))

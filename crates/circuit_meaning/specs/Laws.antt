@@ -14,22 +14,22 @@ use Rattle.gate_values.specs.declared.Value.TheVariants.{Z}
 use Rattle.valid_intervals.specs.Spans.{IsIn}
 use Rattle.circuit_meaning.specs.Need.{Window, children, IsRoot, IsEvaluable, IsNeeded, IsInCone, IsClosedUnderChildren, IsPart}
 
--- each value is what the driver gives from the values before it, and each interval from the intervals before it
+-- the driver gives each value from earlier values, and each interval from earlier intervals
 abbrev pub ValuesFollow : Type 0
 ValuesFollow = (c : Circuit) → IsCircuit c → (s t : ℕ) → value c s t ≡ value_from (value c) t (driver c s)
 
 abbrev pub SpansFollow : Type 0
 SpansFollow = (c : Circuit) → IsCircuit c → (s t : ℕ) → span c s t ≡ span_from c (span c) t (driver c s)
 
--- a child's time is below its parent's
+-- a child's time is less than its parent's
 abbrev pub ChildrenAreEarlier : Type 0
 ChildrenAreEarlier = (c : Circuit) → IsCircuit c → (s t : ℕ) → All (λ p. p.time < t) (children c s t)
 
--- what a query needs is of signals that its own signal is reached from
+-- what a query needs is of signals in the fan-in cone of its signal
 abbrev pub NeededAreInCone : Type 0
 NeededAreInCone = (c : Circuit) (q : Window) (s t : ℕ) → IsNeeded c q s t → IsInCone c q.signal s
 
--- the pins that are looked at, and for a flip-flop also its edge
+-- the looked pins, and for a flip-flop also its edge
 pub data Look : Type 0 where
   NoPin : Look
   Pins : List Pin → Look
@@ -40,7 +40,7 @@ look c t (Input settings) = NoPin
 look c t (Gate kind pins) = Pins (looked c t kind pins)
 look c t (Flop f) = Edge (shown_edge f.clock f.delay t)
 
--- each time stands in its own cell, and no cell goes past the horizon
+-- each time is in its own cell, and no cell ends later than just after the horizon
 pub record IsCovered (c : Circuit) (s t : ℕ) : Type 0 where
   pub inside : IsIn (span c s t) t
   pub within : (span c s t).stop ≤ c.horizon + 1
@@ -48,7 +48,7 @@ pub record IsCovered (c : Circuit) (s t : ℕ) : Type 0 where
 abbrev pub CellsCover : Type 0
 CellsCover = (c : Circuit) → IsCircuit c → (s t : ℕ) → t ≤ c.horizon → IsCovered c s t
 
--- at each time of a cell the value, the cell and what is looked at are the same
+-- the value, the cell and the look are the same at each time of a cell
 pub record IsSame (c : Circuit) (s t u : ℕ) : Type 0 where
   pub value : value c s u ≡ value c s t
   pub span : span c s u ≡ span c s t
@@ -57,22 +57,22 @@ pub record IsSame (c : Circuit) (s t u : ℕ) : Type 0 where
 abbrev pub CellsAreSteady : Type 0
 CellsAreSteady = (c : Circuit) → IsCircuit c → (s t u : ℕ) → IsIn (span c s t) u → IsSame c s t u
 
--- each time of the window lies in the cell of a root
+-- each time of the window is in the cell of a root
 abbrev pub RootsReach : Type 0
 RootsReach = (c : Circuit) → IsCircuit c → (q : Window) → q.stop ≤ c.horizon + 1 → (t : ℕ) → q.start ≤ t → t < q.stop → (r : ℕ) × IsRoot c q r × IsIn (span c q.signal r) t
 
--- a query for one needed point needs nothing more
+-- a query needs all that a query for one of its needed points needs
 abbrev pub at_point : ℕ → ℕ → Window
 at_point s t = record { signal = s; start = t; stop = t + 1 }
 
 abbrev pub NeededAlone : Type 0
 NeededAlone = (c : Circuit) → IsCircuit c → (q : Window) → q.stop ≤ c.horizon + 1 → (s t u w : ℕ) → IsNeeded c q s t → IsNeeded c (at_point s t) u w → IsNeeded c q u w
 
--- the row of each time up to the horizon stands in the forward simulation
+-- the forward simulation has the row of each time up to the horizon
 abbrev pub ForwardHolds : Type 0
 ForwardHolds = (c : Circuit) (s t : ℕ) → t ≤ c.horizon → entry (forward c) s t ≡ value c s t
 
--- a wave is its first value and the changes after it; those of two stretches follow one another, and there is none inside a cell
+-- a wave is its first value and the changes after it; the changes of two consecutive stretches are joined, and a cell has no change inside
 abbrev pub changes : Circuit → ℕ → ℕ → ℕ → List Run
 changes c s a n = map (λ t. record { time = t; value = value c s t }) (filter (λ t. not (same_value (value c s t) (value c s (t - 1)))) (range_with_len a n))
 
@@ -82,7 +82,7 @@ pub record WavesAreChanges (c : Circuit) (s : ℕ) : Type 0 where
   pub follow : (a m n : ℕ) → changes c s a (m + n) ≡ changes c s a m ++ changes c s (a + m) n
   pub inside : IsCircuit c → (t a n : ℕ) → (span c s t).start < a → a + n ≤ (span c s t).stop → changes c s a n ≡ []
 
--- where there is a base answer it is the cell; and there is one exactly where a point is not evaluable
+-- a base answer is the cell, and exists exactly when the point is not evaluable
 abbrev pub BaseAnswersAreCells : Type 0
 BaseAnswersAreCells = (c : Circuit) → IsCircuit c → (s t : ℕ) → MatchOption (base_answer c s t) (IsEvaluable c s t) (λ x. (x ≡ cell_at c (point_at s t)) × (IsEvaluable c s t → ⊥))
 
@@ -95,7 +95,7 @@ IsDriven (Flop f) = Unit {0}
 abbrev pub OnlyInputsShowZ : Type 0
 OnlyInputsShowZ = (c : Circuit) → IsCircuit c → (s t : ℕ) → IsDriven (driver c s) → value c s t ≢ Z
 
--- runs that come after this one: times ascend, and neighbours differ
+-- runs that may come after this one: times ascend, and consecutive values differ
 abbrev pub GoOn : Run → List Run → Type 0
 GoOn r [] = Unit {0}
 GoOn r (x ∷ rest) = (r.time < x.time) × (x.value ≢ r.value) × GoOn x rest
@@ -107,14 +107,15 @@ AreMaximal (r ∷ rest) = GoOn r rest
 abbrev pub WavesAreMaximal : Type 0
 WavesAreMaximal = (c : Circuit) (s a b : ℕ) → AreMaximal (wave c s a b)
 
--- As far as a cell reaches, a waveform goes on with at most one run: where the window begins, and where the value is another than just before.
+-- Up to the end of a cell, a waveform gets at most one more run: at the start of the window, or if the value differs from the value just
+-- before.
 abbrev pub new_run : Circuit → ℕ → ℕ → ℕ → List Run
 new_run c s a t = if (t == a) || not (same_value (value c s t) (value c s (t - 1))) then record { time = t; value = value c s t } ∷ [] else []
 
 abbrev pub WavesGrowByCells : Type 0
 WavesGrowByCells = (c : Circuit) → IsCircuit c → (s a t u : ℕ) → a ≤ t → t ≤ c.horizon → t < u → u ≤ (span c s t).stop → wave c s a u ≡ wave c s a t ++ new_run c s a t
 
--- the cells of the signal s one after another, from that of t to that which reaches the time b
+-- consecutive cells of the signal s, from that of t to the one that reaches the time b
 abbrev pub AreCells : Circuit → ℕ → ℕ → ℕ → List Cell → Type 0
 AreCells c s b t [] = b ≤ t
 AreCells c s b t (x ∷ rest) = (t < b) × (x ≡ cell_at c (point_at s t)) × AreCells c s b x.span.stop rest
@@ -123,19 +124,20 @@ abbrev pub is_value : Option Value → Value → Bool
 is_value None v = false
 is_value (Some w) v = same_value v w
 
--- the maximal runs of such cells from the time t on, where the signal had this value just before
+-- the maximal runs of such cells from the time t on, if the signal had this value just before
 abbrev pub runs_along : Option Value → ℕ → List Cell → List Run
 runs_along before t [] = []
 runs_along before t (x ∷ rest) = (if is_value before x.value then [] else record { time = t; value = x.value } ∷ []) ++ runs_along (Some x.value) x.span.stop rest
 
--- the cells of a window fix its waveform
+-- the cells of a window determine its waveform
 abbrev pub CellsFixWaves : Type 0
 CellsFixWaves = (c : Circuit) → IsCircuit c → (s a b : ℕ) (cells : List Cell) → b ≤ c.horizon + 1 → AreCells c s b a cells → wave c s a b ≡ runs_along None a cells
 
--- What a query needs has the evaluable ones among its children; so do the free ones of what the query needs where a signal is forced.
+-- The points that a query needs include the evaluable children of each of them. So do the free points that a query needs if a signal is
+-- forced.
 abbrev pub NeedIsClosed : Type 0
 NeedIsClosed = (c : Circuit) (q : Window) → IsClosedUnderChildren c (IsNeeded c q)
 
--- what a part of a window needs, that begins at a root, the window needs
+-- a query needs all that a part of its window needs, if the part begins at a root
 abbrev pub PartsNeedNoMore : Type 0
 PartsNeedNoMore = (c : Circuit) (q part : Window) → IsPart c q part → (s t : ℕ) → IsNeeded c part s t → IsNeeded c q s t

@@ -1,4 +1,4 @@
--- What an evaluable point looks at, said alike of gates and of flip-flops: each pin has a source, a value that it sees, and an interval.
+-- What an evaluable point looks at, in one form for gates and flip-flops: each pin has a source, a value that it sees, and an interval.
 use Rattle.std.specs.Prelude.{◌≡◌, ℕ, ◌+◌, ◌-◌, nat_lt, if◌then◌else◌, List, [], ◌∷◌, get_or, map, fold, Option, Some, None}
 use Rattle.std.specs.List.{range_with_len}
 use Rattle.gate_values.specs.declared.Value.{Value}
@@ -15,13 +15,13 @@ use Rattle.circuit_meaning.specs.Circuit.{Circuit, Driver, Input, Gate, Flop, dr
 use Rattle.circuit_meaning.specs.Forward.{value}
 use Rattle.circuit_meaning.specs.Cells.{span, pin_span}
 
--- a flip-flop passes its pin on
+-- the kind of a gate; a flip-flop copies its pin
 abbrev pub kind_of : Driver → Kind
 kind_of (Input settings) = Buff
 kind_of (Gate kind pins) = kind
 kind_of (Flop f) = Dff
 
--- the point that a pin of a gate reads at t; none where that is before time 0
+-- the point that a pin of a gate reads at t; none before time 0
 abbrev pub pin_point : ℕ → Pin → Option Point
 pin_point t p = if nat_lt t p.delay then None else Some (record { signal = p.signal; time = t - p.delay })
 
@@ -39,25 +39,25 @@ pin_points_at t (Flop f) = flop_points f.pin (shown_edge f.clock f.delay t)
 abbrev pub pin_points : Circuit → ℕ → ℕ → List (Option Point)
 pin_points c s t = pin_points_at t (driver c s)
 
--- those that there are
+-- the elements that exist
 abbrev pub somes : {A : Type 0} → List (Option A) → List A
 somes [] = []
 somes (None ∷ xs) = somes xs
 somes (Some a ∷ xs) = a ∷ somes xs
 
--- the value that is seen there; before time 0 it is x
+-- the value that a pin sees at its source; x before time 0
 abbrev pub sees : Circuit → Option Point → Value
 sees c None = X
 sees c (Some p) = value c p.signal p.time
 
--- the sources that are looked at: up to and including the first that decides
+-- the looked sources: up to and including the first that decides
 abbrev pub looked_points : Circuit → ℕ → ℕ → List (Option Point)
 looked_points c s t = up_to_first (λ o. decides (kind_of (driver c s)) (sees c o)) (pin_points c s t)
 
 abbrev pub no_pin : Pin
 no_pin = record { signal = 0; delay = 0 }
 
--- the times about t at which the pin number k sees what it sees at t; of a flip-flop, the interval of its cell
+-- the times around t at which pin k sees what it sees at t; for a flip-flop, the interval of its cell
 abbrev pub interval_at : Circuit → ℕ → ℕ → Driver → ℕ → Span
 interval_at c s t (Input settings) k = span c s t
 interval_at c s t (Gate kind pins) k = cut_at (c.horizon + 1) (pin_span (span c) t (get_or pins k no_pin))
@@ -66,10 +66,10 @@ interval_at c s t (Flop f) k = span c s t
 abbrev pub pin_interval : Circuit → ℕ → ℕ → ℕ → Span
 pin_interval c s t k = interval_at c s t (driver c s) k
 
--- the times that the intervals of the first n pins have in common
+-- the times common to the intervals of the first n pins
 abbrev pub met_interval : Circuit → ℕ → ℕ → ℕ → Span
 met_interval c s t n = fold meet (from_to 0 2000002) (map (pin_interval c s t) (range_with_len 0 n))
 
--- the children of a point are what its looked pins read, in their order
+-- the children of a point are the points that its looked pins read, in their order
 abbrev pub ChildrenAreLooked : Type 0
 ChildrenAreLooked = (c : Circuit) (s t : ℕ) → children c s t ≡ somes (looked_points c s t)

@@ -1,4 +1,4 @@
--- What the words of the command line are, read from left to right.
+-- The words of the command line, read from left to right.
 use Rattle.std.specs.Prelude.{ℕ, ◌==◌, Bool, ◌&&◌, ◌||◌, List, [], ◌∷◌, ◌++◌, length, nat_le, Option, Some, None, is_some, if◌then◌else◌, codes, option_and_then}
 use Rattle.std.specs.List.{list_any, before_first, after_first}
 use Rattle.std.specs.Str.{bytes_eq}
@@ -16,7 +16,7 @@ pub data Key : Type 0 where
   Cells : Key
   Work : Key
 
--- what a word is, where it stands before the first `--` and isn't the value of an option
+-- a word before the first `--` that is not the value of an option
 pub data Word : Type 0 where
   -- `--`
   Dashes : Word
@@ -37,7 +37,7 @@ key_of text =
 abbrev pub is_equals : ℕ → Bool
 is_equals b = b == 61
 
--- after `--`: the name of an option, and what stands after the first `=`, if there is one
+-- after `--`: the name of an option, and the text after the first `=`, if there is one
 abbrev pub option_by : Option Key → Text → Word
 option_by None text = Refused
 option_by (Some key) text =
@@ -89,7 +89,7 @@ with_value key text said = if is_some (value_at key said) then None else Some (w
 abbrev pub with_names : List Text → Said → Said
 with_names names said = record said { names = said.names ++ names }
 
--- one word, where `next` reads the words after it
+-- one word; `next` reads the words after it
 abbrev pub by_word : Word → Text → Said → (Option Key → Said → Option Said) → List Text → Option Said
 by_word Dashes word said next words = Some (with_names words said)
 by_word (Alone key) word said next words = next (Some key) said
@@ -97,7 +97,7 @@ by_word (Valued key text) word said next words = option_and_then (next None) (wi
 by_word Name word said next words = next None (with_names (word ∷ []) said)
 by_word Refused word said next words = None
 
--- what the words say, after what was said before them; where an option waits, the first word is its value
+-- the content of the words, added to what came before; if an option waits, the first word is its value
 abbrev pub read : List Text → Option Key → Said → Option Said
 read [] None said = Some said
 read [] (Some key) said = None
@@ -159,6 +159,6 @@ form_by (Some number) said = second_form said number
 abbrev pub form_of : Said → Option Form
 form_of said = form_by said.work said
 
--- the form that the words are, or none
+-- the form of the words, or none
 abbrev pub words_of : List Text → Option Form
 words_of words = option_and_then form_of (read words None nothing_said)

@@ -31,7 +31,7 @@ fn empty<'a>(alloc: Global) -> Command<'a>
         .disable_help_flag(true)
 }
 
-/// The command with one argument more, which isn't global.
+/// The command with one more argument, which is not global.
 fn with<'a>(command: Command<'a>, arg: Arg<'a>) -> Result<Command<'a>, AllocError>
     requires { arg.global ≡ false }
     ensures { IfOk result (λ c. app_of c ≡ with_rule (app_of command.entry) (rule_of arg.entry)) }

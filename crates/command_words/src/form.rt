@@ -1,4 +1,4 @@
-//! The form that the words are: numbers in their ranges, and names counted.
+//! The form of the words: numbers in their ranges, and names counted.
 
 ghost use Rattle.std.specs.Prelude.{◌≡◌, IfOk, map, option_map, unwrap_or, Some, None, []};
 ghost use Rattle.std.specs.List.{All};
@@ -139,7 +139,7 @@ fn is_text(word: &str)
     ensures { IsUtf8 word.now }
 {}
 
-/// That each word is text, which goes without saying in Rust. Nothing is done.
+/// Each word is valid text, as Rust guarantees. The function does nothing.
 fn are_texts(words: &[&str])
     ensures { All (λ word. IsUtf8 word.now) words.now }
 {
@@ -148,7 +148,7 @@ fn are_texts(words: &[&str])
     }
 }
 
-/// The form that the words are, or `None` where they are none.
+/// The form of the words, or `None` if they have none.
 pub fn read_words<'a>(alloc: Global, words: &'a [&'a str]) -> Result<Option<Words<'a>>, OutOfMemory>
     ensures { IfOk result (λ form. option_map form_in form ≡ words_of
         (map (λ word. word.now) words.entry.now)) }

@@ -23,7 +23,7 @@ fn workload(number: u32, workers: u32) -> Option<Words<'static>> {
     })
 }
 
-/// Whether the words, divided by single spaces, are this form.
+/// Whether the words, separated by single spaces, have this form.
 fn are(alloc: Global, line: &str, form: Option<Words<'_>>) -> Result<bool, Fail> {
     let words: Vec<&str> = line.split(' ').collect(alloc)?;
     let read = read_words(alloc, words.as_slice())?;

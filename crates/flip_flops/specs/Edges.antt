@@ -3,13 +3,13 @@ use Rattle.std.specs.Prelude.{◌≡◌, ℕ, ◌+◌, ◌-◌, ◌*◌, ◌/◌
 use Rattle.valid_intervals.specs.Spans.{Span, from_to}
 use Rattle.flip_flops.specs.declared.Clock.{Clock}
 
--- the numbers of a clock are those of a timing file
+-- the numbers of a clock are within the limits of a timing file
 pub record IsClock (clock : Clock) : Type 0 where
   pub first : clock.first ≤ 1000000
   pub some : 1 ≤ clock.period
   pub period : clock.period ≤ 1000000
 
--- the greatest edge e with e + delay at or before t
+-- the greatest edge e with e + delay at most t
 unfoldable pub last_edge : Clock → ℕ → ℕ → Option ℕ
 last_edge clock delay t =
     let shown = clock.first + delay in
@@ -26,7 +26,7 @@ flop_span limit delay None shown = from_to 0 limit
 flop_span limit delay (Some clock) None = from_to 0 (min (clock.first + delay) limit)
 flop_span limit delay (Some clock) (Some e) = from_to (e + delay) (min (e + delay + clock.period) limit)
 
--- the edge that is shown is an edge, and no later one is shown
+-- the shown edge is an edge, and no later one is shown
 pub record IsLastEdge (clock : Clock) (delay t e : ℕ) : Type 0 where
   pub edge : (k : ℕ) × (e ≡ clock.first + k * clock.period)
   pub shown : e + delay ≤ t
@@ -36,6 +36,6 @@ pub record IsLastEdge (clock : Clock) (delay t e : ℕ) : Type 0 where
 abbrev pub ShowsNone : Clock → ℕ → ℕ → Type 0
 ShowsNone clock delay t = (k : ℕ) → t < clock.first + k * clock.period + delay
 
--- last_edge is the last edge that is shown, or none where none is
+-- last_edge is the last shown edge, or none if none is shown
 abbrev pub EdgesAreLast : Type 0
 EdgesAreLast = (clock : Clock) (delay t : ℕ) → 1 ≤ clock.period → MatchOption (last_edge clock delay t) (ShowsNone clock delay t) (IsLastEdge clock delay t)

@@ -1,10 +1,10 @@
-//! The edges of clocks, and for how long a flip-flop shows what it took at one.
+//! The edges of clocks, and the times at which a flip-flop shows what it read at an edge.
 //!
-//! A [`Clock`] has an edge at `first`, and one a period after each edge. A flip-flop with a delay reads its pin at an edge
-//! `e` itself and shows what it read from `e + delay` on, until the next edge is shown; before its first shown edge it has
-//! its initial value. [`last_edge`] gives the edge that is shown at a time, [`flop_span`] the times at which it is.
+//! A [`Clock`] has an edge at `first`, and one a period after each edge. A flip-flop with a delay reads its pin at the edge
+//! `e` and shows the value from `e + delay` on, until the next edge is shown. Before its first shown edge it has its
+//! initial value. [`last_edge`] gives the edge that is shown at a time, and [`flop_span`] the times at which it is shown.
 //!
-//! Every call takes constant time and no memory.
+//! Every call takes constant time and does not allocate.
 //!
 //! ```
 //! let clock = Clock { first: 10, period: 10 };
@@ -20,8 +20,8 @@ ghost use Rattle.flip_flops.specs.Edges.{IsClock, IsLastEdge, ShowsNone, EdgesAr
 
 use valid_intervals::Span;
 
-/// A clock: its edges are `first`, `first + period`, `first + 2 * period` and so on. `first` is at most 1,000,000, `period`
-/// from 1 to 1,000,000.
+/// A clock with edges at `first`, `first + period`, `first + 2 * period` and so on. `first` is at most 1,000,000, and
+/// `period` is from 1 to 1,000,000.
 #[derive(Clone, Copy, Debug, PartialEq, Eq)]
 pub struct Clock {
     pub first: u32,
@@ -45,7 +45,8 @@ pub fn last_edge(clock: &Clock, delay: u32, t: u32) -> Option<u32>
     }
 }
 
-/// The times about `t` at which a flip-flop with this delay shows the same edge, or none; they lie below `cut`.
+/// The times around `t`, below `cut`, at which a flip-flop with this delay shows the same edge as at `t`, or none as at
+/// `t`.
 pub fn flop_span(clock: &Clock, delay: u32, t: u32, cut: u32) -> Span
     requires clock { IsClock clock.now }
     requires delay { (1 ≤ delay) × (delay ≤ 1000000) }
@@ -64,8 +65,8 @@ pub fn flop_span(clock: &Clock, delay: u32, t: u32, cut: u32) -> Span
     }
 }
 
-/// A law, for proofs; the function does nothing. At every time, whatever the numbers of the clock, the edge that is shown
-/// is the greatest one whose delay has passed.
+/// A law, for proofs; the function does nothing. For every clock and every time, the shown edge is the greatest one whose
+/// delay has passed.
 pub fn edges_are_last()
     ensures { EdgesAreLast }
 {}
@@ -74,7 +75,7 @@ pub fn edges_are_last()
 mod tests {
     use super::*;
 
-    // a flip-flop with delay 1 at a clock with its edges at 10, 20 and 30, watched up to 30
+    // a flip-flop with delay 1, a clock with edges at 10, 20 and 30, and a horizon of 30
     #[test]
     fn shown_edges(rt: HostRuntime) {
         let clock = Clock {

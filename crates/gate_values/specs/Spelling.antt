@@ -15,13 +15,13 @@ byte_of_value One = 49
 byte_of_value X = 120
 byte_of_value Z = 122
 
--- a word is a value if it is one byte that spells one
+-- a word is a value if it is one byte that spells a value
 abbrev pub value_of_word : List ℕ → Option Value
 value_of_word [] = None
 value_of_word (b ∷ []) = value_of_byte b
 value_of_word (b ∷ c ∷ more) = None
 
--- two words that differ in case at most
+-- two words are equal up to case
 abbrev pub spells : List ℕ → List ℕ → Bool
 spells word text = str_eq_ignore_ascii_case word text
 

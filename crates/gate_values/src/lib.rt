@@ -1,17 +1,15 @@
 //! The values that signals take, the kinds of gates, and the truth table.
 //!
-//! A [`Value`] is 0, 1, x (unknown) or z (not driven). The tables are those of the gate primitives of IEEE 1364: a pin
-//! that is z counts as x, and no gate gives z. [`eval_all`] is the table over the whole list of a gate's pins, as `specs/Gates`
-//! has it.
+//! A [`Value`] is 0, 1, x (unknown) or z (not driven). The tables are those of the gate primitives of IEEE 1364: a pin with the value z
+//! counts as x, and no gate gives z. [`eval_all`] applies the table to the whole list of a gate's pins (`specs/Gates`).
 //!
-//! Often the first pins settle the value: a 0 at an AND decides it, whatever the others are. Two types look at the pins
-//! one at a time for that reason. A [`Look`] keeps the values that it has seen, up to 64 of them. An [`Evaluation`] keeps
-//! only what they come to, two bytes that are copied, for callers that have very many of them at once.
-//! [`Kind::decides`] says whether a value ends the look. The value of the one pin of a NOT, BUFF or DFF never decides:
-//! such a look ends because all pins are seen.
+//! The first pins often decide the value: if one pin of an AND is 0, the gate is 0. Two types therefore look at one pin at a time. A
+//! [`Look`] keeps up to 64 values that it has seen. An [`Evaluation`] keeps only their result, in two bytes that are copied, for callers
+//! that hold very many. [`Kind::decides`] says whether a value ends the look. The one pin of a NOT, BUFF or DFF never decides: such a look
+//! ends because all pins are seen.
 //!
-//! Nothing here takes memory or fails. Each call takes constant time, but [`eval_all`] and [`Look::end`], which take time
-//! in proportion to the number of pins.
+//! Nothing here allocates or fails. Each call takes constant time, except [`eval_all`] and [`Look::end`], whose time is linear in the
+//! number of pins.
 //!
 //! ```
 //! let mut look = Look::new(Kind::And);
@@ -41,7 +39,7 @@ pub enum Value {
     Z,
 }
 
-/// What a gate does. A `Dff` is a flip-flop, which passes its pin on at an edge of its clock.
+/// The kind of a gate. A `Dff` is a flip-flop: it copies its pin at each edge of its clock.
 #[derive(Clone, Copy, Debug, PartialEq, Eq)]
 pub enum Kind {
     And,
@@ -56,7 +54,7 @@ pub enum Kind {
 }
 
 impl Value {
-    /// The value that a byte spells; the letters x and z in either case.
+    /// The value that a byte spells. The letters x and z may be in either case.
     pub fn from_byte(b: u8) -> Option<Value>
         ensures { result ≡ value_of_byte b }
     {
@@ -79,7 +77,7 @@ impl Value {
         }
     }
 
-    /// The byte that spells it, letters in lower case.
+    /// The byte that spells the value, with letters in lower case.
     pub fn byte(self) -> u8
         ensures { result ≡ byte_of_value self }
     {
@@ -91,7 +89,7 @@ impl Value {
         }
     }
 
-    /// The value as a pin sees it.
+    /// The value as a pin sees it: z is x.
     fn read(self) -> Value
         ensures { result ≡ read self }
     {
@@ -160,7 +158,7 @@ impl Value {
     }
 }
 
-/// Whether two words differ in case at most.
+/// Whether two words are equal up to case.
 fn is_spelling(word: &[u8], text: &[u8]) -> bool
     ensures { result ≡ spelling.spells word.now text.now }
 {
@@ -168,7 +166,7 @@ fn is_spelling(word: &[u8], text: &[u8]) -> bool
 }
 
 impl Kind {
-    /// The kind that a word names, in either case. `BUF` is another spelling of `BUFF`.
+    /// The kind that a word names, in either case. `BUF` is a second spelling of `BUFF`.
     pub fn from_word(word: &[u8]) -> Option<Kind>
         ensures { result ≡ kind_of_word word.now }
     {
@@ -209,8 +207,7 @@ impl Kind {
         matches!(self, Kind::Not | Kind::Buff | Kind::Dff)
     }
 
-    /// Whether a pin with this value settles the value of the gate, whatever its other pins are. No value does so at a
-    /// unary gate.
+    /// Whether a pin with this value decides the gate, whatever its other pins are. No value decides a unary gate.
     pub fn decides(self, value: Value) -> bool
         ensures { result ≡ gates.decides self value }
     {
@@ -283,7 +280,7 @@ fn parity(pins: &[Value]) -> Value
     }
 }
 
-/// The value of a gate, from all its pins.
+/// The value of a gate from all its pins.
 pub fn eval_all(kind: Kind, pins: &[Value]) -> Value
     requires some { 1 ≤ length pins.now }
     requires one { IsTrue (is_unary kind) → length pins.now ≡ 1 }
@@ -301,8 +298,7 @@ pub fn eval_all(kind: Kind, pins: &[Value]) -> Value
     }
 }
 
-/// A look at the pins of a gate, one after another, up to the first that decides. It is seen as its kind and the values
-/// that it has seen.
+/// A look at the pins of a gate, one after another, up to the first that decides. The model is the kind and the values seen.
 #[derive(Drop)]
 pub struct Look {
     kind: Kind,
@@ -330,7 +326,7 @@ impl Look {
         }
     }
 
-    /// Sees one pin more, and says whether it decides.
+    /// Sees one more pin, and returns whether it decides.
     pub fn see(&mut self, value: Value) -> bool
         requires few { length self.old.values < 64 }
         requires undecided { Undecided self.old }
@@ -348,7 +344,7 @@ impl Look {
         requires some { 1 ≤ length self.now.values }
         requires one { IsTrue (is_unary self.now.kind) → length self.now.values ≡ 1 }
         ensures value { result ≡ gate_value self.now.kind self.now.values }
-        // once a value has decided, so it is whatever the pins after it are
+        // once a value has decided, the pins after it change nothing
         ensures decided { Decided self.now → (rest : List Value)
             → gate_value self.now.kind (self.now.values ++ rest) ≡ result }
     {
@@ -356,8 +352,7 @@ impl Look {
     }
 }
 
-/// What the pins of a gate come to that were seen so far: the value that the gate would have if they were all. Of the
-/// values themselves nothing is kept.
+/// The result of the pins of a gate seen so far: the value of the gate if it had no further pins. The values themselves are not kept.
 #[derive(Clone, Copy, Debug, PartialEq, Eq)]
 pub struct Evaluation {
     pub kind: Kind,
@@ -378,7 +373,7 @@ impl Evaluation {
         Evaluation { kind, value }
     }
 
-    /// Sees one pin more.
+    /// Sees one more pin.
     pub fn see(self, value: Value) -> Evaluation
         ensures kind { result.kind ≡ self.kind }
         ensures seen { (seen : List Value) → (IsTrue (is_unary self.kind) → seen ≡ [])
@@ -414,7 +409,7 @@ mod tests {
         Value::from_byte(letter).unwrap_or(Value::Z)
     }
 
-    // the tables of IEEE 1364 for two pins: a row for each value 0, 1, x, z of the first
+    // the tables of IEEE 1364 for two pins: a row for each value 0, 1, x, z of the first pin
     #[test]
     fn tables(rt: HostRuntime) {
         for (kind, table) in [

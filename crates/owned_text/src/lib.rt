@@ -1,14 +1,13 @@
-//! Owned text, and what is answered where there is no memory for it.
+//! Owned text, and the error for a failed allocation.
 //!
-//! Nearly every crate that takes memory answers [`OutOfMemory`] where an allocation is refused, and many keep names. So both stand here,
-//! below all else.
+//! Nearly every crate that allocates returns [`OutOfMemory`] when an allocation fails, and many keep names. This crate therefore stands
+//! below all others.
 //!
-//! - [`Text`] is owned bytes, as the name of a signal or of a file. Contracts see it as the list of its bytes. Two texts are equal, or in
-//!   order, as their bytes are.
-//! - [`OutOfMemory`] says that an allocation was refused. The errors of std's allocator become it by `?`.
-//! - `specs/Made` is a file by its name and its bytes, as sessions and the files of `backsim_io` speak of one.
+//! - [`Text`] is owned bytes, for the name of a signal or of a file. Its model is the list of its bytes. Texts compare as their bytes do.
+//! - [`OutOfMemory`] is the error for a failed allocation. The operator `?` converts the errors of std's allocator to it.
+//! - `specs/Made` is a file: its name and its bytes. Sessions and the files of `backsim_io` use it.
 //!
-//! A copy of a text takes time and memory in proportion to its bytes; nothing else here takes memory.
+//! A copy of a text takes time and memory linear in its bytes. No other call allocates.
 //!
 //! ```text
 //! let name = Text::from_bytes(rt.alloc(), b"G17")?;

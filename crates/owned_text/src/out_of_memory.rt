@@ -1,4 +1,4 @@
-//! What is answered where there is no memory.
+//! The error for a failed allocation.
 
 ghost use Rattle.std.specs.Prelude.{◌≡◌};
 

@@ -1,4 +1,4 @@
--- What whoever serves the units of a script may count on.
+-- What the code that serves the units of a script may assume.
 use Rattle.std.specs.Prelude.{◌≡◌, ◌≢◌, ⊤, ℕ, ◌≤◌, IsTrue, List, All, AllPairs}
 use Rattle.text_rules.specs.Text.{is_name}
 use Rattle.query_lines.specs.declared.line.What.{What}
@@ -12,11 +12,11 @@ use Rattle.query_lines.specs.Reading.{script_units, completed_units}
 use Rattle.query_lines.specs.Readers.{Reader, HasRead}
 use Rattle.query_lines.specs.Laws.{IsWithinLimits}
 
--- no two items have one line
+-- the items are on different lines
 abbrev pub HaveOwnLines : List Item → Type 0
 HaveOwnLines items = AllPairs (λ a b. a.line ≢ b.line) items
 
--- the items of a unit, if it has any, have lines of their own
+-- the items of a unit, if it has any, are on different lines
 abbrev pub HasOwnLines : ScriptUnit → Type 0
 HasOwnLines (Batch items) = HaveOwnLines items
 HasOwnLines (Trim cells) = ⊤
@@ -24,23 +24,23 @@ HasOwnLines Stats = ⊤
 HasOwnLines (Question question) = ⊤
 HasOwnLines (Vcd file) = ⊤
 
--- No two items of a unit have one line.
+-- The items of a unit are on different lines.
 abbrev pub UnitsHaveOwnLines : Type 0
 UnitsHaveOwnLines = (horizon : ℕ) (script : List ℕ) → All HasOwnLines (script_units horizon script)
 
--- what an item asks for is called by a name
+-- the name in an item follows the rules
 abbrev pub AsksByName : What → Type 0
 AsksByName (whats.Wave name from to budget) = IsTrue (is_name name)
 AsksByName (whats.At name time budget) = IsTrue (is_name name)
 AsksByName whats.Bad = ⊤
 
--- whatever a question names has a name by the rules
+-- every name in a question follows the rules
 abbrev pub NamesByRules : Asks → Type 0
 NamesByRules (First first) = IsTrue (is_name first.name)
 NamesByRules (Why why) = IsTrue (is_name why.name)
 NamesByRules (Stuck stuck) = IsTrue (is_name stuck.site) × IsTrue (is_name stuck.name)
 
--- Whatever a unit names has a name by the rules.
+-- Every name in a unit follows the rules.
 abbrev pub HasNames : ScriptUnit → Type 0
 HasNames (Batch items) = All (λ item. AsksByName item.what) items
 HasNames (Trim cells) = ⊤
@@ -48,7 +48,7 @@ HasNames Stats = ⊤
 HasNames (Question question) = NamesByRules question.asks
 HasNames (Vcd file) = IsTrue (is_name file)
 
--- a unit within its limits, whose items have lines of their own, and whose names are names
+-- a unit within its limits, whose items are on different lines, and whose names follow the rules
 pub record IsFit (horizon : ℕ) (unit : ScriptUnit) : Type 0 where
   pub within : IsWithinLimits horizon unit
   pub own : HasOwnLines unit
@@ -59,7 +59,7 @@ abbrev pub ReadUnitsAreFit : Type 0
 ReadUnitsAreFit = (horizon : ℕ) (script : List ℕ) (given : List ScriptUnit) (reader : Reader)
     → HasRead horizon script given reader → horizon ≤ 1000000 → All (IsFit horizon) given
 
--- So are all units of a script.
+-- All units of a script are fit to be served.
 abbrev pub ScriptUnitsAreFit : Type 0
 ScriptUnitsAreFit = (horizon : ℕ) (script : List ℕ) → horizon ≤ 1000000 → All (IsFit horizon) (script_units horizon script)
 
@@ -68,7 +68,7 @@ abbrev pub ReadUnitsAreDetermined : Type 0
 ReadUnitsAreDetermined = (horizon : ℕ) (script : List ℕ) (given other : List ScriptUnit) (reader another : Reader)
     → HasRead horizon script given reader → HasRead horizon script other another → horizon ≤ 1000000 → given ≡ other
 
--- These are the units that the lines which have ended in the bytes complete.
+-- These are the units that the lines ended in the bytes complete.
 abbrev pub ReadUnitsAreCompleted : Type 0
 ReadUnitsAreCompleted = (horizon : ℕ) (script : List ℕ) (given : List ScriptUnit) (reader : Reader)
     → HasRead horizon script given reader → horizon ≤ 1000000 → given ≡ completed_units horizon script

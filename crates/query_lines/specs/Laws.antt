@@ -1,4 +1,4 @@
--- What holds of the units of every script.
+-- Laws of the units of every script.
 use Rattle.std.specs.Prelude.{◌≡◌, ⊤, ℕ, ◌<◌, ◌≤◌, List, [], ◌∷◌, length, map, flat_map, All}
 use Rattle.query_lines.specs.declared.line.Line.{Line}
 use Rattle.query_lines.specs.declared.line.Line.TheVariants.{Blank, Ask, Go, Bad}
@@ -13,7 +13,7 @@ use Rattle.query_lines.specs.declared.unit.Unit.TheVariants.{Batch, Trim, Stats,
 use Rattle.query_lines.specs.Units.{budgets, lengths, units_of}
 use Rattle.query_lines.specs.Reading.{script_units}
 
--- what a script asks for, one thing after another
+-- the requests of a script, one after another
 pub data Request : Type 0 where
   Answer : Item → Request
   Leave : ℕ → Request
@@ -40,7 +40,7 @@ requests_on number (lines.Why why) = Resolve (record { line = number; asks = Why
 requests_on number (lines.Vcd file) = Dump file ∷ []
 requests_on number (lines.Stuck stuck) = Resolve (record { line = number; asks = Stuck stuck }) ∷ []
 
--- The units are the lines' requests in their order: none is lost, none is told twice.
+-- The units are the lines' requests in order: each comes exactly once.
 abbrev pub UnitsKeepRequests : Type 0
 UnitsKeepRequests = (horizon : ℕ) (numbered : List (ℕ × Line))
     → flat_map requests_in (units_of horizon numbered) ≡ flat_map (λ line. requests_on line.0 line.1) numbered

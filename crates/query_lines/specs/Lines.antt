@@ -151,6 +151,6 @@ abbrev pub by_words : List (List ℕ) → Line
 by_words [] = Blank
 by_words (keyword ∷ words) = command_of keyword words
 
--- a line by its bytes: one of more than 4,096 bytes, its comment counted, is bad
+-- a line by its bytes; one of more than 4,096 bytes, including its comment, is bad
 unfoldable pub line_of : List ℕ → Line
 line_of bytes = if nat_le (length bytes) 4096 then by_words (words (content bytes)) else Bad

@@ -7,14 +7,14 @@ use Rattle.query_lines.specs.Cutting.{Cutter, IsUnderWay}
 use Rattle.query_lines.specs.Units.{Pending, units_from}
 use Rattle.query_lines.specs.Reading.{numbered_lines, script_units}
 
--- what a reader of a script shows: the line under way, the pending items, and how many lines have ended
+-- the state of a reader: the current line, the pending items, and the number of ended lines
 pub record Reader : Type 0 where
   pub cutter : Cutter
   pub pending : Pending
   pub lines : ℕ
 
--- The reader has taken these bytes and given these units: whatever bytes follow, the units of the whole are
--- those given, and behind them what the line under way and all that follows make of the pending items.
+-- The reader has taken these bytes and given these units. Whatever bytes follow, the units of the whole are
+-- those given, and then those that the current line and all that follows make with the pending items.
 pub record HasRead (horizon : ℕ) (script : List ℕ) (given : List ScriptUnit) (reader : Reader) : Type 0 where
   pub line : List ℕ
   pub under_way : list_all (λ byte. not (is_feed byte)) line ≡ true

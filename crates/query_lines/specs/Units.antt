@@ -1,4 +1,4 @@
--- The units of a script: batches of items, trims, requests for the counts, questions that are batches of their own, and dumps.
+-- The units of a script: batches of items, trims, requests for the counts, questions, and dumps.
 use Rattle.std.specs.Prelude.{ℕ, ◌+◌, ◌-◌, Bool, false, ◌&&◌, ◌||◌, nat_lt, nat_le, List, [], ◌∷◌, ◌++◌, length, sum_by, if◌then◌else◌}
 use Rattle.query_lines.specs.declared.line.Line.{Line}
 use Rattle.query_lines.specs.declared.line.Line.TheVariants.{Blank, Ask, Go}
@@ -11,17 +11,17 @@ use Rattle.query_lines.specs.declared.unit.Item.{Item}
 use Rattle.query_lines.specs.declared.unit.Unit.{Unit as ScriptUnit}
 use Rattle.query_lines.specs.declared.unit.Unit.TheVariants.{Batch, Trim, Stats, Question, Vcd}
 
--- what an item counts toward the budgets of its batch
+-- what an item adds to the budgets of its batch
 abbrev pub budget_weight : What → ℕ
 budget_weight (Wave name from to budget) = budget
 budget_weight (At name time budget) = budget
 budget_weight Bad = 0
 
--- the length of a window that isn't empty and ends by the horizon; of any other 0
+-- the length of a window that is not empty and ends no later than the horizon; 0 for any other
 abbrev pub window_length : ℕ → ℕ → ℕ → ℕ
 window_length horizon from to = if nat_lt from to && nat_le to (horizon + 1) then to - from else 0
 
--- what an item counts toward the window lengths of its batch
+-- what an item adds to the window lengths of its batch
 abbrev pub length_weight : ℕ → What → ℕ
 length_weight horizon (Wave name from to budget) = window_length horizon from to
 length_weight horizon (At name time budget) = window_length horizon time (time + 1)
@@ -33,7 +33,7 @@ budgets items = sum_by (λ item. budget_weight item.what) items
 abbrev pub lengths : ℕ → List Item → ℕ
 lengths horizon items = sum_by (λ item. length_weight horizon item.what) items
 
--- one more item would take a batch that isn't empty over one of its limits
+-- one more item would take a nonempty batch over one of its limits
 abbrev pub is_over : ℕ → List Item → Item → Bool
 is_over horizon [] item = false
 is_over horizon (first ∷ items) item =
@@ -45,26 +45,26 @@ abbrev pub closed : List Item → List ScriptUnit
 closed [] = []
 closed (item ∷ items) = Batch (item ∷ items) ∷ []
 
--- what a line does: the units that it completes, and the items that are pending after it
+-- the result of a line: the units that it completes, and the pending items after it
 pub record LineStep : Type 0 where
   pub units : List ScriptUnit
   pub pending : List Item
 
--- these items are pending, unless they are the 64 of a whole batch
+-- these items are pending, unless they are the 64 of a full batch
 abbrev pub pending_up_to_64 : List Item → LineStep
 pending_up_to_64 items =
     if nat_lt (length items) 64
     then record { units = []; pending = items }
     else record { units = closed items; pending = [] }
 
--- one more item: where it would take the pending batch over a limit, that batch becomes a unit first
+-- one more item; if it would take the pending batch over a limit, that batch first becomes a unit
 abbrev pub with_item : ℕ → List Item → Item → LineStep
 with_item horizon pending item =
     if is_over horizon pending item
     then record { units = closed pending; pending = item ∷ [] }
     else pending_up_to_64 (pending ++ item ∷ [])
 
--- the question of this line is a unit of its own, behind the pending items
+-- the question of this line is a unit, after the pending items
 abbrev pub with_question : List Item → ℕ → Asks → LineStep
 with_question pending number asks =
     record { units = closed pending ++ Question (record { line = number; asks = asks }) ∷ []; pending = [] }
@@ -84,7 +84,7 @@ line_step horizon pending number (lines.Vcd file) =
     record { units = closed pending ++ Vcd file ∷ []; pending = [] }
 line_step horizon pending number (lines.Stuck stuck) = with_question pending number (Stuck stuck)
 
--- what a batcher shows: the horizon, and the pending items
+-- the state of a batcher: the horizon, and the pending items
 pub record Pending : Type 0 where
   pub horizon : ℕ
   pub items : List Item
@@ -93,18 +93,18 @@ pub record Pending : Type 0 where
 abbrev pub given_by : Pending → ℕ → Line → List ScriptUnit
 given_by pending number line = (line_step pending.horizon pending.items number line).units
 
--- what is pending behind a line
+-- the pending items after a line
 abbrev pub left_by : Pending → ℕ → Line → Pending
 left_by pending number line = record pending { items = (line_step pending.horizon pending.items number line).pending }
 
--- the units of lines with their numbers, after these pending items; the script's end closes the last batch
+-- the units of numbered lines, after these pending items; the end of the script closes the last batch
 abbrev pub units_from : ℕ → List Item → List (ℕ × Line) → List ScriptUnit
 units_from horizon pending [] = closed pending
 units_from horizon pending (line ∷ lines) =
     let done = line_step horizon pending line.0 line.1 in
     done.units ++ units_from horizon done.pending lines
 
--- the units that lines with their numbers complete, after these pending items; the script goes on behind them
+-- the units that numbered lines complete, after these pending items; the script goes on after them
 abbrev pub completed_from : ℕ → List Item → List (ℕ × Line) → List ScriptUnit
 completed_from horizon pending [] = []
 completed_from horizon pending (line ∷ lines) =

@@ -52,11 +52,10 @@ fn length_weight(horizon: u32, what: &What) -> u64
 
 /// Gathers the items of a script into batches.
 ///
-/// A batch has at most 64 items, budgets that add up to at most 1,000,000 and
-/// window lengths that add up to at most 4,000,000, where only a window that
-/// isn't empty and ends by the horizon counts. It closes before an item that
-/// would take one of the sums over its limit, and behind its 64th item. A single
-/// item may pass a limit, but one that `read_line` gave never does.
+/// A batch has at most 64 items, budgets that add up to at most 1,000,000 and window lengths that add up to at most 4,000,000.
+/// Only a window that is not empty and ends no later than the horizon counts. A batch closes before an item that would take one
+/// of the sums over its limit, and after its 64th item. A single item may be over a limit, but one that `read_line` gave never
+/// is.
 #[derive(Drop)]
 pub struct Batcher {
     alloc: Global,
@@ -81,7 +80,7 @@ impl Model for Batcher {
 }
 
 impl Batcher {
-    /// A batcher with no pending item, for a simulation up to this horizon.
+    /// A batcher without pending items, for a simulation up to this horizon.
     pub fn new(alloc: Global, horizon: u32) -> Batcher
         ensures { result ≡ record { horizon = horizon; items = [] } }
     {
@@ -94,8 +93,7 @@ impl Batcher {
         }
     }
 
-    /// Takes the line of this number, and gives the units that it completes:
-    /// two at most.
+    /// Takes the line of this number, and gives the units that it completes, at most two.
     pub fn take(&mut self, number: u32, line: Line) -> Result<UnitList, OutOfMemory>
         ensures units { IfOk result (λ units. units ≡ given_by self.old number line) }
         ensures pending { OnOk result (self.new ≡ left_by self.old number line) }
@@ -118,7 +116,7 @@ impl Batcher {
         }
     }
 
-    /// Closes the pending batch; `None` exactly where no item is pending.
+    /// Closes the pending batch; `None` exactly when no item is pending.
     pub fn end(&mut self) -> Option<Unit>
         ensures unit { option_to_list result ≡ closed self.old.items }
         ensures pending { self.new ≡ record self.old { items = [] } }
@@ -133,7 +131,7 @@ impl Batcher {
         Some(Unit::Batch(ItemList::from_vec(items)))
     }
 
-    // Closes the pending batch, and gives this unit behind it.
+    // Closes the pending batch, and gives this unit after it.
     fn close(&mut self, last: Option<Unit>) -> Result<UnitList, OutOfMemory>
         ensures units { IfOk result (λ units. units ≡ closed self.old.items ++ option_to_list
             last) }
@@ -150,7 +148,7 @@ impl Batcher {
         Ok(UnitList::from_vec(units))
     }
 
-    // Closes the pending batch, and gives the question of this line behind it.
+    // Closes the pending batch, and gives the question of this line after it.
     fn ask(&mut self, line: u32, asks: Asks) -> Result<UnitList, OutOfMemory>
         ensures units { IfOk result (λ units. units ≡ closed self.old.items
             ++ QuestionUnit (record { line = line; asks = asks }) ∷ []) }
@@ -169,7 +167,7 @@ impl Batcher {
                 || self.lengths + length_weight(self.horizon, &item.what) > MOST_LENGTHS)
     }
 
-    // One more pending item.
+    // Adds a pending item.
     fn push(&mut self, item: Item) -> Result<(), OutOfMemory>
         requires room { length self.old.items < 63 }
         requires fits { units.is_over self.old.horizon self.old.items item ≡ false }

@@ -6,7 +6,7 @@ ghost use Rattle.query_lines.specs.Cutting.{Cutter, IsUnderWay, LineEnds};
 use crate::line::LONGEST_LINE;
 use std::marker::Model;
 
-/// What a byte, or the end of the stream, did.
+/// The result of a byte or of the end of the stream.
 #[derive(Clone, Copy, Debug, PartialEq, Eq)]
 pub enum Cut {
     /// No line ended.
@@ -17,8 +17,8 @@ pub enum Cut {
     Long,
 }
 
-/// Cuts a stream of bytes into its lines. Of a line that is longer than 4,096
-/// bytes it keeps only that it is; it takes no memory.
+/// Cuts a stream of bytes into its lines. Of a line longer than 4,096 bytes only this fact is known. The cutter does not
+/// allocate.
 #[derive(Drop)]
 pub struct LineCutter {
     buffer: [u8; LONGEST_LINE],
@@ -118,8 +118,7 @@ impl LineCutter {
         self.len == 0
     }
 
-    /// The line under way, which a line feed would end here; `None` for one that
-    /// is too long.
+    /// The current line, as a line feed would end it now; `None` if it is too long.
     pub fn line(&self) -> Option<&[u8]>
         ensures long { IsNone result ↔ (self.now.is_long ≡ true) }
         ensures whole { IfSome result (λ line. line.now ≡ self.now.kept) }
@@ -130,7 +129,7 @@ impl LineCutter {
         Some(self.buffer.as_slice().split_at(self.len).0)
     }
 
-    /// The line just ended; empty for a line that is too long.
+    /// The line that just ended. Empty if it was too long.
     pub fn text(&self) -> &[u8]
         ensures { result.now ≡ self.now.ended }
     {

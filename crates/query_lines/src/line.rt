@@ -10,7 +10,7 @@ use owned_text::{OutOfMemory, Text};
 use std::alloc::Global;
 use text_rules::{Amount, content, is_name, next_word, read_amount};
 
-/// The greatest length of a line, its line feed not counted.
+/// The greatest length of a line, without its line feed.
 pub const LONGEST_LINE: usize = 4096;
 
 const LAST_INSTANT: u32 = 4_294_967_294;
@@ -21,11 +21,11 @@ const DEFAULT_BUDGET: u32 = 50_000;
 
 const MOST_CELLS: u32 = 65_536;
 
-/// What an item of a batch asks. Times are at most 4,294,967,294 and budgets at
-/// most 500,000 where `read_line` gave them.
+/// What an item of a batch asks. If `read_line` gave it, times are at most 4,294,967,294 and
+/// budgets at most 500,000.
 #[derive(Drop)]
 pub enum What {
-    /// The waveform of a signal from one time on and below another.
+    /// The waveform of a signal in a half-open window.
     Wave {
         name: Text,
         from: u32,
@@ -38,12 +38,11 @@ pub enum What {
         time: u32,
         budget: u32,
     },
-    /// Nothing: the line is of none of the forms.
+    /// Nothing: the line has none of the forms.
     Bad,
 }
 
-/// What `first` asks: when a signal first has a value, from one time on and
-/// below another.
+/// What `first` asks: when a signal first has a value in a half-open window.
 #[derive(Drop)]
 pub struct First {
     pub name: Text,
@@ -53,7 +52,7 @@ pub struct First {
     pub budget: u32,
 }
 
-/// What `why` asks: why a signal has the value that it has at one time.
+/// What `why` asks: why a signal has its value at one time.
 #[derive(Drop)]
 pub struct Why {
     pub name: Text,
@@ -61,8 +60,8 @@ pub struct Why {
     pub budget: u32,
 }
 
-/// What `stuck` asks: the waveform of a signal from one time on and below
-/// another, where the signal `site` has a value, 0 or 1, at all times.
+/// What `stuck` asks: the waveform of a signal in a half-open window, if the signal `site` has
+/// a value, 0 or 1, at all times.
 #[derive(Drop)]
 pub struct Stuck {
     pub site: Text,
@@ -76,7 +75,7 @@ pub struct Stuck {
 /// What a line of a script says.
 #[derive(Drop)]
 pub enum Line {
-    /// Nothing but blanks and a comment.
+    /// Only blanks and a comment.
     Blank,
     /// `wave NAME FROM TO [BUDGET]` or `at NAME T [BUDGET]`.
     Ask(What),
@@ -84,16 +83,16 @@ pub enum Line {
     Go,
     /// `trim N`: leave at most N cells in every shard.
     Trim(u32),
-    /// `stats`: tell the session's counts.
+    /// `stats`: report the session's counts.
     Stats,
-    /// `first NAME VALUE FROM TO [BUDGET]`: tell when a signal first has a value.
+    /// `first NAME VALUE FROM TO [BUDGET]`: report when a signal first has a value.
     First(First),
-    /// `why NAME T [BUDGET]`: tell why a signal has its value at a time.
+    /// `why NAME T [BUDGET]`: report why a signal has its value at a time.
     Why(Why),
     /// `vcd FILE`: write the waves of the last batch to this file.
     Vcd(Text),
-    /// `stuck SITE V NAME FROM TO [BUDGET]`: tell the waveform of a signal where
-    /// another is stuck at 0 or 1.
+    /// `stuck SITE V NAME FROM TO [BUDGET]`: report the waveform of a signal if another is
+    /// stuck at 0 or 1.
     Stuck(Stuck),
     /// None of these, a number above its limit, or more than 4,096 bytes.
     Bad,
@@ -402,8 +401,8 @@ fn alone(line: Line, rest: &[u8]) -> Line
     }
 }
 
-/// A command by its keyword. This is the place of further commands: until one
-/// stands here, a line with its keyword is bad.
+/// A command by its keyword. Further commands are added here. Until then a line with their
+/// keyword is bad.
 fn command_of(alloc: Global, keyword: &[u8], rest: &[u8]) -> Result<Line, OutOfMemory>
     ensures { IfOk result (λ line. line ≡ lines.command_of keyword.now (words rest.now)) }
 {
@@ -439,8 +438,8 @@ fn by_words(alloc: Global, bytes: &[u8]) -> Result<Line, OutOfMemory>
     }
 }
 
-/// Reads one line, without its line feed. A line of none of the forms, with a
-/// number above its limit, or of more than 4,096 bytes is bad, and no error.
+/// Reads one line, without its line feed. A line that has none of the forms, a number above its
+/// limit, or more than 4,096 bytes is bad, and no error.
 #[tactic(auto, unfolding(crate::specs::Lines::line_of))]
 pub fn read_line(alloc: Global, text: &[u8]) -> Result<Line, OutOfMemory>
     ensures { IfOk result (λ line. line ≡ line_of text.now) }

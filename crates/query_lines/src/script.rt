@@ -49,8 +49,8 @@ impl ScriptReader {
         }
     }
 
-    /// Takes the next byte, and gives the units that it completes. Where memory
-    /// runs out, the byte is not taken, and the reader is as it was.
+    /// Takes the next byte, and gives the units that it completes. If memory runs out, the byte is not
+    /// taken, and the reader is as it was.
     pub fn take(&mut self, byte: u8) -> Result<UnitList, OutOfMemory>
         requires { self.old.lines < 4294967295 }
         ensures read { (horizon : ℕ) (script : List ℕ) (given : List ScriptUnit)
@@ -66,7 +66,7 @@ impl ScriptReader {
             self.cutter.take(byte);
             return Ok(UnitList::from_vec(Vec::new(self.alloc)));
         }
-        // The line is read before its end is told, so that it is not lost.
+        // The line is read before its end is given to the cutter, so a failure does not lose it.
         let units = self.read_under_way()?;
         self.cutter.take(byte);
         Ok(units)
@@ -101,7 +101,7 @@ impl ScriptReader {
         self.read_under_way()
     }
 
-    // Puts the pending batch behind these units.
+    // Appends the pending batch to these units.
     fn close(&mut self, units: UnitList) -> Result<UnitList, OutOfMemory>
         ensures { IfOk result (λ all. all ≡ units ++ closed self.old.pending.items) }
     {
@@ -112,7 +112,7 @@ impl ScriptReader {
         Ok(UnitList::from_vec(units))
     }
 
-    // Reads the line under way as one that ends here. The cutter still has it.
+    // Reads the current line as one that ends here. The cutter keeps it.
     fn read_under_way(&mut self) -> Result<UnitList, OutOfMemory>
         requires { self.old.lines < 4294967295 }
         ensures read { (line : List ℕ) → IsUnderWay line self.old.cutter
@@ -126,7 +126,7 @@ impl ScriptReader {
     }
 }
 
-// What the line under way says.
+// What the current line says.
 fn line_under_way(alloc: Global, cutter: &LineCutter) -> Result<Line, OutOfMemory>
     ensures { (bytes : List ℕ) → IsUnderWay bytes cutter.now
         → IfOk result (λ line. line ≡ line_of bytes) }
@@ -137,7 +137,7 @@ fn line_under_way(alloc: Global, cutter: &LineCutter) -> Result<Line, OutOfMemor
     }
 }
 
-/// The units of a script that is held as a whole.
+/// The units of a whole script in memory.
 pub fn read_script(alloc: Global, horizon: u32, script: &[u8]) -> Result<UnitList, OutOfMemory>
     requires { length script.now < 4294967295 }
     ensures { IfOk result (λ units. units ≡ script_units horizon script.now) }

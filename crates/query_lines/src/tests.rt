@@ -187,7 +187,7 @@ fn sixty_four_items_are_a_batch(rt: HostRuntime) -> Result<(), Fail> {
     Ok(())
 }
 
-// A line of `at y 5` that blanks fill up to this length.
+// A line of `at y 5`, filled up with blanks to this length.
 fn filled_line(rt: &HostRuntime, len: usize, behind: &[u8]) -> Result<Vec<u8>, Fail> {
     let mut line = Vec::from_slice(rt.alloc(), b"at y 5 ")?;
     line.resize(len, b' ')?;

@@ -52,18 +52,18 @@ impl ItemList {
     }
 }
 
-/// What a question asks that is a batch of its own.
+/// What a question asks.
 #[derive(Drop)]
 pub enum Asks {
     /// When a signal first has a value.
     First(First),
-    /// Why a signal has the value that it has at a time.
+    /// Why a signal has its value at a time.
     Why(Why),
-    /// The waveform of a signal where another is stuck.
+    /// The waveform of a signal if another is stuck.
     Stuck(Stuck),
 }
 
-/// Such a question, and the number of its line, counted from 1.
+/// A question, and the number of its line, counted from 1.
 #[derive(Drop)]
 pub struct Question {
     pub line: u32,
@@ -75,11 +75,11 @@ pub struct Question {
 pub enum Unit {
     /// Items that are answered together.
     Batch(ItemList),
-    /// Leave at most so many cells in every shard.
+    /// Leave at most this many cells in every shard.
     Trim(u32),
-    /// Tell the session's counts.
+    /// Report the session's counts.
     Stats,
-    /// Answer a question that is a batch of its own.
+    /// Answer a question.
     Question(Question),
     /// Write the waves of the last batch to this file.
     Vcd(Text),

@@ -1,11 +1,11 @@
-//! A plain, slow simulator that works a value out from its definition.
+//! A plain, slow simulator that computes a value from its definition.
 //!
-//! A [`Simulator`] holds a circuit as `circuit_meaning` defines it. [`Simulator::value_at`] answers the value of a signal at
-//! a time, which is that of full forward simulation: it asks the pins for their values at the earlier times that they
-//! read, and so on back. It keeps nothing, neither between calls nor within one. Its time can grow as the number of pins to the power of
-//! the time asked for, so it serves for small circuits alone, to compare other programs with.
+//! A [`Simulator`] holds a circuit as `circuit_meaning` defines it. [`Simulator::value_at`] returns the value of a signal at a time,
+//! which is that of full forward simulation. It asks each pin for its value at the earlier time that the pin reads, and so on
+//! recursively. It keeps no value, neither between calls nor within one. Its time can grow as the number of pins to the power of the
+//! time asked for, so it is a reference for small circuits alone.
 //!
-//! A simulator takes no memory but that of its elements, and its answers cannot fail.
+//! A simulator allocates only its elements, and its answers cannot fail.
 //!
 //! ```
 //! let elements = vec![in alloc; Element::Input(settings), Element::Gate(Kind::Not, pins)]?;
@@ -35,7 +35,7 @@ pub enum Element {
     Flop(FlipFlop),
 }
 
-/// A circuit with its horizon, seen as the circuit. A signal's number is its place among the elements.
+/// A circuit with its horizon. The model is the circuit of `circuit_meaning`. A signal's number is its place among the elements.
 #[derive(Drop)]
 pub struct Simulator {
     horizon: u32,
@@ -50,7 +50,7 @@ impl Model for Simulator {
     ghost invariant = { λ s. IsCircuit (circuit_of s.horizon s.elements.items) };
 }
 
-/// Whether no two settings have one time.
+/// Whether all settings have different times.
 fn are_different(settings: &[Setting]) -> bool
     ensures { IsTrue result ↔ AllPairs (λ a b. a.time ≢ b.time) settings.now }
 {
@@ -201,8 +201,7 @@ fn setting_at(settings: &[Setting], time: u32) -> Option<Setting>
 }
 
 impl Simulator {
-    /// The value of a signal at a time, worked out from the values before it. Later than the horizon the circuit goes on as
-    /// it is.
+    /// The value of a signal at a time, computed from earlier values. The time may be later than the horizon.
     pub fn value_at(&self, signal: u32, time: u32) -> Value
         requires { signal < length self.now.drivers }
         ensures { result ≡ value self.now signal time }
@@ -237,7 +236,7 @@ mod tests {
     use super::*;
     use std::test::Fail;
 
-    // y = NAND(en, y) after 2; en is 0, and from 4 on 1
+    // y = NAND(en, y) with delay 2; en is 0, and from 4 on 1
     #[test]
     fn a_ring(rt: HostRuntime) -> Result<(), Fail> {
         let alloc = rt.alloc();
@@ -271,7 +270,7 @@ mod tests {
         Ok(())
     }
 
-    // a flip-flop of a, with edges at 10, 20 and 30; a is 0, and from 10 on 1
+    // a flip-flop that reads a, with edges at 10, 20 and 30; a is 0, and from 10 on 1
     #[test]
     fn a_flip_flop(rt: HostRuntime) -> Result<(), Fail> {
         let alloc = rt.alloc();

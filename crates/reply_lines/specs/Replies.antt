@@ -28,7 +28,7 @@ use Rattle.reply_lines.specs.declared.reply.VcdReply.{VcdReply}
 use Rattle.reply_lines.specs.declared.reply.VcdReply.TheVariants as dumps
 use Rattle.why_proofs.specs.Spelling.{proof_lines}
 
--- A reply that an item may get: a bad line, and it alone, gets BadLine, and a wave of one instant has one run.
+-- A reply that an item may get: a bad line gets BadLine, no other item does, and the wave of one instant has one run.
 abbrev pub Suits : What → Reply → Type 0
 Suits whats.Bad BadLine = ⊤
 Suits whats.Bad reply = ⊥
@@ -38,7 +38,7 @@ Suits (whats.At name time budget) BadLine = ⊥
 Suits (whats.At name time budget) (Wave runs) = length runs ≡ 1
 Suits (whats.At name time budget) reply = ⊤
 
--- words with a space between each two, and a line feed
+-- words separated by spaces, and a line feed
 abbrev pub text_line : List (List ℕ) → List ℕ
 text_line [] = 10 ∷ []
 text_line (word ∷ []) = word ++ 10 ∷ []
@@ -57,7 +57,7 @@ name_of (whats.Wave name from to budget) = name
 name_of (whats.At name time budget) = name
 name_of whats.Bad = []
 
--- where the window of an item starts and stops; an instant t is the window from t to t + 1
+-- the start and the end of an item's window; an instant t is the window from t to t + 1
 abbrev pub start_of : What → ℕ
 start_of (whats.Wave name from to budget) = from
 start_of (whats.At name time budget) = time
@@ -87,7 +87,7 @@ text_of item Past =
 text_of item (Budget budget) = text_line (codes "budget" ∷ name_of item.what ∷ decimal budget ∷ [])
 text_of item BadLine = text_line (codes "error" ∷ codes "line" ∷ decimal item.line ∷ [])
 
--- the line that tells of a first time: the time, or `none`
+-- the line that reports a first time: the time, or `none`
 abbrev pub first_found : First → List ℕ → List ℕ
 first_found first found =
     text_line (codes "first" ∷ first.name ∷ (byte_of_value first.value ∷ []) ∷ decimal first.from ∷ decimal first.to ∷ found ∷ [])
@@ -100,19 +100,19 @@ first_line first (firsts.Answer (answers.At time)) = first_found first (decimal 
 first_line first (firsts.Answer answers.Never) = first_found first (codes "none")
 first_line first (firsts.Answer (answers.Budget budget)) = text_line (codes "budget" ∷ first.name ∷ decimal budget ∷ [])
 
--- the text of the reply to a question for an explanation: a proof, where there is one
+-- the text of the reply to a question for an explanation: a proof, if there is one
 abbrev pub why_lines : Why → WhyReply → List ℕ
 why_lines why whys.Unknown = text_line (codes "unknown" ∷ why.name ∷ [])
 why_lines why whys.Past = text_line (codes "past" ∷ why.name ∷ decimal why.time ∷ decimal (why.time + 1) ∷ [])
 why_lines why (whys.Answer (explained.Proof cells value)) = proof_lines why.name why.time value cells
 why_lines why (whys.Answer (explained.Budget budget)) = text_line (codes "budget" ∷ why.name ∷ decimal budget ∷ [])
 
--- the line that repeats a question for a wave where a signal is stuck
+-- the line that repeats a question for a wave with a stuck signal
 abbrev pub stuck_head : Stuck → List ℕ
 stuck_head stuck =
     text_line (codes "stuck" ∷ stuck.site ∷ (byte_of_value stuck.value ∷ []) ∷ stuck.name ∷ decimal stuck.from ∷ decimal stuck.to ∷ [])
 
--- the text of the reply to such a question: the wave, where there is one
+-- the text of the reply to such a question: the wave, if there is one
 abbrev pub stuck_lines : Stuck → StuckReply → List ℕ
 stuck_lines stuck stucks.UnknownSite = text_line (codes "unknown" ∷ stuck.site ∷ [])
 stuck_lines stuck stucks.Unknown = text_line (codes "unknown" ∷ stuck.name ∷ [])
@@ -127,14 +127,14 @@ question_lines (kinds.Why why) (told.Why reply) = why_lines why reply
 question_lines (kinds.Stuck stuck) (told.Stuck reply) = stuck_lines stuck reply
 question_lines asks reply = []
 
--- the text of the reply to a line that asks for a dump under this name
+-- the text of the reply to a request for a dump under this name
 abbrev pub vcd_line : List ℕ → VcdReply → List ℕ
 vcd_line file dumps.Taken = text_line (codes "vcd" ∷ codes "taken" ∷ file ∷ [])
 vcd_line file dumps.NoBatch = text_line (codes "vcd" ∷ codes "none" ∷ [])
 vcd_line file dumps.Full = text_line (codes "vcd" ∷ codes "full" ∷ [])
 vcd_line file (dumps.Made wires) = text_line (codes "vcd" ∷ file ∷ codes "wires" ∷ decimal wires ∷ [])
 
--- the text of the reply to a trim that removed so many cells
+-- the text of the reply to a trim that removed this many cells
 abbrev pub trimmed_line : ℕ → List ℕ
 trimmed_line cells = text_line (codes "trimmed" ∷ decimal cells ∷ [])
 

@@ -4,18 +4,18 @@ use gate_values::Value;
 use why_proofs::CellList;
 use window_walks::Runs;
 
-/// What is replied to an item.
+/// The reply to an item.
 #[derive(Drop)]
 pub enum Reply {
     /// The maximal runs of the signal inside the window.
     Wave(Runs),
-    /// The name is no signal.
+    /// No signal has the name.
     Unknown,
-    /// The window ends behind the horizon.
+    /// The window ends after the horizon.
     Past,
-    /// The query's budget, which its evaluations came to.
+    /// The query's budget was spent; this is the budget.
     Budget(u32),
-    /// The line is of none of the forms.
+    /// The line has none of the forms.
     BadLine,
 }
 
@@ -30,40 +30,40 @@ pub enum FirstAnswer {
     Budget(u32),
 }
 
-/// What is replied to the question for a first time.
+/// The reply to a question for a first time.
 #[derive(Clone, Copy, Debug, PartialEq, Eq)]
 pub enum FirstReply {
-    /// The name is no signal.
+    /// No signal has the name.
     Unknown,
-    /// The window ends behind the horizon.
+    /// The window ends after the horizon.
     Past,
     /// The question was answered.
     Answer(FirstAnswer),
 }
 
-/// Why a signal has the value that it has at a time.
+/// Why a signal has its value at a time.
 #[derive(Drop)]
 pub enum WhyAnswer {
-    /// It has this value, by a proof with these cell lines.
+    /// The signal has this value, by a proof with these cell lines.
     Proof { cells: CellList, value: Value },
     /// The query needs more evaluations than this budget.
     Budget(u32),
 }
 
-/// What is replied to a line that asks for a dump of the last batch's waves.
+/// The reply to a request for a dump of the last batch's waves.
 #[derive(Clone, Copy, Debug, PartialEq, Eq)]
 pub enum VcdReply {
-    /// A file of the session has that name already.
+    /// A file of the session already has that name.
     Taken,
     /// No batch was served before.
     NoBatch,
-    /// As many dumps were made as a session may make.
+    /// The session has made its greatest number of dumps.
     Full,
-    /// The dump was made, with so many wires.
+    /// The dump was made, with this many wires.
     Made(u32),
 }
 
-/// The waveform of a signal where another is stuck.
+/// The waveform of a signal with another signal stuck.
 #[derive(Drop)]
 pub enum StuckAnswer {
     /// The maximal runs of the signal inside the window.
@@ -72,37 +72,37 @@ pub enum StuckAnswer {
     Budget(u32),
 }
 
-/// What is replied to the question for a waveform where a signal is stuck.
+/// The reply to a question for a waveform with a stuck signal.
 #[derive(Drop)]
 pub enum StuckReply {
-    /// The name of the stuck signal is none.
+    /// No signal has the name of the stuck signal.
     UnknownSite,
-    /// The name is no signal.
+    /// No signal has the name.
     Unknown,
-    /// The window ends behind the horizon.
+    /// The window ends after the horizon.
     Past,
     /// The question was answered.
     Answer(StuckAnswer),
 }
 
-/// What is replied to the question for an explanation.
+/// The reply to a question for an explanation.
 #[derive(Drop)]
 pub enum WhyReply {
-    /// The name is no signal.
+    /// No signal has the name.
     Unknown,
-    /// The time comes behind the horizon.
+    /// The time is after the horizon.
     Past,
     /// The question was answered.
     Answer(WhyAnswer),
 }
 
-/// What is replied to a question that is a batch of its own.
+/// The reply to a question.
 #[derive(Drop)]
 pub enum QuestionReply {
-    /// To the question for a first time.
+    /// To a question for a first time.
     First(FirstReply),
-    /// To the question for an explanation.
+    /// To a question for an explanation.
     Why(WhyReply),
-    /// To the question for a waveform where a signal is stuck.
+    /// To a question for a waveform with a stuck signal.
     Stuck(StuckReply),
 }

@@ -18,7 +18,7 @@ use query_lines::{Asks, First, Item, Stuck, What, Why};
 use std::alloc::Global;
 use why_proofs::proof_text;
 
-// Appends a word and the byte behind it.
+// Appends a word and the byte after it.
 fn put(text: &mut Vec<u8>, word: &[u8], behind: u8) -> Result<(), OutOfMemory>
     ensures { OnOk result (text.new.items ≡ text.old.items ++ word.now ++ behind ∷ []) }
 {
@@ -27,7 +27,7 @@ fn put(text: &mut Vec<u8>, word: &[u8], behind: u8) -> Result<(), OutOfMemory>
     Ok(())
 }
 
-// Appends a number in decimal and the byte behind it.
+// Appends a number in decimal and the byte after it.
 fn put_number(text: &mut Vec<u8>, number: u64, behind: u8) -> Result<(), OutOfMemory>
     ensures { OnOk result (text.new.items ≡ text.old.items ++ decimal number ++ behind ∷ []) }
 {
@@ -154,8 +154,7 @@ fn put_reply(text: &mut Vec<u8>, item: &Item, reply: &Reply) -> Result<(), OutOf
     }
 }
 
-/// The text of a reply to an item: one line, or for a waveform a line with its
-/// window, a line for each run, and `end`.
+/// The text of a reply to an item: one line, or for a waveform a line with its window, a line for each run, and `end`.
 pub fn reply_text(alloc: Global, item: &Item, reply: &Reply) -> Result<Vec<u8>, OutOfMemory>
     requires { Suits item.now.what reply.now }
     ensures { IfOk result (λ text. text.items ≡ text_of item.now reply.now) }
@@ -165,7 +164,7 @@ pub fn reply_text(alloc: Global, item: &Item, reply: &Reply) -> Result<Vec<u8>, 
     Ok(text)
 }
 
-// Appends where the window ends, and what was found in it.
+// Appends the end of the window, and what was found in it.
 fn put_end(text: &mut Vec<u8>, to: u32, found: &[u8]) -> Result<(), OutOfMemory>
     ensures { OnOk result (text.new.items ≡ text.old.items ++ text_line
         (decimal to ∷ found.now ∷ [])) }
@@ -185,7 +184,7 @@ fn put_sought(text: &mut Vec<u8>, first: &First, found: &[u8]) -> Result<(), Out
     put_end(text, first.to, found)
 }
 
-// Appends the line that tells this of a first time.
+// Appends the line that reports a first time.
 fn put_found(text: &mut Vec<u8>, first: &First, found: &[u8]) -> Result<(), OutOfMemory>
     ensures { OnOk result (text.new.items ≡ text.old.items ++ first_found first.now found.now) }
 {
@@ -246,7 +245,7 @@ fn why_text(alloc: Global, why: &Why, reply: &WhyReply) -> Result<Vec<u8>, OutOf
     Ok(text)
 }
 
-// Appends the line that repeats a question for a wave where a signal is stuck.
+// Appends the line that repeats a question for a wave with a stuck signal.
 fn put_stuck(text: &mut Vec<u8>, stuck: &Stuck) -> Result<(), OutOfMemory>
     ensures { OnOk result (text.new.items ≡ text.old.items ++ stuck_head stuck.now) }
 {
@@ -257,8 +256,8 @@ fn put_stuck(text: &mut Vec<u8>, stuck: &Stuck) -> Result<(), OutOfMemory>
     put_times(text, stuck.from as u64, stuck.to as u64)
 }
 
-// The text of the reply to a question for a wave where a signal is stuck: a line that repeats the question, a line for each run, and
-// `end`; or one line that says why there is none.
+// The text of the reply to a question for a wave with a stuck signal: a line that repeats the question, a line for each run, and `end`; or
+// one line that says why there is none.
 fn stuck_text(alloc: Global, stuck: &Stuck, reply: &StuckReply) -> Result<Vec<u8>, OutOfMemory>
     ensures { IfOk result (λ text. text.items ≡ stuck_lines stuck.now reply.now) }
 {
@@ -280,9 +279,9 @@ fn stuck_text(alloc: Global, stuck: &Stuck, reply: &StuckReply) -> Result<Vec<u8
     Ok(text)
 }
 
-/// The text of the reply to a question that is a batch of its own. That for a first time is one line, that for an explanation a proof,
-/// and that for a wave where a signal is stuck a line that repeats the question, a line for each run, and `end`; or one line says why
-/// there is none. A reply to a question of another kind has no text.
+/// The text of the reply to a question. For a first time it is one line, for an explanation a proof, and for a wave with a stuck signal a
+/// line that repeats the question, a line for each run, and `end`; or one line says why there is none. A reply to a question of another
+/// kind has no text.
 pub fn question_text(
     alloc: Global,
     asks: &Asks,
@@ -298,7 +297,7 @@ pub fn question_text(
     }
 }
 
-/// The text of the reply to a line that asks for a dump under this name: one line.
+/// The text of the reply to a request for a dump under this name: one line.
 pub fn dump_text(alloc: Global, file: &Text, reply: VcdReply) -> Result<Vec<u8>, OutOfMemory>
     ensures { IfOk result (λ text. text.items ≡ vcd_line file.now reply) }
 {
@@ -330,7 +329,7 @@ pub fn trimmed_text(alloc: Global, cells: u64) -> Result<Vec<u8>, OutOfMemory>
     Ok(text)
 }
 
-// Appends a count behind its name.
+// Appends a count after its name.
 fn put_count(text: &mut Vec<u8>, name: &[u8], count: u64, behind: u8) -> Result<(), OutOfMemory>
     ensures { OnOk result (text.new.items ≡ text.old.items
         ++ (name.now ++ 32 ∷ (decimal count ++ behind ∷ []))) }

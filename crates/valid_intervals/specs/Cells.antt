@@ -1,4 +1,4 @@
--- Points, cells, and lists of cells with the most recent first.
+-- Points, cells, and lists of cells, the most recent first.
 use Rattle.std.specs.Prelude.{◌-◌, nat_le, nat_lt, nat_eq, Bool, not, ◌&&◌, List, ◌∷◌, length, take, filter, find, slice_get, Option}
 use Rattle.std.specs.List.{list_any}
 use Rattle.std.specs.declared.cmp.Ordering.{Ordering}
@@ -11,7 +11,7 @@ use Rattle.valid_intervals.specs.declared.SignalCell.{SignalCell}
 abbrev pub same_point : Point → Point → Bool
 same_point a b = nat_eq a.signal b.signal && nat_eq a.time b.time
 
--- by signal, then by time
+-- the order of points: by signal, then by time
 abbrev pub point_cmp : Point → Point → Ordering
 point_cmp a b = ordering_then (nat_cmp a.signal b.signal) (nat_cmp a.time b.time)
 
@@ -21,11 +21,11 @@ same_cell a b = nat_eq a.span.start b.span.start && nat_eq a.span.stop b.span.st
 abbrev pub same_stored : SignalCell → SignalCell → Bool
 same_stored a b = nat_eq a.signal b.signal && same_cell a.cell b.cell
 
--- the cell as that of the point's signal
+-- the cell, as a cell of the point's signal
 abbrev pub cell_for : Point → Cell → SignalCell
 cell_for p x = record { signal = p.signal; cell = x }
 
--- whether the cell is of the point's signal and has its time
+-- whether this is a cell of the point's signal that contains its time
 abbrev pub covers : Point → SignalCell → Bool
 covers p x = nat_eq x.signal p.signal && nat_le x.cell.span.start p.time && nat_lt p.time x.cell.span.stop
 
@@ -37,7 +37,7 @@ is_stored x cells = list_any (same_stored x) cells
 abbrev pub stored_at : List SignalCell → Point → Option SignalCell
 stored_at cells p = find (covers p) cells
 
--- the cell comes, or moves, to the front
+-- the cell is put at the front, or moved there
 abbrev pub to_front : SignalCell → List SignalCell → List SignalCell
 to_front x cells = x ∷ filter (λ y. not (same_stored x y)) cells
 

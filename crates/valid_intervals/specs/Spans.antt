@@ -1,7 +1,7 @@
 -- Intervals of times.
 use Rattle.std.specs.Prelude.{ℕ, ◌+◌, ◌≤◌, ◌<◌, ◌↔◌, min, max}
 
--- the times from start on and below stop
+-- the times [start, stop)
 pub record Span : Type 0 where
   pub start : ℕ
   pub stop : ℕ
@@ -13,7 +13,7 @@ pub record IsIn (span : Span) (t : ℕ) : Type 0 where
 abbrev pub from_to : ℕ → ℕ → Span
 from_to a b = record { start = a; stop = b }
 
--- the times that both have
+-- the times in both
 abbrev pub meet : Span → Span → Span
 meet a b = from_to (max a.start b.start) (min a.stop b.stop)
 
@@ -25,15 +25,16 @@ moved d a = from_to (a.start + d) (a.stop + d)
 abbrev pub cut_at : ℕ → Span → Span
 cut_at limit a = from_to a.start (min a.stop limit)
 
--- it has a time, and ends where no horizon and delay can pass
+-- it is nonempty, and ends no later than the greatest horizon and delay allow
 pub record IsSpan (a : Span) : Type 0 where
   pub some : a.start < a.stop
   pub within : a.stop ≤ 2000002
 
--- a time is in the meet exactly where it is in both
+-- a time is in the meet exactly when it is in both
 abbrev pub MeetsAreIntersections : Type 0
 MeetsAreIntersections = (a b : Span) (t : ℕ) → (IsIn (meet a b) t) ↔ (IsIn a t × IsIn b t)
 
--- a time that is later by d is in the moved span, cut at the limit, exactly where the time was in the span and is below the limit
+-- a time plus d is in the span moved by d and cut at the limit, exactly when the time is in the span and the sum is below the
+-- limit
 abbrev pub MovedIsLater : Type 0
 MovedIsLater = (d limit : ℕ) (a : Span) (t : ℕ) → (IsIn (cut_at limit (moved d a)) (t + d)) ↔ (IsIn a t × (t + d < limit))

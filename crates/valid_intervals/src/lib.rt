@@ -1,14 +1,14 @@
 //! Intervals of times, cells and points.
 //!
-//! A [`Span`] is an interval of times that has at least one: its start is in it, its end is the first time after it. A
-//! [`Cell`] is a span with the one value that a signal has in it, a [`Point`] is a signal at a time, and a [`SignalCell`]
-//! is a cell together with its signal, which is what a memo stores.
+//! A [`Span`] is a nonempty half-open interval of times: its end is the first time after it. A [`Cell`] is a span with the
+//! one value that a signal has in it. A [`Point`] is a signal at a time. A [`SignalCell`] is a cell with its signal, which
+//! is what a memo stores.
 //!
-//! A gate changes only where a pin that it looks at does. So the span of its cell is the intersection of its pins' spans,
-//! each moved by the delay of the pin and cut at the end of the simulation: [`Span::meet`] and [`Span::moved`]. Callers may
-//! rely on a span being nonempty and ending at [`LATEST`] at most; what would be empty is `None`.
+//! A gate changes only when a pin that it looks at changes. The span of its cell is therefore the intersection
+//! ([`Span::meet`]) of its pins' spans, each moved by the delay of the pin and cut at the end of the simulation
+//! ([`Span::moved`]). Every span ends at [`LATEST`] at most. A result that would be empty is `None`.
 //!
-//! All are small values that are copied; every call takes constant time and no memory.
+//! Every call takes constant time and does not allocate. All values are copied.
 //!
 //! ```
 //! let pin = Span::new(0, 10)?.moved(3, 11)?; // 3 to 11
@@ -26,10 +26,10 @@ ghost use Rattle.valid_intervals.specs.Spans.{IsIn, IsSpan, from_to, cut_at, Mee
 use gate_values::Value;
 use std::marker::Model;
 
-/// No span ends later: the greatest horizon and the greatest delay, and one more for each end.
+/// The latest end of a span: the greatest horizon plus the greatest delay, plus 1 for each of the two ends.
 pub const LATEST: u32 = 2_000_002;
 
-/// The times from a start on and below an end that lies after it; the end is at most [`LATEST`].
+/// The times `[start, end)`. The end is greater than the start, and at most [`LATEST`].
 #[derive(Clone, Copy, Debug, PartialEq, Eq)]
 pub struct Span {
     start: u32,
@@ -49,7 +49,7 @@ impl Model for Span {
 }
 
 impl Span {
-    /// The times from `start` on and below `end`, where there is one.
+    /// The times `[start, end)`, if there is one.
     pub fn new(start: u32, end: u32) -> Option<Span>
         ensures some { IfSome result (λ span. span ≡ from_to start end) }
         ensures none { IsNone result ↔ ((end ≤ start) ⊎ (2000002 < end)) }
@@ -69,7 +69,7 @@ impl Span {
         self.start
     }
 
-    /// The first time that comes after it.
+    /// The first time after the span.
     pub fn end(&self) -> u32
         ensures end { result ≡ self.now.stop }
         ensures span { IsSpan self.now }
@@ -77,7 +77,7 @@ impl Span {
         self.end
     }
 
-    /// The times that both have, where there is one.
+    /// The times in both spans, if there is one.
     pub fn meet(self, other: Span) -> Option<Span>
         ensures some { IfSome result (λ span. span ≡ spans.meet self other) }
         ensures none { IsNone result ↔ ((spans.meet self other).stop
@@ -86,7 +86,7 @@ impl Span {
         Span::new(self.start.max(other.start), self.end.min(other.end))
     }
 
-    /// The same times, each later by `by`, as far as they lie below `cut`.
+    /// The times of the span, each later by `by`, as far as they are below `cut`.
     pub fn moved(self, by: u32, cut: u32) -> Option<Span>
         requires by { by ≤ 1000001 }
         requires cut { cut ≤ 1000001 }
@@ -105,7 +105,7 @@ pub struct Cell {
 }
 
 impl Cell {
-    /// Whether the cell has this time.
+    /// Whether the cell contains this time.
     pub fn covers(&self, t: u32) -> bool
         ensures { IsTrue result ↔ IsIn self.now.span t }
     {
@@ -128,7 +128,7 @@ pub struct SignalCell {
 }
 
 impl SignalCell {
-    /// Whether it is a cell of the point's signal that has the point's time.
+    /// Whether this is a cell of the point's signal that contains the point's time.
     pub fn covers(&self, point: Point) -> bool
         ensures { result ≡ cells.covers point self.now }
     {
@@ -138,13 +138,13 @@ impl SignalCell {
     }
 }
 
-/// A law, for proofs; the function does nothing. A time lies in the meet of two spans exactly where it lies in both.
+/// A law, for proofs; the function does nothing. A time is in the meet of two spans exactly when it is in both.
 pub fn meets_are_intersections()
     ensures { MeetsAreIntersections }
 {}
 
-/// A law, for proofs; the function does nothing. A moved span has the times of the old one, each later by as much, up to
-/// the limit.
+/// A law, for proofs; the function does nothing. The times of a moved span are those of the old one, each later by the same
+/// number, up to the limit.
 pub fn moved_is_later()
     ensures { MovedIsLater }
 {}

@@ -6,7 +6,7 @@ use Rattle.gate_values.specs.Spelling.{byte_of_value}
 use Rattle.circuit_meaning.specs.declared.Run.{Run}
 use Rattle.vcd_answers.specs.Wires.{Wire, last_time}
 
--- the code of the first wire, the byte `!`; that of each further wire is the next byte
+-- the code of the first wire, the byte `!`; each further wire has the next byte
 abbrev pub first_code : ℕ
 first_code = 33
 
@@ -14,7 +14,7 @@ first_code = 33
 abbrev pub var_line : ℕ → List ℕ → List ℕ
 var_line code name = codes "$var wire 1 " ++ code ∷ 32 ∷ (name ++ codes " $end")
 
--- the lines of wires of which the first has this code
+-- the lines that declare wires, of which the first has this code
 abbrev pub var_lines : ℕ → List Wire → List (List ℕ)
 var_lines code [] = []
 var_lines code (wire ∷ wires) = var_line code wire.name ∷ var_lines (code + 1) wires
@@ -23,7 +23,7 @@ var_lines code (wire ∷ wires) = var_line code wire.name ∷ var_lines (code + 
 abbrev pub time_line : ℕ → List ℕ
 time_line t = 35 ∷ decimal t
 
--- a value, and directly after it the code
+-- a value, directly followed by the code
 abbrev pub change_line : ℕ → Run → List ℕ
 change_line code run = byte_of_value run.value ∷ code ∷ []
 
@@ -38,7 +38,7 @@ change_lines t code (wire ∷ wires) = map (change_line code) (filter (is_at t) 
 abbrev pub changes_at : ℕ → Wire → Bool
 changes_at t wire = list_any (is_at t) wire.changes
 
--- a time that has lines: time 0, and each later time at which a wire changes
+-- a time with lines: time 0, and each later time at which a wire changes
 abbrev pub is_instant : List Wire → ℕ → Bool
 is_instant wires t = (t == 0) || list_any (changes_at t) wires
 
@@ -55,7 +55,7 @@ vcd_lines wires =
     codes "$timescale 1 ns $end" ∷ codes "$scope module top $end" ∷ (
     var_lines first_code wires ++ codes "$upscope $end" ∷ codes "$enddefinitions $end" ∷ body_lines wires)
 
--- a line and its line feed
+-- a line with its line feed
 abbrev pub ended : List ℕ → List ℕ
 ended line = line ++ 10 ∷ []
 

@@ -1,4 +1,4 @@
--- What follows of dumps.
+-- A law of dumps.
 use Rattle.std.specs.Prelude.{◌≡◌, List}
 use Rattle.vcd_answers.specs.Wires.{Wire, AreWires}
 use Rattle.vcd_answers.specs.Dumps.{vcd_of}

@@ -1,4 +1,4 @@
--- The wires of a dump: what is shown of a signal.
+-- The wires of a dump: what a dump shows of a signal.
 use Rattle.std.specs.Prelude.{ℕ, ◌+◌, ◌-◌, ◌≤◌, ◌==◌, ◌||◌, ◌&&◌, Bool, false, not, nat_le, nat_lt, IsTrue, List, [], ◌∷◌, ◌++◌, length, map, filter, if◌then◌else◌}
 use Rattle.std.specs.List.{range_with_len, list_all}
 use Rattle.gate_values.specs.declared.Value.{Value}
@@ -9,7 +9,7 @@ use Rattle.circuit_meaning.specs.Circuit.{Circuit}
 use Rattle.circuit_meaning.specs.Forward.{value}
 use Rattle.text_rules.specs.Text.{is_name}
 
--- a name, and the times from which on the wire has a value
+-- a name, and the times at which a value begins
 pub record Wire : Type 0 where
   pub name : List ℕ
   pub changes : List Run
@@ -18,27 +18,28 @@ pub record Wire : Type 0 where
 unfoldable pub last_time : ℕ
 last_time = 1000001
 
--- the changes of a function of time up to this time: one at time 0, and one at each later time at which its value is another than just before
+-- the changes of a function of time up to this time: one at time 0, and one at each later time whose value differs from the value just
+-- before
 abbrev pub changes_of : (ℕ → Value) → ℕ → List Run
 changes_of f last = map (λ t. record { time = t; value = f t }) (filter (λ t. (t == 0) || not (same_value (f t) (f (t - 1)))) (range_with_len 0 (last + 1)))
 
--- what a window shows of a function of time: its values from start on and below stop, and x elsewhere
+-- what a window shows of a function of time: its values in [start, stop), and x elsewhere
 abbrev pub shown : (ℕ → Value) → ℕ → ℕ → ℕ → Value
 shown f start stop t = if nat_le start t && nat_lt t stop then f t else X
 
--- the wire of an answered query: of the signal s in the window from start to stop, up to just after the horizon
+-- the wire of a query for the signal s in the window from start to stop, up to just after the horizon
 abbrev pub answered : List ℕ → Circuit → ℕ → ℕ → ℕ → Wire
 answered name c s start stop = record { name = name; changes = changes_of (shown (value c s) start stop) (c.horizon + 1) }
 
--- x from time 0 on, where the window begins later
+-- x from time 0 on, if the window begins later
 abbrev pub before_window : ℕ → List Run
 before_window start = if start == 0 then [] else record { time = 0; value = X } ∷ []
 
--- the runs of a window with x before it, and x from its end on; neighbours may have one value
+-- the runs of a window, with x before it and from its end on; neighbours may have one value
 abbrev pub framed : ℕ → ℕ → List Run → List Run
 framed start stop runs = before_window start ++ runs ++ record { time = stop; value = X } ∷ []
 
--- runs behind this one: times ascend, neighbours differ, and no time is past the last of a dump
+-- runs that may come after this one: times ascend, consecutive values differ, and no time is after the last time of a dump
 abbrev pub goes_on : Run → List Run → Bool
 goes_on run [] = nat_le run.time last_time
 goes_on run (next ∷ runs) = nat_lt run.time next.time && not (same_value run.value next.value) && goes_on next runs

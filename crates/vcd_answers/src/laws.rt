@@ -1,7 +1,7 @@
-//! What follows for every dump. The function carries the law as its contract, and does nothing.
+//! A law of every dump. The function does nothing; its contract is the law.
 ghost use Rattle.vcd_answers.specs.Laws.{OneDump};
 
-/// No text is the dump of two lists of wires: the bytes of a dump name its wires.
+/// No text is the dump of two lists of wires: its bytes determine its wires.
 pub fn one_dump()
     ensures { OneDump }
 {}

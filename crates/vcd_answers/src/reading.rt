@@ -1,4 +1,4 @@
-//! Reading a dump: the text is read leniently, what was read is written again, and the bytes are compared.
+//! Reading a dump: the text is read leniently, the dump of what was read is written, and the bytes are compared.
 ghost use Rattle.std.specs.Prelude.{◌≡◌, ◌≢◌, ℕ, ◌<◌, ◌≤◌, ◌∷◌, [], List, length, drop, Some, IfOk, IfSome, IfNone};
 ghost use Rattle.text_rules.specs.Text.{lines, amount};
 ghost use Rattle.vcd_answers.specs.Dumps.{vcd_of};
@@ -20,15 +20,15 @@ enum Line {
     Change(u8, Value),
 }
 
-/// The wires of which the text is the dump; `None` where it is the dump of none. The whole text counts.
+/// The wires whose dump is the whole text; `None` if there are none.
 pub fn read_vcd(alloc: Global, text: &[u8]) -> Result<Option<WireList>, OutOfMemory>
-    // What is read are wires, and the text is their dump.
+    // If wires are returned, the text is their dump.
     ensures wires { IfOk result (λ read. IfSome read (λ wires. AreWires wires)) }
     ensures found { IfOk result (λ read. IfSome read (λ wires. text.now ≡ vcd_of wires)) }
-    // The wires of which the text is the dump are read.
+    // If the text is the dump of wires, these are returned.
     ensures only { (wires : List WireRecord) → AreWires wires → text.now ≡ vcd_of wires
         → IfOk result (λ read. read ≡ Some wires) }
-    // Nothing is read only where the text is no dump.
+    // None are returned only if the text is no dump.
     ensures none { IfOk result (λ read. IfNone read
         ((wires : List WireRecord) → AreWires wires → text.now ≢ vcd_of wires)) }
 {
@@ -63,7 +63,7 @@ fn after_line(text: &[u8]) -> &[u8]
     next_line(text).1
 }
 
-/// The wires of the lines at the front that declare one, and what comes after these lines.
+/// The wires of the leading lines that declare one, and the rest of the text.
 fn names_in(alloc: Global, text: &[u8]) -> Result<(WireList, &[u8]), OutOfMemory>
     ensures { IfOk result (λ read. (read.0, lines read.1.now) ≡ with_names [] (lines text.now)) }
 {
@@ -94,7 +94,7 @@ fn name_in(line: &[u8]) -> &[u8]
     &line[14..][..len]
 }
 
-/// The wires with the changes that the lines tell.
+/// The wires with the changes in these lines.
 fn changes_in(wires: WireList, text: &[u8]) -> Result<Option<WireList>, OutOfMemory>
     ensures { IfOk result (λ read. read ≡ with_changes wires 0 (lines text.now)) }
 {

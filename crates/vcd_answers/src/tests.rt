@@ -55,13 +55,13 @@ fn windows_show_their_runs(rt: HostRuntime) -> Result<(), Fail> {
             &[(3, One), (8, Zero)],
             &[(0, X), (3, One), (8, Zero), (11, X)],
         ),
-        // x goes on into the window
+        // x before the window goes on into it
         (3, 8, 10, &[(3, X), (5, Z)], &[(0, X), (5, Z), (8, X)]),
-        // x goes on behind it
+        // x in the window goes on after it
         (0, 5, 10, &[(0, One), (3, X)], &[(0, One), (3, X)]),
-        // one instant
+        // a window of one instant
         (4, 5, 10, &[(4, One)], &[(0, X), (4, One), (5, X)]),
-        // none
+        // an empty window
         (4, 4, 10, &[], &[(0, X)]),
         (6, 4, 10, &[], &[(0, X)]),
         (0, 0, 0, &[], &[(0, X)]),
@@ -144,14 +144,14 @@ fn other_texts_are_refused(rt: HostRuntime) -> Result<(), Fail> {
         // an unknown code
         b"#0\nx!\n#3\n1\"\n",
         b"#0\nx!\n#3\n1 \n",
-        // another first time, or none
+        // a first time other than 0
         b"#1\nx!\n#3\n1!\n",
         b"x!\n#3\n1!\n",
         // no change at the first time
         b"#0\n#3\n1!\n",
-        // a value again
+        // the same value again
         b"#0\nx!\n#3\nx!\n",
-        // a time past the last
+        // a time after the last
         b"#0\nx!\n#1000002\n1!\n",
         // other spellings
         b"#0\nX!\n#3\n1!\n",

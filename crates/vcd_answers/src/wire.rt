@@ -18,7 +18,7 @@ use std::marker::Model;
 use text_rules::is_name;
 use window_walks::Runs;
 
-/// A wire of a dump: its name, and the times from which on it has a value.
+/// A wire of a dump: its name, and the times at which a value begins.
 #[derive(Debug, Drop)]
 pub struct Wire {
     name: Vec<u8>,
@@ -41,15 +41,15 @@ impl Wire {
         &self.name
     }
 
-    /// The changes, in order. Of a wire that a dump can hold, the first is at time 0, times ascend up to 1,000,001 at most,
-    /// and neighbours differ.
+    /// The changes, in order. If a dump can hold the wire, the first change is at time 0, times ascend up to 1,000,001 at
+    /// most, and consecutive values differ.
     pub fn changes(&self) -> &[Run]
         ensures { result.now ≡ self.now.changes }
     {
         &self.changes
     }
 
-    /// Whether a dump can hold it: its name is a name by the rules of the text files, and its changes are those of a wire.
+    /// Whether a dump can hold the wire: its name follows the rules of the text files, and its changes are those of a wire.
     pub fn is_wire(&self) -> bool
         ensures { result ≡ wires.is_wire self.now }
     {
@@ -115,15 +115,14 @@ impl WireList {
         &self.wires
     }
 
-    /// The wires, given up.
+    /// The wires as a vector.
     pub fn into_vec(self) -> Vec<Wire>
         ensures { result.items ≡ self }
     {
         self.wires
     }
 
-    /// Whether a dump can hold them: at most 64, and each a wire by [`Wire::is_wire`]. Takes time in proportion to the
-    /// changes.
+    /// Whether a dump can hold the wires: at most 64, each a wire by [`Wire::is_wire`]. Takes time linear in the changes.
     pub fn are_wires(&self) -> bool
         ensures { IsTrue result ↔ AreWires self.now }
     {
@@ -137,9 +136,9 @@ fn each_is_wire(list: &[Wire]) -> bool
     list.iter().all(|wire| wire.is_wire())
 }
 
-// What the reader makes wires with.
+// For the reader, which makes wires.
 impl Wire {
-    // A wire of which no change is read yet.
+    // A wire without changes.
     pub(crate) fn blank(alloc: Global, name: &[u8]) -> Result<Wire, OutOfMemory>
         ensures { IfOk result (λ wire. wire ≡ blank name.now) }
     {
@@ -150,7 +149,7 @@ impl Wire {
         })
     }
 
-    // One change more.
+    // Adds a change.
     pub(crate) fn push(&mut self, run: Run) -> Result<(), OutOfMemory>
         ensures { OnOk result (self.new ≡ record self.old
             { changes = self.old.changes ++ run ∷ [] }) }
@@ -161,7 +160,7 @@ impl Wire {
 }
 
 impl WireList {
-    // One change more of the wire at this place.
+    // Adds a change to the wire at this place.
     pub(crate) fn push_change(&mut self, place: usize, run: Run) -> Result<(), OutOfMemory>
         requires { place < length self.old }
         ensures { OnOk result (self.new ≡ put_at place run self.old) }
@@ -170,9 +169,9 @@ impl WireList {
     }
 }
 
-/// The wire of an answered query, whose window is from `start` on and below `stop`: its runs inside the window, and x at
-/// the other times from 0 to just after the horizon. A window that ends with the simulation ends just after the horizon.
-/// A window that does not end after its start is empty. Takes time and memory in proportion to the runs.
+/// The wire of an answered query, whose window is `[start, stop)`: its runs inside the window, and x at the other times
+/// from 0 to just after the horizon. A window that ends with the simulation ends just after the horizon. A window whose end
+/// is not after its start is empty. Takes time and memory linear in the runs.
 pub fn wire_of(
     alloc: Global,
     name: &[u8],
@@ -183,15 +182,15 @@ pub fn wire_of(
 ) -> Result<Wire, OutOfMemory>
     requires horizon { horizon ≤ 1000000 }
     requires stop { stop ≤ horizon + 1 }
-    // Where the runs are the waveform of the window, this is the wire of the query.
+    // If the runs are the waveform of the window, this is the wire of the query.
     ensures answered { (c : Circuit) (s : ℕ) → c.horizon ≡ horizon → runs.now ≡ wave c s start stop
         → IfOk result (λ wire. wire ≡ answered name.now c s start stop) }
-    // Such a wire can stand in a dump.
+    // A dump can hold such a wire.
     ensures sound { (c : Circuit) (s : ℕ) → runs.now ≡ wave c s start stop
         → IsTrue (text.is_name name.now)
         → IfOk result (λ wire. IsTrue (wires.is_wire wire)) }
-    // Whatever the runs are, this is the wire: x before the window, the runs, and x from the window's end on, each at its
-    // time, where neighbours of one value are one change.
+    // For any runs: the wire has x before the window, the runs, and x from the window's end on, each at its time.
+    // Neighbours with one value are one change.
     ensures runs { IfOk result (λ wire. wire ≡ record
         { name = name.now; changes = maximal_runs (framed start stop runs.now) }) }
 {
@@ -214,7 +213,7 @@ fn framed_runs(alloc: Global, start: u32, stop: u32, runs: &[Run]) -> Result<Run
     Ok(points)
 }
 
-// What comes before a window.
+// The runs before a window.
 fn runs_before(alloc: Global, start: u32) -> Result<Runs, OutOfMemory>
     ensures { IfOk result (λ points. points ≡ maximal_runs (before_window start)) }
 {

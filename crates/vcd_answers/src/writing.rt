@@ -13,7 +13,7 @@ use itoa::Buffer;
 use owned_text::OutOfMemory;
 use std::alloc::Global;
 
-/// A change of the wire that has this code.
+/// A change of the wire with this code.
 #[derive(Clone, Copy)]
 struct Event {
     time: u32,
@@ -21,7 +21,7 @@ struct Event {
     value: Value,
 }
 
-/// The text of the dump of these wires. With no wire it is the head and the line of time 0.
+/// The text of the dump of these wires. Without wires it is the head and the line of time 0.
 pub fn vcd_text(alloc: Global, wires: &WireList) -> Result<Vec<u8>, OutOfMemory>
     requires { AreWires wires.now }
     ensures { IfOk result (λ text. text.items ≡ vcd_of wires.now) }
@@ -35,7 +35,7 @@ pub fn vcd_text(alloc: Global, wires: &WireList) -> Result<Vec<u8>, OutOfMemory>
     Ok(text)
 }
 
-/// The changes of all wires in the order of time, and at each time in that of the wires.
+/// The changes of all wires in the order of time, and at each time in the order of the wires.
 fn events_by_time(alloc: Global, wires: &[Wire]) -> Result<Vec<Event>, OutOfMemory>
     requires few { length wires.now ≤ 64 }
     requires each { IsTrue (list_all is_wire wires.now) }

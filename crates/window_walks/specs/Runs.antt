@@ -6,7 +6,7 @@ use Rattle.valid_intervals.specs.declared.Cell.{Cell}
 use Rattle.circuit_meaning.specs.declared.Run.{Run}
 use Rattle.circuit_meaning.specs.Laws as laws
 
--- the points at which the value changes, where it is this one before the first
+-- the points at which the value changes, if this is the value before the first
 abbrev pub changes_from : Value → List Run → List Run
 changes_from value [] = []
 changes_from value (point ∷ points) =
@@ -25,11 +25,11 @@ ends_in [] value = false
 ends_in (run ∷ []) value = same_value run.value value
 ends_in (run ∷ next ∷ runs) value = ends_in (next ∷ runs) value
 
--- one more point behind these runs: the last run goes on, or a new one begins
+-- the runs with one more point: the last run goes on, or a new one begins
 abbrev pub with_point : List Run → Run → List Run
 with_point runs point = if ends_in runs point.value then runs else runs ++ point ∷ []
 
--- the first points of cells that follow one another from this time on
+-- the first points of consecutive cells, from this time on
 abbrev pub first_points : ℕ → List Cell → List Run
 first_points t [] = []
 first_points t (x ∷ cells) = record { time = t; value = x.value } ∷ first_points x.span.stop cells

@@ -6,14 +6,14 @@ use Rattle.circuit_meaning.specs.Circuit.{Circuit}
 use Rattle.circuit_meaning.specs.Cells.{cell_at, point_at}
 use Rattle.window_walks.specs.Runs.{maximal_runs, first_points}
 
--- the window from start on and below stop, walked up to the time, and its runs so far
+-- the window [start, stop), the time up to which it is walked, and its runs so far
 pub record Walk : Type 0 where
   pub start : ℕ
   pub stop : ℕ
   pub time : ℕ
   pub runs : List Run
 
--- these are cells of the signal s one after another: the first is that of t, each begins below stop, the last ends at u
+-- these are consecutive cells of the signal s: the first is that of t, each begins below stop, and the last ends at u
 abbrev pub Reach : Circuit → ℕ → ℕ → ℕ → List Cell → ℕ → Type 0
 Reach c s stop t [] u = t ≡ u
 Reach c s stop t (x ∷ rest) u = (t < stop) × (x ≡ cell_at c (point_at s t)) × Reach c s stop x.span.stop rest u

@@ -1,7 +1,7 @@
 //! The runs of a waveform, and the walk of a window from cell to cell.
 //!
-//! A [`WindowWalk`] goes over a window from cell to cell and gathers its [`Runs`]: a run begins where the value is another than just
-//! before. Where the cells are those of the definitions, the runs of a walk that has come to its end are the waveform of the window
+//! A [`WindowWalk`] goes over a window from cell to cell and gathers its [`Runs`]. A run begins if the value differs from the value
+//! just before. If the cells are those of the definitions, the runs of a complete walk are the waveform of the window
 //! (`specs/Walks`), and they are maximal (`specs/Runs`).
 //!
 //! ```text
@@ -12,7 +12,7 @@
 //! let runs = walk.into_runs();
 //! ```
 //!
-//! A cell costs constant time, and memory is taken for a run at a time.
+//! A cell takes constant time. Memory grows with the runs.
 #![tactic(auto)]
 
 mod laws;

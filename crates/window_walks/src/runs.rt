@@ -12,8 +12,7 @@ use owned_text::OutOfMemory;
 use std::alloc::Global;
 use std::marker::Model;
 
-/// The runs of a waveform: the times from which on the signal has a value, in
-/// order.
+/// The runs of a waveform: the times at which a value begins, in order.
 #[derive(Drop)]
 pub struct Runs {
     runs: Vec<Run>,
@@ -35,7 +34,7 @@ fn is_same(value: Value, other: Value) -> bool
 }
 
 impl Runs {
-    /// No run.
+    /// No runs.
     pub fn new(alloc: Global) -> Runs
         ensures { result ≡ [] }
     {
@@ -44,13 +43,13 @@ impl Runs {
         }
     }
 
-    /// Goes on to this time with this value: the last run goes on where its
-    /// value is the same, else a run begins.
+    /// Adds a time and its value. If the last run has the same value, it goes on;
+    /// otherwise a run begins.
     pub fn push(&mut self, time: u32, value: Value) -> Result<(), OutOfMemory>
         ensures ok { let point : RunRecord = record { time = time; value = value }
             in OnOk result (self.new ≡ with_point self.old point) }
 
-        // Where the runs are those of some points, they are those of one point more.
+        // If the runs are those of some points, they become those of one more point.
         ensures maximal { (points : List RunRecord) → self.old ≡ maximal_runs points
             → let point : RunRecord = record { time = time; value = value }
             in OnOk result (self.new ≡ maximal_runs (points ++ point ∷ [])) }
@@ -72,7 +71,7 @@ impl Runs {
         }
     }
 
-    /// These runs.
+    /// The list of these runs.
     pub fn from_vec(runs: Vec<Run>) -> Runs
         ensures { result ≡ runs.items }
     {

@@ -14,7 +14,7 @@ use std::alloc::Global;
 use std::marker::Model;
 use valid_intervals::Cell;
 
-/// A window of a signal, walked from cell to cell: its runs so far.
+/// A window of a signal that is walked from cell to cell, and its runs so far.
 #[derive(Drop)]
 pub struct WindowWalk {
     start: u32,
@@ -32,7 +32,7 @@ impl Model for WindowWalk {
 }
 
 impl WindowWalk {
-    /// The window from `start` on and below `stop`; nothing is walked yet.
+    /// The window `[start, stop)`. Nothing is walked yet.
     pub fn new(alloc: Global, start: u32, stop: u32) -> WindowWalk
         ensures start { result.start ≡ start }
         ensures stop { result.stop ≡ stop }
@@ -48,7 +48,7 @@ impl WindowWalk {
         }
     }
 
-    /// The first time that is not walked yet; none where the window is walked.
+    /// The first time that is not walked yet; none if the walk is complete.
     pub fn next(&self) -> Option<u32>
         ensures some { IfSome result (λ time. (time ≡ self.now.time) × (time < self.now.stop)) }
         ensures none { IfNone result (self.now.stop ≤ self.now.time) }
@@ -60,7 +60,7 @@ impl WindowWalk {
         }
     }
 
-    /// Goes over the cell at the time that is next.
+    /// Goes over the cell at the next time.
     pub fn push(&mut self, cell: Cell) -> Result<(), OutOfMemory>
         requires { self.old.time < self.old.stop }
         ensures start { OnOk result (self.new.start ≡ self.old.start) }
@@ -78,7 +78,7 @@ impl WindowWalk {
         Ok(())
     }
 
-    /// The runs so far. Where the window is walked, they are the waveform.
+    /// The runs so far. If the walk is complete, they are the waveform.
     pub fn into_runs(self) -> Runs
         ensures runs { result ≡ self.runs }
         ensures wave { (c : Circuit) (s : ℕ) → IsCircuit c → IsWalked c s self

@@ -1,4 +1,4 @@
--- The draws of a workload: those of a linear congruential generator, without the lower 16 bits of its states.
+-- The draws of a workload: the states of a linear congruential generator without their lower 16 bits.
 use Rattle.std.specs.Prelude.{ℕ, zero, suc, ◌+◌, ◌*◌, ◌/◌, ◌%◌}
 
 abbrev pub next_state : ℕ → ℕ
@@ -9,6 +9,6 @@ unfoldable pub state_after : ℕ → ℕ → ℕ
 state_after n zero = n
 state_after n (suc k) = next_state (state_after n k)
 
--- the draw number k, counted from 1
+-- draw number k, counted from 1
 abbrev pub draw : ℕ → ℕ → ℕ
 draw n k = state_after n k / 65536

@@ -1,5 +1,5 @@
--- The texts of the workload number n. Its draws are used one after another: one for each gate, then one for each
--- setting, then two for each query.
+-- The texts of workload number n. Its draws are used in order: one for each gate, then one for each setting, then two for each
+-- query.
 use Rattle.std.specs.Prelude.{ℕ, ◌+◌, ◌-◌, ◌*◌, ◌/◌, ◌%◌, ◌==◌, List, [], ◌∷◌, ◌++◌, get_or, flat_map, codes, decimal, if◌then◌else◌}
 use Rattle.std.specs.List.{range_with_len}
 use Rattle.workload.specs.Draws.{draw}
@@ -19,7 +19,7 @@ input i = codes "i" ++ decimal i
 abbrev pub gate : ℕ → ℕ → List ℕ
 gate layer place = codes "g" ++ decimal layer ++ codes "_" ++ decimal place
 
--- a signal of the layer below this one, at this place if its places are counted round: below layer 0 lie the 16 inputs
+-- a signal of the layer below this one, at this place modulo the size of that layer; the 16 inputs lie below layer 0
 abbrev pub below : ℕ → ℕ → List ℕ
 below layer place = if layer == 0 then input (place % 16) else gate (layer - 1) (place % 2000)
 
@@ -53,7 +53,7 @@ netlist_text n = lines_of input_line 16 ++ lines_of (gate_line n) 200000 ++ line
 abbrev pub timing_text : List ℕ
 timing_text = codes "default 1" ++ line_feed
 
--- this input has this value from this time on
+-- this input takes this value at this time
 abbrev pub setting_text : ℕ → ℕ → ℕ → List ℕ
 setting_text i time value = codes "set " ++ input i ++ codes " " ++ decimal time ++ codes " " ++ decimal value ++ line_feed
 
@@ -65,7 +65,7 @@ setting_line n s = setting_text (s % 16) (10 * (s / 16)) (draw n (200001 + s) % 
 unfoldable pub stimulus_text : ℕ → List ℕ
 stimulus_text n = codes "horizon 100000" ++ line_feed ++ lines_of (setting_line n) 160016
 
--- a wave of 20 instants of a gate of the last layer, and its value at one time
+-- a wave over 20 instants for a gate of the last layer, and its value at one time
 abbrev pub wave_text : ℕ → ℕ → List ℕ
 wave_text place time =
     codes "wave " ++ gate 99 place ++ codes " " ++ decimal time ++ codes " " ++ decimal (time + 20) ++ codes " 20000" ++ line_feed

@@ -12,7 +12,7 @@ use Rattle.query_lines.specs.declared.unit.Unit.TheVariants.{Batch}
 use Rattle.workload.specs.declared.Work.{Work}
 use Rattle.workload.specs.Texts.{netlist_text, timing_text, stimulus_text, script_text}
 
--- the workload number n: what its texts say
+-- workload number n: what its texts say
 pub record IsWork (n : ℕ) (work : Work) : Type 0 where
   pub netlist : netlists.Content
   pub timing : timings.Content

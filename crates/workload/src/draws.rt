@@ -6,7 +6,7 @@ ghost use Rattle.workload.specs.Draws.{state_after, draw};
 
 const MODULUS: u64 = 2_147_483_648;
 
-/// Draws, one after another: a seed, how many were made, and the generator's state.
+/// The generator of draws: its seed, the number of draws made, and its state.
 #[derive(Drop)]
 pub struct Draws {
     pub seed: u32,

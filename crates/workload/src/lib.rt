@@ -1,20 +1,20 @@
-//! A workload of fixed size and drawn content: a circuit, its inputs over time, and questions about it.
+//! A workload of fixed size and drawn content: a circuit, its inputs over time, and queries.
 //!
 //! A workload has a number, the seed of its draws. Its circuit has 16 inputs and 100 layers of 2,000 gates of two
 //! pins, whose kinds are drawn. Each gate reads two neighbours in the layer below, and every delay is 1. The
-//! inputs are set to drawn values at every tenth instant up to the horizon, 100,000. Sixteen questions ask for
-//! signals of the last layer at drawn times; they are one batch. To simulate all of it forward takes
-//! 20,000,000,000 evaluations; what the questions need is 121,200 at most.
+//! inputs are set to drawn values at every tenth instant up to the horizon, 100,000. Sixteen items ask for
+//! signals of the last layer at drawn times; they are one batch. Full forward simulation takes 20,000,000,000
+//! evaluations. The items need at most 121,200.
 //!
 //! `specs/Texts` defines a workload as four texts: a netlist, a timing file, a stimulus file and a script, in the
 //! forms of `bench_reader`, `timing_file`, `stimulus_file` and `query_lines`. [`workload`] writes these texts,
-//! reads them by the readers of those crates and joins them. So a session over a workload is the session over
-//! its texts (`specs/Workload`). `specs/Draws` has the generator.
+//! reads them by the readers of those crates and joins them. A session over a workload is therefore the session
+//! over its texts (`specs/Workload`). `specs/Draws` has the generator.
 //!
-//! That the readers accept the texts isn't proved: the tests show it. A refusal would be answered as
-//! `OutOfMemory`, which is the one error.
+//! That the readers accept the texts is tested, not proved. A refusal would be returned as `OutOfMemory`, the
+//! only error.
 //!
-//! The texts have some ten million bytes, and are dropped as soon as they are read.
+//! The texts have about ten million bytes. Each is dropped once it is read.
 //!
 //! ```text
 //! let Work { design, items } = workload(alloc, 7)?;

@@ -1,4 +1,4 @@
-//! Writing the lines of the texts, each from what was drawn for it.
+//! Writing the lines of the texts from their draws.
 
 ghost use Rattle.std.specs.Prelude.{◌≡◌, ◌++◌, ◌+◌, ◌<◌, OnOk};
 ghost use Rattle.workload.specs.Texts as texts;

@@ -1,4 +1,4 @@
-//! Reading the texts. Each reader's refusal, which cannot come, is answered as want of memory.
+//! Reading the texts. A reader's refusal is returned as a lack of memory.
 
 ghost use Rattle.std.specs.Prelude.{◌≡◌, ◌≤◌, ◌<◌, ◌∷◌, [], length, Ok, IfOk};
 ghost use Rattle.bench_reader.specs.Netlists.{bench_of};

@@ -2,7 +2,7 @@ use super::*;
 use query_lines::{Item, What};
 use std::test::*;
 
-// The first draws were worked out by hand, and the later lines by a program in another language, `bench/demand/generate.rs`.
+// The first draws were computed by hand, and the later lines by `bench/demand/generate.rs`, a program in another language.
 
 #[test]
 fn first_draws(rt: HostRuntime) {

@@ -36,7 +36,7 @@ pub fn put_gate(text: &mut Vec<u8>, layer: u32, place: u32) -> Result<(), OutOfM
     put_number(text, place)
 }
 
-/// Writes the name of a signal below a layer.
+/// Writes the name of a signal in the layer below this one.
 pub fn put_below(text: &mut Vec<u8>, layer: u32, place: u32) -> Result<(), OutOfMemory>
     ensures { OnOk result (text.new.items ≡ text.old.items ++ below layer place) }
 {

@@ -1,4 +1,4 @@
--- What only the proofs and the private functions of this crate speak of, beside `Forced`.
+-- Definitions for proofs and private functions, beside `Forced`.
 use Rattle.std.specs.Prelude.{◌≡◌, ℕ, ◌≤◌, ◌<◌, [], ◌∷◌, Option, MatchOption, ◌≢◌}
 use Rattle.gate_values.specs.declared.Value.{Value}
 use Rattle.circuit_meaning.specs.Circuit.{Circuit}

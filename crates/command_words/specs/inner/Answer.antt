@@ -1,11 +1,11 @@
--- What only the proofs and the private functions of this crate speak of, beside `Answer`.
+-- Definitions for proofs and private functions, beside `Answer`.
 use Rattle.std.specs.Prelude.{[], codes, option_map, unwrap_or}
 use Rattle.clap.specs.Words.{first_value, matched_of, raw_values}
 use Rattle.clap.specs.declared.parser.matches.Found.{Found}
 use Rattle.command_words.specs.Words.{Said}
 use Rattle.command_words.specs.declared.Words.TheVariants as words
 
--- what the matches say of the options and the names
+-- the options and the names in the matches
 abbrev pub said_in : Found → Said
 said_in found = record {
   workers = first_value found (codes "workers");

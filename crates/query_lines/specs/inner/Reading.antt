@@ -1,4 +1,4 @@
--- What only the proofs and the private functions of this crate speak of, beside `Readers`.
+-- Definitions for proofs and private functions, beside `Readers`.
 use Rattle.std.specs.Prelude.{◌≡◌, ℕ, ◌+◌, List}
 use Rattle.query_lines.specs.declared.unit.Unit.{Unit as ScriptUnit}
 use Rattle.query_lines.specs.Lines.{line_of}

@@ -26,7 +26,7 @@ events_at code (wire ∷ wires) t = map (event code) (filter (is_at t) wire.chan
 abbrev pub by_time : List Wire → List Event
 by_time wires = flat_map (events_at first_code wires) (range_with_len 0 (last_time + 1))
 
--- their text, behind a line of this time
+-- the text of a change, after a line of this time
 abbrev pub event_line : ℕ → Event → List ℕ
 event_line last e = (if e.time == last then [] else ended (time_line e.time)) ++ ended (change_line e.code (run_of e))
 
