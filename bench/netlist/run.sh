@@ -21,10 +21,10 @@ bin=$out/target/release
 # A program of its own, beside copies of the crates that it stands on.
 work=$(mktemp -d)
 trap 'rm -rf "$work"' EXIT
-copy_crates "$work" gate_values text_rules bench_lines bench_reader
+copy_crates "$work" owned_text gate_values text_rules line_faults bench_reader
 mkdir -p "$work/crates/netlist_time/src"
 cp "$here/program.txt" "$work/crates/netlist_time/src/main.rt"
-echo "netlist_time: bench_reader anyhow" >>"$work/crates.txt"
+echo "netlist_time: line_faults bench_reader anyhow" >>"$work/crates.txt"
 (cd "$work/crates/netlist_time" && rt run -- "$out/million.bench" >/dev/null)
 proved=$work/crates/netlist_time/out/netlist_time
 
