@@ -13,10 +13,10 @@ fn hear_base(design: &Design, walk: &PinWalk) -> Option<PinWalk>
     ensures { MatchOption result (IsReady design.now.circuit walk.now)
         (HearsBase design.now.circuit walk.now) }
 {
-    if walk.is_done(design) {
+    if walk.is_done() {
         return None;
     }
-    match walk.next_source(design) {
+    match walk.next_source() {
         None => Some(walk.see(design, None)),
         Some(p) => match design.base(p.signal, p.time) {
             None => None,

@@ -13,7 +13,7 @@
 //! program runs. By its type, every point that a strand asks for or holds is needed by its query, and it has charged at most its
 //! budget.
 //!
-//! A claimed point takes 24 bytes on the stack. A step takes constant time, but for the base answers that it hears: each is a
+//! A claimed point takes 36 bytes on the stack. A step takes constant time, but for the base answers that it hears: each is a
 //! look-up in the design. Only `claimed` takes memory.
 //!
 //! ```

@@ -125,10 +125,10 @@ impl Parts {
             Some(walk) => {
                 if self.spent {
                     Next::Drop(walk.point)
-                } else if walk.is_done(design) {
+                } else if walk.is_done() {
                     Next::Fill(walk.point)
                 } else {
-                    match walk.next_source(design) {
+                    match walk.next_source() {
                         Some(p) => Next::Ask(p),
                         None => unreachable!(),
                     }

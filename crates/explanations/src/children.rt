@@ -103,7 +103,7 @@ fn look<B: BatchName>(
     ensures asks { IfOk result (λ r. AsksOn B.batch B.opening query (shards_in memo.old) false
         (shards_in memo.new) (is_missing r)) }
 {
-    let Some(p) = walk.next_source(design) else {
+    let Some(p) = walk.next_source() else {
         return Ok(Some(walk.see(design, None)));
     };
     match hear(memo, design, query, p, waiting, charge)? {
@@ -141,7 +141,7 @@ pub fn ask_children<B: BatchName>(
         (shards_in memo.new)) }
 {
     let mut walk = PinWalk::new(design, p);
-    'pins: while !walk.is_done(design) {
+    'pins: while !walk.is_done() {
         match look(memo, design, query, &walk, waiting, charge)? {
             None => return Ok(true),
             Some(next) => walk = next,

@@ -1,9 +1,9 @@
 -- A walk that looks at its pins one after another comes to the cell of its point.
-use Rattle.std.proofs.Common.{◌≡◌, ℕ, zero, suc, ◌+◌, ◌-◌, ◌<◌, ◌≤◌, ◌||◌, Bool, true, false, IsTrue, List, [], ◌∷◌, ◌++◌, length, map, take, get_or, fold, refl, ap, sym, ◌∙◌, subst, arith, inl, inr, Option, Some, None, IsSome, nat_eq, slice_get, option_map}
+use Rattle.std.proofs.Common.{◌≡◌, ℕ, zero, suc, ◌+◌, ◌-◌, ◌<◌, ◌≤◌, ◌||◌, Bool, true, false, IsTrue, List, [], ◌∷◌, ◌++◌, length, map, take, get_or, fold, refl, ap, sym, ◌∙◌, subst, arith, inl, inr, Option, Some, None, IsSome, nat_eq, slice_get, option_map, IfSome}
 use Rattle.std.specs.List.{AllByRecursion, list_any, range_with_len}
 use Rattle.std.proofs.lemmas.Bool.{cases_Bool, cases_lt}
 use Rattle.std.proofs.lemmas.Bool.Decides.{eqb_tells}
-use Rattle.std.proofs.lemmas.List.{map-append, take_more, take_all, get_or-take}
+use Rattle.std.proofs.lemmas.List.{map-append, take_more, take_all, get_or-take, get_or_past}
 use Rattle.std.proofs.lemmas.List.Folds.{list_any-append}
 use Rattle.std.proofs.lemmas.List.Sums.{fold-append}
 use Rattle.std.proofs.lemmas.List.FromFn.{length-map-range_with_len, take-map-range_with_len, get_or-map-range_with_len}
@@ -174,24 +174,78 @@ module _ (c : Circuit) (ok : IsCircuit c) (f : PinWalk) (is : IsPinWalk c f) whe
       let zero : f.looked ≡ 0 = omega arith in
       rw zero (ap (map (sees c)) (take-none (all_points c f.point)))
 
-  -- one pin more
-  pub looks-on : IsLooking c f → (e : Evaluation) (v : Value) (x : Span) → v ≡ sees c (next_point c f) → e.kind ≡ f.evaluation.kind
-      → e.value ≡ gate_value e.kind (map (sees c) (take f.looked (all_points c f.point)) ++ v ∷ []) → x ≡ meet f.interval (pin_interval c f.point.signal f.point.time f.looked)
-      → LooksOn c f (record { point = f.point; looked = f.looked + 1; interval = x; evaluation = e; decided = decides f.evaluation.kind v })
-  looks-on looking e v x seen kind value met =
+  -- one of the pins up to the next decides exactly where the next one does
+  any-decides : IsLooking c f → (v : Value) → v ≡ sees c (next_point c f) → list_any (λ o. decides (kind_at c f.point) (sees c o)) (take (f.looked + 1) (all_points c f.point)) ≡ decides f.evaluation.kind v
+  any-decides looking v seen =
       let xs = all_points c f.point in
       let n = f.looked in
       let K = kind_at c f.point in
       let test : Option Point → Bool = λ o. decides K (sees c o) in
       let o = get_or xs n None in
-      let more : take (n + 1) xs ≡ take n xs ++ o ∷ [] = take_more xs n None (looking-below looking) in
-      let same : v ≡ sees c o = seen ∙ ap (sees c) (next-among looking) in
+      ap (list_any test) (take_more xs n None (looking-below looking)) ∙ list_any-append test (take n xs) (o ∷ []) ∙ or-last (list_any test (take n xs)) (test o) (none-decides looking)
+      ∙ ap (decides K) (sym (seen ∙ ap (sees c) (next-among looking))) ∙ ap (λ k. decides k v) (sym is.kind)
+
+  -- after the next pin, the look is over exactly where that one has decided or none is left
+  pub ends-here : IsLooking c f → (v : Value) → v ≡ sees c (next_point c f) → decides f.evaluation.kind v ≡ true → f.looked + 1 ≡ length (looked_at c f.point)
+  ends-here looking v seen h = cut-ends (λ o. decides (kind_at c f.point) (sees c o)) (all_points c f.point) (f.looked + 1) (omega arith) (any-decides looking v seen ∙ h)
+
+  ends-last : IsLooking c f → f.looked + 1 ≡ length (all_points c f.point) → f.looked + 1 ≡ length (looked_at c f.point)
+  ends-last looking h = let k = cut-whole (λ o. decides (kind_at c f.point) (sees c o)) (all_points c f.point) in omega arith
+
+  goes-on : IsLooking c f → (v : Value) → v ≡ sees c (next_point c f) → decides f.evaluation.kind v ≡ false → f.looked + 1 < length (all_points c f.point) → f.looked + 1 < length (looked_at c f.point)
+  goes-on looking v seen h below = cut-more (λ o. decides (kind_at c f.point) (sees c o)) (all_points c f.point) (f.looked + 1) below (any-decides looking v seen ∙ h)
+
+  pub done-first : IsLooking c f → (v : Value) → v ≡ sees c (next_point c f) → decides f.evaluation.kind v ≡ true → true ≡ nat_eq (f.looked + 1) (length (looked_at c f.point))
+  done-first looking v seen h = sym (eqb_is (f.looked + 1) (length (looked_at c f.point)) (ends-here looking v seen h))
+
+  pub done-last : IsLooking c f → (v : Value) → v ≡ sees c (next_point c f) → decides f.evaluation.kind v ≡ false → (n : ℕ) → n ≡ length (read_by (driver c f.point.signal)) → nat_eq (f.looked + 1) n ≡ nat_eq (f.looked + 1) (length (looked_at c f.point))
+  done-last looking v seen h n e =
+      let count : n ≡ length (all_points c f.point) = e ∙ sym (sources-count f.point.time (driver c f.point.signal) is.evaluable) in
+      elim (eqb_tells (f.looked + 1) n) [
+        | inl t ↦ t.0 ∙ sym (eqb_is (f.looked + 1) (length (looked_at c f.point)) (ends-last looking (t.1 ∙ count)))
+        | inr t ↦
+            let k = looking-below looking in
+            let below : f.looked + 1 < length (all_points c f.point) = apart-below (f.looked + 1) (length (all_points c f.point)) n (omega arith) (sym count) t.1 in
+            t.0 ∙ sym (eqb_not (f.looked + 1) (length (looked_at c f.point)) (below-not (f.looked + 1) (length (looked_at c f.point)) (goes-on looking v seen h below)))
+      ]
+
+  -- whether it is over, and the source after the next one
+  pub over : IsLooking c f → (d : Bool) → d ≡ nat_eq (f.looked + 1) (length (looked_at c f.point)) → d ≡ true → None ≡ get_or (looked_at c f.point) (f.looked + 1) None
+  over looking d e t =
+      let xs = looked_at c f.point in
+      elim (eqb_tells (f.looked + 1) (length xs)) [
+        | inl k ↦ sym (get_or_past xs (f.looked + 1) None (omega arith))
+        | inr k ↦ absurd (cc (k.0, e, t))
+      ]
+
+  pub on : IsLooking c f → (d : Bool) → d ≡ nat_eq (f.looked + 1) (length (looked_at c f.point)) → d ≡ false → f.looked + 1 < length (looked_at c f.point)
+  on looking d e t =
+      let xs = looked_at c f.point in
+      elim (eqb_tells (f.looked + 1) (length xs)) [
+        | inl k ↦ absurd (cc (k.0, e, t))
+        | inr k ↦ apart-below (f.looked + 1) (length xs) (length xs) (omega arith) refl k.1
+      ]
+
+  pub on-below : f.looked + 1 < length (looked_at c f.point) → f.looked + 1 < length (read_by (driver c f.point.signal))
+  on-below below = let k = cut-whole (λ o. decides (kind_at c f.point) (sees c o)) (all_points c f.point) in let e = sources-count f.point.time (driver c f.point.signal) is.evaluable in omega arith
+
+  pub on-source : f.looked + 1 < length (looked_at c f.point) → get_or (all_points c f.point) (f.looked + 1) None ≡ get_or (looked_at c f.point) (f.looked + 1) None
+  on-source below = sym (cut-get (λ o. decides (kind_at c f.point) (sees c o)) (all_points c f.point) (f.looked + 1) None below)
+
+  -- one pin more
+  pub looks-on : IsLooking c f → (e : Evaluation) (v : Value) (x : Span) (d : Bool) (o : Option Point) → v ≡ sees c (next_point c f) → e.kind ≡ f.evaluation.kind
+      → e.value ≡ gate_value e.kind (map (sees c) (take f.looked (all_points c f.point)) ++ v ∷ []) → x ≡ meet f.interval (pin_interval c f.point.signal f.point.time f.looked)
+      → d ≡ nat_eq (f.looked + 1) (length (looked_at c f.point)) → o ≡ get_or (looked_at c f.point) (f.looked + 1) None → IfSome o (IsPoint c)
+      → LooksOn c f (record { point = f.point; looked = f.looked + 1; interval = x; evaluation = e; done = d; source = o })
+  looks-on looking e v x d o seen kind value met done source reads =
+      let xs = all_points c f.point in
+      let n = f.looked in
+      let K = kind_at c f.point in
+      let more : take (n + 1) xs ≡ take n xs ++ get_or xs n None ∷ [] = take_more xs n None (looking-below looking) in
+      let same : v ≡ sees c (get_or xs n None) = seen ∙ ap (sees c) (next-among looking) in
       let kinds : e.kind ≡ K = kind ∙ is.kind in
       let values : map (sees c) (take (n + 1) xs) ≡ map (sees c) (take n xs) ++ v ∷ [] =
-      ap (map (sees c)) more ∙ map-append (sees c) (take n xs) (o ∷ []) ∙ ap (λ y. map (sees c) (take n xs) ++ y ∷ []) (sym same) in
-      let tests : list_any test (take (n + 1) xs) ≡ decides f.evaluation.kind v =
-      ap (list_any test) more ∙ list_any-append test (take n xs) (o ∷ []) ∙ or-last (list_any test (take n xs)) (test o) (none-decides looking)
-      ∙ ap (λ y. decides K y) (sym same) ∙ ap (λ k. decides k v) (sym is.kind) in
+      ap (map (sees c)) more ∙ map-append (sees c) (take n xs) (get_or xs n None ∷ []) ∙ ap (λ y. map (sees c) (take n xs) ++ y ∷ []) (sym same) in
       record {
         walk = record {
           point = is.point;
@@ -199,24 +253,16 @@ module _ (c : Circuit) (ok : IsCircuit c) (f : PinWalk) (is : IsPinWalk c f) whe
           looked = omega arith;
           kind = kinds;
           value = value ∙ ap (λ k. gate_value k (map (sees c) (take n xs) ++ v ∷ [])) kinds ∙ ap (gate_value K) (sym values);
-          decided = sym tests;
           interval = met ∙ ap (λ a. meet a (pin_interval c f.point.signal f.point.time n)) is.interval ∙ sym (met-more c f.point.signal f.point.time n);
+          done = done;
+          source = source;
+          reads = reads;
         };
         point = refl;
         looked = refl;
       }
 
-  -- it has looked at all that it looks at exactly where one has decided or none is left
-  pub ends-here : f.decided ≡ true → f.looked ≡ length (looked_at c f.point)
-  ends-here h = cut-ends (λ o. decides (kind_at c f.point) (sees c o)) (all_points c f.point) f.looked is.looked (sym is.decided ∙ h)
-
-  pub ends-last : f.looked ≡ length (all_points c f.point) → f.looked ≡ length (looked_at c f.point)
-  ends-last h = let k = cut-whole (λ o. decides (kind_at c f.point) (sees c o)) (all_points c f.point) in let l = is.looked in omega arith
-
-  pub goes-on : f.decided ≡ false → f.looked < length (all_points c f.point) → IsLooking c f
-  goes-on h below = cut-more (λ o. decides (kind_at c f.point) (sees c o)) (all_points c f.point) f.looked below (sym is.decided ∙ h)
-
-  -- then it has the value of its point
+  -- at its end it has the value of its point
   pub done-value : f.looked ≡ length (looked_at c f.point) → f.evaluation.value ≡ value c f.point.signal f.point.time
   done-value h =
       let test : Option Point → Bool = λ o. decides (kind_at c f.point) (sees c o) in
@@ -231,13 +277,6 @@ module _ (c : Circuit) (ok : IsCircuit c) (f : PinWalk) (is : IsPinWalk c f) whe
   pub few-looked : IsLooking c f → f.looked < 64
   few-looked looking = let k = pin-below looking in let l = few-pins (length c.drivers) c.horizon (driver c f.point.signal) (driver_fits c ok f.point.signal) in omega arith
 
-  -- what the next pin reads
-  pub next-read : IsLooking c f → (o : Option ℕ) → slice_get (all_points c f.point) f.looked ≡ Some (option_map (pin_at c f.point.signal f.looked) o) → option_map (pin_at c f.point.signal f.looked) o ≡ next_point c f
-  next-read looking o e = sym (get-is (all_points c f.point) f.looked None (option_map (pin_at c f.point.signal f.looked) o) e) ∙ sym (next-among looking)
-
-  pub read-within : IsLooking c f → get_or (read_by (driver c f.point.signal)) f.looked 0 < length c.drivers
-  read-within looking = reads-within (length c.drivers) c.horizon (driver c f.point.signal) f.looked (driver_fits c ok f.point.signal) (pin-below looking)
-
   -- the intervals share the time of the point
   pub shares : c.horizon ≤ 1000000 → IsIn (meet f.interval (pin_interval c f.point.signal f.point.time f.looked)) f.point.time
   shares small =
@@ -247,31 +286,6 @@ module _ (c : Circuit) (ok : IsCircuit c) (f : PinWalk) (is : IsPinWalk c f) whe
       let b : IsIn (pin_interval c f.point.signal t f.looked) t = interval-has c ok f.point.signal t within f.looked in
       let al = a.low in let ah = a.high in let bl = b.low in let bh = b.high in
       record { low = omega arith; high = omega arith }
-
-  pub done-first : f.decided ≡ true → f.decided ≡ nat_eq f.looked (length (looked_at c f.point))
-  done-first h = h ∙ sym (eqb_is f.looked (length (looked_at c f.point)) (ends-here h))
-
-  pub done-last : f.decided ≡ false → (n : ℕ) → n ≡ length (read_by (driver c f.point.signal)) → nat_eq f.looked n ≡ nat_eq f.looked (length (looked_at c f.point))
-  done-last h n e =
-      let count : length (all_points c f.point) ≡ n = sources-count f.point.time (driver c f.point.signal) is.evaluable ∙ sym e in
-      elim (eqb_tells f.looked n) [
-        | inl t ↦ t.0 ∙ sym (eqb_is f.looked (length (looked_at c f.point)) (ends-last (t.1 ∙ sym count)))
-        | inr t ↦
-            let l = cut-whole (λ o. decides (kind_at c f.point) (sees c o)) (all_points c f.point) in
-            let m = is.looked in
-            let below : f.looked < length (all_points c f.point) = apart-below f.looked (length (all_points c f.point)) n (omega arith) count t.1 in
-            t.0 ∙ sym (eqb_not f.looked (length (looked_at c f.point)) (below-not f.looked (length (looked_at c f.point)) (goes-on h below)))
-      ]
-
-  -- the point that is read
-  pub read-is : IsLooking c f → (xs : List ℕ) (t : ℕ) → xs ≡ read_by (driver c f.point.signal) → slice_get (all_points c f.point) f.looked ≡ Some (option_map (pin_at c f.point.signal f.looked) (Some t))
-      → Some (record { signal = get_or xs f.looked 0; time = t }) ≡ next_point c f
-  read-is looking xs t e k = let at : ℕ → Option Point = λ s. Some (record { signal = s; time = t }) in ap (λ l. at (get_or l f.looked 0)) e ∙ next-read looking (Some t) k
-
-  pub read-point : IsLooking c f → (xs : List ℕ) (t : ℕ) → xs ≡ read_by (driver c f.point.signal) → t < f.point.time → IsPoint c (record { signal = get_or xs f.looked 0; time = t })
-  read-point looking xs t e early =
-      let within = is.point.time in
-      record { signal = subst (λ l. get_or l f.looked 0 < length c.drivers) (sym e) (read-within looking); time = omega arith }
 
   pub heard-there : IsLooking c f → (h : Option Cell) → h ≡ cell_there c (next_point c f) → span_there h ≡ heard_of c f.point.signal f.point.time f.looked
   heard-there looking h e = heard-span c (next_point c f) h e ∙ ap (option_map (λ p. span c p.signal p.time)) (next-among looking)
@@ -287,17 +301,44 @@ module _ (c : Circuit) (ok : IsCircuit c) (f : PinWalk) (is : IsPinWalk c f) whe
   pub done-cell : f.looked ≡ length (looked_at c f.point) → (a : Span) → a ≡ span c f.point.signal f.point.time → ◌≡◌ {A = Cell} (record { span = a; value = f.evaluation.value }) (cell_at c f.point)
   done-cell h a e = let at : Span → Value → Cell = λ x v. record { span = x; value = v } in ap (λ x. at x f.evaluation.value) e ∙ ap (at (span c f.point.signal f.point.time)) (done-value h)
 
+-- what a point reads by a pin
+module _ (c : Circuit) (ok : IsCircuit c) (p : Point) (here : IsPoint c p) (pin : ℕ) where
+  pub read-is : (o : Option ℕ) → slice_get (all_points c p) pin ≡ Some (option_map (pin_at c p.signal pin) o) → option_map (pin_at c p.signal pin) o ≡ get_or (all_points c p) pin None
+  read-is o e = sym (get-is (all_points c p) pin None (option_map (pin_at c p.signal pin) o) e)
+
+  pub read-among : (xs : List ℕ) (t : ℕ) → xs ≡ read_by (driver c p.signal) → slice_get (all_points c p) pin ≡ Some (option_map (pin_at c p.signal pin) (Some t))
+      → Some (record { signal = get_or xs pin 0; time = t }) ≡ get_or (all_points c p) pin None
+  read-among xs t e k = let at : ℕ → Option Point = λ s. Some (record { signal = s; time = t }) in ap (λ l. at (get_or l pin 0)) e ∙ read-is (Some t) k
+
+  pub read-point : (xs : List ℕ) (t : ℕ) → xs ≡ read_by (driver c p.signal) → pin < length xs → t < p.time → IsPoint c (record { signal = get_or xs pin 0; time = t })
+  read-point xs t e below early =
+      let within = here.time in
+      let within-read : pin < length (read_by (driver c p.signal)) = subst (λ l. pin < length l) e below in
+      record { signal = subst (λ l. get_or l pin 0 < length c.drivers) (sym e) (reads-within (length c.drivers) c.horizon (driver c p.signal) pin (driver_fits c ok p.signal) within-read); time = omega arith }
+
+pub first-pin : (c : Circuit) → IsCircuit c → (p : Point) → IsEvaluable c p.signal p.time → 0 < length (all_points c p)
+first-pin c ok p evaluable = let k = some-pin (length c.drivers) c.horizon p.time (driver c p.signal) (driver_fits c ok p.signal) evaluable in omega arith
+
+cut-some : {A : Type 0} (test : A → Bool) (xs : List A) → 0 < length xs → 0 < length (up_to_first test xs)
+cut-some test [] h = absurd (omega arith)
+cut-some test (x ∷ xs) h = omega arith
+
 -- a walk that has looked at nothing
-pub new-walk : (c : Circuit) (p : Point) (e : Evaluation) → IsPoint c p → IsEvaluable c p.signal p.time → e.kind ≡ kind_at c p → e.value ≡ gate_value e.kind []
-    → IsPinWalk c (record { point = p; looked = 0; interval = from_to 0 2000002; evaluation = e; decided = false })
-new-walk c p e here evaluable kind value =
+pub new-walk : (c : Circuit) → IsCircuit c → (p : Point) (e : Evaluation) (o : Option Point) → IsPoint c p → IsEvaluable c p.signal p.time → e.kind ≡ kind_at c p → e.value ≡ gate_value e.kind []
+    → o ≡ get_or (all_points c p) 0 None → IfSome o (IsPoint c)
+    → IsPinWalk c (record { point = p; looked = 0; interval = from_to 0 2000002; evaluation = e; done = false; source = o })
+new-walk c ok p e o here evaluable kind value source reads =
     let none : take 0 (all_points c p) ≡ [] = take-none (all_points c p) in
+    let test : Option Point → Bool = λ s. decides (kind_at c p) (sees c s) in
+    let some : 0 < length (looked_at c p) = cut-some test (all_points c p) (first-pin c ok p evaluable) in
     record {
       point = here;
       evaluable = evaluable;
       looked = omega arith;
       kind = kind;
       value = value ∙ ap (λ k. gate_value k []) kind ∙ ap (λ xs. gate_value (kind_at c p) (map (sees c) xs)) (sym none);
-      decided = ap (list_any (λ o. decides (kind_at c p) (sees c o))) (sym none);
       interval = refl;
+      done = sym (eqb_not 0 (length (looked_at c p)) (below-not 0 (length (looked_at c p)) some));
+      source = source ∙ sym (cut-get test (all_points c p) 0 None some);
+      reads = reads;
     }

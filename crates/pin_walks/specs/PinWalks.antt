@@ -1,8 +1,7 @@
 -- A walk over the pins of a point: how many of them were looked at, and what these come to.
-use Rattle.std.specs.Prelude.{◌≡◌, ℕ, ◌≤◌, ◌<◌, ◌+◌, List, length, map, take, get_or, Option, None, option_map}
-use Rattle.std.specs.List.{list_any}
+use Rattle.std.specs.Prelude.{◌≡◌, ◌≤◌, ◌<◌, ◌+◌, List, length, map, take, get_or, nat_eq, Option, None, option_map, IfSome}
 use Rattle.gate_values.specs.declared.Kind.{Kind}
-use Rattle.gate_values.specs.Gates.{gate_value, decides}
+use Rattle.gate_values.specs.Gates.{gate_value}
 use Rattle.valid_intervals.specs.declared.Cell.{Cell}
 use Rattle.valid_intervals.specs.declared.Point.{Point}
 use Rattle.circuit_meaning.specs.Circuit.{Circuit, driver}
@@ -29,15 +28,17 @@ pub record IsPoint (c : Circuit) (p : Point) : Type 0 where
   pub signal : p.signal < length c.drivers
   pub time : p.time ≤ c.horizon
 
--- The walk is right about the pins that it has looked at.
+-- The walk is right about the pins that it has looked at, and about the next one.
 pub record IsPinWalk (c : Circuit) (w : PinWalk) : Type 0 where
   pub point : IsPoint c w.point
   pub evaluable : IsEvaluable c w.point.signal w.point.time
   pub looked : w.looked ≤ length (looked_at c w.point)
   pub kind : w.evaluation.kind ≡ kind_at c w.point
   pub value : w.evaluation.value ≡ gate_value (kind_at c w.point) (map (sees c) (take w.looked (all_points c w.point)))
-  pub decided : w.decided ≡ list_any (λ o. decides (kind_at c w.point) (sees c o)) (take w.looked (all_points c w.point))
   pub interval : w.interval ≡ met_interval c w.point.signal w.point.time w.looked
+  pub done : w.done ≡ nat_eq w.looked (length (looked_at c w.point))
+  pub source : w.source ≡ next_point c w
+  pub reads : IfSome w.source (IsPoint c)
 
 -- it has a pin more to look at
 abbrev pub IsLooking : Circuit → PinWalk → Type 0

@@ -13,8 +13,8 @@
 //!
 //! ```
 //! let mut walk = PinWalk::new(&design, point);
-//! while !walk.is_done(&design) {
-//!     let heard = match walk.next_source(&design) {
+//! while !walk.is_done() {
+//!     let heard = match walk.next_source() {
 //!         None => None, // the pin reads a time before 0
 //!         Some(source) => Some(cell_at(source)),
 //!     };
@@ -23,7 +23,7 @@
 //! let cell = walk.cell(&design);
 //! ```
 //!
-//! A walk takes 24 bytes and no other memory. Each call takes constant time.
+//! A walk takes 36 bytes and no other memory. Each call takes constant time.
 #![tactic(auto)]
 
 mod walk;

@@ -1,11 +1,12 @@
 //! A point whose pins are being looked at, one after another.
 
-ghost use Rattle.std.specs.Prelude.{◌≡◌, ◌<◌, length, nat_eq, IfSome};
+ghost use Rattle.std.specs.Prelude.{◌≡◌, ◌<◌, length, get_or, nat_eq, None, IfSome};
 ghost use Rattle.valid_intervals.specs.Spans as spans;
 ghost use Rattle.valid_intervals.specs.Spans.{from_to};
+ghost use Rattle.circuit_meaning.specs.Circuit.{Circuit, driver, read_by};
 ghost use Rattle.circuit_meaning.specs.Need.{IsEvaluable};
 ghost use Rattle.circuit_meaning.specs.Cells.{cell_at};
-ghost use Rattle.pin_walks.specs.PinWalks.{IsPoint, IsPinWalk, IsLooking, LooksOn, looked_at, next_point, cell_there};
+ghost use Rattle.pin_walks.specs.PinWalks.{IsPoint, IsPinWalk, IsLooking, LooksOn, all_points, looked_at, next_point, cell_there};
 ghost use Rattle.pin_walks.specs.inner.HeardCells.{span_there, value_there};
 
 use design::Design;
@@ -13,14 +14,15 @@ use gate_values::{Evaluation, Value};
 use valid_intervals::{Cell, LATEST, Point, Span};
 
 /// A point, how many of its pins were looked at, and what these come to: the times that their intervals have in common, their
-/// value, and whether the last of them has decided.
+/// value, and whether the look is over. Beside it, the point that the next pin reads.
 #[derive(Clone, Copy)]
 pub struct PinWalk {
     pub point: Point,
     pub looked: u32,
     pub interval: Span,
     pub evaluation: Evaluation,
-    pub decided: bool,
+    pub done: bool,
+    pub source: Option<Point>,
 }
 
 /// Every time.
@@ -64,6 +66,23 @@ fn value_there(heard: &Option<Cell>) -> Value
     }
 }
 
+/// The point that a pin reads, of a point with these pins; none where that is before time 0.
+fn source_of(design: &Design, point: Point, pins: &[u32], pin: u32) -> Option<Point>
+    requires point { IsPoint design.now.circuit point }
+    requires evaluable { IsEvaluable design.now.circuit point.signal point.time }
+    requires pins { pins.now ≡ read_by (driver design.now.circuit point.signal) }
+    requires pin { pin < length pins.now }
+    ensures source { result ≡ get_or (all_points design.now.circuit point) pin None }
+    ensures point { IfSome result (IsPoint design.now.circuit) }
+{
+    design.facts();
+    let time = design.child_time(point.signal, point.time, pin)?;
+    Some(Point {
+        signal: pins[pin as usize],
+        time,
+    })
+}
+
 impl PinWalk {
     /// Nothing is looked at yet.
     pub fn new(design: &Design, point: Point) -> PinWalk
@@ -74,41 +93,31 @@ impl PinWalk {
         ensures looked { result.looked ≡ 0 }
     {
         design.facts();
-        let (kind, _) = design.gate_of(point.signal);
+        let (kind, pins) = design.gate_of(point.signal);
         PinWalk {
             point,
             looked: 0,
             interval: always(),
             evaluation: Evaluation::new(kind),
-            decided: false,
+            done: false,
+            source: source_of(design, point, pins, 0),
         }
     }
 
     /// Whether the look is over: one pin has decided, or none is left.
-    pub fn is_done(&self, design: &Design) -> bool
-        requires { IsPinWalk design.now.circuit self.now }
-        ensures { result ≡ nat_eq self.now.looked
-            (length (looked_at design.now.circuit self.now.point)) }
+    pub fn is_done(&self) -> bool
+        ensures { (c : Circuit) → IsPinWalk c self.now
+            → result ≡ nat_eq self.now.looked (length (looked_at c self.now.point)) }
     {
-        design.facts();
-        let (_, pins) = design.gate_of(self.point.signal);
-        self.decided || self.looked as usize == pins.len()
+        self.done
     }
 
     /// The point that the next pin reads; none where that is before time 0.
-    pub fn next_source(&self, design: &Design) -> Option<Point>
-        requires walk { IsPinWalk design.now.circuit self.now }
-        requires looking { IsLooking design.now.circuit self.now }
-        ensures source { result ≡ next_point design.now.circuit self.now }
-        ensures point { IfSome result (IsPoint design.now.circuit) }
+    pub fn next_source(&self) -> Option<Point>
+        ensures source { (c : Circuit) → IsPinWalk c self.now → result ≡ next_point c self.now }
+        ensures point { (c : Circuit) → IsPinWalk c self.now → IfSome result (IsPoint c) }
     {
-        design.facts();
-        let time = design.child_time(self.point.signal, self.point.time, self.looked)?;
-        let (_, pins) = design.gate_of(self.point.signal);
-        Some(Point {
-            signal: pins[self.looked as usize],
-            time,
-        })
+        self.source
     }
 
     /// The walk after it has looked at the next pin, whose cell is heard; before time 0 there is none.
@@ -127,12 +136,21 @@ impl PinWalk {
             self.looked,
             span_there(&heard),
         );
+        let (_, pins) = design.gate_of(self.point.signal);
+        let looked = self.looked + 1;
+        let done = self.evaluation.kind.decides(value) || looked as usize == pins.len();
+        let source = if done {
+            None
+        } else {
+            source_of(design, self.point, pins, looked)
+        };
         PinWalk {
             point: self.point,
-            looked: self.looked + 1,
+            looked,
             interval: common(self.interval, interval),
             evaluation: self.evaluation.see(value),
-            decided: self.evaluation.kind.decides(value),
+            done,
+            source,
         }
     }
 

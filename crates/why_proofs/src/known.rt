@@ -80,7 +80,7 @@ impl KnownCells {
         ensures known { (lines : List SignalCell) → IsIndexOf lines (get point_cmp self.now.cells)
             → Hears design.now.circuit (answer design.now.circuit lines) walk.now result }
     {
-        match walk.next_source(design) {
+        match walk.next_source() {
             None => Some(walk.see(design, None)),
             Some(source) => {
                 let cell = self.answer(design, source)?;
@@ -101,7 +101,7 @@ impl KnownCells {
         design.facts();
         let mut walk = PinWalk::new(design, p);
         'pins: loop {
-            if walk.is_done(design) {
+            if walk.is_done() {
                 return Some(walk.cell(design));
             }
             match self.look(design, &walk) {

@@ -55,7 +55,7 @@ fn look<B: BatchName>(
     ensures asks { IfOk result (λ r. AsksOn B.batch B.opening q (shards_in memo.old) false
         (shards_in memo.new) (is_missing r)) }
 {
-    let Some(x) = walk.next_source(design) else {
+    let Some(x) = walk.next_source() else {
         return Ok(Some(walk.see(design, None)));
     };
     let query = Query {
@@ -97,7 +97,7 @@ fn settle_children<B: BatchName>(
         (shards_in memo.new)) }
 {
     let mut walk = PinWalk::new(design, p);
-    'pins: while !walk.is_done(design) {
+    'pins: while !walk.is_done() {
         match look(memo, design, q, &walk, charge)? {
             None => return Ok(true),
             Some(next) => walk = next,

@@ -2,7 +2,7 @@ use Rattle.std.proofs.Common.{◌≡◌, [], Some, None, false, get_or, sym, sub
 use Rattle.circuit_meaning.specs.Circuit.{Circuit}
 use Rattle.plan_machine.specs.inner.Settle.{Advances}
 use Rattle.plan_machine.proofs.Settle.{child-needed}
-use Rattle.pin_walks.specs.PinWalks.{looked_at}
+use Rattle.pin_walks.specs.PinWalks.{IsPoint, looked_at}
 use Rattle.plan_core.specs.Parts.{shards_in}
 use Rattle.asked_cells.specs.Asked.{AsksOn, Nothing}
 use Rattle.asked_cells.specs.Memos.{is_missing}
@@ -10,13 +10,16 @@ use Rattle.asked_cells.specs.inner.Standings.{live, standing}
 use Rattle.explanations.proofs.Moves.{source-child}
 use Rattle.explanations.proofs.children.look.Goals as goal
 
+pub hear-requires-clause-point : goal.hear-requires-clause-point
+hear-requires-clause-point g c = subst (λ (z : Circuit). IsPoint z c.in-Some.p) c.requires.design (c.in-Some.ensures.point c.args.design.now.circuit c.requires.walk)
+
 pub hear-requires-clause-needed : goal.hear-requires-clause-needed
 hear-requires-clause-needed g c = λ e.
     let b = g.B.BatchName.batch in
     let x = c.args.walk.now.point in
     let n = c.args.walk.now.looked in
     let p = c.in-Some.p in
-    let there : get_or (looked_at c.args.design.now.circuit x) n None ≡ Some p = sym c.next_source.ensures.source ∙ c.in-Some.is in
+    let there : get_or (looked_at c.args.design.now.circuit x) n None ≡ Some p = sym (c.next_source.ensures.source c.args.design.now.circuit c.requires.walk) ∙ c.in-Some.is in
     let here : get_or (looked_at b.circuit x) n None ≡ Some p = subst (λ (d : Circuit). get_or (looked_at d x) n None ≡ Some p) c.requires.design there in
     child-needed b c.requires.lawful c.args.query x p c.requires.needed (source-child b.circuit x.signal x.time n p here) e
 

@@ -1,4 +1,4 @@
-use Rattle.std.proofs.Common.{◌≡◌, Some, None, false, sym, ap, subst, ◌∙◌, arith, get_or}
+use Rattle.std.proofs.Common.{◌≡◌, ◌<◌, length, Some, None, false, sym, ap, subst, ◌∙◌, arith, get_or}
 use Rattle.circuit_meaning.specs.Circuit.{Circuit}
 use Rattle.plan_machine.specs.inner.Settle.{Advances}
 use Rattle.plan_machine.proofs.Settle.{child-needed}
@@ -14,13 +14,18 @@ use Rattle.asked_cells.proofs.Asking.{asks-point}
 use Rattle.window_answers.proofs.Pins.{source-start, source-child, child-asks}
 use Rattle.window_answers.proofs.visits.look.Goals as goal
 
+pub reach-requires-clause-signal : goal.reach-requires-clause-signal
+reach-requires-clause-signal g c =
+    let d = c.args.design.now.circuit in
+    subst (λ (z : Circuit). c.in-Some.x.signal < length z.drivers) c.requires.design (c.in-Some.ensures.point d c.requires.walk).signal
+
 pub reach-requires-clause-start : goal.reach-requires-clause-start
 reach-requires-clause-start g c =
     let b = g.B.BatchName.batch in
     let p = c.args.walk.now.point in
     let n = c.args.walk.now.looked in
     let x = c.in-Some.x in
-    let there : get_or (looked_at c.args.design.now.circuit p) n None ≡ Some x = sym c.next_source.ensures.source ∙ c.in-Some.is in
+    let there : get_or (looked_at c.args.design.now.circuit p) n None ≡ Some x = sym (c.next_source.ensures.source c.args.design.now.circuit c.requires.walk) ∙ c.in-Some.is in
     let here : get_or (looked_at b.circuit p) n None ≡ Some x = subst (λ (d : Circuit). get_or (looked_at d p) n None ≡ Some x) c.requires.design there in
     λ e. source-start b c.requires.lawful c.args.q c.requires.known p c.requires.needed x n here c.args.charge.now (let k = c.requires.asking.counts in omega arith) e
 
@@ -43,7 +48,7 @@ returns-in-Some-2-clause-covered g c = λ start first s e.
     let b = g.B.BatchName.batch in
     let ms = c.args.memo.now in
     let r = reaches b c.requires.lawful g.B.BatchName.opening c.args.q start first ms c.reach.new.memo (sub_query c.args.q c.in-Some.x) c.in-Some.x.time c.args.charge.now (is_missing c.in_ok-reach.field-0) s (child-asks c.args.q (entries_of ms) c.in-Some.x c.args.charge.now c.requires.asking.counts) c.in_ok-reach.ensures.asked in
-    subst (IsSourceCovered b.circuit (entries_of c.reach.new.memo)) (sym (sym c.next_source.ensures.source ∙ c.in-Some.is)) (r.1 (ap is_missing c.in-Some-2.is))
+    subst (IsSourceCovered b.circuit (entries_of c.reach.new.memo)) (sym (sym (c.next_source.ensures.source c.args.design.now.circuit c.requires.walk) ∙ c.in-Some.is)) (r.1 (ap is_missing c.in-Some-2.is))
 
 pub returns-in_default-clause-asks : goal.returns-in_default-clause-asks
 returns-in_default-clause-asks g c = Nothing
@@ -55,7 +60,7 @@ returns-in-None-clause-asks g c =
     let p = c.args.walk.now.point in
     let n = c.args.walk.now.looked in
     let x = c.in-Some.x in
-    let there : get_or (looked_at c.args.design.now.circuit p) n None ≡ Some x = sym c.next_source.ensures.source ∙ c.in-Some.is in
+    let there : get_or (looked_at c.args.design.now.circuit p) n None ≡ Some x = sym (c.next_source.ensures.source c.args.design.now.circuit c.requires.walk) ∙ c.in-Some.is in
     let here : get_or (looked_at b.circuit p) n None ≡ Some x = subst (λ (d : Circuit). get_or (looked_at d p) n None ≡ Some x) c.requires.design there in
     subst (λ o. AsksOn b g.B.BatchName.opening c.args.q (shards_in ms) false (shards_in c.reach.new.memo) (is_missing o)) c.in-None.is
     (asks-point b g.B.BatchName.opening c.args.q ms c.reach.new.memo c.args.charge.now c.requires.asking.counts (is_missing c.in_ok-reach.field-0) x (child-needed b c.requires.lawful c.args.q p x c.requires.needed (source-child b.circuit p x n here)) c.in_ok-reach.ensures.asked)
@@ -67,7 +72,7 @@ returns-in-Some-2-clause-asks g c =
     let p = c.args.walk.now.point in
     let n = c.args.walk.now.looked in
     let x = c.in-Some.x in
-    let there : get_or (looked_at c.args.design.now.circuit p) n None ≡ Some x = sym c.next_source.ensures.source ∙ c.in-Some.is in
+    let there : get_or (looked_at c.args.design.now.circuit p) n None ≡ Some x = sym (c.next_source.ensures.source c.args.design.now.circuit c.requires.walk) ∙ c.in-Some.is in
     let here : get_or (looked_at b.circuit p) n None ≡ Some x = subst (λ (d : Circuit). get_or (looked_at d p) n None ≡ Some x) c.requires.design there in
     subst (λ o. AsksOn b g.B.BatchName.opening c.args.q (shards_in ms) false (shards_in c.reach.new.memo) (is_missing o)) c.in-Some-2.is
     (asks-point b g.B.BatchName.opening c.args.q ms c.reach.new.memo c.args.charge.now c.requires.asking.counts (is_missing c.in_ok-reach.field-0) x (child-needed b c.requires.lawful c.args.q p x c.requires.needed (source-child b.circuit p x n here)) c.in_ok-reach.ensures.asked)

@@ -86,7 +86,7 @@ returns-clause-visited g c = λ start first s e.
     let es = entries_of c.pins.memo in
     let d = c.args.design.now.circuit in
     let all = c.pins.invariant.covered start first s in
-    let done : c.pins.walk.looked ≡ length (looked_at d c.pins.walk.point) = eqb-true c.pins.walk.looked (length (looked_at d c.pins.walk.point)) (sym c.is_done.ensures ∙ c.pins-test.false) in
+    let done : c.pins.walk.looked ≡ length (looked_at d c.pins.walk.point) = eqb-true c.pins.walk.looked (length (looked_at d c.pins.walk.point)) (sym (c.is_done.ensures d c.pins.invariant.walk) ∙ c.pins-test.false) in
     let here : length (looked_at d c.pins.walk.point) ≡ length (looked_at d p) = ap (λ (x : Point). length (looked_at d x)) c.pins.invariant.point in
     let each : (i : ℕ) → i < length (looked_at d p) → IsSourceCovered b.circuit es (get_or (looked_at d p) i None) = λ i l. all i (omega arith) in
     pins-visited b.circuit es p (subst (λ (z : Circuit). (i : ℕ) → i < length (looked_at z p) → IsSourceCovered b.circuit es (get_or (looked_at z p) i None)) c.requires.design each)

@@ -1,8 +1,10 @@
-use Rattle.std.proofs.Common.{ap, ◌∙◌, ◌<◌, rules}
+use Rattle.std.proofs.Common.{◌≡◌, ◌<◌, ◌+◌, ◌∙◌, ap, sym, subst, length, nat_eq, get_or, rules, None, IfSome}
 use Rattle.valid_intervals.specs.Spans.{meet}
-use Rattle.pin_walks.specs.PinWalks.{next_point}
-use Rattle.pin_walks.proofs.PinWalkLemmas.{pin-below, few-looked, heard-there, heard-value, some-time, looks-on, sees-more}
+use Rattle.circuit_meaning.specs.Looks.{sees}
+use Rattle.pin_walks.specs.PinWalks.{IsPoint, looked_at, next_point}
+use Rattle.pin_walks.proofs.PinWalkLemmas.{pin-below, few-looked, heard-there, heard-value, some-time, looks-on, sees-more, done-first, done-last, over, on, on-below, on-source}
 use Rattle.pin_walks.proofs.walk.PinWalk.see.Goals as goal
+use Rattle.pin_walks.proofs.walk.PinWalk.see.Goals.{then-decides, else-decides, then-done, else-done}
 
 pub pin_span-interval-requires-clause-pin : goal.pin_span-interval-requires-clause-pin
 pin_span-interval-requires-clause-pin c = pin-below c.args.design.now.circuit c.facts.ensures.circuit c.args.self.now c.requires.walk c.requires.looking
@@ -10,15 +12,41 @@ pin_span-interval-requires-clause-pin c = pin-below c.args.design.now.circuit c.
 pub pin_span-interval-requires-clause-heard : goal.pin_span-interval-requires-clause-heard
 pin_span-interval-requires-clause-heard c = c.span_there.ensures ∙ heard-there c.args.design.now.circuit c.facts.ensures.circuit c.args.self.now c.requires.walk c.requires.looking c.args.heard c.requires.heard
 
-pub overflow_add-result : goal.overflow_add-result
-overflow_add-result c = let few : c.args.self.now.looked < 64 = few-looked c.args.design.now.circuit c.facts.ensures.circuit c.args.self.now c.requires.walk c.requires.looking in search rules
+pub overflow_add-looked : goal.overflow_add-looked
+overflow_add-looked c = let few : c.args.self.now.looked < 64 = few-looked c.args.design.now.circuit c.facts.ensures.circuit c.args.self.now c.requires.walk c.requires.looking in search rules
+
+pub source_of-source-requires-clause-pin : goal.source_of-source-requires-clause-pin
+source_of-source-requires-clause-pin c =
+    let d = c.args.design.now.circuit in
+    let f = c.args.self.now in
+    let ok = c.facts.ensures.circuit in
+    let seen : c.value_there-value.result ≡ sees d (next_point d f) = c.value_there-value.ensures ∙ heard-value d (next_point d f) c.args.heard c.requires.heard in
+    let done : c.if-decides.done ≡ nat_eq (f.looked + 1) (length (looked_at d f.point)) = elim c.if-decides.branch [
+      | then-decides w ↦ w.done-is ∙ w.if-decides.true ∙ done-first d ok f c.requires.walk c.requires.looking c.value_there-value.result seen (sym c.decides.ensures ∙ w.if-decides.true)
+      | else-decides w ↦ w.done-is ∙ done-last d ok f c.requires.walk c.requires.looking c.value_there-value.result seen (sym c.decides.ensures ∙ w.if-decides.false) (length c.gate_of.result.1.now) (ap length c.gate_of.ensures.pins)
+    ] in
+    subst (λ xs. f.looked + 1 < length xs) (sym c.gate_of.ensures.pins) (on-below d ok f c.requires.walk (on d ok f c.requires.walk c.requires.looking c.if-decides.done done c.if-done.false))
 
 pub common-requires : goal.common-requires
 common-requires c = some-time c.args.design.now.circuit c.facts.ensures.circuit c.args.self.now c.requires.walk c.facts.ensures.limits.horizon c.pin_span-interval.result c.pin_span-interval.ensures
 
 pub returns : goal.returns
-returns c = rw c.decides.ensures (looks-on c.args.design.now.circuit c.facts.ensures.circuit c.args.self.now c.requires.walk c.requires.looking c.see.result c.value_there-value.result c.common.result
-    (c.value_there-value.ensures ∙ heard-value c.args.design.now.circuit (next_point c.args.design.now.circuit c.args.self.now) c.args.heard c.requires.heard)
-    c.see.ensures.kind
-    (sees-more c.args.design.now.circuit c.facts.ensures.circuit c.args.self.now c.requires.walk c.requires.looking c.see.result c.value_there-value.result c.see.ensures.seen)
-    (c.common.ensures ∙ ap (meet c.args.self.now.interval) c.pin_span-interval.ensures))
+returns c =
+    let d = c.args.design.now.circuit in
+    let f = c.args.self.now in
+    let ok = c.facts.ensures.circuit in
+    let seen : c.value_there-value.result ≡ sees d (next_point d f) = c.value_there-value.ensures ∙ heard-value d (next_point d f) c.args.heard c.requires.heard in
+    let done : c.if-decides.done ≡ nat_eq (f.looked + 1) (length (looked_at d f.point)) = elim c.if-decides.branch [
+      | then-decides w ↦ w.done-is ∙ w.if-decides.true ∙ done-first d ok f c.requires.walk c.requires.looking c.value_there-value.result seen (sym c.decides.ensures ∙ w.if-decides.true)
+      | else-decides w ↦ w.done-is ∙ done-last d ok f c.requires.walk c.requires.looking c.value_there-value.result seen (sym c.decides.ensures ∙ w.if-decides.false) (length c.gate_of.result.1.now) (ap length c.gate_of.ensures.pins)
+    ] in
+    let source : (c.if-done.source ≡ get_or (looked_at d f.point) (f.looked + 1) None) × IfSome c.if-done.source (IsPoint d) = elim c.if-done.branch [
+      | then-done w ↦ (w.source-is ∙ over d ok f c.requires.walk c.requires.looking c.if-decides.done done w.if-done.true, subst (λ o. IfSome o (IsPoint d)) (sym w.source-is) tt)
+      | else-done w ↦ (
+        w.source-is ∙ w.source_of-source.ensures.source ∙ on-source d ok f c.requires.walk (on d ok f c.requires.walk c.requires.looking c.if-decides.done done w.if-done.false),
+        subst (λ o. IfSome o (IsPoint d)) (sym w.source-is) w.source_of-source.ensures.point,
+      )
+    ] in
+    looks-on d ok f c.requires.walk c.requires.looking c.see.result c.value_there-value.result c.common.result c.if-decides.done c.if-done.source seen c.see.ensures.kind
+    (sees-more d ok f c.requires.walk c.requires.looking c.see.result c.value_there-value.result c.see.ensures.seen) (c.common.ensures ∙ ap (meet f.interval) c.pin_span-interval.ensures)
+    done source.0 source.1

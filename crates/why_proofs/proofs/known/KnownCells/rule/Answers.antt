@@ -13,7 +13,7 @@ returns-then-is_done-clause-rules c = λ lines i.
     let d = c.args.design.now.circuit in
     let ok = c.facts.ensures.circuit in
     let right = answer-right d ok lines (index-right d ok (get point_cmp c.args.self.now.cells) c.requires.cells lines i) in
-    let done : c.pins.walk.looked ≡ length (looked_at d c.pins.walk.point) = eqb-true c.pins.walk.looked (length (looked_at d c.pins.walk.point)) (sym c.is_done.ensures ∙ c.if-is_done.true) in
+    let done : c.pins.walk.looked ≡ length (looked_at d c.pins.walk.point) = eqb-true c.pins.walk.looked (length (looked_at d c.pins.walk.point)) (sym (c.is_done.ensures d c.pins.invariant.walk) ∙ c.if-is_done.true) in
     ruled d ok (answer d lines) right c.pins.walk c.args.p c.cell.result c.pins.invariant.point done (c.pins.invariant.known lines i) c.cell.ensures
 
 pub returns-in-None-clause-rules : goal.returns-in-None-clause-rules
