@@ -96,8 +96,9 @@ fn serve_files<F: Files, Q: Source, S: Sink, G: Gate, R: Threads + Wait + Sync>(
     };
     let inputs = [netlist, timing, stimulus];
     match serve_session(&crew, &setting, &inputs, journal, files, queries, out) {
-        Ok(()) => {
-            // its memory goes with the process
+        Ok(stores) => {
+            // their memory goes with the process
+            mem::forget(stores);
             mem::forget(design);
             Status::Ended
         }

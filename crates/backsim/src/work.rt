@@ -91,10 +91,11 @@ pub fn serve_workload<F: Files, S: Sink, G: Gate, R: Threads + Wait + Sync>(
         sizes,
     };
     match serve_work(&crew, &setting, work.items.as_slice(), journal, files) {
-        Ok(replies) => {
-            // its memory goes with the process
+        Ok(done) => {
+            // their memory goes with the process
             mem::forget(work);
-            tell(alloc, number, &replies, out)
+            mem::forget(done.stores);
+            tell(alloc, number, &done.replies, out)
         }
         Err(halt) => end_stopped(alloc, Stop::from(halt), out),
     }

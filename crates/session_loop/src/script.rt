@@ -17,7 +17,6 @@ use backsim_io::{Files, Sink, Source};
 use cell_store::CellStore;
 use owned_text::Text;
 use query_lines::ScriptReader;
-use std::mem;
 use worker_gate::Crew;
 
 /// The most bytes that a script has.
@@ -121,7 +120,8 @@ impl Script {
     }
 }
 
-/// Serves a script to its end. It is read again only when each unit that was complete is served.
+/// Serves a script to its end, and returns the stores as they are then. It is read again only when each unit that was complete is
+/// served.
 pub fn serve_script<C: Crew, F: Files, Q: Source, S: Sink>(
     crew: &C,
     setting: &Setting<'_>,
@@ -130,7 +130,7 @@ pub fn serve_script<C: Crew, F: Files, Q: Source, S: Sink>(
     files: &mut F,
     queries: &mut Q,
     out: &mut S,
-) -> Result<(), Stop>
+) -> Result<Vec<CellStore>, Stop>
     requires shards { (0 < setting.now.sizes.shards) × (setting.now.sizes.shards ≤ 64) }
     requires stores { AreStores (setup_of setting.now.design.now setting.now.sizes) stores.items }
     requires empty { (shard : ℕ) → shard < setting.now.sizes.shards
@@ -191,9 +191,7 @@ pub fn serve_script<C: Crew, F: Files, Q: Source, S: Sink>(
         };
         if n == 0 {
             let last = script.serve_end(crew, setting, desk, files, out)?;
-            // left to the end of the process: each cell has memory of its own
-            mem::forget(last);
-            return Ok(());
+            return Ok(last.stores);
         }
         desk = script.serve_bytes(crew, setting, &block[..n.min(left)], desk, files, out)?;
         if n > left {

@@ -13,6 +13,7 @@ use crate::script::serve_script;
 use crate::setting::Setting;
 use crate::stores::empty_stores;
 use backsim_io::{Files, Sink, Source};
+use cell_store::CellStore;
 use owned_text::{OutOfMemory, Text};
 use std::alloc::Global;
 use worker_gate::Crew;
@@ -34,7 +35,8 @@ fn own_names(alloc: Global, inputs: &[&str], journal: &str) -> Result<Vec<Text>,
 /// under the name of the journal, or one of those of the inputs.
 ///
 /// The script is read again only when the replies and the sections of every unit that it has completed so far are written, and at
-/// most 16,777,216 bytes and one more are read.
+/// most 16,777,216 bytes and one more are read. The stores are handed back, as each of their cells has memory of its own: a program that
+/// ends next may leave them to the end of its process.
 pub fn serve_session<C: Crew, F: Files, Q: Source, S: Sink>(
     crew: &C,
     setting: &Setting<'_>,
@@ -43,7 +45,7 @@ pub fn serve_session<C: Crew, F: Files, Q: Source, S: Sink>(
     files: &mut F,
     queries: &mut Q,
     out: &mut S,
-) -> Result<(), Halt>
+) -> Result<Vec<CellStore>, Halt>
     requires shards { (0 < setting.now.sizes.shards) × (setting.now.sizes.shards ≤ 64) }
     requires cells { (0 < setting.now.sizes.cells) × (setting.now.sizes.cells ≤ 65536) }
     requires files { (F.state files.old).created ≡ 0 }
@@ -84,6 +86,7 @@ pub fn serve_session<C: Crew, F: Files, Q: Source, S: Sink>(
     begin_journal(alloc, sizes, journal, files)?;
     let stores = empty_stores(alloc, sizes)?;
     let names = own_names(alloc, inputs, journal)?;
-    serve_script(crew, setting, stores, names, files, queries, out)?;
-    finish_journal(files)
+    let left = serve_script(crew, setting, stores, names, files, queries, out)?;
+    finish_journal(files)?;
+    Ok(left)
 }

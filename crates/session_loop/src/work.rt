@@ -15,27 +15,25 @@ use crate::stores::empty_stores;
 use backsim_io::Files;
 use journal_text::SectionKind;
 use query_lines::Item;
-use reply_lines::Reply;
-use std::mem;
-use unit_answers::answer_batch;
+use unit_answers::{BatchDone, answer_batch};
 use worker_gate::Crew;
 
 /// Creates the journal and writes its head, answers the items as one batch over empty stores, writes the section of the batch, and
-/// finishes the journal. The replies are handed back, in the order of the items.
+/// finishes the journal. The replies are handed back, in the order of the items, and with them the journal and the stores.
 pub fn serve_work<C: Crew, F: Files>(
     crew: &C,
     setting: &Setting<'_>,
     items: &[Item],
     journal: &str,
     files: &mut F,
-) -> Result<Vec<Reply>, Halt>
+) -> Result<BatchDone, Halt>
     requires shards { (0 < setting.now.sizes.shards) × (setting.now.sizes.shards ≤ 64) }
     requires cells { (0 < setting.now.sizes.cells) × (setting.now.sizes.cells ≤ 65536) }
     requires within { IsWithin setting.now.design.now.circuit.horizon items.now }
     requires lines { HaveOwnLines items.now }
     requires files { (F.state files.old).created ≡ 0 }
     ensures worked { let setup = setup_of setting.now.design.now setting.now.sizes in
-        IfOk result (λ replies. WroteJournal (IsWork setup items.now replies.items) journal.now
+        IfOk result (λ done. WroteJournal (IsWork setup items.now done.replies.items) journal.now
         (F.made files.old) (F.made files.new)) }
     ensures halted { let setup = setup_of setting.now.design.now setting.now.sizes in
         IfErr result (IsWorkHalted setup items.now journal.now
@@ -50,7 +48,5 @@ pub fn serve_work<C: Crew, F: Files>(
     let done = answer_batch(crew, alloc, design, items, sizes, stores)?;
     write_section(alloc, SectionKind::Batch, 1, &done.lists, JOURNAL, files)?;
     finish_journal(files)?;
-    // left to the end of the process: each cell has memory of its own
-    mem::forget(done.stores);
-    Ok(done.replies)
+    Ok(done)
 }

@@ -38,7 +38,7 @@ returns-in-Ok-serve_work-clause-serves g c script =
     let old = g.F.Files.state c.args.files.now in
     let new = g.F.Files.state c.serve_work.new.files in
     let same : new ≡ record old { created = old.created + 1 } = c.in-Ok-serve_work.ensures.state in
-    let replies = c.in-Ok-serve_work.replies.items in
+    let replies = c.in-Ok-serve_work.done.replies.items in
     record {
       ended = told-served c.args.asked.now.number c.in-Ok.work c.args.asked.now.journal.now replies before after c.in-Ok.ensures (rw (sym c.as_slice.ensures) c.in-Ok-serve_work.ensures.worked) c.tell.result (rw (sym c.deref.ensures.value) c.tell.ensures.told);
       one = λ is. ap (λ (s : FilesState). s.created) same ∙ ap (λ n. n + 1) c.requires.created;
