@@ -1,6 +1,7 @@
 """The commands `draw`, `why` and `journal --profile`, as a user calls them, and on bad files and words."""
 from __future__ import annotations
 
+import importlib.util
 import re
 import shutil
 import sys
@@ -17,6 +18,7 @@ REPLIES = EXAMPLES / "pulse" / "pulse.replies"
 DUMP = EXAMPLES / "pulse" / "pulse.vcd"
 JOURNAL = EXAMPLES / "pulse" / "pulse.journal"
 X_PROOF = "why G17 4 x\ncell 13 1 2 x\ncell 15 1 2 x\ncell 16 2 3 x\ncell 8 3 4 x\ncell 4 4 5 x\nend\n"
+needs_matplotlib = pytest.mark.skipif(importlib.util.find_spec("matplotlib") is None, reason="matplotlib is missing (Debian's package python3-matplotlib)")
 needs_dot = pytest.mark.skipif(shutil.which("dot") is None, reason="the program dot is missing (Debian's package graphviz)")
 
 
@@ -204,7 +206,7 @@ def test_bad_files_are_one_line(example, tmp_path, capsys, command: str, kind: s
     (["draw", "--replies", str(REPLIES), "--scope", "top", "-o", "w.svg"], "--scope goes with --vcd"),
     (["draw", "--replies", str(REPLIES), "--from", "9", "--to", "9", "-o", "w.svg"], "there is no time to draw"),
     (["draw", "--vcd", str(DUMP), "--scope", "here", "-o", "w.svg"], "the scopes are: top"),
-    (["draw", "--replies", str(REPLIES), "-o", "/nowhere/w.svg"], "it can't be written"),
+    pytest.param(["draw", "--replies", str(REPLIES), "-o", "/nowhere/w.svg"], "it can't be written", marks=needs_matplotlib),
     (["why", "-o", "w.svg"], "required"),
     (["journal", str(JOURNAL), "--profile", "--picture", "p.jpg"], "must end in .svg or .png"),
     (["journal", str(JOURNAL), "--profile", "--timing", "t"], "go together"),
