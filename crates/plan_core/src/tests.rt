@@ -10,15 +10,15 @@ use batch_meaning::Query;
 use bench_reader::read_bench;
 use cell_store::CellStore;
 use demand_points::{BatchName, Strand};
-use design::{Design, JoinFault};
+use design::Design;
 use gate_values::Value;
 use journal_meaning::Entry;
 use memo_shards::Shard;
+use owned_text::OutOfMemory;
 use plan_machine::Turned;
 use rows::{CHAIN, LONE, ROWS};
 use std::alloc::Global;
 use std::marker::Brand;
-use std::test::Fail;
 use stimulus_file::read_stimulus;
 use timing_file::read_timing;
 
@@ -26,7 +26,7 @@ use timing_file::read_timing;
 struct At(u32, &'static str, u32, u32);
 
 /// An entry: the word and the numbers of its line in the journal's text.
-#[derive(Clone, Copy, Debug, PartialEq, Eq)]
+#[derive(Clone, Copy, PartialEq, Eq)]
 enum Line {
     Told(u32, u32, u32, u32, u32, Value),
     Claim(u32, u32, u32),
@@ -75,11 +75,11 @@ fn short(text: &str) -> &[u8]
 }
 
 /// The circuit of the netlist, with a delay of 1 for each gate, and an input that is 1 from the start on.
-fn circuit(alloc: Global, netlist: &str) -> Result<Result<Design, JoinFault>, Fail> {
-    let netlist = read_bench(alloc, short(netlist))?;
-    let timing = read_timing(alloc, short(""))?;
-    let stimulus = read_stimulus(alloc, short("horizon 10\nset a 0 1\n"))?;
-    Ok(Design::join(alloc, netlist, &timing, &stimulus))
+fn circuit(alloc: Global, netlist: &str) -> Option<Design> {
+    let timing = read_timing(alloc, short("")).ok()?;
+    let stimulus = read_stimulus(alloc, short("horizon 10\nset a 0 1\n")).ok()?;
+    let netlist = read_bench(alloc, short(netlist)).ok()?;
+    Design::join(alloc, netlist, &timing, &stimulus).ok()
 }
 
 /// The query, if the design has its signal and its time.
@@ -122,7 +122,7 @@ fn two<B: BatchName>(
     design: &Design,
     first: Query,
     second: Query,
-) -> Result<Plan<B>, Fail>
+) -> Result<Plan<B>, OutOfMemory>
     requires circuit { design.now.circuit ≡ B.batch.circuit }
     requires lawful { IsLawful B.batch }
     requires shards { B.batch.shards ≡ 1 }
@@ -143,7 +143,7 @@ fn two<B: BatchName>(
     strands.push(other)?;
     let mut shards = Vec::new(alloc);
     shards.push(Shard::<B>::begin(alloc, 0, CellStore::new(alloc, 4)?))?;
-    Ok(Plan::new(alloc, design, strands, shards)?)
+    Plan::new(alloc, design, strands, shards)
 }
 
 /// The results of the schedule's turns, and that of a further turn of strand 0.
@@ -152,7 +152,7 @@ fn turns_of<B: BatchName>(
     mut plan: Plan<B>,
     design: &Design,
     schedule: &[u32],
-) -> Result<(Vec<Turned>, Turned), Fail>
+) -> Result<(Vec<Turned>, Turned), OutOfMemory>
     requires circuit { design.now.circuit ≡ B.batch.circuit }
     requires two { length plan.strands ≡ 2 }
 {
@@ -194,19 +194,33 @@ fn line_of(entry: &Entry) -> Line {
     }
 }
 
-/// The entries of the shards, and the number of their stored cells.
-fn left_in<B: BatchName>(alloc: Global, plan: Plan<B>) -> Result<(Vec<Line>, u32), Fail> {
+/// The entries of the shards.
+fn lines_of<B: BatchName>(alloc: Global, shards: &[Shard<B>]) -> Result<Vec<Line>, OutOfMemory> {
     let mut lines = Vec::new(alloc);
-    let mut stored = 0u32;
-    for mut shard in plan.into_shards() {
+    for shard in shards {
         for entry in shard.journal() {
             lines.push(line_of(entry))?;
         }
+    }
+    Ok(lines)
+}
+
+/// The number of the cells that the shards store.
+fn stored_in<B: BatchName>(shards: Vec<Shard<B>>) -> u32 {
+    let mut stored = 0u32;
+    for mut shard in shards {
         shard.free_claims();
         let (store, _) = shard.end_batch();
         stored = stored.saturating_add(store.len());
     }
-    Ok((lines, stored))
+    stored
+}
+
+/// The entries of the shards, and the number of their stored cells.
+fn left_in<B: BatchName>(alloc: Global, plan: Plan<B>) -> Result<(Vec<Line>, u32), OutOfMemory> {
+    let shards = plan.into_shards();
+    let lines = lines_of(alloc, &shards)?;
+    Ok((lines, stored_in(shards)))
 }
 
 /// The result of a schedule.
@@ -228,7 +242,7 @@ fn serve<B: BatchName>(
     first: Query,
     second: Query,
     schedule: &[u32],
-) -> Result<Seen, Fail>
+) -> Result<Seen, OutOfMemory>
     requires circuit { design.now.circuit ≡ B.batch.circuit }
     requires lawful { IsLawful B.batch }
     requires shards { B.batch.shards ≡ 1 }
@@ -259,18 +273,14 @@ fn serve<B: BatchName>(
 }
 
 /// Runs a row, if its queries fit the design and its schedule names the two strands.
-fn serve_row(alloc: Global, design: &Design, row: &Row) -> Result<Option<Seen>, Fail> {
+fn serve_row(alloc: Global, design: &Design, row: &Row) -> Option<Seen> {
     design.facts();
-    let Some(first) = query_of(design, &row.first) else {
-        return Ok(None);
-    };
-    let Some(second) = query_of(design, &row.second) else {
-        return Ok(None);
-    };
+    let first = query_of(design, &row.first)?;
+    let second = query_of(design, &row.second)?;
     if first.number == second.number || !are_numbers(row.schedule) {
-        return Ok(None);
+        return None;
     }
-    Ok(Some(serve::<Brand>(alloc, design, first, second, row.schedule)?))
+    serve::<Brand>(alloc, design, first, second, row.schedule).ok()
 }
 
 /// Whether the result of a row's schedule is the row's.
@@ -286,26 +296,22 @@ fn is_as_said(seen: &Seen, row: &Row) -> bool {
 }
 
 /// Whether a row is right for this design; none if its queries do not fit the design.
-fn goes_as_said(alloc: Global, design: &Design, row: &Row) -> Result<Option<bool>, Fail> {
-    match serve_row(alloc, design, row)? {
-        None => Ok(None),
-        Some(seen) => Ok(Some(is_as_said(&seen, row))),
-    }
+fn goes_as_said(alloc: Global, design: &Design, row: &Row) -> Option<bool> {
+    let seen = serve_row(alloc, design, row)?;
+    Some(is_as_said(&seen, row))
 }
 
 /// The same for the row's own design.
-fn is_right(alloc: Global, row: &Row) -> Result<Option<bool>, Fail> {
-    let design = circuit(alloc, row.netlist)??;
+fn is_right(alloc: Global, row: &Row) -> Option<bool> {
+    let design = circuit(alloc, row.netlist)?;
     goes_as_said(alloc, &design, row)
 }
 
 #[test]
-fn turns_of_two_strands(rt: HostRuntime) -> Result<(), Fail> {
+fn turns_of_two_strands(rt: HostRuntime) {
     for row in &ROWS {
-        let right = is_right(rt.alloc(), row)?.expect(&rt, "a signal and a time");
-        assert!(rt; right, "{}", row.name);
+        assert_eq!(rt; is_right(rt.alloc(), row), Some(true), "{}", row.name);
     }
-    Ok(())
 }
 
 /// Runs the strand with this number alone.
@@ -315,7 +321,7 @@ fn serve_alone<B: BatchName>(
     first: Query,
     second: Query,
     number: u32,
-) -> Result<(Alone, Option<Value>, Vec<Line>), Fail>
+) -> Result<(Alone, Option<Value>, Vec<Line>), OutOfMemory>
     requires circuit { design.now.circuit ≡ B.batch.circuit }
     requires lawful { IsLawful B.batch }
     requires shards { B.batch.shards ≡ 1 }
@@ -339,37 +345,27 @@ fn serve_lone(
     alloc: Global,
     design: &Design,
     number: u32,
-) -> Result<Option<(Alone, Option<Value>, Vec<Line>)>, Fail> {
+) -> Option<(Alone, Option<Value>, Vec<Line>)> {
     design.facts();
-    let Some(first) = query_of(design, &At(1, "n3", 5, 2)) else {
-        return Ok(None);
-    };
-    let Some(second) = query_of(design, &At(2, "n3", 5, 3)) else {
-        return Ok(None);
-    };
+    let first = query_of(design, &At(1, "n3", 5, 2))?;
+    let second = query_of(design, &At(2, "n3", 5, 3))?;
     if first.number == second.number || number >= 2 {
-        return Ok(None);
+        return None;
     }
-    Ok(Some(serve_alone::<Brand>(alloc, design, first, second, number)?))
+    serve_alone::<Brand>(alloc, design, first, second, number).ok()
 }
 
-/// The same over the chain.
-fn lone_in_chain(
-    alloc: Global,
-    number: u32,
-) -> Result<Option<(Alone, Option<Value>, Vec<Line>)>, Fail> {
-    let design = circuit(alloc, CHAIN)??;
-    serve_lone(alloc, &design, number)
+/// The end of a strand that runs alone over the chain, what it heard, and whether its journal is as said.
+fn lone_in_chain(alloc: Global, lone: &Lone) -> Option<(Alone, Option<Value>, bool)> {
+    let design = circuit(alloc, CHAIN)?;
+    let (came, heard, lines) = serve_lone(alloc, &design, lone.number)?;
+    Some((came, heard, lines.as_slice() == lone.lines))
 }
 
 #[test]
-fn a_strand_runs_alone(rt: HostRuntime) -> Result<(), Fail> {
+fn a_strand_runs_alone(rt: HostRuntime) {
     for lone in &LONE {
-        let ran = lone_in_chain(rt.alloc(), lone.number)?;
-        let (came, heard, lines) = ran.expect(&rt, "a signal and a time");
-        assert_eq!(rt; came, lone.came);
-        assert_eq!(rt; heard, lone.heard);
-        assert_eq!(rt; lines.as_slice(), lone.lines);
+        let ran = lone_in_chain(rt.alloc(), lone);
+        assert_eq!(rt; ran, Some((lone.came, lone.heard, true)));
     }
-    Ok(())
 }

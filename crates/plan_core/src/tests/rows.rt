@@ -10,7 +10,7 @@ const BUFFER: &str = "INPUT(a)\ny = BUFF(a)\n";
 
 pub const CHAIN: &str = "INPUT(a)\nOUTPUT(n3)\nn1 = BUFF(a)\nn2 = BUFF(n1)\nn3 = BUFF(n2)\n";
 
-pub const ROWS: [Row; 5] = [
+pub static ROWS: [Row; 5] = [
     Row {
         name: "two points of one cell",
         netlist: BUFFER,
@@ -150,7 +150,7 @@ pub const ROWS: [Row; 5] = [
 ];
 
 /// The strands for `n3` at 5, with budgets of 2 and 3, one at a time alone.
-pub const LONE: [Lone; 2] = [
+pub static LONE: [Lone; 2] = [
     Lone {
         number: 0,
         came: Alone::Spent(Point { signal: 2, time: 3 }),
