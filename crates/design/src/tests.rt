@@ -25,6 +25,9 @@ const FLIP_FLOP: &str = "INPUT(a)\nOUTPUT(q)\nq = DFF(a)\n";
 
 const FLIP_FLOPS: &str = "INPUT(a)\nq = DFF(a)\nr = DFF(a)\n";
 
+// a gate that reads itself
+const RING_NETLIST: &str = "INPUT(en)\nOUTPUT(y)\ny = NAND(en, y)\n";
+
 const PULSE: &str = "horizon 10\nset a 5 1\nset a 0 0\n";
 
 const INVERTED_PULSE: Files = Files {
@@ -47,9 +50,8 @@ const DELAYS: Files = Files {
     stimulus: "horizon 20\nset a 0 0\nset a 7 1\nset a 8 0\n",
 };
 
-// a gate that reads itself
 const RING: Files = Files {
-    netlist: "INPUT(en)\nOUTPUT(y)\ny = NAND(en, y)\n",
+    netlist: RING_NETLIST,
     timing: "default 2\n",
     stimulus: "horizon 12\nset en 0 0\nset en 4 1\n",
 };
@@ -101,8 +103,16 @@ fn joined(alloc: Global, files: &Files) -> Result<Result<Design, JoinFault>, Fai
     Ok(Design::join(alloc, netlist, &timing, &stimulus))
 }
 
-/// The base answer of a point: its start, its end and its value.
-fn base_of(design: &Design, name: &str, time: u32) -> Option<(u32, u32, Value)> {
+/// The design of three files.
+fn design_of(alloc: Global, files: &Files) -> Result<Design, Fail> {
+    Ok(joined(alloc, files)??)
+}
+
+/// A base answer: its start, its end and its value.
+type Base = (u32, u32, Value);
+
+/// The base answer of a point.
+fn base_of(design: &Design, name: &str, time: u32) -> Option<Base> {
     design.facts();
     let signal = design.netlist().id_of(name.as_bytes())?;
     if time > design.horizon() {
@@ -113,46 +123,42 @@ fn base_of(design: &Design, name: &str, time: u32) -> Option<(u32, u32, Value)> 
 }
 
 /// The same in the design of three files.
-fn base_in(
-    alloc: Global,
-    files: &Files,
-    name: &str,
-    time: u32,
-) -> Result<Option<(u32, u32, Value)>, Fail> {
-    let design = joined(alloc, files)??;
+fn base_in(alloc: Global, files: &Files, name: &str, time: u32) -> Result<Option<Base>, Fail> {
+    let design = design_of(alloc, files)?;
     Ok(base_of(&design, name, time))
 }
 
+static POINTS: [(Files, &str, u32, Option<Base>); 20] = [
+    (INVERTED_PULSE, "a", 4, Some((0, 5, Value::Zero))),
+    (INVERTED_PULSE, "a", 5, Some((5, 11, Value::One))),
+    (INVERTED_PULSE, "y", 2, Some((0, 3, Value::X))),
+    (INVERTED_PULSE, "y", 3, None),
+    (LATEST_EDGE, "y", 999_999, Some((0, 1_000_000, Value::X))),
+    (
+        LATEST_EDGE,
+        "a",
+        1_000_000,
+        Some((0, 1_000_001, Value::Zero)),
+    ),
+    (DELAYS, "v", 4, Some((0, 5, Value::X))),
+    (DELAYS, "w", 3, Some((0, 4, Value::X))),
+    (DELAYS, "y", 2, Some((0, 3, Value::X))),
+    (DELAYS, "a", 7, Some((7, 8, Value::One))),
+    (RING, "y", 1, Some((0, 2, Value::X))),
+    (PINS, "y", 1, Some((0, 2, Value::X))),
+    (PINS, "y", 4, None),
+    (FLOATING, "a", 0, Some((0, 6, Value::Z))),
+    (CLOCKED, "q", 10, Some((0, 11, Value::X))),
+    (CLOCKED, "q", 11, None),
+    (UNCLOCKED, "q", 30, Some((0, 31, Value::X))),
+    (CLOCKS, "q", 10, Some((0, 11, Value::X))),
+    (CLOCKS, "r", 3, Some((0, 4, Value::Zero))),
+    (CLOCKS, "r", 4, None),
+];
+
 #[test]
 fn points_with_a_cell_at_once(rt: HostRuntime) -> Result<(), Fail> {
-    let rows = [
-        (INVERTED_PULSE, "a", 4, Some((0, 5, Value::Zero))),
-        (INVERTED_PULSE, "a", 5, Some((5, 11, Value::One))),
-        (INVERTED_PULSE, "y", 2, Some((0, 3, Value::X))),
-        (INVERTED_PULSE, "y", 3, None),
-        (LATEST_EDGE, "y", 999_999, Some((0, 1_000_000, Value::X))),
-        (
-            LATEST_EDGE,
-            "a",
-            1_000_000,
-            Some((0, 1_000_001, Value::Zero)),
-        ),
-        (DELAYS, "v", 4, Some((0, 5, Value::X))),
-        (DELAYS, "w", 3, Some((0, 4, Value::X))),
-        (DELAYS, "y", 2, Some((0, 3, Value::X))),
-        (DELAYS, "a", 7, Some((7, 8, Value::One))),
-        (RING, "y", 1, Some((0, 2, Value::X))),
-        (PINS, "y", 1, Some((0, 2, Value::X))),
-        (PINS, "y", 4, None),
-        (FLOATING, "a", 0, Some((0, 6, Value::Z))),
-        (CLOCKED, "q", 10, Some((0, 11, Value::X))),
-        (CLOCKED, "q", 11, None),
-        (UNCLOCKED, "q", 30, Some((0, 31, Value::X))),
-        (CLOCKS, "q", 10, Some((0, 11, Value::X))),
-        (CLOCKS, "r", 3, Some((0, 4, Value::Zero))),
-        (CLOCKS, "r", 4, None),
-    ];
-    for (files, name, time, cell) in rows {
+    for &(files, name, time, cell) in &POINTS {
         let found = base_in(rt.alloc(), &files, name, time)?;
         assert_eq!(rt; found, cell, "{name} at {time}");
     }
@@ -167,7 +173,7 @@ fn base_where_held(
     value: Value,
     name: &str,
     time: u32,
-) -> Result<Option<(u32, u32, Value)>, Fail> {
+) -> Result<Option<Base>, Fail> {
     design.facts();
     let Some(site) = design.netlist().id_of(site.as_bytes()) else {
         return Ok(None);
@@ -184,40 +190,41 @@ fn base_held_in(
     value: Value,
     name: &str,
     time: u32,
-) -> Result<Option<(u32, u32, Value)>, Fail> {
-    let design = joined(alloc, files)??;
+) -> Result<Option<Base>, Fail> {
+    let design = design_of(alloc, files)?;
     base_where_held(alloc, &design, site, value, name, time)
 }
 
+static HELD_POINTS: [(Files, &str, Value, &str, u32, Option<Base>); 7] = [
+    // a held flip-flop samples no more, and its source stays
+    (CLOCKED, "q", Value::One, "q", 0, Some((0, 31, Value::One))),
+    (CLOCKED, "q", Value::One, "q", 30, Some((0, 31, Value::One))),
+    (
+        CLOCKED,
+        "q",
+        Value::One,
+        "a",
+        10,
+        Some((10, 31, Value::One)),
+    ),
+    // a held input has no other setting, and its readers stay
+    (
+        CLOCKED,
+        "a",
+        Value::Zero,
+        "a",
+        20,
+        Some((0, 31, Value::Zero)),
+    ),
+    (CLOCKED, "a", Value::Zero, "q", 10, Some((0, 11, Value::X))),
+    (CLOCKED, "a", Value::Zero, "q", 11, None),
+    // a gate that reads itself
+    (RING, "y", Value::Zero, "y", 12, Some((0, 13, Value::Zero))),
+];
+
 #[test]
 fn cells_where_a_signal_is_held(rt: HostRuntime) -> Result<(), Fail> {
-    let rows = [
-        // a held flip-flop samples no more, and its source stays
-        (CLOCKED, "q", Value::One, "q", 0, Some((0, 31, Value::One))),
-        (CLOCKED, "q", Value::One, "q", 30, Some((0, 31, Value::One))),
-        (
-            CLOCKED,
-            "q",
-            Value::One,
-            "a",
-            10,
-            Some((10, 31, Value::One)),
-        ),
-        // a held input has no other setting, and its readers stay
-        (
-            CLOCKED,
-            "a",
-            Value::Zero,
-            "a",
-            20,
-            Some((0, 31, Value::Zero)),
-        ),
-        (CLOCKED, "a", Value::Zero, "q", 10, Some((0, 11, Value::X))),
-        (CLOCKED, "a", Value::Zero, "q", 11, None),
-        // a gate that reads itself
-        (RING, "y", Value::Zero, "y", 12, Some((0, 13, Value::Zero))),
-    ];
-    for (files, site, value, name, time, cell) in rows {
+    for &(files, site, value, name, time, cell) in &HELD_POINTS {
         let found = base_held_in(rt.alloc(), &files, site, value, name, time)?;
         assert_eq!(rt; found, cell, "{name} at {time}, with {site} held");
     }
@@ -279,7 +286,7 @@ fn look_in(
     time: u32,
     pin: u32,
 ) -> Result<Option<Look>, Fail> {
-    let design = joined(alloc, files)??;
+    let design = design_of(alloc, files)?;
     Ok(looked_at(&design, name, time, pin))
 }
 
@@ -301,40 +308,53 @@ fn one_of_pins(kind: Kind, reads: Option<u32>, start: u32, end: u32) -> Look {
     }
 }
 
+// points with one pin, the kind of its driver, the time at which it reads, and the start and the end of what it sees
+static ONLY_PINS: [(Files, &str, u32, Kind, u32, u32, u32); 14] = [
+    (INVERTED_PULSE, "y", 3, Kind::Not, 0, 3, 8),
+    (INVERTED_PULSE, "y", 8, Kind::Not, 5, 8, 11),
+    (
+        LATEST_EDGE,
+        "y",
+        1_000_000,
+        Kind::Not,
+        0,
+        1_000_000,
+        1_000_001,
+    ),
+    (DELAYS, "v", 5, Kind::Buff, 0, 5, 12),
+    (DELAYS, "v", 12, Kind::Buff, 7, 12, 13),
+    (DELAYS, "v", 20, Kind::Buff, 15, 13, 21),
+    (DELAYS, "w", 11, Kind::Buff, 7, 11, 12),
+    (DELAYS, "y", 10, Kind::Not, 7, 10, 11),
+    (CLOCKED, "q", 20, Kind::Dff, 10, 11, 21),
+    (CLOCKED, "q", 21, Kind::Dff, 20, 21, 31),
+    (CLOCKS, "q", 11, Kind::Dff, 10, 11, 21),
+    (CLOCKS, "r", 4, Kind::Dff, 3, 4, 8),
+    (CLOCKS, "r", 8, Kind::Dff, 7, 8, 12),
+    (CLOCKS, "r", 20, Kind::Dff, 19, 20, 21),
+];
+
+// the same of one of several pins
+static SOME_PINS: [(Files, &str, u32, u32, Kind, Option<u32>, u32, u32); 7] = [
+    (RING, "y", 2, 0, Kind::Nand, Some(0), 2, 6),
+    (RING, "y", 3, 1, Kind::Nand, Some(1), 2, 4),
+    (PINS, "y", 4, 0, Kind::And, Some(2), 2, 8),
+    (PINS, "y", 4, 1, Kind::And, None, 0, 5),
+    (PINS, "y", 8, 0, Kind::And, Some(6), 8, 11),
+    (PINS, "y", 8, 1, Kind::And, Some(3), 5, 11),
+    (FLOATING, "y", 3, 0, Kind::And, Some(2), 1, 6),
+];
+
 #[test]
 fn pins_of_evaluable_points(rt: HostRuntime) -> Result<(), Fail> {
-    let (not, buff, and, nand, dff) = (Kind::Not, Kind::Buff, Kind::And, Kind::Nand, Kind::Dff);
-    let rows = [
-        (INVERTED_PULSE, "y", 3, 0, only_pin(not, 0, 3, 8)),
-        (INVERTED_PULSE, "y", 8, 0, only_pin(not, 5, 8, 11)),
-        (
-            LATEST_EDGE,
-            "y",
-            1_000_000,
-            0,
-            only_pin(not, 0, 1_000_000, 1_000_001),
-        ),
-        (DELAYS, "v", 5, 0, only_pin(buff, 0, 5, 12)),
-        (DELAYS, "v", 12, 0, only_pin(buff, 7, 12, 13)),
-        (DELAYS, "v", 20, 0, only_pin(buff, 15, 13, 21)),
-        (DELAYS, "w", 11, 0, only_pin(buff, 7, 11, 12)),
-        (DELAYS, "y", 10, 0, only_pin(not, 7, 10, 11)),
-        (RING, "y", 2, 0, one_of_pins(nand, Some(0), 2, 6)),
-        (RING, "y", 3, 1, one_of_pins(nand, Some(1), 2, 4)),
-        (PINS, "y", 4, 0, one_of_pins(and, Some(2), 2, 8)),
-        (PINS, "y", 4, 1, one_of_pins(and, None, 0, 5)),
-        (PINS, "y", 8, 0, one_of_pins(and, Some(6), 8, 11)),
-        (PINS, "y", 8, 1, one_of_pins(and, Some(3), 5, 11)),
-        (FLOATING, "y", 3, 0, one_of_pins(and, Some(2), 1, 6)),
-        (CLOCKED, "q", 20, 0, only_pin(dff, 10, 11, 21)),
-        (CLOCKED, "q", 21, 0, only_pin(dff, 20, 21, 31)),
-        (CLOCKS, "q", 11, 0, only_pin(dff, 10, 11, 21)),
-        (CLOCKS, "r", 4, 0, only_pin(dff, 3, 4, 8)),
-        (CLOCKS, "r", 8, 0, only_pin(dff, 7, 8, 12)),
-        (CLOCKS, "r", 20, 0, only_pin(dff, 19, 20, 21)),
-    ];
-    for (files, name, time, pin, want) in rows {
+    for &(files, name, time, kind, reads, start, end) in &ONLY_PINS {
+        let look = look_in(rt.alloc(), &files, name, time, 0)?;
+        let want = only_pin(kind, reads, start, end);
+        assert_eq!(rt; look, Some(want), "{name} at {time}");
+    }
+    for &(files, name, time, pin, kind, reads, start, end) in &SOME_PINS {
         let look = look_in(rt.alloc(), &files, name, time, pin)?;
+        let want = one_of_pins(kind, reads, start, end);
         assert_eq!(rt; look, Some(want), "{name} at {time}");
     }
     Ok(())
@@ -348,95 +368,97 @@ fn fault_of(alloc: Global, files: &Files) -> Result<Option<(JoinFile, u32, u8)>,
     }
 }
 
+const LATE: &str = "horizon 10\nset a 0 0\nset a 10 1\nset a 11 0\n";
+
+static FAULTS: [(&str, &str, &str, JoinFile, u32, u8); 12] = [
+    (
+        INVERTER,
+        "default 3\ndelay a 2\n",
+        PULSE,
+        JoinFile::Timing,
+        2,
+        2,
+    ),
+    (
+        INVERTER,
+        "default 3\ndelay b 2\n",
+        PULSE,
+        JoinFile::Timing,
+        2,
+        1,
+    ),
+    (INVERTER, "init y 0\n", PULSE, JoinFile::Timing, 1, 4),
+    (
+        AND,
+        "version 2\ndelay y 2\npin y 2 5\n",
+        PULSE,
+        JoinFile::Timing,
+        3,
+        8,
+    ),
+    (
+        FLIP_FLOPS,
+        "version 2\npin q 0 5\n",
+        PULSE,
+        JoinFile::Timing,
+        2,
+        8,
+    ),
+    (
+        FLIP_FLOPS,
+        "version 2\nclock fast 3 4\nclocked r slow\n",
+        PULSE,
+        JoinFile::Timing,
+        3,
+        9,
+    ),
+    (
+        FLIP_FLOPS,
+        "version 2\nclock fast 3 4\nclocked a fast\n",
+        PULSE,
+        JoinFile::Timing,
+        3,
+        4,
+    ),
+    (
+        FLIP_FLOPS,
+        "version 2\nclocked a slow\n",
+        PULSE,
+        JoinFile::Timing,
+        2,
+        4,
+    ),
+    (INVERTER, "", LATE, JoinFile::Stimulus, 4, 5),
+    (
+        INVERTER,
+        "",
+        "horizon 10\nset y 11 0\n",
+        JoinFile::Stimulus,
+        2,
+        3,
+    ),
+    (
+        INVERTER,
+        "",
+        "horizon 10\nset b 11 0\n",
+        JoinFile::Stimulus,
+        2,
+        1,
+    ),
+    // the rows of the timing file come first
+    (
+        INVERTER,
+        "\n\n\n\ndelay a 2\n",
+        LATE,
+        JoinFile::Timing,
+        5,
+        2,
+    ),
+];
+
 #[test]
 fn rows_at_fault(rt: HostRuntime) -> Result<(), Fail> {
-    let late = "horizon 10\nset a 0 0\nset a 10 1\nset a 11 0\n";
-    let rows = [
-        (
-            INVERTER,
-            "default 3\ndelay a 2\n",
-            PULSE,
-            JoinFile::Timing,
-            2,
-            2,
-        ),
-        (
-            INVERTER,
-            "default 3\ndelay b 2\n",
-            PULSE,
-            JoinFile::Timing,
-            2,
-            1,
-        ),
-        (INVERTER, "init y 0\n", PULSE, JoinFile::Timing, 1, 4),
-        (
-            AND,
-            "version 2\ndelay y 2\npin y 2 5\n",
-            PULSE,
-            JoinFile::Timing,
-            3,
-            8,
-        ),
-        (
-            FLIP_FLOPS,
-            "version 2\npin q 0 5\n",
-            PULSE,
-            JoinFile::Timing,
-            2,
-            8,
-        ),
-        (
-            FLIP_FLOPS,
-            "version 2\nclock fast 3 4\nclocked r slow\n",
-            PULSE,
-            JoinFile::Timing,
-            3,
-            9,
-        ),
-        (
-            FLIP_FLOPS,
-            "version 2\nclock fast 3 4\nclocked a fast\n",
-            PULSE,
-            JoinFile::Timing,
-            3,
-            4,
-        ),
-        (
-            FLIP_FLOPS,
-            "version 2\nclocked a slow\n",
-            PULSE,
-            JoinFile::Timing,
-            2,
-            4,
-        ),
-        (INVERTER, "", late, JoinFile::Stimulus, 4, 5),
-        (
-            INVERTER,
-            "",
-            "horizon 10\nset y 11 0\n",
-            JoinFile::Stimulus,
-            2,
-            3,
-        ),
-        (
-            INVERTER,
-            "",
-            "horizon 10\nset b 11 0\n",
-            JoinFile::Stimulus,
-            2,
-            1,
-        ),
-        // the rows of the timing file come first
-        (
-            INVERTER,
-            "\n\n\n\ndelay a 2\n",
-            late,
-            JoinFile::Timing,
-            5,
-            2,
-        ),
-    ];
-    for (netlist, timing, stimulus, file, line, number) in rows {
+    for &(netlist, timing, stimulus, file, line, number) in &FAULTS {
         let files = Files {
             netlist,
             timing,
@@ -457,13 +479,13 @@ const S27: &str =
     "INPUT(G0)\nINPUT(G1)\nINPUT(G2)\nINPUT(G3)\nOUTPUT(G17)\nG5 = DFF(G10)\nG6 = DFF(G11)\nG7 = DFF(G13)\nG14 = NOT(G0)\nG17 = NOT(G11)\nG8 = AND(G14, G6)\nG15 = OR(G12, G8)\nG16 = OR(G3, G8)\nG9 = NAND(G16, G15)\nG10 = NOR(G14, G11)\nG11 = NOR(G5, G9)\nG12 = NOR(G1, G7)\nG13 = NOR(G2, G12)\n";
 
 /// The design of a netlist with default delays and inputs that are never set.
-fn unset(alloc: Global, netlist: &'static str) -> Result<Result<Design, JoinFault>, Fail> {
+fn unset(alloc: Global, netlist: &'static str) -> Result<Design, Fail> {
     let files = Files {
         netlist,
         timing: "",
         stimulus: "horizon 10\n",
     };
-    joined(alloc, &files)
+    design_of(alloc, &files)
 }
 
 /// Whether a signal lies in the fan-in cone of another.
@@ -485,29 +507,30 @@ fn reaches_in(
     root: &str,
     name: &str,
 ) -> Result<Option<bool>, Fail> {
-    let design = unset(alloc, netlist)??;
+    let design = unset(alloc, netlist)?;
     reaches(alloc, &design, root, name)
 }
 
+static CONES: [(&str, &str, &str, bool); 13] = [
+    (C17, "22", "22", true),
+    (C17, "22", "11", true),
+    (C17, "22", "3", true),
+    (C17, "22", "7", false),
+    (C17, "22", "19", false),
+    (C17, "22", "23", false),
+    (C17, "3", "22", false),
+    // a cone goes on after a flip-flop, and may lead back to its signal
+    (S27, "G13", "G7", true),
+    (S27, "G13", "G1", true),
+    (S27, "G13", "G0", false),
+    (S27, "G17", "G0", true),
+    (S27, "G17", "G17", true),
+    (S27, "G11", "G17", false),
+];
+
 #[test]
 fn cones_of_signals(rt: HostRuntime) -> Result<(), Fail> {
-    let rows = [
-        (C17, "22", "22", true),
-        (C17, "22", "11", true),
-        (C17, "22", "3", true),
-        (C17, "22", "7", false),
-        (C17, "22", "19", false),
-        (C17, "22", "23", false),
-        (C17, "3", "22", false),
-        // a cone goes on after a flip-flop, and may lead back to its signal
-        (S27, "G13", "G7", true),
-        (S27, "G13", "G1", true),
-        (S27, "G13", "G0", false),
-        (S27, "G17", "G0", true),
-        (S27, "G17", "G17", true),
-        (S27, "G11", "G17", false),
-    ];
-    for (netlist, root, name, inside) in rows {
+    for &(netlist, root, name, inside) in &CONES {
         let reached = reaches_in(rt.alloc(), netlist, root, name)?;
         assert_eq!(rt; reached, Some(inside), "{root} and {name}");
     }
@@ -534,42 +557,55 @@ fn flag_in(
     site: &str,
     name: &str,
 ) -> Result<Option<bool>, Fail> {
-    let design = unset(alloc, netlist)??;
+    let design = unset(alloc, netlist)?;
     flag_of(alloc, &design, site, name)
 }
 
+/// The first of these names whose signal has not this flag.
+fn first_wrong(
+    alloc: Global,
+    netlist: &'static str,
+    site: &str,
+    names: &'static str,
+    flag: bool,
+) -> Result<Option<&'static str>, Fail> {
+    for name in names.split_whitespace() {
+        if flag_in(alloc, netlist, site, name)? != Some(flag) {
+            return Ok(Some(name));
+        }
+    }
+    Ok(None)
+}
+
+static REACHED: [(&str, &str, &str, &str); 7] = [
+    (C17, "11", "11 16 19 22 23", "1 2 3 6 7 10"),
+    (C17, "1", "1 10 22", "2 3 6 7 11 16 19 23"),
+    (C17, "23", "23", "1 2 3 6 7 10 11 16 19 22"),
+    // a flip-flop in a cycle
+    (
+        S27,
+        "G7",
+        "G5 G6 G7 G8 G9 G10 G11 G12 G13 G15 G16 G17",
+        "G0 G1 G2 G3 G14",
+    ),
+    (
+        S27,
+        "G0",
+        "G0 G5 G6 G8 G9 G10 G11 G14 G15 G16 G17",
+        "G1 G2 G3 G7 G12 G13",
+    ),
+    // a gate that reads itself
+    (RING_NETLIST, "y", "y", "en"),
+    (RING_NETLIST, "en", "en y", ""),
+];
+
 #[test]
 fn signals_that_are_reached(rt: HostRuntime) -> Result<(), Fail> {
-    let rows = [
-        (C17, "11", "11 16 19 22 23", "1 2 3 6 7 10"),
-        (C17, "1", "1 10 22", "2 3 6 7 11 16 19 23"),
-        (C17, "23", "23", "1 2 3 6 7 10 11 16 19 22"),
-        // a flip-flop in a cycle
-        (
-            S27,
-            "G7",
-            "G5 G6 G7 G8 G9 G10 G11 G12 G13 G15 G16 G17",
-            "G0 G1 G2 G3 G14",
-        ),
-        (
-            S27,
-            "G0",
-            "G0 G5 G6 G8 G9 G10 G11 G14 G15 G16 G17",
-            "G1 G2 G3 G7 G12 G13",
-        ),
-        // a gate that reads itself
-        (RING.netlist, "y", "y", "en"),
-        (RING.netlist, "en", "en y", ""),
-    ];
-    for (netlist, site, reached, free) in rows {
-        for name in reached.split_whitespace() {
-            let flag = flag_in(rt.alloc(), netlist, site, name)?;
-            assert_eq!(rt; flag, Some(true), "{site} and {name}");
-        }
-        for name in free.split_whitespace() {
-            let flag = flag_in(rt.alloc(), netlist, site, name)?;
-            assert_eq!(rt; flag, Some(false), "{site} and {name}");
-        }
+    for &(netlist, site, reached, free) in &REACHED {
+        let wrong = first_wrong(rt.alloc(), netlist, site, reached, true)?;
+        assert_eq!(rt; wrong, None, "reached from {site}");
+        let wrong = first_wrong(rt.alloc(), netlist, site, free, false)?;
+        assert_eq!(rt; wrong, None, "not reached from {site}");
     }
     Ok(())
 }
@@ -598,34 +634,48 @@ fn flag_held_in(
     site: &str,
     name: &str,
 ) -> Result<Option<bool>, Fail> {
-    let design = unset(alloc, netlist)??;
+    let design = unset(alloc, netlist)?;
     flag_where_held(alloc, &design, held, site, name)
 }
 
+/// The same if one signal is held.
+fn first_wrong_where_held(
+    alloc: Global,
+    netlist: &'static str,
+    held: &str,
+    site: &str,
+    names: &'static str,
+    flag: bool,
+) -> Result<Option<&'static str>, Fail> {
+    for name in names.split_whitespace() {
+        if flag_held_in(alloc, netlist, held, site, name)? != Some(flag) {
+            return Ok(Some(name));
+        }
+    }
+    Ok(None)
+}
+
+static REACHED_WHERE_HELD: [(&str, &str, &str, &str, &str); 4] = [
+    // a held signal reads nothing
+    (C17, "16", "11", "11 19 23", "1 2 3 6 7 10 16 22"),
+    (C17, "16", "16", "16 22 23", "1 2 3 6 7 10 11 19"),
+    (
+        S27,
+        "G11",
+        "G0",
+        "G0 G5 G8 G9 G10 G14 G15 G16",
+        "G6 G11 G17",
+    ),
+    (RING_NETLIST, "y", "en", "en", "y"),
+];
+
 #[test]
 fn signals_that_are_reached_where_one_is_held(rt: HostRuntime) -> Result<(), Fail> {
-    let rows = [
-        // a held signal reads nothing
-        (C17, "16", "11", "11 19 23", "1 2 3 6 7 10 16 22"),
-        (C17, "16", "16", "16 22 23", "1 2 3 6 7 10 11 19"),
-        (
-            S27,
-            "G11",
-            "G0",
-            "G0 G5 G8 G9 G10 G14 G15 G16",
-            "G6 G11 G17",
-        ),
-        (RING.netlist, "y", "en", "en", "y"),
-    ];
-    for (netlist, held, site, reached, free) in rows {
-        for name in reached.split_whitespace() {
-            let flag = flag_held_in(rt.alloc(), netlist, held, site, name)?;
-            assert_eq!(rt; flag, Some(true), "{site} and {name}, with {held} held");
-        }
-        for name in free.split_whitespace() {
-            let flag = flag_held_in(rt.alloc(), netlist, held, site, name)?;
-            assert_eq!(rt; flag, Some(false), "{site} and {name}, with {held} held");
-        }
+    for &(netlist, held, site, reached, free) in &REACHED_WHERE_HELD {
+        let wrong = first_wrong_where_held(rt.alloc(), netlist, held, site, reached, true)?;
+        assert_eq!(rt; wrong, None, "reached from {site}, with {held} held");
+        let wrong = first_wrong_where_held(rt.alloc(), netlist, held, site, free, false)?;
+        assert_eq!(rt; wrong, None, "not reached from {site}, with {held} held");
     }
     Ok(())
 }
@@ -637,8 +687,8 @@ fn base_held_twice(
     second: &str,
     value: Value,
     name: &str,
-) -> Result<Option<(u32, u32, Value)>, Fail> {
-    let design = joined(alloc, &INVERTED_PULSE)??;
+) -> Result<Option<Base>, Fail> {
+    let design = design_of(alloc, &INVERTED_PULSE)?;
     base_where_held_first(alloc, &design, first, second, value, name)
 }
 
@@ -650,7 +700,7 @@ fn base_where_held_first(
     second: &str,
     value: Value,
     name: &str,
-) -> Result<Option<(u32, u32, Value)>, Fail> {
+) -> Result<Option<Base>, Fail> {
     design.facts();
     let Some(first) = design.netlist().id_of(first.as_bytes()) else {
         return Ok(None);
@@ -659,19 +709,20 @@ fn base_where_held_first(
     base_where_held(alloc, &held, second, value, name, 7)
 }
 
+static HELD_TWICE: [(&str, &str, Value, &str, Option<Base>); 6] = [
+    // the last value counts
+    ("a", "a", Value::Zero, "a", Some((0, 11, Value::Zero))),
+    ("y", "y", Value::Z, "y", Some((0, 11, Value::Z))),
+    // the signal held first stays held
+    ("a", "y", Value::Zero, "a", Some((0, 11, Value::One))),
+    ("a", "y", Value::Zero, "y", Some((0, 11, Value::Zero))),
+    ("y", "a", Value::X, "y", Some((0, 11, Value::One))),
+    ("y", "a", Value::X, "a", Some((0, 11, Value::X))),
+];
+
 #[test]
 fn signals_that_are_held_one_after_another(rt: HostRuntime) -> Result<(), Fail> {
-    let rows = [
-        // the last value counts
-        ("a", "a", Value::Zero, "a", Some((0, 11, Value::Zero))),
-        ("y", "y", Value::Z, "y", Some((0, 11, Value::Z))),
-        // the signal held first stays held
-        ("a", "y", Value::Zero, "a", Some((0, 11, Value::One))),
-        ("a", "y", Value::Zero, "y", Some((0, 11, Value::Zero))),
-        ("y", "a", Value::X, "y", Some((0, 11, Value::One))),
-        ("y", "a", Value::X, "a", Some((0, 11, Value::X))),
-    ];
-    for (first, second, value, name, cell) in rows {
+    for &(first, second, value, name, cell) in &HELD_TWICE {
         let found = base_held_twice(rt.alloc(), first, second, value, name)?;
         assert_eq!(rt; found, cell, "{name}, with {first} and {second} held");
     }
