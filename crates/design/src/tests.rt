@@ -290,71 +290,57 @@ fn look_in(
     Ok(looked_at(&design, name, time, pin))
 }
 
-fn only_pin(kind: Kind, reads: u32, start: u32, end: u32) -> Look {
-    Look {
-        kind,
-        reads: Some(reads),
-        sees: (start, end),
-        cell: Some((start, end)),
-    }
-}
-
-fn one_of_pins(kind: Kind, reads: Option<u32>, start: u32, end: u32) -> Look {
+/// The look of a point whose cell is what its only pin sees, or that has other pins too.
+fn look_of(kind: Kind, reads: Option<u32>, sees: (u32, u32), is_only: bool) -> Look {
+    let cell = if is_only { Some(sees) } else { None };
     Look {
         kind,
         reads,
-        sees: (start, end),
-        cell: None,
+        sees,
+        cell,
     }
 }
 
-// points with one pin, the kind of its driver, the time at which it reads, and the start and the end of what it sees
-static ONLY_PINS: [(Files, &str, u32, Kind, u32, u32, u32); 14] = [
-    (INVERTED_PULSE, "y", 3, Kind::Not, 0, 3, 8),
-    (INVERTED_PULSE, "y", 8, Kind::Not, 5, 8, 11),
+// points and pins with the kind of the driver, the time at which the pin reads, the times around the point at which it sees
+// the same, and whether it is the only pin
+static LOOKS: [(Files, &str, u32, u32, Kind, Option<u32>, (u32, u32), bool); 21] = [
+    (INVERTED_PULSE, "y", 3, 0, Kind::Not, Some(0), (3, 8), true),
+    (INVERTED_PULSE, "y", 8, 0, Kind::Not, Some(5), (8, 11), true),
     (
         LATEST_EDGE,
         "y",
         1_000_000,
-        Kind::Not,
         0,
-        1_000_000,
-        1_000_001,
+        Kind::Not,
+        Some(0),
+        (1_000_000, 1_000_001),
+        true,
     ),
-    (DELAYS, "v", 5, Kind::Buff, 0, 5, 12),
-    (DELAYS, "v", 12, Kind::Buff, 7, 12, 13),
-    (DELAYS, "v", 20, Kind::Buff, 15, 13, 21),
-    (DELAYS, "w", 11, Kind::Buff, 7, 11, 12),
-    (DELAYS, "y", 10, Kind::Not, 7, 10, 11),
-    (CLOCKED, "q", 20, Kind::Dff, 10, 11, 21),
-    (CLOCKED, "q", 21, Kind::Dff, 20, 21, 31),
-    (CLOCKS, "q", 11, Kind::Dff, 10, 11, 21),
-    (CLOCKS, "r", 4, Kind::Dff, 3, 4, 8),
-    (CLOCKS, "r", 8, Kind::Dff, 7, 8, 12),
-    (CLOCKS, "r", 20, Kind::Dff, 19, 20, 21),
-];
-
-// the same of one of several pins
-static SOME_PINS: [(Files, &str, u32, u32, Kind, Option<u32>, u32, u32); 7] = [
-    (RING, "y", 2, 0, Kind::Nand, Some(0), 2, 6),
-    (RING, "y", 3, 1, Kind::Nand, Some(1), 2, 4),
-    (PINS, "y", 4, 0, Kind::And, Some(2), 2, 8),
-    (PINS, "y", 4, 1, Kind::And, None, 0, 5),
-    (PINS, "y", 8, 0, Kind::And, Some(6), 8, 11),
-    (PINS, "y", 8, 1, Kind::And, Some(3), 5, 11),
-    (FLOATING, "y", 3, 0, Kind::And, Some(2), 1, 6),
+    (DELAYS, "v", 5, 0, Kind::Buff, Some(0), (5, 12), true),
+    (DELAYS, "v", 12, 0, Kind::Buff, Some(7), (12, 13), true),
+    (DELAYS, "v", 20, 0, Kind::Buff, Some(15), (13, 21), true),
+    (DELAYS, "w", 11, 0, Kind::Buff, Some(7), (11, 12), true),
+    (DELAYS, "y", 10, 0, Kind::Not, Some(7), (10, 11), true),
+    (RING, "y", 2, 0, Kind::Nand, Some(0), (2, 6), false),
+    (RING, "y", 3, 1, Kind::Nand, Some(1), (2, 4), false),
+    (PINS, "y", 4, 0, Kind::And, Some(2), (2, 8), false),
+    (PINS, "y", 4, 1, Kind::And, None, (0, 5), false),
+    (PINS, "y", 8, 0, Kind::And, Some(6), (8, 11), false),
+    (PINS, "y", 8, 1, Kind::And, Some(3), (5, 11), false),
+    (FLOATING, "y", 3, 0, Kind::And, Some(2), (1, 6), false),
+    (CLOCKED, "q", 20, 0, Kind::Dff, Some(10), (11, 21), true),
+    (CLOCKED, "q", 21, 0, Kind::Dff, Some(20), (21, 31), true),
+    (CLOCKS, "q", 11, 0, Kind::Dff, Some(10), (11, 21), true),
+    (CLOCKS, "r", 4, 0, Kind::Dff, Some(3), (4, 8), true),
+    (CLOCKS, "r", 8, 0, Kind::Dff, Some(7), (8, 12), true),
+    (CLOCKS, "r", 20, 0, Kind::Dff, Some(19), (20, 21), true),
 ];
 
 #[test]
 fn pins_of_evaluable_points(rt: HostRuntime) -> Result<(), Fail> {
-    for &(files, name, time, kind, reads, start, end) in &ONLY_PINS {
-        let look = look_in(rt.alloc(), &files, name, time, 0)?;
-        let want = only_pin(kind, reads, start, end);
-        assert_eq!(rt; look, Some(want), "{name} at {time}");
-    }
-    for &(files, name, time, pin, kind, reads, start, end) in &SOME_PINS {
+    for &(files, name, time, pin, kind, reads, sees, is_only) in &LOOKS {
         let look = look_in(rt.alloc(), &files, name, time, pin)?;
-        let want = one_of_pins(kind, reads, start, end);
+        let want = look_of(kind, reads, sees, is_only);
         assert_eq!(rt; look, Some(want), "{name} at {time}");
     }
     Ok(())
@@ -562,7 +548,7 @@ fn flag_in(
 }
 
 /// The first of these names whose signal has not this flag.
-fn first_wrong(
+fn first_without(
     alloc: Global,
     netlist: &'static str,
     site: &str,
@@ -575,6 +561,20 @@ fn first_wrong(
         }
     }
     Ok(None)
+}
+
+/// The first of the names whose flag is another than their list's: `reached` names what is reached, and `free` what is not.
+fn first_wrong(
+    alloc: Global,
+    netlist: &'static str,
+    site: &str,
+    reached: &'static str,
+    free: &'static str,
+) -> Result<Option<&'static str>, Fail> {
+    match first_without(alloc, netlist, site, reached, true)? {
+        Some(name) => Ok(Some(name)),
+        None => first_without(alloc, netlist, site, free, false),
+    }
 }
 
 static REACHED: [(&str, &str, &str, &str); 7] = [
@@ -602,10 +602,8 @@ static REACHED: [(&str, &str, &str, &str); 7] = [
 #[test]
 fn signals_that_are_reached(rt: HostRuntime) -> Result<(), Fail> {
     for &(netlist, site, reached, free) in &REACHED {
-        let wrong = first_wrong(rt.alloc(), netlist, site, reached, true)?;
-        assert_eq!(rt; wrong, None, "reached from {site}");
-        let wrong = first_wrong(rt.alloc(), netlist, site, free, false)?;
-        assert_eq!(rt; wrong, None, "not reached from {site}");
+        let wrong = first_wrong(rt.alloc(), netlist, site, reached, free)?;
+        assert_eq!(rt; wrong, None, "from {site}");
     }
     Ok(())
 }
@@ -639,7 +637,7 @@ fn flag_held_in(
 }
 
 /// The same if one signal is held.
-fn first_wrong_where_held(
+fn first_without_where_held(
     alloc: Global,
     netlist: &'static str,
     held: &str,
@@ -653,6 +651,21 @@ fn first_wrong_where_held(
         }
     }
     Ok(None)
+}
+
+/// The same if one signal is held.
+fn first_wrong_where_held(
+    alloc: Global,
+    netlist: &'static str,
+    held: &str,
+    site: &str,
+    reached: &'static str,
+    free: &'static str,
+) -> Result<Option<&'static str>, Fail> {
+    match first_without_where_held(alloc, netlist, held, site, reached, true)? {
+        Some(name) => Ok(Some(name)),
+        None => first_without_where_held(alloc, netlist, held, site, free, false),
+    }
 }
 
 static REACHED_WHERE_HELD: [(&str, &str, &str, &str, &str); 4] = [
@@ -672,10 +685,8 @@ static REACHED_WHERE_HELD: [(&str, &str, &str, &str, &str); 4] = [
 #[test]
 fn signals_that_are_reached_where_one_is_held(rt: HostRuntime) -> Result<(), Fail> {
     for &(netlist, held, site, reached, free) in &REACHED_WHERE_HELD {
-        let wrong = first_wrong_where_held(rt.alloc(), netlist, held, site, reached, true)?;
-        assert_eq!(rt; wrong, None, "reached from {site}, with {held} held");
-        let wrong = first_wrong_where_held(rt.alloc(), netlist, held, site, free, false)?;
-        assert_eq!(rt; wrong, None, "not reached from {site}, with {held} held");
+        let wrong = first_wrong_where_held(rt.alloc(), netlist, held, site, reached, free)?;
+        assert_eq!(rt; wrong, None, "from {site}, with {held} held");
     }
     Ok(())
 }
