@@ -141,7 +141,7 @@ def test_changes_come_in_order() -> None:
 @pytest.mark.skipif(shutil.which("iverilog") is None, reason="iverilog is not there")
 def test_a_dump_of_icarus(tmp_path) -> None:
     (tmp_path / "test.v").write_text("""`timescale 1ns/1ns
-module test; reg [3:0] n = 4'd9; wire y; part p(n[0], y);
+module test; reg [3:0] n = 4'd9; wire y; part p(n[0], y); wire \\$and\\a.v:1$2 ; assign \\$and\\a.v:1$2 = n[3];
 initial begin $dumpfile("dump.vcd"); $dumpvars(0, test); #3 n = 4'b1x0z; #4 $finish; end endmodule
 module part(input a, output b); assign b = ~a; endmodule
 """)
@@ -152,6 +152,14 @@ module part(input a, output b); assign b = ~a; endmodule
     assert dump.signal("test", "n") == ((0, "1001"), (3, "1x0z"))
     assert dump.signal("test", "n[3]") == ((0, "1"),)
     assert dump.signal("test.p", "b") == ((0, "0"), (3, "x"))
+    assert dump.signal("test", "$and\\a.v:1$2") == ((0, "1"),)
+
+
+@pytest.mark.parametrize("version, written", [("Icarus Verilog", r"\a\\b"), ("a simulator", r"\a\b"), ("a simulator", r"a\b")])
+def test_a_backslash_in_a_name_is_one(version: str, written: str, write) -> None:
+    dump = read_vcd(write("dump", f"$version {version} $end\n$scope module top $end\n$var wire 1 ! {written} $end\n"
+                                  "$upscope $end\n$enddefinitions $end\n#0\n1!\n"))
+    assert dump.signal("top", "a\\b") == ((0, "1"),)
 
 
 @pytest.mark.parametrize("body, scope, cause", [

@@ -150,6 +150,7 @@ class _Reader:
         self.now = 0
         self.here: list[str] = []
         self.widths: dict[str, int] = {}
+        self.is_doubled = False  # Icarus Verilog writes each backslash of a name twice
 
     def fault(self, cause: str) -> FormatError:
         return FormatError(self.vcd.path, self.line, cause)
@@ -191,16 +192,23 @@ class _Reader:
                 self.here.pop()
             elif word == "$timescale":
                 self.timescale(" ".join(body))
+            elif word == "$version":
+                self.is_doubled = "Icarus" in body
             elif word == "$var":
                 self.declare(body)
             elif word.startswith("$dumpports"):
                 raise self.fault("this is an extended dump (EVCD); write one by $dumpvars")
         raise self.fault("the file ends before $enddefinitions: the header of a VCD file is cut or missing")
 
+    def name_of(self, word: str) -> str:
+        """The name that a word of the header stands for: without the backslash in front of an escaped one."""
+        name = word.lstrip("\\")
+        return name.replace("\\\\", "\\") if self.is_doubled else name
+
     def enter(self, body: list[str]) -> None:
         if len(body) < 2:
             raise self.fault("expected `$scope KIND NAME $end`")
-        self.here.append(body[1].lstrip("\\"))
+        self.here.append(self.name_of(body[1]))
         path = ".".join(self.here)
         if path not in self.vcd.scopes:
             self.vcd.scopes.append(path)
@@ -219,7 +227,7 @@ class _Reader:
             raise self.fault("expected `$var KIND WIDTH CODE NAME $end`")
         code = body[2]
         is_number = body[0] in ("real", "realtime", "string")
-        parts = _REFERENCE.fullmatch("".join(body[3:]).lstrip("\\"))
+        parts = _REFERENCE.fullmatch(self.name_of("".join(body[3:])))
         if parts is None:
             raise self.fault("the variable has no name")
         name, left, right = parts[1], parts[2], parts[3]
