@@ -233,6 +233,9 @@ class _Reader:
         name, left, right = parts[1], parts[2], parts[3]
         if is_number:
             variable = Variable(tuple(self.here), parts[0], 0, None, None, code)
+        elif right is not None and width == 1 and body[3].startswith("\\") and body[3].endswith("]"):
+            # brackets in an escaped name are part of it, as in `\$0\valid[0:0]` of Yosys
+            variable = Variable(tuple(self.here), parts[0], 1, None, None, code)
         elif right is not None:
             variable = Variable(tuple(self.here), name, width, int(left), int(right), code)
         elif width > 1:
