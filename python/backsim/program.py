@@ -8,9 +8,12 @@ import os
 import re
 import select
 import shutil
+import signal
 import subprocess
 import sys
-from collections.abc import Callable, Sequence
+import threading
+from collections.abc import Callable, Iterator, Sequence
+from contextlib import contextmanager
 from typing import TYPE_CHECKING, NamedTuple, TypeVar
 
 from .errors import FormatError, UsageError, reason_of, type_of_path
@@ -53,6 +56,24 @@ class Options(NamedTuple):
                 raise UsageError(f"{name} must be from 1 to {most}, and not {number}")
             words += [f"--{name}", str(number)]
         return words
+
+
+@contextmanager
+def interrupt_held() -> Iterator[None]:
+    """Holds an interrupt (SIGINT) back until the end, so that a process which is started inside is known where it is to be ended. Only
+    the main thread is interrupted; in others nothing is held."""
+    before = signal.getsignal(signal.SIGINT)
+    if threading.current_thread() is not threading.main_thread() or not callable(before):
+        yield
+        return
+    came: list[int] = []
+    signal.signal(signal.SIGINT, lambda number, _: came.append(number))
+    try:
+        yield
+    finally:
+        signal.signal(signal.SIGINT, before)
+        if came:
+            signal.raise_signal(signal.SIGINT)
 
 
 def find_program(given: type_of_path | None = None) -> str:

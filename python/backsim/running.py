@@ -11,7 +11,7 @@ from .errors import type_of_path
 from .formats.text import NAME
 from .outcomes import may_pass
 from .parts import TextLine, divide, text_of
-from .program import Conversation, Options, looked_up
+from .program import Conversation, Options, interrupt_held, looked_up
 
 if TYPE_CHECKING:
     from .formats.replies import Reply
@@ -76,7 +76,8 @@ class _Part(threading.Thread):
 
     def begin(self) -> None:
         """Starts a process with the lines from the first unanswered one on."""
-        self._conversation = Conversation(self.files, self.options, self.program)
+        with interrupt_held():
+            self._conversation = Conversation(self.files, self.options, self.program)
         if self._is_stopped:
             self._conversation.interrupt()
         left = self.lines[self._asked[self._answered]:] if self._answered < len(self._asked) else []

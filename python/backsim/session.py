@@ -28,7 +28,7 @@ from .formats.script import MOST_CELLS, Line, StatsLine, Trim, VcdLine
 from .formats.stimulus import Stimulus, write_stimulus
 from .formats.text import is_name
 from .formats.timing import Timing, write_timing
-from .program import Conversation, Options
+from .program import Conversation, Options, interrupt_held
 from .questions import Question
 from .values import Answer, At, Budget, Dump, First, Past, Proof, Stats, Stuck, Trimmed, Unknown, Wave
 
@@ -66,7 +66,8 @@ class Session:
                      _path_of(stimulus, write_stimulus, self._folder / "stimulus")]
             self._netlist_path = files[0]
             self.journal = os.fspath(journal if journal is not None else self._folder / "journal")
-            self._exchange = Exchange(Conversation([*files, self.journal], options, program), self._answer_of)
+            with interrupt_held():
+                self._exchange = Exchange(Conversation([*files, self.journal], options, program), self._answer_of)
             self.stats()
         except BaseException:
             self._stop()

@@ -262,6 +262,18 @@ for SLURM_ARRAY_TASK_ID in $(seq "$last"); do export SLURM_ARRAY_TASK_ID; sh -c 
 
 
 @pytest.mark.parametrize("jobs", ["1", "3"])
+def test_an_interrupt_while_a_process_starts_leaves_none(jobs: str, example, write, tmp_path) -> None:
+    program = write("slow", f"#!/bin/sh\necho $$ >> '{tmp_path}/started'\nkill -INT $PPID\nexec sleep 1000\n")
+    program.chmod(0o755)
+    words = [sys.executable, "-m", "backsim", "run", *example("s27"), write("script", FEW), "--program", program, "--jobs", jobs]
+    for _ in range(5):
+        run = subprocess.run(words, cwd=TOP / "python", capture_output=True, timeout=60)
+        assert (run.returncode, run.stdout, run.stderr) == (130, b"", b"")
+    for number in (tmp_path / "started").read_text().split():
+        assert not Path(f"/proc/{number}").exists()
+
+
+@pytest.mark.parametrize("jobs", ["1", "3"])
 def test_an_interrupted_run_leaves_no_process(jobs: str, example, write, tmp_path) -> None:
     program = write("slow", f"#!/bin/sh\necho $$ >> '{tmp_path}/started'\nexec sleep 1000\n")
     program.chmod(0o755)

@@ -14,7 +14,7 @@ from concurrent.futures import FIRST_EXCEPTION, ThreadPoolExecutor, wait
 from ..errors import BacksimError, type_of_path
 from ..formats.replies import first_line, fits
 from ..formats.script import SCRIPT_LIMIT, Line, StatsLine
-from ..program import Conversation, Options, looked_up
+from ..program import Conversation, Options, interrupt_held, looked_up
 from ..values import Answer, Budget
 from .collapse import FaultClass
 from .plan import Good, Outcome, Plan
@@ -53,7 +53,8 @@ class Asker:
         if self._sent + len(data) > SCRIPT_LIMIT:
             self.close()
         if self._conversation is None:
-            self._conversation, self._sent = Conversation(self._files, Options(workers=1), self._program), 0
+            with interrupt_held():
+                self._conversation, self._sent = Conversation(self._files, Options(workers=1), self._program), 0
         self._conversation.send(data)
         self._sent += len(data)
         return [self._answer(line) for line in asked][:-1]
