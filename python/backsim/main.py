@@ -8,12 +8,16 @@ from __future__ import annotations
 import argparse
 import importlib
 import os
+import signal
 import sys
 from collections.abc import Sequence
-from typing import Any, NoReturn
+from typing import TYPE_CHECKING, Any, NoReturn
 
 from . import commands
 from .errors import BacksimError, reason_of
+
+if TYPE_CHECKING:
+    from types import FrameType
 
 INTERRUPTED = 130
 READER_GONE = 141
@@ -89,6 +93,14 @@ def _leave_output() -> None:
     os.dup2(nowhere, sys.stdout.fileno())
 
 
+def _interrupted(number: int, frame: FrameType | None) -> NoReturn:
+    """The first interrupt ends the command. Those after it are passed over, so that what it has started is ended whole."""
+    signal.signal(signal.SIGINT, signal.SIG_IGN)
+    raise KeyboardInterrupt
+
+
 def entry() -> NoReturn:
     """What the script `backsim-tools` runs."""
+    if signal.getsignal(signal.SIGINT) is signal.default_int_handler:
+        signal.signal(signal.SIGINT, _interrupted)
     sys.exit(main())
