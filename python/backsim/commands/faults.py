@@ -28,7 +28,7 @@ from ..formats.timing import read_timing
 
 HELP = "tells which patterns show which stuck-at faults, of stems and branches, and the coverage"
 EXAMPLE = """  backsim-tools faults c17.bench c17.timing patterns.txt --period 10
-  backsim-tools faults c17.bench c17.timing c17.stim --times 9 19 29 39 --left missed.faults
+  backsim-tools faults c17.bench c17.timing patterns.stim --times 9 19 29 39 --left missed.faults
 
 patterns.txt has a line of 0, 1 and x for each pattern, the inputs in order. Status 1: a question was answered by its budget, or a
 reply is missing."""

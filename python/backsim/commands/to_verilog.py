@@ -11,12 +11,12 @@ from ..formats.circuit import read_files
 from ..formats.script import read_script
 
 HELP = "writes a circuit with its stimulus as one Verilog file, which answers a script or dumps all signals, for another simulator"
-EXAMPLE = """  backsim-tools to-verilog c17.bench c17.timing c17.stim c17.script -o c17.v
-  iverilog -g2005 -s circuit -o c17.vvp c17.v
-  vvp -n c17.vvp | sort -snk1,1 | cut -d' ' -f2- > replies
+EXAMPLE = """  backsim-tools to-verilog s27.bench s27.timing s27.stim s27.script -o s27.v
+  iverilog -g2005 -s circuit -o s27.vvp s27.v
+  vvp -n s27.vvp | sort -snk1,1 | cut -d' ' -f2- > replies
 
 Each line of a reply has the number of its question's line before it; the last command puts the replies in the order of the script.
-With `vvp -n c17.vvp +line=3` the question of line 3 alone is answered, and the run ends after it."""
+With `vvp -n s27.vvp +line=1` the question of line 1 alone is answered, and the run ends after it."""
 
 
 def add_arguments(parser: argparse.ArgumentParser) -> None:
