@@ -82,4 +82,6 @@ def main(widths):
 
 
 if __name__ == "__main__":
+    if not all(word.isdigit() for word in sys.argv[1:]):
+        sys.exit(__doc__)
     main([int(width) for width in sys.argv[1:]] or [20, 200, 2000])
