@@ -186,8 +186,9 @@ def parse(words: list[str]) -> argparse.Namespace:
     parser.add_argument("--most", metavar="N", type=count, default=1000, help="at most so many of each session, spread over all (1000)")
     parser.add_argument("--rest", action="store_true", help="refuse those that follow it too")
     parser.add_argument("--jobs", metavar="N", type=count, default=1, help="how many runs stand beside one another (1)")
-    parser.add_argument("--every", action="store_true", help="every session of tests/sessions that ends with status 0")
-    parser.add_argument("--session", metavar="NAME", action="append", help="a session of tests/sessions in place of those that are named here; may come again")
+    which = parser.add_mutually_exclusive_group()
+    which.add_argument("--every", action="store_true", help="every session of tests/sessions that ends with status 0")
+    which.add_argument("--session", metavar="NAME", action="append", help="a session of tests/sessions in place of those that are named here; may come again")
     chosen = parser.parse_args(words)
     if chosen.first > chosen.last:
         parser.error("--first is above --last")
