@@ -145,7 +145,8 @@ impl Design {
         self.horizon() + 1
     }
 
-    /// What is kept of a signal.
+    /// What is kept of a signal. Each caller needs a part of it.
+    #[inline(always)]
     fn view(&self, signal: u32) -> SignalView<'_>
         requires { signal < length self.now.circuit.drivers }
         ensures view { IsViewOf self.now.circuit signal result }

@@ -74,6 +74,7 @@ impl Origin {
     }
 
     /// What is kept of a signal.
+    #[inline(always)]
     pub fn view(&self, signal: u32) -> SignalView<'_>
         requires { signal < length self.now.circuit.drivers }
         ensures { IsViewOf self.now.circuit signal result }
