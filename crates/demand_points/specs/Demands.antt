@@ -1,5 +1,5 @@
 -- A strand in hand: what contracts see of it, and what it keeps.
-use Rattle.std.specs.Prelude.{◌≡◌, ℕ, ◌+◌, ◌-◌, ◌≤◌, ◌<◌, List, [], length, filter, Option, MatchOption}
+use Rattle.std.specs.Prelude.{◌≡◌, ℕ, ◌+◌, ◌-◌, ◌≤◌, ◌<◌, false, List, [], length, filter, Option, MatchOption}
 use Rattle.valid_intervals.specs.declared.Cell.{Cell}
 use Rattle.valid_intervals.specs.declared.Point.{Point}
 use Rattle.circuit_meaning.specs.declared.Window.{Window}
@@ -72,6 +72,7 @@ pub record IsKnownStrand (b : Batch) (s : Demand) : Type 0 where
   pub roots : s.strand.roots ≡ roots_left b.circuit (record { signal = s.strand.query.signal; start = s.from; stop = s.to }) s.root
   pub last : IsHeardTo b.circuit s
   pub busy : 0 < length s.strand.stack → s.root < s.to
+  pub awake : s.strand.waits ≡ false
   pub charge : s.strand.charged ≤ s.strand.budget
   pub claims : length s.strand.stack + s.strand.filled ≤ s.strand.charged
 

@@ -9,3 +9,4 @@ pub mod Running
 pub mod Refusing
 pub mod Rounds
 pub mod Schedules
+pub mod InTurn

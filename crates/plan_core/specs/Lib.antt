@@ -1,3 +1,4 @@
+pub mod InTurn
 pub mod Parts
 pub mod Refusals
 pub mod inner

@@ -1,3 +1,4 @@
+pub mod InTurn
 pub mod Parts
 pub mod Places
 pub mod Refusals

@@ -3,7 +3,8 @@
 //! A [`Plan`] runs the strands of one batch in turns, on one thread. It makes the same calls of a shard (`memo_shards`) as a worker. A
 //! turn ([`Plan::turn`]) makes one step of one strand: it asks for a point, fills one or drops one. The caller chooses the strand of each
 //! turn: one that is ready ([`Plan::ready`]), or the strands of a list ([`Plan::run`]). [`Plan::run_alone`] makes the turns of one strand
-//! until it has ended. `asked_cells` calls it to ask for one cell.
+//! until it has ended. `asked_cells` calls it to ask for one cell. [`Plan::run_in_turn`] does so with each strand, one after another, and
+//! says whether none was refused a point. `worker_gate` calls it where one worker serves a batch.
 //!
 //! The model of a plan is the pure machine of `plan_machine`: the list of its strands, including those that wait, and the list of its
 //! shards. A turn is the machine's turn, so every theorem on lists of turns holds of the code. A plan's type guarantees that it is sound

@@ -1,6 +1,6 @@
 //! The plan.
 
-ghost use Rattle.std.specs.Prelude.{◌≡◌, ◌<◌, ◌≤◌, ℕ, List, [], true, false, length, take, slice_get, IfOk, OnOk, OnErr, IfSome, Some, None};
+ghost use Rattle.std.specs.Prelude.{◌≡◌, ◌<◌, ◌≤◌, ℕ, List, [], All, Contains, true, false, length, take, slice_get, IfOk, OnOk, OnErr, IfSome, Some, None};
 ghost use Rattle.std.specs.List.{AllByRecursion};
 ghost use Rattle.batch_meaning.specs.Lawful.{IsLawful};
 ghost use Rattle.batch_meaning.specs.Pieces.{Start};
@@ -16,14 +16,16 @@ ghost use Rattle.valid_intervals.specs.declared.Point.{Point as PointRecord};
 ghost use Rattle.plan_machine.specs.Steps.{turned, is_turn};
 ghost use Rattle.plan_machine.specs.Turns.{turn, run, turns};
 ghost use Rattle.plan_machine.specs.Bounds.{all_left, bound};
+ghost use Rattle.plan_machine.specs.Journals.{entries};
 ghost use Rattle.plan_machine.specs.Sound.{IsSound, HasEnded};
+ghost use Rattle.plan_core.specs.InTurn.{AllChildrenCovered, IsUnbegun};
 ghost use Rattle.demand_points.specs.Demands.{Demand};
 ghost use Rattle.plan_core.specs.Parts.{AreFreshStrands, AreFree, AreInOrder, IsAwake, plan_of_new, shards_in};
 
 use crate::alone::{Alone, asked_at, refuse};
 use crate::asks::know_all;
 use crate::paused::Paused;
-use crate::places::{pause_all, ready_in, strand_at};
+use crate::places::{pause_all, ready_in, strand_at, strands_in};
 use crate::turns;
 use demand_points::{BatchName, Strand};
 use design::Design;
@@ -191,6 +193,73 @@ impl<B: BatchName> Plan<B> {
         Ok(alone)
     }
 
+    // One turn of a strand that runs alone and may have been refused a point. Returns whether it goes on.
+    fn turn_on(
+        &mut self,
+        design: &Design,
+        number: u32,
+        unrefused: &mut bool,
+    ) -> Result<bool, OutOfMemory>
+        requires lawful { IsLawful B.batch }
+        requires design { design.now.circuit ≡ B.batch.circuit }
+        requires number { number < length self.old.strands }
+        ensures count { length self.new.strands ≡ length self.old.strands }
+        ensures less { IfOk result (λ more. more ≡ true
+            → all_left B.batch self.new < all_left B.batch self.old) }
+        ensures runs { (a : Start) (old : PlanRecord)
+            → (unrefused.old ≡ true → RunsAlone B.batch B.opening number a old self.old None)
+            → OnOk result (unrefused.new ≡ true
+            → RunsAlone B.batch B.opening number a old self.new None) }
+        ensures ended { (a : Start) (old : PlanRecord)
+            → (unrefused.old ≡ true → RunsAlone B.batch B.opening number a old self.old None)
+            → IfOk result (λ more. more ≡ false → unrefused.new ≡ true
+            → RanAlone B.batch B.opening number a old self.new None) }
+    {
+        match self.turn(design, number)? {
+            Turned::NotReady => Ok(false),
+            Turned::Spent => {
+                *unrefused = false;
+                Ok(true)
+            }
+            _ => Ok(true),
+        }
+    }
+
+    // Turns of one strand alone until none is left to it. Returns whether it was refused no point.
+    fn run_to_end(&mut self, design: &Design, number: u32) -> Result<bool, OutOfMemory>
+        requires design { design.now.circuit ≡ B.batch.circuit }
+        requires number { number < length self.old.strands }
+        ensures count { length self.new.strands ≡ length self.old.strands }
+        ensures ran { (a : Start) → BeginsAlone B.batch B.opening number a self.old
+            → IfOk result (λ unrefused. unrefused ≡ true
+            → RanAlone B.batch B.opening number a self.old self.new None) }
+    {
+        self.facts();
+        let mut unrefused = true;
+        'turns: while self.turn_on(design, number, &mut unrefused)? {}
+        Ok(unrefused)
+    }
+
+    /// Turns of one strand after another, in the order of their numbers, each until none is left to it. Returns whether no strand was
+    /// refused a point. Then each point that was evaluated has heard its children.
+    pub fn run_in_turn(&mut self, design: &Design) -> Result<bool, OutOfMemory>
+        requires design { design.now.circuit ≡ B.batch.circuit }
+        ensures count { length self.new.strands ≡ length self.old.strands }
+        ensures heard { IsUnbegun B.batch self.old → IfOk result (λ unrefused. unrefused ≡ true
+            → AllChildrenCovered B.batch.circuit (entries self.new)) }
+    {
+        self.facts();
+        let mut unrefused = true;
+        for place in 0..self.places.len() {
+            let Ok(number) = u32::try_from(place) else {
+                return Err(OutOfMemory);
+            };
+            let went_on = self.run_to_end(design, number)?;
+            unrefused = unrefused && went_on;
+        }
+        Ok(unrefused)
+    }
+
     /// The numbers of the ready strands, in ascending order.
     pub fn ready(&self, alloc: Global) -> Result<Vec<u32>, OutOfMemory>
         ensures numbers { IfOk result (λ v. v.items ≡ ready self.now) }
@@ -218,6 +287,18 @@ impl<B: BatchName> Plan<B> {
     {
         let Plan { places: _, shards } = self;
         shards
+    }
+
+    /// The strands that do not wait, in the order of their numbers, and the shards, in order.
+    pub fn into_parts(self, alloc: Global) -> Result<(Vec<Strand<B>>, Vec<Shard<B>>), OutOfMemory>
+        ensures strands { IfOk result (λ parts. All (λ s. Contains self.strands s.strand)
+            parts.0.items) }
+        ensures shards { IfOk result (λ parts. shards_in parts.1.items ≡ self.shards) }
+        ensures order { IfOk result (λ parts. AreInOrder parts.1.items) }
+    {
+        let Plan { places, shards } = self;
+        let strands = strands_in(alloc, places)?;
+        Ok((strands, shards))
     }
 }
 

@@ -48,3 +48,8 @@ ready_one (Some s) = if is_done (next s.strand) then [] else s.number ∷ []
 abbrev pub ready_of : List (Option Demand) → List ℕ
 ready_of [] = []
 ready_of (o ∷ os) = ready_one o ++ ready_of os
+
+-- the strand in a place, if there is one
+abbrev pub one_in : Option Demand → List Demand
+one_in None = []
+one_in (Some s) = s ∷ []

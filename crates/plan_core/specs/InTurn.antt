@@ -1,0 +1,25 @@
+-- Strands that run one after another, each alone.
+use Rattle.std.specs.Prelude.{◌≡◌, ℕ, List, [], Some, None, slice_get}
+use Rattle.valid_intervals.specs.declared.Point.{Point}
+use Rattle.circuit_meaning.specs.Circuit.{Circuit}
+use Rattle.journal_meaning.specs.declared.Entry.{Entry}
+use Rattle.journal_meaning.specs.Answers.{ChildrenCovered}
+use Rattle.batch_meaning.specs.Batches.{Batch}
+use Rattle.batch_meaning.specs.Pieces.{Start}
+use Rattle.strand_meaning.specs.Strands.{Strand, started}
+use Rattle.plan_machine.specs.Plans.{Plan, claim_of}
+use Rattle.plan_machine.specs.Journals.{entries}
+
+-- each strand is as it was started
+abbrev pub AreStarted : Circuit → List Strand → Type 0
+AreStarted c strands = (n : ℕ) (s : Strand) → slice_get strands n ≡ Some s → (a : Start) × (s ≡ started c a)
+
+-- no turn was made: nothing is recorded, no point is claimed, and each strand is as it was started
+pub record IsUnbegun (b : Batch) (plan : Plan) : Type 0 where
+  pub bare : entries plan ≡ []
+  pub free : (p : Point) → claim_of plan p ≡ None
+  pub strands : AreStarted b.circuit plan.strands
+
+-- whatever query a point was evaluated for, its children are covered
+abbrev pub AllChildrenCovered : Circuit → List Entry → Type 0
+AllChildrenCovered c es = (q : ℕ) → ChildrenCovered c es q
