@@ -1,15 +1,16 @@
 //! The queries of a batch, one after another.
 
-ghost use Rattle.std.specs.Prelude.{◌≡◌, false, min, List, [], All, Contains, None, length, IfOk, OnOk};
+ghost use Rattle.std.specs.Prelude.{◌≡◌, true, false, min, List, [], All, Contains, None, length, IfOk, OnOk};
 ghost use Rattle.journal_meaning.specs.declared.Entry.{Entry as EntryRecord};
 ghost use Rattle.journal_meaning.specs.Answers.{filled};
 ghost use Rattle.batch_meaning.specs.Batches.{IsNeededBy};
 ghost use Rattle.batch_meaning.specs.Lawful.{IsLawful};
 ghost use Rattle.plan_machine.specs.Shards.{Shard as ShardRecord};
-ghost use Rattle.plan_machine.specs.inner.Settle.{IsOpen, SettlesQuery};
+ghost use Rattle.plan_machine.specs.inner.Settle.{IsOpen, IsVisited, SettlesQuery};
 ghost use Rattle.plan_machine.specs.Settle.{charge_of};
 ghost use Rattle.plan_machine.specs.Settling.{fills_of};
 ghost use Rattle.plan_core.specs.Parts.{shards_in};
+ghost use Rattle.plan_core.specs.InTurn.{AllChildrenCovered};
 ghost use Rattle.asked_cells.specs.Asked.{AsksOn};
 ghost use Rattle.asked_cells.specs.Memos.{AreFreeShards, entries_of};
 ghost use Rattle.asked_cells.specs.inner.Standings.{standing};
@@ -46,12 +47,14 @@ fn charge_at(fills: usize, budget: u32) -> u32
     }
 }
 
-/// Visits the points that a query had filled before settlement.
+/// Visits the points that a query had filled before settlement. If `heard` is true, their children are covered already: no point is
+/// visited, and the charge is the number of the points, at most the budget.
 fn feed_one<B: BatchName>(
     memo: &mut Memo<B>,
     design: &Design,
     q: Query,
     points: &[Point],
+    heard: bool,
 ) -> Result<Fed, OutOfMemory>
     requires lawful { IsLawful B.batch }
     requires site { B.batch.site ≡ None }
@@ -59,6 +62,7 @@ fn feed_one<B: BatchName>(
     requires known { Contains B.batch.queries q }
     requires needed { All (IsNeededBy B.batch q) points.now }
     requires counts { length points.now ≡ filled (entries_of memo.old) q.number }
+    requires heard { heard ≡ true → All (IsVisited B.batch.circuit (entries_of memo.old)) points.now }
     requires kept { AreFreeShards B.batch B.opening memo.old }
     ensures kept { OnOk result (AreFreeShards B.batch B.opening memo.new) }
     ensures feeds { (start : List EntryRecord)
@@ -70,23 +74,31 @@ fn feed_one<B: BatchName>(
         (shards_in memo.new) f.refused) }
 {
     let mut charge = charge_at(points.len(), q.budget);
+    if heard {
+        return Ok(Fed {
+            charge,
+            refused: false,
+        });
+    }
     let refused = settle_fills(memo, design, q, points, &mut charge)?;
     Ok(Fed { charge, refused })
 }
 
 /// Visits what each query filled. The fills of all queries are gathered before the first visit: the strands that then run alone
-/// fill only for the query that is visited.
+/// fill only for the query that is visited. If `heard` is true, the visits are left out, and the fills are only counted.
 pub fn feed_all<B: BatchName>(
     alloc: Global,
     memo: &mut Memo<B>,
     design: &Design,
     queries: &[Query],
+    heard: bool,
 ) -> Result<Vec<Fed>, OutOfMemory>
     requires lawful { IsLawful B.batch }
     requires site { B.batch.site ≡ None }
     requires design { design.now.circuit ≡ B.batch.circuit }
     requires queries { queries.now ≡ B.batch.queries }
     requires kept { AreFreeShards B.batch B.opening memo.old }
+    requires heard { heard ≡ true → AllChildrenCovered B.batch.circuit (entries_of memo.old) }
     ensures kept { OnOk result (AreFreeShards B.batch B.opening memo.new) }
     ensures fed { IfOk result (λ fed. IsFeeding B.batch (entries_of memo.old) (shards_in memo.old)
         (shards_in memo.new) B.batch.queries fed.items []) }
@@ -97,7 +109,7 @@ pub fn feed_all<B: BatchName>(
     let gathered = FilledPoints::gather(alloc, memo.shards())?;
     let mut fed = Vec::new(alloc);
     for &q in queries {
-        let one = feed_one(memo, design, q, gathered.of(q.number))?;
+        let one = feed_one(memo, design, q, gathered.of(q.number), heard)?;
         fed.push(one)?;
     }
     Ok(fed)

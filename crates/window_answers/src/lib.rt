@@ -7,6 +7,7 @@
 //! - It frees the claims that are left.
 //! - For each query in order it visits the points that the query had filled before settlement. `asked_cells` finds the cell of each looked
 //!   pin among the base answers and the cells that entries of the batch say, or asks for it by a strand that runs alone.
+//!   If `heard` is true, the visits are left out: the caller knows that each evaluated point has heard its children.
 //! - For each query in order it walks the window from cell to cell in the same way, and gathers its runs.
 //!
 //! The reply to a query that is refused meanwhile is its budget, and that to any other its waveform (`specs/Settlement`). The charge of a
@@ -19,7 +20,7 @@
 //!   filled. After that it reads only the entries that a strand added, once the strand has run.
 //! - It looks up one cell for each looked pin of each visited point, and one for each cell of each window. A strand that came to its end
 //!   left an entry for each of these points, and such an entry is found by hashing. If all strands came to their ends, a look-up therefore
-//!   takes a few steps, whatever n.
+//!   takes a few steps, whatever n. If `heard` is true, no point is visited, and pins are not looked up.
 //! - The first look-up of a point without an entry makes an index of all cells, in O(n log n) steps. From then on such a look-up takes
 //!   O(log n) steps, and so does each added entry.
 //! - A look-up that finds nothing starts a strand. The strand adds at least one entry, and takes a step for each shard.
@@ -32,7 +33,7 @@
 //! ```
 //! let strands = strands_of::<B>(alloc, queries)?;
 //! let shards = crew.run(alloc, design, shards, strands)?;
-//! let Settled { replies, shards } = settle(alloc, design, shards, queries)?;
+//! let Settled { replies, shards } = settle(alloc, design, shards, queries, false)?;
 //! ```
 #![tactic(auto)]
 

@@ -1,8 +1,10 @@
 //! Settlement of a batch.
 
-ghost use Rattle.std.specs.Prelude.{◌≡◌, None, length, IfOk};
+ghost use Rattle.std.specs.Prelude.{◌≡◌, true, None, length, IfOk};
 ghost use Rattle.batch_meaning.specs.Lawful.{IsLawful};
+ghost use Rattle.plan_core.specs.InTurn.{AllChildrenCovered};
 ghost use Rattle.asked_cells.specs.Shards.{AreNumbered};
+ghost use Rattle.asked_cells.specs.Memos.{entries_of};
 ghost use Rattle.window_answers.specs.Settlement.{HasSettled};
 
 use crate::answers::{answer_all, feed_all};
@@ -25,11 +27,15 @@ pub struct Settled<B: BatchName> {
 /// Settles a batch. First the claims that are left are freed. Then the fills of the queries are visited: a strand alone asks for
 /// each of their children that neither an entry of the batch nor a base answer gives. Then each window is walked, and a strand
 /// alone asks for what is not covered. Both steps take the queries in order.
+///
+/// If `heard` is true, the caller knows that each evaluated point has heard its children: an entry of the batch or a base answer gives
+/// each of them. The visits are then left out.
 pub fn settle<B: BatchName>(
     alloc: Global,
     design: &Design,
     shards: Vec<Shard<B>>,
     queries: &[Query],
+    heard: bool,
 ) -> Result<Settled<B>, OutOfMemory>
     requires lawful { IsLawful B.batch }
     requires site { B.batch.site ≡ None }
@@ -37,11 +43,12 @@ pub fn settle<B: BatchName>(
     requires queries { queries.now ≡ B.batch.queries }
     requires count { length shards.items ≡ B.batch.shards }
     requires numbers { AreNumbered shards.items }
+    requires heard { heard ≡ true → AllChildrenCovered B.batch.circuit (entries_of shards.items) }
     ensures { IfOk result (λ settled. HasSettled B.batch B.opening shards.items settled.shards.items
         settled.replies.items) }
 {
     let mut memo = begin(alloc, shards)?;
-    let fed = feed_all(alloc, &mut memo, design, queries)?;
+    let fed = feed_all(alloc, &mut memo, design, queries, heard)?;
     let replies = answer_all(alloc, &mut memo, design, queries, &fed)?;
     Ok(Settled {
         replies,

@@ -159,7 +159,7 @@ fn settled<B: BatchName>(
     plan.facts();
     let shards = plan.into_shards();
     let entries = count_entries(&shards);
-    let Settled { replies, shards } = settle(alloc, design, shards, queries)?;
+    let Settled { replies, shards } = settle(alloc, design, shards, queries, false)?;
     let mut outcomes = Vec::new(alloc);
     for reply in &replies {
         outcomes.push(outcome_of(reply))?;

@@ -1,10 +1,13 @@
-use Rattle.std.proofs.Common.{◌≡◌, ◌+◌, [], List, get_or, take, drop, refl, sym, ap, subst, ◌∙◌, arith}
+use Rattle.std.proofs.Common.{◌≡◌, ◌+◌, [], List, get_or, take, drop, All, refl, sym, ap, subst, ◌∙◌, arith}
+use Rattle.valid_intervals.specs.declared.Point.{Point}
 use Rattle.batch_meaning.specs.declared.Query.{Query}
+use Rattle.plan_machine.specs.inner.Settle.{IsVisited}
 use Rattle.plan_machine.specs.Settling.{fills_of}
 use Rattle.plan_core.specs.Parts.{shards_in}
 use Rattle.window_answers.specs.declared.answers.Fed.{Fed}
 use Rattle.asked_cells.specs.Memos.{entries_of}
 use Rattle.window_answers.specs.inner.Phases.{IsFeeding}
+use Rattle.window_answers.proofs.Heard.{fills-heard}
 use Rattle.window_answers.proofs.Turns.{VisitsTo, visit-next, visit-last}
 use Rattle.window_answers.proofs.Phases.{fed-first, fed-open, fed-needed, fed-count, fed-next, fed-last}
 use Rattle.window_answers.proofs.answers.feed_all.Goals as goal
@@ -41,6 +44,16 @@ feed_one-requires-clause-counts g c =
     let q = get_or qs i no_query in
     let points : c.of.result.now ≡ fills_of (entries_of first) q.number = c.of.ensures ∙ c.in_ok-gathered.ensures q.number ∙ ap (λ l. fills_of (entries_of l) q.number) c.shards.ensures in
     fed-count b c.requires.lawful (entries_of first) (shards_in first) qs c.requires.queries i c.loop-q-test.true no_query c.of.result.now points (shards_in c.loop-q.memo) c.loop-q.fed.items c.loop-q.invariant.fed
+
+pub feed_one-requires-clause-heard : goal.feed_one-requires-clause-heard
+feed_one-requires-clause-heard g c = λ heard.
+    let b = g.B.BatchName.batch in
+    let first = c.args.memo.now in
+    let now = c.loop-q.memo in
+    let q = get_or c.args.queries.now c.loop-q.q-index no_query in
+    let points : c.of.result.now ≡ fills_of (entries_of first) q.number = c.of.ensures ∙ c.in_ok-gathered.ensures q.number ∙ ap (λ l. fills_of (entries_of l) q.number) c.shards.ensures in
+    let grown = c.loop-q.invariant.fed in
+    subst (λ (xs : List Point). All (IsVisited b.circuit (entries_of now)) xs) (sym points) (fills-heard b.circuit (entries_of first) grown.added (entries_of now) grown.journals.together (c.requires.heard heard) q.number)
 
 pub loop-q-preserved : goal.loop-q-preserved
 loop-q-preserved g c =

@@ -7,9 +7,15 @@ use Rattle.asked_cells.specs.Memos.{entries_of}
 use Rattle.window_answers.specs.inner.Phases.{IsWalking, refused_in}
 use Rattle.window_answers.specs.Phases.{refused_of}
 use Rattle.window_answers.specs.Settlement.{AskInTurn, none_refused, HasSettled}
+use Rattle.window_answers.proofs.Heard.{freed-heard}
 use Rattle.window_answers.proofs.Phases.{fed-walks, all-fed-count}
 use Rattle.window_answers.proofs.Finished.{has-settled}
 use Rattle.window_answers.proofs.settlement.settle.Goals as goal
+
+pub feed_all-requires-clause-heard : goal.feed_all-requires-clause-heard
+feed_all-requires-clause-heard g c = λ heard.
+    let begun = c.in_ok-memo.ensures in
+    freed-heard g.B.BatchName.batch c.requires.lawful g.B.BatchName.opening c.args.shards.items c.in_ok-memo.memo begun.shards begun.freed (c.requires.heard heard)
 
 pub answer_all-requires-clause-count : goal.answer_all-requires-clause-count
 answer_all-requires-clause-count g c =
