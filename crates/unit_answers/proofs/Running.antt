@@ -22,6 +22,7 @@ use Rattle.reply_lines.specs.declared.reply.Reply.{Reply}
 use Rattle.design.specs.Joined.{IsDesign}
 use Rattle.demand_points.specs.Demands.{Demand}
 use Rattle.memo_shards.specs.KeptShards.{KeptShard}
+use Rattle.plan_core.specs.InTurn.{AreStarted}
 use Rattle.plan_core.specs.Parts.{shards_in, strands_in}
 use Rattle.asked_cells.specs.Shards.{AreNumbered}
 use Rattle.window_answers.specs.Strands.{IsInOrder}
@@ -96,6 +97,15 @@ place-at : {X : Type 0} (xs : List X) (i : ℕ) (d : X) → i < length xs → sl
 place-at [] i d low = absurd (omega arith)
 place-at (y ∷ xs) zero d low = refl
 place-at (y ∷ xs) (suc i) d low = place-at xs i d (omega arith)
+
+started-from : (c : Circuit) (starts : List Start) (n : ℕ) (s : Strand) → slice_get (map (started c) starts) n ≡ Some s → (a : Start) × (s ≡ started c a)
+started-from c [] n s e = absurd (cc)
+started-from c (a ∷ starts) zero s e = (a, cc)
+started-from c (a ∷ starts) (suc n) s e = started-from c starts n s e
+
+-- each strand is as it was started
+pub strands-started : (c : Circuit) (starts : List Start) (strands : List Strand) → strands ≡ map (started c) starts → AreStarted c strands
+strands-started c starts strands same n s at = started-from c starts n s (subst (λ (l : List Strand). slice_get l n ≡ Some s) same at)
 
 module _ (c : Circuit) (qs : List Query) (strands : List Demand) (order : IsInOrder strands) (same : strands_in strands ≡ map (started c) (flat_map pieces qs)) where
   -- the strands of the pieces are new

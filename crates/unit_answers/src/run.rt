@@ -99,8 +99,9 @@ pub fn run_batch<B: BatchName + Send + Sync, C: Crew>(
     let begun = begin_all::<B>(alloc, stores)?;
     let strands = strands_of::<B>(alloc, queries)?;
     let ran = crew.run(alloc, design, begun, strands)?;
+    let heard = ran.heard;
     let handed = ran.shards.into_vec();
-    let Settled { replies, shards } = settle(alloc, design, handed, queries)?;
+    let Settled { replies, shards } = settle(alloc, design, handed, queries, heard)?;
     let (lists, stores) = end_all(alloc, shards)?;
     Ok(BatchRun {
         replies,

@@ -7,15 +7,15 @@ use Rattle.demand_points.specs.Demands.{Demand}
 use Rattle.std.specs.Bool.{Decides}
 use Rattle.strand_meaning.specs.Strands.{next}
 use Rattle.strand_meaning.specs.declared.Next.TheVariants.{Done}
-use Rattle.std.specs.Prelude.{Bool, false, cond, filter, sum, ◌<◌}
+use Rattle.std.specs.Prelude.{Bool, false, cond, sum, ◌<◌}
 use Rattle.valid_intervals.specs.declared.Cell.{Cell}
 use Rattle.valid_intervals.specs.declared.Point.{Point}
 use Rattle.valid_intervals.specs.declared.SignalCell.{SignalCell}
-use Rattle.valid_intervals.specs.Cells.{last_cell, cell_for, is_stored}
+use Rattle.valid_intervals.specs.Cells.{last_cell, cell_for}
 use Rattle.journal_meaning.specs.declared.Entry.TheVariants.{Filled, Evicted}
 use Rattle.journal_meaning.specs.Counts.{booked}
 use Rattle.journal_meaning.proofs.More.{booked-append}
-use Rattle.plan_machine.specs.Shards.{Shard, recorded, evicted, with_room, filled_shard}
+use Rattle.plan_machine.specs.Shards.{Shard, evicted, with_room, filled_shard}
 use Rattle.worker_gate.specs.Ends.{task_of, HasEnded, HaveEnded, AreEnds, AreCounted, AreFilled, one_if_empty, empty_in}
 
 pub read_set : {X : Type 0} (xs : List X) (n i : ℕ) (y z : X) → slice_get (set xs n y) i ≡ Some z → ((i ≡ n) × (y ≡ z)) ⊎ ((i ≢ n) × (slice_get xs i ≡ Some z))

@@ -61,6 +61,11 @@ AreNew strands = (i : ℕ) (s : Demand) → slice_get strands i ≡ Some s → I
 abbrev pub booked_in : KeptShard → ℕ
 booked_in m = booked m.shard.journal
 
+-- how often the strand at a place has claimed and filled a point
+abbrev pub booked_at : Option Demand → ℕ
+booked_at None = 0
+booked_at (Some s) = s.strand.charged + s.strand.filled
+
 -- one more claim or fill of the strand with this number can be counted
 abbrev pub HasRoom : List ℕ → ℕ → Type 0
 HasRoom counts number = (number < length counts) × (slice_index counts number < 2 ^ 64 - 1)

@@ -103,8 +103,8 @@ fn gave_up_early<B: BatchName>(strand: &Strand<B>) -> bool
     strand.is_spent() && strand.charged() != strand.task().budget
 }
 
-// How often the strand has claimed and filled a point.
-fn booked_of<B: BatchName>(strand: &Strand<B>) -> u64
+/// How often the strand has claimed and filled a point.
+pub fn booked_of<B: BatchName>(strand: &Strand<B>) -> u64
     ensures { result ≡ strand.now.strand.charged + strand.now.strand.filled }
 {
     strand.charged() as u64 + strand.filled() as u64

@@ -1,9 +1,13 @@
 //! The trait of crews.
 
 ghost use Rattle.std.specs.Prelude.{◌≡◌, ◌<◌, ◌≤◌, Bool, true, [], length, map, sum, sum_by, All, IfOk, vec_len};
+ghost use Rattle.plan_core.specs.InTurn.{AllChildrenCovered, AreStarted};
+ghost use Rattle.plan_core.specs.Parts.{shards_in, strands_in};
+ghost use Rattle.plan_machine.specs.Settle.{entries_in};
 ghost use Rattle.worker_gate.specs.Ends.{AreInOrder, AreNew, task_of, booked_in, AreEnds, AreFilled};
 
 use crate::gate::Gate;
+use crate::in_turn::{have_windows, run_in_turn};
 use crate::ran::Ran;
 use crate::run::run_workers;
 use demand_points::{BatchName, Strand};
@@ -13,6 +17,9 @@ use owned_text::OutOfMemory;
 use std::alloc::Global;
 use std::sync::Wait;
 use std::thread::Threads;
+
+/// With fewer shards workers wait for one another longer than it takes one of them to do all.
+const SHARDS_FOR_TWO: usize = 16;
 
 /// Workers that run the strands of a batch.
 pub trait Crew {
@@ -35,8 +42,9 @@ pub trait Crew {
         ensures some { 0 < result }
         ensures most { result ≤ 64 };
 
-    /// Runs the strands over the shards. Returns the shards in their order, the strands that ended, and how many claims and fills each
-    /// strand made. If memory runs out, the shards are dropped.
+    /// Runs the strands over the shards, without locks where the gate is idle and there is one worker, one strand, or fewer than 16
+    /// shards. Returns the shards in their order, the strands that ended, and how many claims and fills each strand made. If memory
+    /// runs out, the shards are dropped.
     final fn run<B: BatchName + Send + Sync>(
         &self,
         alloc: Global,
@@ -60,7 +68,14 @@ pub trait Crew {
         ensures counts { IfOk result (λ ran. length ran.counts ≡ vec_len strands) }
         ensures shards { IfOk result (λ ran. length ran.shards ≡ vec_len shards) }
         ensures order { IfOk result (λ ran. AreInOrder ran.shards) }
+        ensures heard { AreStarted B.batch.circuit (strands_in strands.items) → IfOk result
+            (λ ran. ran.heard ≡ true → AllChildrenCovered B.batch.circuit
+            (entries_in (shards_in ran.shards))) }
     {
+        let is_alone = self.workers() == 1 || strands.len() <= 1 || shards.len() < SHARDS_FOR_TWO;
+        if is_alone && self.gate().is_idle() && have_windows(strands.as_slice()) {
+            return run_in_turn(self.runtime(), alloc, design, shards, strands);
+        }
         run_workers(
             self.runtime(),
             alloc,

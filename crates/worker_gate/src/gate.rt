@@ -20,6 +20,13 @@ pub trait Gate: Sync {
 
     /// Called while the shard's lock is held, before its step.
     fn within(&self, worker: u32, shard: u32);
+
+    /// Whether every worker always goes on and nothing is done at the gate, so that it need not be called.
+    fn is_idle(&self) -> bool
+        ensures { result ≡ true → is_open self.now ≡ true }
+    {
+        false
+    }
 }
 
 /// The gate that is open, and at which nobody waits.
@@ -33,4 +40,8 @@ impl Gate for OpenGate {
     }
 
     fn within(&self, _worker: u32, _shard: u32) {}
+
+    fn is_idle(&self) -> bool {
+        true
+    }
 }

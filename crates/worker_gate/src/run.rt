@@ -47,14 +47,18 @@ fn lock_each<B: BatchName>(
     Ok(slots)
 }
 
-fn tasks_of<B: BatchName>(alloc: Global, strands: &[Strand<B>]) -> Result<Vec<Task>, OutOfMemory>
+/// What each strand was started with.
+pub fn tasks_of<B: BatchName>(
+    alloc: Global,
+    strands: &[Strand<B>],
+) -> Result<Vec<Task>, OutOfMemory>
     ensures { IfOk result (λ v. v.items ≡ map task_of strands.now) }
 {
     Ok(strands.iter().map(|s| s.task()).collect(alloc)?)
 }
 
-// A board with these tasks, on which nothing has ended.
-fn empty_board<B: BatchName>(alloc: Global, tasks: Vec<Task>) -> Result<Board<B>, OutOfMemory>
+/// A board with these tasks, on which nothing has ended.
+pub fn empty_board<B: BatchName>(alloc: Global, tasks: Vec<Task>) -> Result<Board<B>, OutOfMemory>
     ensures { IfOk result (λ b. b.tasks.items ≡ tasks.items) }
 {
     let mut places = Vec::new(alloc);
@@ -129,6 +133,24 @@ fn take_all<B: BatchName, R: Wait>(
     Ok((shards, counts))
 }
 
+/// The board. It waits for ever where the board isn't what the workers leave.
+pub fn whole_board<B: BatchName, R: Wait>(
+    rt: &R,
+    board: Board<B>,
+    tasks: &[Task],
+    left: bool,
+) -> Board<B>
+    ensures tasks { result.tasks.items ≡ tasks.now }
+    ensures full { left ≡ false → AreFilled result.places.items }
+{
+    let is_whole = left || board.is_full();
+    if board.tasks.as_slice() == tasks && is_whole {
+        return board;
+    }
+    for _ in rt.forever() {}
+    unreachable!()
+}
+
 // Takes the board out; none where memory ran out. It waits for ever where the board isn't what the workers leave.
 fn take_board<B: BatchName, R: Wait>(
     rt: &R,
@@ -143,12 +165,7 @@ fn take_board<B: BatchName, R: Wait>(
     if board.no_memory {
         return None;
     }
-    let is_whole = left || board.is_full();
-    if board.tasks.as_slice() == tasks && is_whole {
-        return Some(board);
-    }
-    for _ in rt.forever() {}
-    unreachable!()
+    Some(whole_board(rt, board, tasks, left))
 }
 
 // The places of the board, compared with the counts. It waits for ever where they differ.
@@ -249,6 +266,7 @@ pub fn run_workers<B: BatchName + Send + Sync, G: Gate, R: Threads + Wait + Sync
     ensures counts { IfOk result (λ r. length r.counts ≡ vec_len strands) }
     ensures shards { IfOk result (λ r. length r.shards ≡ vec_len shards) }
     ensures order { IfOk result (λ r. AreInOrder r.shards) }
+    ensures heard { IfOk result (λ r. r.heard ≡ false) }
 {
     let tasks = tasks_of(alloc, strands.as_slice())?;
     let kept = tasks_of(alloc, strands.as_slice())?;
@@ -281,5 +299,6 @@ pub fn run_workers<B: BatchName + Send + Sync, G: Gate, R: Threads + Wait + Sync
         shards: ShardList::new(shards),
         strands: EndedList::new(places),
         counts: CountList::new(counts),
+        heard: false,
     })
 }

@@ -1,11 +1,10 @@
-//! Two workers over small designs, with gates that hold them where they have to meet.
+//! One worker or two over small designs, with gates that hold two where they have to meet.
 
-ghost use Rattle.std.specs.Prelude.{◌≡◌, ◌+◌, ◌<◌, ◌≤◌, ℕ, false, [], length, vec_len, All, IfOk, IfSome};
+ghost use Rattle.std.specs.Prelude.{◌≡◌, ◌+◌, ◌<◌, ◌≤◌, ℕ, true, false, [], length, vec_len, All, IfOk, IfSome};
 ghost use Rattle.batch_meaning.specs.Lawful.{IsLawful, IsQueryOf};
 ghost use Rattle.worker_gate.specs.Ends.{AreInOrder, AreNew};
 
 use super::*;
-use crate::run::run_workers;
 use batch_meaning::Query;
 use bench_reader::read_bench;
 use cell_store::CellStore;
@@ -76,6 +75,7 @@ struct Served {
     ended: bool,
     first: u64,
     second: u64,
+    heard: bool,
     fills: u64,
     lines: Vec<Line>,
 }
@@ -161,15 +161,18 @@ fn serve<B: BatchName + Send + Sync, G: Gate, R: Threads + Wait + Sync>(
 {
     let made = shards_of::<B>(alloc, shards)?;
     let strands = strands_of::<B>(alloc, first, second)?;
-    let ran = run_workers(rt, alloc, design, made, strands, workers, gate)?;
+    let crew = Workers::new(rt, gate, workers);
+    let ran = crew.run(alloc, design, made, strands)?;
     let ended = ran.strands.strand(0).is_some() && ran.strands.strand(1).is_some();
     let first = ran.counts.amount(0);
     let second = ran.counts.amount(1);
+    let heard = ran.heard;
     let lines = lines_of(alloc, ran.shards.into_vec())?;
     Ok(Served {
         ended,
         first,
         second,
+        heard,
         fills: fills_in(&lines),
         lines,
     })
@@ -202,6 +205,7 @@ fn serve_two<G: Gate, R: Threads + Wait + Sync>(
     first: Option<Query>,
     second: Option<Query>,
     shards: u32,
+    workers: u32,
     gate: &G,
 ) -> Result<Option<Served>, OutOfMemory>
     requires first { IfSome first (λ q. (q.number ≡ 1) ×
@@ -209,6 +213,7 @@ fn serve_two<G: Gate, R: Threads + Wait + Sync>(
     requires second { IfSome second (λ q. (q.number ≡ 2) ×
         (q.signal < length design.now.circuit.drivers) × (q.to ≤ design.now.circuit.horizon + 1)) }
     requires few { (0 < shards) × (shards ≤ 64) }
+    requires workers { (0 < workers) × (workers ≤ 64) }
 {
     design.facts();
     let Some(first) = first else {
@@ -217,7 +222,7 @@ fn serve_two<G: Gate, R: Threads + Wait + Sync>(
     let Some(second) = second else {
         return Ok(None);
     };
-    Ok(Some(serve::<Brand, G, R>(rt, alloc, design, first, second, shards, 2, gate)?))
+    Ok(Some(serve::<Brand, G, R>(rt, alloc, design, first, second, shards, workers, gate)?))
 }
 
 const LOOKS: u64 = 10_000_000;
@@ -355,7 +360,7 @@ fn each_point_is_evaluated_once(rt: HostRuntime) -> Result<(), Fail> {
     let design = joined(rt.alloc(), CHAIN)??;
     let first = at(&design, 1, "n3", 5);
     let second = at(&design, 2, "n2", 4);
-    let served = serve_two(&rt, rt.alloc(), &design, first, second, 2, &OpenGate)?;
+    let served = serve_two(&rt, rt.alloc(), &design, first, second, 2, 2, &OpenGate)?;
     let served = served.expect(&rt, "two signals within the horizon");
     assert!(rt; served.ended);
     // three points, each claimed and filled once
@@ -382,7 +387,7 @@ fn two_shards_are_held_at_once(rt: HostRuntime) -> Result<(), Fail> {
         one: AtomicU64::new(0),
         gave_up: AtomicU64::new(0),
     };
-    let served = serve_two(&rt, rt.alloc(), &design, first, second, 2, &gate)?;
+    let served = serve_two(&rt, rt.alloc(), &design, first, second, 2, 2, &gate)?;
     let served = served.expect(&rt, "two signals within the horizon");
     assert_eq!(rt; gate.gave_up.load(Ordering::SeqCst), 0);
     assert_eq!(rt; gate.came.load(Ordering::SeqCst), 1);
@@ -424,7 +429,7 @@ fn a_strand_waits_for_another_worker(rt: HostRuntime) -> Result<(), Fail> {
         one: Visits::new(),
         gave_up: AtomicU64::new(0),
     };
-    let served = serve_two(&rt, rt.alloc(), &design, first, second, 1, &gate)?;
+    let served = serve_two(&rt, rt.alloc(), &design, first, second, 1, 2, &gate)?;
     let served = served.expect(&rt, "two signals within the horizon");
     assert_eq!(rt; gate.gave_up.load(Ordering::SeqCst), 0);
     assert!(rt; served.ended);
@@ -441,11 +446,52 @@ fn a_closing_gate_leaves_strands(rt: HostRuntime) -> Result<(), Fail> {
     let gate = Closing {
         turns: AtomicU64::new(0),
     };
-    let served = serve_two(&rt, rt.alloc(), &design, first, second, 2, &gate)?;
+    let served = serve_two(&rt, rt.alloc(), &design, first, second, 2, 2, &gate)?;
     let served = served.expect(&rt, "two signals within the horizon");
     assert!(rt; !served.ended);
     // the one turn that was made
     assert_eq!(rt; served.first.wrapping_add(served.second), 1);
     assert_eq!(rt; served.lines.len(), 1);
+    Ok(())
+}
+
+/// A gate at which nobody waits, and that counts the turns. It is not idle, so that one worker takes locks too.
+#[derive(Drop)]
+struct Counting {
+    turns: AtomicU64,
+}
+
+impl Gate for Counting {
+    ghost is_open = { λ _. true };
+
+    fn before(&self, _worker: u32) -> Pass {
+        self.turns.fetch_add(1, Ordering::SeqCst);
+        Pass::Go
+    }
+
+    fn within(&self, _worker: u32, _shard: u32) {}
+}
+
+/// Whether both strands ended either way, with the same counts and entries, and only the run without locks knows what was heard.
+fn is_same(locked: &Served, unlocked: &Served) -> bool {
+    let ended = locked.ended && unlocked.ended;
+    let counts = locked.first == unlocked.first && locked.second == unlocked.second;
+    let heard = unlocked.heard && !locked.heard;
+    ended && counts && heard && locked.lines.as_slice() == unlocked.lines.as_slice()
+}
+
+#[test]
+fn one_worker_does_the_same_without_locks(rt: HostRuntime) -> Result<(), Fail> {
+    let design = joined(rt.alloc(), CHAIN)??;
+    let first = at(&design, 1, "n3", 5);
+    let second = at(&design, 2, "n2", 4);
+    let gate = Counting {
+        turns: AtomicU64::new(0),
+    };
+    let locked = serve_two(&rt, rt.alloc(), &design, first, second, 2, 1, &gate)?;
+    let locked = locked.expect(&rt, "two signals within the horizon");
+    let unlocked = serve_two(&rt, rt.alloc(), &design, first, second, 2, 1, &OpenGate)?;
+    let unlocked = unlocked.expect(&rt, "two signals within the horizon");
+    assert!(rt; is_same(&locked, &unlocked));
     Ok(())
 }

@@ -6,7 +6,11 @@ use Rattle.worker_gate.specs.Ends.{AreInOrder, booked_in}
 use Rattle.unit_answers.specs.Stores.{setup_of, cells_of}
 use Rattle.unit_answers.specs.inner.Runs.{asks, AreOpened, HasRun}
 use Rattle.unit_answers.proofs.Crewing.{has-crewed}
-use Rattle.unit_answers.proofs.Running.{opened-by, strands-new, order-numbers, settled-free, has-run}
+use Rattle.plan_machine.specs.Settle.{entries_in}
+use Rattle.memo_shards.specs.KeptShards.{KeptShard}
+use Rattle.plan_core.specs.InTurn.{AllChildrenCovered}
+use Rattle.plan_core.specs.Parts.{shards_in, strands_in}
+use Rattle.unit_answers.proofs.Running.{opened-by, strands-new, strands-started, order-numbers, settled-free, has-run}
 use Rattle.unit_answers.proofs.run.run_batch.Goals as goal
 
 pub begin_all-requires-clause-opened : goal.begin_all-requires-clause-opened
@@ -21,6 +25,12 @@ run-requires-clause-new g c κs within = strands-new g.B.BatchName.batch.circuit
 
 pub settle-requires-clause-numbers : goal.settle-requires-clause-numbers
 settle-requires-clause-numbers g c = order-numbers c.into_vec-handed.result.items (subst AreInOrder (sym c.into_vec-handed.ensures) c.in_ok-ran.ensures.order)
+
+pub settle-requires-clause-heard : goal.settle-requires-clause-heard
+settle-requires-clause-heard g c told =
+    let c0 = g.B.BatchName.batch.circuit in
+    let started = strands-started c0 (flat_map pieces c.args.queries.now) (strands_in c.in_ok-strands.strands.items) c.in_ok-strands.ensures.strands in
+    subst (λ (ms : List KeptShard). AllChildrenCovered c0 (entries_in (shards_in ms))) (sym c.into_vec-handed.ensures) (c.in_ok-ran.ensures.heard started told)
 
 pub end_all-requires : goal.end_all-requires
 end_all-requires g c = settled-free g.B.BatchName.batch g.B.BatchName.opening c.into_vec-handed.result.items c.in_ok-replies.field-0.shards.items c.in_ok-replies.field-0.replies.items c.in_ok-replies.ensures

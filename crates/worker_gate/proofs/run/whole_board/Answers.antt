@@ -1,7 +1,7 @@
 use Rattle.std.proofs.Common.{sym, ◌∙◌}
 use Rattle.std.proofs.lemmas.Slice.Eq.{slice_eq-Decides}
 use Rattle.worker_gate.proofs.Places.{task_eq}
-use Rattle.worker_gate.proofs.run.take_board.Goals as goal
+use Rattle.worker_gate.proofs.run.whole_board.Goals as goal
 
 pub returns-then-is_whole-clause-tasks : goal.returns-then-is_whole-clause-tasks
 returns-then-is_whole-clause-tasks g c =
