@@ -98,6 +98,8 @@ impl Script {
         requires desk { IsDesk (setup_of setting.now.design.now setting.now.sizes) desk }
         requires files { (F.state files.old).created ≡ length desk.dumps.made.items + 1 }
         requires unfinished { Contains (F.state files.old).unfinished 0 }
+        ensures desk { let setup = setup_of setting.now.design.now setting.now.sizes in
+            IfOk result (λ later. IsDesk setup later) }
         ensures count { IfOk result (λ later.
             (F.state files.new).created ≡ length later.dumps.made.items + 1) }
         ensures served { (names : List (List ℕ)) →
@@ -146,6 +148,8 @@ pub fn serve_script<C: Crew, F: Files, Q: Source, S: Sink>(
         → OnOk result (Wrote setup (IsSessionOf setup script)
         (S.written out.old) (S.written out.new)
         (F.made files.old) (F.made files.new) (F.state files.new).created) }
+    ensures stores { let setup = setup_of setting.now.design.now setting.now.sizes in
+        IfOk result (λ stores. AreStores setup stores.items) }
     ensures stopped { let setup = session_of setting.now.design.now setting.now.sizes names.items in
         (script : List ℕ) → (Q.state queries.old).left ≡ Some script
         → IfErr result (λ stop. Wrote setup (IsStopped setup script (Q.state queries.new).left stop)

@@ -3,6 +3,7 @@
 ghost use Rattle.std.specs.Prelude.{◌≡◌, ◌++◌, ◌∷◌, ◌<◌, ◌≤◌, [], ℕ, List, Some, length, map, IsErrOf, IfErr, IfOk, OnOk};
 ghost use Rattle.backsim_io.specs.Held.{ConsumesUpTo};
 ghost use Rattle.session_meaning.specs.Session.{IsSessionOf};
+ghost use Rattle.unit_answers.specs.Stores.{setup_of, AreStores};
 ghost use Rattle.session_loop.specs.Halting.{WroteFiles, IsHalted, IsUntouched};
 ghost use Rattle.session_loop.specs.Serving.{session_of};
 ghost use Rattle.session_loop.specs.Outside.{SessionChanges};
@@ -55,6 +56,8 @@ pub fn serve_session<C: Crew, F: Files, Q: Source, S: Sink>(
         → OnOk result (WroteFiles (IsSessionOf setup script) journal.now
         (S.written out.old) (S.written out.new)
         (F.made files.old) (F.made files.new) (F.state files.new).created) }
+    ensures stores { let setup = setup_of setting.now.design.now setting.now.sizes in
+        IfOk result (λ stores. AreStores setup stores.items) }
     ensures short { (script : List ℕ) → (Q.state queries.old).left ≡ Some script
         → OnOk result (length script ≤ 16777216) }
     ensures halted { let setup = session_of setting.now.design.now setting.now.sizes

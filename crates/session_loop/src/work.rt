@@ -1,9 +1,11 @@
 //! A session of one batch, without a script.
 
-ghost use Rattle.std.specs.Prelude.{◌≡◌, ◌<◌, ◌≤◌, IfErr, IfOk};
+ghost use Rattle.std.specs.Prelude.{◌≡◌, ◌<◌, ◌≤◌, [], replicate, IfErr, IfOk};
 ghost use Rattle.query_lines.specs.Laws.{IsWithin};
 ghost use Rattle.query_lines.specs.Fit.{HaveOwnLines};
+ghost use Rattle.cell_store.specs.Recency.{contents};
 ghost use Rattle.unit_answers.specs.Stores.{setup_of};
+ghost use Rattle.unit_answers.specs.Done.{IsBatchDone};
 ghost use Rattle.session_loop.specs.Halting.{WroteJournal, IsWork, IsWorkHalted};
 ghost use Rattle.session_loop.specs.Outside.{WorkChanges};
 
@@ -32,6 +34,10 @@ pub fn serve_work<C: Crew, F: Files>(
     requires within { IsWithin setting.now.design.now.circuit.horizon items.now }
     requires lines { HaveOwnLines items.now }
     requires files { (F.state files.old).created ≡ 0 }
+    ensures done { let setup = setup_of setting.now.design.now setting.now.sizes in
+        let empty = replicate setting.now.sizes.shards (contents setting.now.sizes.cells []) in
+        IfOk result (λ done. IsBatchDone setup items.now empty
+        done.replies.items done.lists.items done.stores.items) }
     ensures worked { let setup = setup_of setting.now.design.now setting.now.sizes in
         IfOk result (λ done. WroteJournal (IsWork setup items.now done.replies.items) journal.now
         (F.made files.old) (F.made files.new)) }
