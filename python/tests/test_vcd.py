@@ -162,6 +162,13 @@ def test_a_backslash_in_a_name_is_one(version: str, written: str, write) -> None
     assert dump.signal("top", "a\\b") == ((0, "1"),)
 
 
+@pytest.mark.parametrize("version, written", [("Icarus Verilog", r"\\\foo"), ("a simulator", r"\\foo")])
+def test_a_name_may_begin_with_a_backslash(version: str, written: str, write) -> None:
+    dump = read_vcd(write("dump", f"$version {version} $end\n$scope module top $end\n$var wire 1 ! {written} $end\n"
+                                  "$upscope $end\n$enddefinitions $end\n#0\n1!\n"))
+    assert dump.signal("top", "\\foo") == ((0, "1"),)
+
+
 @pytest.mark.parametrize("written, name", [(r"\$0\valid[0:0]", "$0\\valid[0:0]"), ("valid[0:0]", "valid[0]"), ("valid [0:0]", "valid[0]"),
                                            (r"\valid [0:0]", "valid[0]"), (r"\valid[3]", "valid[3]")])
 def test_brackets_of_an_escaped_name_are_part_of_it(written: str, name: str, write) -> None:

@@ -202,7 +202,7 @@ class _Reader:
 
     def name_of(self, word: str) -> str:
         """The name that a word of the header stands for: without the backslash in front of an escaped one."""
-        name = word.lstrip("\\")
+        name = word.removeprefix("\\")
         return name.replace("\\\\", "\\") if self.is_doubled else name
 
     def enter(self, body: list[str]) -> None:
