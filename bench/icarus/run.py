@@ -4,8 +4,9 @@ a table of wall times; every reply must be the same, byte for byte, or the scrip
 
     bench/icarus/run.py [WIDTH..]
 
-The circuits are those of generate.py, 100 layers of each WIDTH (20, 200 and 2,000 where none is given), with stimuli of 1,000 and of
-100,000 instants, and examples/from_verilog. What is asked of each:
+The circuits are those of generate.py, 100 layers of each WIDTH (20 and 200 where none is given; of 2,000 Icarus Verilog does not
+compile the longer one in half an hour), with stimuli of 1,000 and of 100,000 instants, and examples/from_verilog. What is asked of
+each:
 
 - one: a single question in a session of its own; the mean of the first few of the sixteen. Icarus Verilog runs up to it.
 - sixteen: sixteen questions near the end of the stimulus in one session.
@@ -189,4 +190,4 @@ def main(widths):
 if __name__ == "__main__":
     if not all(word.isdigit() for word in sys.argv[1:]):
         sys.exit(__doc__)
-    main([int(word) for word in sys.argv[1:]] or [20, 200, 2000])
+    main([int(word) for word in sys.argv[1:]] or [20, 200])
