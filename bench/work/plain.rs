@@ -1,10 +1,13 @@
 //! The same workload in plain Rust: it builds the circuit directly, answers the sixteen queries by demand, one after another, with
 //! the cells of all of them in one of std's ordered maps, and writes the journal that a session with one worker writes.
 //!
-//!     plain N JOURNAL
+//!     plain N JOURNAL [texts]
+//!
+//! With the word `texts` it first writes the workload as texts and reads these back, as the program does.
 #[path = "../plain/gates.rs"]
 #[allow(dead_code)]
 mod gates;
+mod texts;
 
 use gates::{Kind, Value};
 use std::collections::BTreeMap;
@@ -227,7 +230,10 @@ fn journal_text(memo: &Memo) -> String {
 fn main() -> io::Result<()> {
     let words: Vec<String> = env::args().collect();
     let number = words[1].parse().expect("a number");
-    let work = Work::new(number);
+    let work = match words.get(3).map(String::as_str) {
+        Some("texts") => texts::read_back(number).expect("texts that are read"),
+        _ => Work::new(number),
+    };
     let mut memo = Memo::new();
     let (mut lines, mut ones) = (0, 0);
     for query in &work.queries {
