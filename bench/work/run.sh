@@ -1,7 +1,9 @@
 #!/usr/bin/env bash
-# The program's own workload, and the same in plain Rust (plain.rs). With one worker both write the same journal and the same
-# line. More workers share the queries in an order of their own, so that their journals differ, and only the line is compared.
-# The table has the shortest of five times each, and how many times as long as plain Rust the program takes.
+# The program's own workload, and the same in plain Rust (plain.rs), once built directly and once by its texts, which it writes and
+# reads back as the program does (texts.rs). With one worker all write the same journal and the same line. More workers share the
+# queries in an order of their own, so that their journals differ, and only the line is compared.
+#
+# The table has the shortest of five times each, and how many times as long as plain Rust without and with texts it takes.
 #
 #     bench/work/run.sh [NUMBER..]
 set -euo pipefail
@@ -23,6 +25,11 @@ best() {
     echo "$least"
 }
 
+# ratio TIME OTHER: how many times as long the one takes as the other.
+ratio() {
+    awk -v one="$1" -v other="$2" 'BEGIN { printf "%.2f", one / other }'
+}
+
 # compare_journals FILE FILE: says whether they agree byte for byte, or in the lines alone.
 compare_journals() {
     if cmp -s "$1" "$2"; then
@@ -34,13 +41,18 @@ compare_journals() {
     fi
 }
 
-echo "| workload | program | ms | times plain Rust | line | journal |"
-echo "|---|---|---|---|---|---|"
+echo "| workload | program | ms | times plain Rust | times that with texts | line | journal |"
+echo "|---|---|---|---|---|---|---|"
 failed=0
 for number in "$@"; do
     plain=$(best "$copy/plain" "$number" "$copy/plain.journal")
     line=$(cat "$copy/line")
-    echo "| $number | plain Rust | $((plain / 1000)) | 1 | $line | |"
+    echo "| $number | plain Rust | $((plain / 1000)) | 1 | | $line | |"
+    texts=$(best "$copy/plain" "$number" "$copy/texts.journal" texts)
+    said=$(cat "$copy/line")
+    journals=$(compare_journals "$copy/plain.journal" "$copy/texts.journal")
+    echo "| $number | plain Rust with texts | $((texts / 1000)) | $(ratio "$texts" "$plain") | 1 | $said | $journals |"
+    if [ "$said" != "$line" ] || [ "$journals" = different ]; then failed=1; fi
     for workers in 1 2 4; do
         time=$(best "$own" --work "$number" "$copy/own.journal" --workers "$workers")
         said=$(cat "$copy/line")
@@ -48,8 +60,8 @@ for number in "$@"; do
         if [ "$workers" = 1 ]; then
             journals=$(compare_journals "$copy/plain.journal" "$copy/own.journal")
         fi
-        ratio=$(awk -v own="$time" -v plain="$plain" 'BEGIN { printf "%.2f", own / plain }')
-        echo "| $number | backsim, workers: $workers | $((time / 1000)) | $ratio | $said | $journals |"
+        ratios="$(ratio "$time" "$plain") | $(ratio "$time" "$texts")"
+        echo "| $number | backsim, workers: $workers | $((time / 1000)) | $ratios | $said | $journals |"
         if [ "$said" != "$line" ] || [ "$journals" = different ]; then failed=1; fi
     done
 done
