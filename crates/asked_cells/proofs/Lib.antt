@@ -5,7 +5,6 @@ pub mod Alone
 pub mod Asked
 pub mod Freeing
 pub mod Unused
-pub mod One
 pub mod Exact
 pub mod Chains
 pub mod Asking

@@ -37,7 +37,5 @@ mod cells;
 mod memo;
 mod places;
 mod reading;
-#[cfg(test)]
-mod tests;
 
 pub use memo::{Memo, begin, reach};

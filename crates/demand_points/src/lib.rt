@@ -34,8 +34,6 @@ mod names;
 mod parts;
 mod stack;
 mod strand;
-#[cfg(test)]
-mod tests;
 
 pub use names::BatchName;
 pub use strand::{Strand, Task};

@@ -35,8 +35,6 @@ mod readers;
 mod rows;
 mod settings;
 mod stated;
-#[cfg(test)]
-mod tests;
 
 pub use design::Design;
 pub use fault::{JoinCause, JoinFault, JoinFile};

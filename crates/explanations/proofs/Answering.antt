@@ -1,10 +1,9 @@
 -- The one query of a batch, for one time: what it needs, and its answer.
 use Rattle.std.proofs.Common.{◌≡◌, ℕ, ◌+◌, ◌<◌, ◌≤◌, Bool, true, List, [], ◌∷◌, length, Contains, Option, Some, None, refl, sym, ap, subst, ◌∙◌, arith}
-use Rattle.std.proofs.lemmas.List.Elements.{All-contains, All-from_recursion}
+use Rattle.std.proofs.lemmas.List.Elements.{All-contains}
 use Rattle.valid_intervals.specs.declared.Cell.{Cell}
 use Rattle.valid_intervals.specs.declared.Point.{Point}
 use Rattle.valid_intervals.specs.declared.SignalCell.{SignalCell}
-use Rattle.circuit_meaning.specs.Circuit.{Circuit, IsCircuit}
 use Rattle.circuit_meaning.specs.Cells.{cell_at, point_at}
 use Rattle.circuit_meaning.specs.Need.{IsEvaluable, Root, First}
 use Rattle.journal_meaning.specs.declared.Entry.{Entry}
@@ -27,19 +26,6 @@ use Rattle.pin_walks.specs.PinWalks.{IsPoint}
 use Rattle.asked_cells.specs.Memos.{AreFreeShards, entries_of, is_missing}
 use Rattle.asked_cells.specs.inner.Standings.{live, standing}
 use Rattle.explanations.specs.inner.Gathered.{AreExplained}
-
--- a batch of one query is lawful, where the query's signal is one of the circuit and its window ends with the horizon
-pub one-lawful : (c : Circuit) (q : Query) (shards capacity : ℕ) → IsCircuit c → c.horizon ≤ 1000000 → q.signal < length c.drivers → q.to ≤ c.horizon + 1 → 1 ≤ shards → 1 ≤ capacity
-    → IsLawful (record { circuit = c; shards = shards; capacity = capacity; queries = q ∷ []; site = None })
-one-lawful c q shards capacity ok small signal within some room = record {
-  circuit = ok;
-  horizon = small;
-  numbers = λ i j d l m. absurd (omega arith);
-  signals = All-from_recursion (λ (r : Query). r.signal < length c.drivers) (q ∷ []) (signal, tt);
-  windows = All-from_recursion (λ (r : Query). r.to ≤ c.horizon + 1) (q ∷ []) (within, tt);
-  some_shard = some;
-  some_cell = room;
-}
 
 module _ (b : Batch) (lawful : IsLawful b) (opening : ℕ → List SignalCell) (q : Query) (queries : b.queries ≡ q ∷ []) (window : q.to ≡ q.from + 1) where
   abbrev root : Point

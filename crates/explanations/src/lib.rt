@@ -32,8 +32,6 @@
 mod children;
 mod explained;
 mod lines;
-#[cfg(test)]
-mod tests;
 mod waiting;
 
 pub use explained::{Explained, explain};

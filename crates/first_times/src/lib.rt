@@ -25,8 +25,6 @@
 #![tactic(auto)]
 
 mod firsts;
-#[cfg(test)]
-mod tests;
 
 pub use firsts::{FirstDone, first_time};
 pub use reply_lines::FirstAnswer;

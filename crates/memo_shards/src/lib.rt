@@ -37,8 +37,6 @@
 mod asked;
 mod room;
 mod shard;
-#[cfg(test)]
-mod tests;
 mod wake;
 
 pub use asked::{Answer, Asked};

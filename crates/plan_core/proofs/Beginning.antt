@@ -24,7 +24,7 @@ use Rattle.memo_shards.specs.KeptShards.{Waiting, KeptShard, IsWaiting, IsKnownS
 use Rattle.memo_shards.specs.inner.Seen.{numbered_strand, waited_shard, parked_of}
 use Rattle.plan_core.specs.inner.Places.{seats, tag, tags, tag_of}
 use Rattle.plan_core.specs.inner.Parts.{blank, waited_shards, plan_at, IsPlan}
-use Rattle.plan_core.specs.Parts.{IsFreshStrand, AreFreshStrands, AreFree, shards_in, strands_in, plan_of_new}
+use Rattle.plan_core.specs.Parts.{AreFreshStrands, AreFree, shards_in, strands_in, plan_of_new}
 use Rattle.plan_core.proofs.Lists.{get-or-at, none-left}
 
 pub shards-same : (shards : List KeptShard) → shards_of (waited_shards shards) ≡ shards_in shards
@@ -260,9 +260,3 @@ known-one b opening shards n x before is here i m low at = elim (cases_eq i n) [
 pub known-all : (b : Batch) (opening : ℕ → List SignalCell) (shards : List KeptShard) (n : ℕ) → ((i : ℕ) (m : KeptShard) → i < n → slice_get shards i ≡ Some m → IsKnownShard b opening m) → length shards ≤ n
     → (i : ℕ) (m : KeptShard) → slice_get shards i ≡ Some m → IsKnownShard b opening m
 known-all b opening shards n before long i m at = let low = slice_get_within shards i m at in before i m (omega arith) at
-
--- two new strands
-pub two-new : (b : Batch) (s r : Demand) → IsFreshStrand b 0 s → IsFreshStrand b 1 r → AreFreshStrands b (s ∷ r ∷ [])
-two-new b s r hs hr zero x at = let e : s ≡ x = cc at in subst (IsFreshStrand b 0) e hs
-two-new b s r hs hr (suc zero) x at = let e : r ≡ x = cc at in subst (IsFreshStrand b 1) e hr
-two-new b s r hs hr (suc (suc i)) x at = absurd (cc at)

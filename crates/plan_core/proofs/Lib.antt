@@ -8,5 +8,4 @@ pub mod Beginning
 pub mod Running
 pub mod Refusing
 pub mod Rounds
-pub mod Schedules
 pub mod InTurn

@@ -35,8 +35,6 @@ mod ends;
 mod paused;
 mod places;
 mod plan;
-#[cfg(test)]
-mod tests;
 mod turns;
 
 pub use alone::Alone;

@@ -47,6 +47,3 @@ pub use laws::{
 pub use line::{First, Line, Stuck, What, Why, read_line};
 pub use script::{ScriptReader, read_script};
 pub use unit::{Asks, Item, ItemList, Question, Unit, UnitList};
-
-#[cfg(test)]
-mod tests;

@@ -9,7 +9,6 @@ pub mod Firsts
 pub mod Whys
 pub mod Stucks
 pub mod Zips
-pub mod EmptyStores
 pub mod Opening
 pub mod Running
 pub mod Dumping

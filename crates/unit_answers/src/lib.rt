@@ -34,8 +34,6 @@ mod replies;
 mod run;
 mod sizes;
 mod stuck;
-#[cfg(test)]
-mod tests;
 mod trim;
 mod why;
 

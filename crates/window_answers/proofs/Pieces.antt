@@ -1,18 +1,9 @@
 -- The pieces of a window, one after another, and the strands that start with them.
-use Rattle.std.proofs.Common.{◌≡◌, ℕ, zero, suc, ◌+◌, ◌*◌, ◌/◌, ◌%◌, ◌<◌, ◌≤◌, ◌++◌, List, [], ◌∷◌, length, map, flat_map, take, get_or, slice_get, Contains, Some, None, refl, sym, ap, subst, ◌∙◌, arith, append_assoc, append-nil}
-use Rattle.valid_intervals.specs.Spans.{Span}
+use Rattle.std.proofs.Common.{◌≡◌, ℕ, zero, suc, ◌+◌, ◌*◌, ◌/◌, ◌%◌, ◌<◌, ◌≤◌, ◌++◌, List, [], ◌∷◌, length, map, flat_map, take, get_or, refl, sym, ap, subst, ◌∙◌, arith, append_assoc, append-nil}
 use Rattle.std.proofs.lemmas.Bool.{lt-ltb, le-ltb}
 use Rattle.std.proofs.lemmas.List.{take_more, map-append}
 use Rattle.std.specs.List.{AllByRecursion}
-use Rattle.strand_meaning.specs.Strands.{started, IsStrand}
-use Rattle.batch_meaning.proofs.Pieces.{pieces-lawful}
-use Rattle.strand_meaning.proofs.Started.{started-right}
-use Rattle.journal_meaning.proofs.Lists.{Each, each-append}
-use Rattle.demand_points.specs.Demands.{Demand}
-use Rattle.plan_core.specs.Parts.{AreFreshStrands, strands_in}
-use Rattle.window_answers.specs.Strands.{IsInOrder}
 use Rattle.window_answers.specs.inner.Starts.{piece_start}
-use Rattle.asked_cells.proofs.Lists.{low-at, or-at}
 use Rattle.batch_meaning.specs.declared.Query.{Query}
 use Rattle.batch_meaning.specs.Batches.{Batch}
 use Rattle.strand_meaning.specs.Strands as strands
@@ -92,53 +83,3 @@ pub strands-next : (f : Start → strands.Strand) (qs : List Query) (n : ℕ) (d
 strands-next f qs n d xs zs low e z =
     let p : List Start = pieces (get_or qs n d) in
     z ∙ ap (λ (l : List strands.Strand). l ++ map f p) e ∙ sym (ap (map f) (flat-more pieces qs n d low) ∙ map-append f (flat_map pieces (take n qs)) p)
-
--- a strand that starts with a piece, for which nothing is charged yet
-pub record StartsPiece (b : Batch) (s : strands.Strand) : Type 0 where
-  pub start : Start
-  pub lawful : IsStart b start
-  pub charged : start.charged ≡ 0
-  pub strand : s ≡ started b.circuit start
-
-record IsUncharged (b : Batch) (a : Start) : Type 0 where
-  pub lawful : IsStart b a
-  pub charged : a.charged ≡ 0
-
-module _ (b : Batch) where
-  uncharged : (q : Query) (budget each : ℕ) (ws : List Span) → Each (IsStart b) (starts_of q budget each ws) → Each (IsUncharged b) (starts_of q budget each ws)
-  uncharged q budget each [] h = tt
-  uncharged q budget each (w ∷ ws) h = (record { lawful = h.0; charged = refl }, uncharged q each each ws h.1)
-
-  all-uncharged : b.site ≡ None → (qs : List Query) → ((q : Query) → Contains qs q → Contains b.queries q) → Each (IsUncharged b) (flat_map pieces qs)
-  all-uncharged site [] known = tt
-  all-uncharged site (q ∷ qs) known =
-      let n = length (spans_of q) in
-      each-append (IsUncharged b) (pieces q) (flat_map pieces qs)
-      (uncharged q (q.budget / n + q.budget % n) (q.budget / n) (spans_of q) (pieces-lawful b site q (known q (0, omega arith, refl))))
-      (all-uncharged site qs (λ r h. known r (suc h.0, (let l = h.1 in omega arith), h.2)))
-
-  start-at : (starts : List Start) (xs : List Demand) → strands_in xs ≡ map (started b.circuit) starts → Each (IsUncharged b) starts → (i : ℕ) (s : Demand) → slice_get xs i ≡ Some s → StartsPiece b s.strand
-  start-at starts [] is h i s e = absurd (cc e)
-  start-at [] (x ∷ xs) is h i s e = absurd (cc is)
-  start-at (a ∷ starts) (x ∷ xs) is h zero s e =
-      let same : x ≡ s = cc e in
-      let here : x.strand ≡ started b.circuit a = cc is in
-      subst (λ (r : Demand). StartsPiece b r.strand) same (record { start = a; lawful = h.0.lawful; charged = h.0.charged; strand = here })
-  start-at (a ∷ starts) (x ∷ xs) is h (suc i) s e =
-      let rest : strands_in xs ≡ map (started b.circuit) starts = cc is in
-      start-at starts xs rest h.1 i s e
-
-  -- each strand of a batch starts with a piece of one of its queries
-  pub strands-start : b.site ≡ None → (xs : List Demand) → strands_in xs ≡ map (started b.circuit) (flat_map pieces b.queries) → (i : ℕ) (s : Demand) → slice_get xs i ≡ Some s → StartsPiece b s.strand
-  strands-start site xs is i s e = start-at (flat_map pieces b.queries) xs is (all-uncharged site b.queries (λ q h. h)) i s e
-
-  -- and has made no turn
-  pub strands-new : b.site ≡ None → (xs : List Demand) → IsInOrder xs → strands_in xs ≡ map (started b.circuit) (flat_map pieces b.queries) → AreFreshStrands b xs
-  strands-new site xs order is i s e =
-      let a = strands-start site xs is i s e in
-      record {
-        number = subst (λ (r : Demand). r.number ≡ i) (or-at xs i s s e) (order i s (low-at xs i s e));
-        strand = subst (IsStrand b) (sym a.strand) (started-right b a.start a.lawful);
-        empty = ap (λ (t : strands.Strand). t.stack) a.strand;
-        awake = ap (λ (t : strands.Strand). t.waits) a.strand;
-      }

@@ -41,8 +41,6 @@ mod answers;
 mod fills;
 mod settlement;
 mod strands;
-#[cfg(test)]
-mod tests;
 mod verdicts;
 mod visits;
 

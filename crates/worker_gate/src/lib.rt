@@ -28,8 +28,8 @@
 //! worker takes the lock again. After the join each strand is compared with its count, and where one differed the call would not
 //! return. Without locks it is tested at the end that each strand has ended, that there are as many shards as before, and that the
 //! counts add up; where one of these were false, the call would not return. So `Crew::run` may wait, and no clause says that it
-//! returns, that a worker gets on, or that two workers run at once: the tests show the latter, by gates that hold a worker until
-//! another has come.
+//! returns, that a worker gets on, or that two workers run at once: the tests of `backsim` show the latter, by gates that hold a worker
+//! until another has come.
 //!
 //! A [`Crew`] gathers the runtime in which the workers are started, the gate that each passes, and how many there are. A caller that
 //! is generic over crews names no handle. [`Workers`] is such a crew. How far a crew gets is up to its gate: strands and claims may be

@@ -1,4 +1,4 @@
-//! One worker or two over small designs, with gates that hold two where they have to meet.
+//! Workers over a small design: one with and without locks, and two that a gate sends away.
 
 ghost use Rattle.std.specs.Prelude.{◌≡◌, ◌+◌, ◌<◌, ◌≤◌, ℕ, true, false, [], length, vec_len, All, IfOk, IfSome};
 ghost use Rattle.batch_meaning.specs.Lawful.{IsLawful, IsQueryOf};
@@ -19,14 +19,11 @@ use std::marker::Brand;
 use std::sync::Wait;
 use std::sync::atomic::{AtomicU64, Ordering};
 use std::test::Fail;
-use std::thread;
 use std::thread::Threads;
 use stimulus_file::read_stimulus;
 use timing_file::read_timing;
 
 const CHAIN: &str = "INPUT(a)\nOUTPUT(n3)\nn1 = BUFF(a)\nn2 = BUFF(n1)\nn3 = BUFF(n2)\n";
-
-const FORK: &str = "INPUT(a)\np = BUFF(a)\nq = BUFF(a)\n";
 
 /// The text, where it is short.
 fn short(text: &str) -> &[u8]
@@ -69,14 +66,14 @@ fn line_of(entry: &Entry) -> Line {
     }
 }
 
-/// What the workers left: whether both strands have ended, their counts, and the entries of all journals.
+/// What the workers left: whether both strands have ended, their counts, whether it is known what was heard, and the entries of all
+/// journals.
 #[derive(Drop)]
 struct Served {
     ended: bool,
     first: u64,
     second: u64,
     heard: bool,
-    fills: u64,
     lines: Vec<Line>,
 }
 
@@ -127,17 +124,6 @@ fn lines_of<B: BatchName>(alloc: Global, shards: Vec<Shard<B>>) -> Result<Vec<Li
     Ok(lines)
 }
 
-/// How many of the entries are fills.
-fn fills_in(lines: &[Line]) -> u64 {
-    let mut fills = 0u64;
-    for line in lines {
-        if let Line::Fill(..) = line {
-            fills = fills.wrapping_add(1);
-        }
-    }
-    fills
-}
-
 /// What the workers leave of a strand for each of the two queries.
 fn serve<B: BatchName + Send + Sync, G: Gate, R: Threads + Wait + Sync>(
     rt: &R,
@@ -173,7 +159,6 @@ fn serve<B: BatchName + Send + Sync, G: Gate, R: Threads + Wait + Sync>(
         first,
         second,
         heard,
-        fills: fills_in(&lines),
         lines,
     })
 }
@@ -225,117 +210,7 @@ fn serve_two<G: Gate, R: Threads + Wait + Sync>(
     Ok(Some(serve::<Brand, G, R>(rt, alloc, design, first, second, shards, workers, gate)?))
 }
 
-const LOOKS: u64 = 10_000_000;
-
-/// Looks until the number is as great as wanted; false where that did not come.
-fn hold(number: &AtomicU64, wanted: u64) -> bool {
-    for _ in 0..LOOKS {
-        if number.load(Ordering::SeqCst) >= wanted {
-            return true;
-        }
-        thread::yield_now();
-    }
-    false
-}
-
-/// How often a worker, or the workers at a shard, came.
-#[derive(Drop)]
-struct Visits {
-    before: AtomicU64,
-    within: AtomicU64,
-}
-
-impl Visits {
-    fn new() -> Visits {
-        Visits {
-            before: AtomicU64::new(0),
-            within: AtomicU64::new(0),
-        }
-    }
-}
-
-/// Holds worker 0 before its first turn until worker 1 has come, and each worker within a shard until another is within the other shard.
-#[derive(Drop)]
-struct Apart {
-    came: AtomicU64,
-    zero: AtomicU64,
-    one: AtomicU64,
-    gave_up: AtomicU64,
-}
-
-impl Apart {
-    fn hold(&self, number: &AtomicU64) {
-        if !hold(number, 1) {
-            self.gave_up.store(1, Ordering::SeqCst);
-        }
-    }
-}
-
-impl Gate for Apart {
-    ghost is_open = { λ _. false };
-
-    fn before(&self, worker: u32) -> Pass {
-        if worker == 0 {
-            self.hold(&self.came);
-        } else {
-            self.came.store(1, Ordering::SeqCst);
-        }
-        Pass::Go
-    }
-
-    fn within(&self, _worker: u32, shard: u32) {
-        if shard == 0 {
-            self.zero.store(1, Ordering::SeqCst);
-            self.hold(&self.one);
-        } else {
-            self.one.store(1, Ordering::SeqCst);
-            self.hold(&self.zero);
-        }
-    }
-}
-
-/// Holds the second turn of each worker until the other has come to its second, and the fourth turn of a worker until the other has
-/// come within a shard for the second time.
-#[derive(Drop)]
-struct Meeting {
-    zero: Visits,
-    one: Visits,
-    gave_up: AtomicU64,
-}
-
-impl Meeting {
-    fn hold(&self, number: &AtomicU64) {
-        if !hold(number, 2) {
-            self.gave_up.store(1, Ordering::SeqCst);
-        }
-    }
-
-    fn of(&self, worker: u32) -> &Visits {
-        if worker == 0 { &self.zero } else { &self.one }
-    }
-}
-
-impl Gate for Meeting {
-    ghost is_open = { λ _. false };
-
-    fn before(&self, worker: u32) -> Pass {
-        let other = if worker == 0 { 1 } else { 0 };
-        let earlier = self.of(worker).before.fetch_add(1, Ordering::SeqCst);
-        if earlier == 1 {
-            self.hold(&self.of(other).before);
-        }
-        if earlier == 3 {
-            self.hold(&self.of(other).within);
-        }
-        Pass::Go
-    }
-
-    fn within(&self, worker: u32, _shard: u32) {
-        self.of(worker).within.fetch_add(1, Ordering::SeqCst);
-    }
-}
-
-/// A gate that sends each worker away before its second turn.
+/// A gate that lets the workers make one turn, and then sends each away.
 #[derive(Drop)]
 struct Closing {
     turns: AtomicU64,
@@ -356,89 +231,6 @@ impl Gate for Closing {
 }
 
 #[test]
-fn each_point_is_evaluated_once(rt: HostRuntime) -> Result<(), Fail> {
-    let design = joined(rt.alloc(), CHAIN)??;
-    let first = at(&design, 1, "n3", 5);
-    let second = at(&design, 2, "n2", 4);
-    let served = serve_two(&rt, rt.alloc(), &design, first, second, 2, 2, &OpenGate)?;
-    let served = served.expect(&rt, "two signals within the horizon");
-    assert!(rt; served.ended);
-    // three points, each claimed and filled once
-    assert_eq!(rt; served.first.wrapping_add(served.second), 6);
-    assert_eq!(rt; served.fills, 3);
-    Ok(())
-}
-
-const APART: [Line; 4] = [
-    Line::Claim(2, 2, 5),
-    Line::Fill(2, 2, 5, 1, 11, Value::One),
-    Line::Claim(1, 1, 5),
-    Line::Fill(1, 1, 5, 1, 11, Value::One),
-];
-
-#[test]
-fn two_shards_are_held_at_once(rt: HostRuntime) -> Result<(), Fail> {
-    let design = joined(rt.alloc(), FORK)??;
-    let first = at(&design, 1, "p", 5);
-    let second = at(&design, 2, "q", 5);
-    let gate = Apart {
-        came: AtomicU64::new(0),
-        zero: AtomicU64::new(0),
-        one: AtomicU64::new(0),
-        gave_up: AtomicU64::new(0),
-    };
-    let served = serve_two(&rt, rt.alloc(), &design, first, second, 2, 2, &gate)?;
-    let served = served.expect(&rt, "two signals within the horizon");
-    assert_eq!(rt; gate.gave_up.load(Ordering::SeqCst), 0);
-    assert_eq!(rt; gate.came.load(Ordering::SeqCst), 1);
-    assert!(rt; served.ended);
-    assert!(rt; served.lines.as_slice() == APART.as_slice());
-    Ok(())
-}
-
-const FIRST_BEGINS: [Line; 6] = [
-    Line::Claim(1, 1, 5),
-    Line::Claim(2, 3, 4),
-    Line::Claim(2, 2, 3),
-    Line::Fill(2, 2, 3, 1, 11, Value::One),
-    Line::Fill(2, 3, 4, 2, 11, Value::One),
-    Line::Fill(1, 1, 5, 3, 11, Value::One),
-];
-
-const SECOND_BEGINS: [Line; 6] = [
-    Line::Claim(2, 3, 4),
-    Line::Claim(1, 1, 5),
-    Line::Claim(2, 2, 3),
-    Line::Fill(2, 2, 3, 1, 11, Value::One),
-    Line::Fill(2, 3, 4, 2, 11, Value::One),
-    Line::Fill(1, 1, 5, 3, 11, Value::One),
-];
-
-/// Whether both strands claim a point, the second one fills all that it needs, and then the first one fills its own.
-fn meets(lines: &[Line]) -> bool {
-    lines == FIRST_BEGINS.as_slice() || lines == SECOND_BEGINS.as_slice()
-}
-
-#[test]
-fn a_strand_waits_for_another_worker(rt: HostRuntime) -> Result<(), Fail> {
-    let design = joined(rt.alloc(), CHAIN)??;
-    let first = at(&design, 1, "n3", 5);
-    let second = at(&design, 2, "n2", 4);
-    let gate = Meeting {
-        zero: Visits::new(),
-        one: Visits::new(),
-        gave_up: AtomicU64::new(0),
-    };
-    let served = serve_two(&rt, rt.alloc(), &design, first, second, 1, 2, &gate)?;
-    let served = served.expect(&rt, "two signals within the horizon");
-    assert_eq!(rt; gate.gave_up.load(Ordering::SeqCst), 0);
-    assert!(rt; served.ended);
-    assert_eq!(rt; (served.first, served.second), (2, 4));
-    assert!(rt; meets(&served.lines));
-    Ok(())
-}
-
-#[test]
 fn a_closing_gate_leaves_strands(rt: HostRuntime) -> Result<(), Fail> {
     let design = joined(rt.alloc(), CHAIN)??;
     let first = at(&design, 1, "n3", 5);
@@ -455,17 +247,13 @@ fn a_closing_gate_leaves_strands(rt: HostRuntime) -> Result<(), Fail> {
     Ok(())
 }
 
-/// A gate at which nobody waits, and that counts the turns. It is not idle, so that one worker takes locks too.
-#[derive(Drop)]
-struct Counting {
-    turns: AtomicU64,
-}
+/// A gate at which nobody waits. It is not idle, so that one worker takes locks too.
+struct Passing;
 
-impl Gate for Counting {
+impl Gate for Passing {
     ghost is_open = { λ _. true };
 
     fn before(&self, _worker: u32) -> Pass {
-        self.turns.fetch_add(1, Ordering::SeqCst);
         Pass::Go
     }
 
@@ -485,10 +273,7 @@ fn one_worker_does_the_same_without_locks(rt: HostRuntime) -> Result<(), Fail> {
     let design = joined(rt.alloc(), CHAIN)??;
     let first = at(&design, 1, "n3", 5);
     let second = at(&design, 2, "n2", 4);
-    let gate = Counting {
-        turns: AtomicU64::new(0),
-    };
-    let locked = serve_two(&rt, rt.alloc(), &design, first, second, 2, 1, &gate)?;
+    let locked = serve_two(&rt, rt.alloc(), &design, first, second, 2, 1, &Passing)?;
     let locked = locked.expect(&rt, "two signals within the horizon");
     let unlocked = serve_two(&rt, rt.alloc(), &design, first, second, 2, 1, &OpenGate)?;
     let unlocked = unlocked.expect(&rt, "two signals within the horizon");
