@@ -24,12 +24,12 @@ ghost use Rattle.asked_cells.specs.inner.Tails.{lengths_of, tails};
 
 use crate::cells::SaidCells;
 use crate::places::Places;
-use crate::reading::{free_all, index_of, know_all, places_in, said_for};
+use crate::reading::{free_all, index_of, places_in, said_for};
 use batch_meaning::Query;
 use demand_points::{BatchName, Strand};
 use design::Design;
 use journal_meaning::Entry;
-use memo_shards::Shard;
+use memo_shards::{Shard, know_all};
 use owned_text::OutOfMemory;
 use plan_core::{Alone, Plan};
 use std::alloc::Global;

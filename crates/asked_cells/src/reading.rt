@@ -1,13 +1,13 @@
 //! The shards as asking begins: their claims are freed, and their entries are read.
 
-ghost use Rattle.std.specs.Prelude.{◌≡◌, ◌<◌, ℕ, All, length, get_or, IfOk, IfSome};
+ghost use Rattle.std.specs.Prelude.{◌≡◌, ◌<◌, ℕ, length, get_or, IfOk, IfSome};
 ghost use Rattle.std.specs.BTreeMap.{get};
 ghost use Rattle.std.specs.List.{AllByRecursion};
 ghost use Rattle.circuit_meaning.specs.Circuit.{Circuit, IsCircuit};
 ghost use Rattle.journal_meaning.specs.inner.Grown.{IsRightEntry};
 ghost use Rattle.journal_meaning.specs.inner.Index.{cells_said, IsCellIndex};
 ghost use Rattle.valid_intervals.specs.Cells.{point_cmp};
-ghost use Rattle.memo_shards.specs.KeptShards.{KeptShard, IsKnownShard};
+ghost use Rattle.memo_shards.specs.KeptShards.{KeptShard};
 ghost use Rattle.memo_shards.specs.Ends.{FreesAll};
 ghost use Rattle.asked_cells.specs.Memos.{entries_of};
 ghost use Rattle.asked_cells.specs.declared.places.Places.{Places as PlacesRecord};
@@ -21,15 +21,6 @@ use memo_shards::{Shard, shard_number};
 use owned_text::OutOfMemory;
 use std::alloc::Global;
 use valid_intervals::{Cell, Point};
-
-/// What is known of each shard.
-pub fn know_all<B: BatchName>(shards: &[Shard<B>])
-    ensures { All (IsKnownShard B.batch B.opening) shards.now }
-{
-    for shard in shards {
-        shard.facts();
-    }
-}
 
 /// Frees the claims of each shard.
 pub fn free_all<B: BatchName>(shards: &mut Vec<Shard<B>>)

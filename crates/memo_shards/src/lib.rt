@@ -40,4 +40,4 @@ mod shard;
 mod wake;
 
 pub use asked::{Answer, Asked};
-pub use shard::{Shard, shard_number};
+pub use shard::{Shard, know_all, shard_number};

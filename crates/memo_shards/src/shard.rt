@@ -1,6 +1,6 @@
 //! A shard of the memo.
 
-ghost use Rattle.std.specs.Prelude.{◌≡◌, ◌<◌, ◌≤◌, ◌+◌, ◌*◌, true, false, [], ◌++◌, length, map, IsTrue, ◌↔◌, IsSome, Some, None, OnOk, OnErr, vec_len, vec_capacity};
+ghost use Rattle.std.specs.Prelude.{◌≡◌, ◌<◌, ◌≤◌, ◌+◌, ◌*◌, true, false, [], ◌++◌, length, map, All, IsTrue, ◌↔◌, IsSome, Some, None, OnOk, OnErr, vec_len, vec_capacity};
 ghost use Rattle.std.specs.List.{AllByRecursion, list_any};
 ghost use Rattle.cell_store.specs.Recency.{contents};
 ghost use Rattle.claim_waiters.specs.Claims.{claim_at, without_claim};
@@ -353,6 +353,15 @@ impl<B: BatchName> Shard<B> {
             journal,
         } = self;
         (store, journal)
+    }
+}
+
+/// What is known of every shard of a list.
+pub fn know_all<B: BatchName>(shards: &[Shard<B>])
+    ensures { All (IsKnownShard B.batch B.opening) shards.now }
+{
+    for shard in shards {
+        shard.facts();
     }
 }
 

@@ -16,7 +16,7 @@ use crate::run::{empty_board, tasks_of, whole_board};
 use demand_points::{BatchName, Strand};
 use design::Design;
 use journal_meaning::Entry;
-use memo_shards::Shard;
+use memo_shards::{Shard, know_all};
 use owned_text::OutOfMemory;
 use plan_core::Plan;
 use std::alloc::Global;
@@ -39,15 +39,6 @@ fn know_strands<B: BatchName>(strands: &[Strand<B>])
     }
 }
 
-// What is known of each shard.
-fn know_shards<B: BatchName>(shards: &[Shard<B>])
-    ensures { All (IsKnownShard B.batch B.opening) shards.now }
-{
-    for shard in shards {
-        shard.facts();
-    }
-}
-
 // The plan in which no strand has made a turn.
 fn plan_of<B: BatchName>(
     alloc: Global,
@@ -66,7 +57,7 @@ fn plan_of<B: BatchName>(
         (IsUnbegun B.batch) }
 {
     know_strands(strands.as_slice());
-    know_shards(shards.as_slice());
+    know_all(shards.as_slice());
     Plan::new(alloc, design, strands, shards)
 }
 

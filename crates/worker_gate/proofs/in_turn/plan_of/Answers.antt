@@ -9,7 +9,7 @@ pub new-requires-clause-lawful : goal.new-requires-clause-lawful
 new-requires-clause-lawful g c =
     let b = g.B.BatchName.batch in
     let o = g.B.BatchName.opening in
-    let known = subst (All (IsKnownShard b o)) c.as_slice-2.ensures.value c.know_shards.ensures in
+    let known = subst (All (IsKnownShard b o)) c.as_slice-2.ensures.value c.know_all.ensures in
     lawful-of b o c.args.shards.items known (subst (λ n. 0 < n) c.args.shards.ok.0 c.requires.some)
 
 pub new-requires-clause-strands : goal.new-requires-clause-strands
@@ -22,12 +22,12 @@ pub new-requires-clause-shards : goal.new-requires-clause-shards
 new-requires-clause-shards g c =
     let b = g.B.BatchName.batch in
     let o = g.B.BatchName.opening in
-    let known = subst (All (IsKnownShard b o)) c.as_slice-2.ensures.value c.know_shards.ensures in
+    let known = subst (All (IsKnownShard b o)) c.as_slice-2.ensures.value c.know_all.ensures in
     free-shards b o c.args.shards.items known (sym c.args.shards.ok.0 ∙ c.requires.named) c.requires.order c.requires.empty
 
 pub returns : goal.returns
 returns g c = λ started.
     let b = g.B.BatchName.batch in
     let o = g.B.BatchName.opening in
-    let known = subst (All (IsKnownShard b o)) c.as_slice-2.ensures.value c.know_shards.ensures in
+    let known = subst (All (IsKnownShard b o)) c.as_slice-2.ensures.value c.know_all.ensures in
     ok-both (IsUnbegun b) _ _ c.new.ensures.ok (unbegun b o c.args.strands.items c.args.shards.items known c.requires.empty started)

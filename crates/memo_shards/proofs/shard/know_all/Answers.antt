@@ -2,7 +2,7 @@ use Rattle.std.proofs.Common.{All, subst}
 use Rattle.std.proofs.lemmas.List.{take_all}
 use Rattle.std.proofs.lemmas.List.Elements.{All-more}
 use Rattle.memo_shards.specs.KeptShards.{IsKnownShard}
-use Rattle.worker_gate.proofs.in_turn.know_shards.Goals as goal
+use Rattle.memo_shards.proofs.shard.know_all.Goals as goal
 
 pub loop-shard-preserved : goal.loop-shard-preserved
 loop-shard-preserved g c =
