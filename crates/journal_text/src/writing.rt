@@ -1,12 +1,17 @@
-//! Writing the head and the entries.
-ghost use Rattle.std.specs.Prelude.{◌≡◌, ◌++◌, OnOk, IfOk};
-ghost use Rattle.journal_text.specs.Spelling.{point, cell, entry_line, head_line};
+//! Writing the head and the entries. The line of an entry is written from its end to its front: each part
+//! is written so that it ends at `end`, where the next part starts, and its own start is returned.
+ghost use Rattle.std.specs.Prelude.{◌≡◌, ◌+◌, ◌≤◌, ◌++◌, length, drop, OnOk, IfOk};
+ghost use Rattle.text_fields.specs.Spelling.{field};
+ghost use Rattle.journal_text.specs.Spelling.{point, cell, line_feed, entry_line, head_line};
 
 use journal_meaning::Entry;
 use owned_text::OutOfMemory;
-use std::alloc::{AllocError, Global};
-use text_fields::push_field;
+use std::alloc::Global;
+use text_fields::{push_field, write_field};
 use valid_intervals::{Cell, Point};
+
+/// The length of the longest line of an entry.
+const LONGEST_LINE: usize = 62;
 
 /// The first line of a journal: how many shards there are, and how many cells each may store.
 pub fn head_text(alloc: Global, shards: u32, cells: u32) -> Result<Vec<u8>, OutOfMemory>
@@ -33,60 +38,81 @@ pub fn entry_text(alloc: Global, entry: &Entry) -> Result<Vec<u8>, OutOfMemory>
 pub fn push_entry(text: &mut Vec<u8>, entry: &Entry) -> Result<(), OutOfMemory>
     ensures { OnOk result (text.new.items ≡ text.old.items ++ entry_line entry.now) }
 {
-    match entry {
-        Entry::Told { q, p, cell } => {
-            text.extend_from_slice(b"told")?;
-            push_field(text, *q)?;
-            push_point(text, p)?;
-            push_cell(text, cell)?;
-        }
-        Entry::Claimed { q, p } => {
-            text.extend_from_slice(b"claim")?;
-            push_field(text, *q)?;
-            push_point(text, p)?;
-        }
-        Entry::Filled { q, p, cell } => {
-            text.extend_from_slice(b"fill")?;
-            push_field(text, *q)?;
-            push_point(text, p)?;
-            push_cell(text, cell)?;
-        }
-        Entry::Evicted { signal, start } => {
-            text.extend_from_slice(b"evict")?;
-            push_field(text, *signal)?;
-            push_field(text, *start)?;
-        }
-        Entry::Dropped { q, p } => {
-            text.extend_from_slice(b"drop")?;
-            push_field(text, *q)?;
-            push_point(text, p)?;
-        }
-        Entry::Spent { q, p, held } => {
-            text.extend_from_slice(b"spent")?;
-            push_field(text, *q)?;
-            push_point(text, p)?;
-            push_field(text, *held)?;
-        }
-    }
-    text.push(b'\n')?;
+    let mut line = [b'\n'; LONGEST_LINE];
+    let start = write_entry(entry, &mut line, LONGEST_LINE - 1);
+    text.extend_from_slice(&line[start..])?;
     Ok(())
 }
 
-/// Writes a signal and a time, each after a blank.
-fn push_point(text: &mut Vec<u8>, p: &Point) -> Result<(), AllocError>
-    ensures { OnOk result (text.new.items ≡ text.old.items ++ point p.now) }
+/// Writes the parts of an entry's line in front of its line feed.
+fn write_entry(entry: &Entry, line: &mut [u8], end: usize) -> usize
+    requires { (61 ≤ end) × (end ≤ length line.old) }
+    ensures within { result ≤ end }
+    ensures written { drop end line.old ≡ line_feed → drop result line.new ≡ entry_line entry.now }
 {
-    push_field(text, p.signal)?;
-    push_field(text, p.time)
+    match entry {
+        Entry::Told { q, p, cell } => {
+            let end = write_cell(cell, line, end);
+            let end = write_query(*q, p, line, end);
+            write_word(b"told", line, end)
+        }
+        Entry::Claimed { q, p } => {
+            let end = write_query(*q, p, line, end);
+            write_word(b"claim", line, end)
+        }
+        Entry::Filled { q, p, cell } => {
+            let end = write_cell(cell, line, end);
+            let end = write_query(*q, p, line, end);
+            write_word(b"fill", line, end)
+        }
+        Entry::Evicted { signal, start } => {
+            let end = write_field(*start, line, end);
+            let end = write_field(*signal, line, end);
+            write_word(b"evict", line, end)
+        }
+        Entry::Dropped { q, p } => {
+            let end = write_query(*q, p, line, end);
+            write_word(b"drop", line, end)
+        }
+        Entry::Spent { q, p, held } => {
+            let end = write_field(*held, line, end);
+            let end = write_query(*q, p, line, end);
+            write_word(b"spent", line, end)
+        }
+    }
+}
+
+/// Writes a word. Where it is a constant, this is one store or two.
+#[inline(always)]
+fn write_word(word: &[u8], line: &mut [u8], end: usize) -> usize
+    requires { (length word.now ≤ end) × (end ≤ length line.old) }
+    ensures within { result ≤ end }
+    ensures written { drop result line.new ≡ word.now ++ drop end line.old }
+{
+    let start = end - word.len();
+    line[start..end].copy_from_slice(word);
+    start
+}
+
+/// Writes a query, a signal and a time, each after a blank.
+fn write_query(q: u32, p: &Point, line: &mut [u8], end: usize) -> usize
+    requires { (33 ≤ end) × (end ≤ length line.old) }
+    ensures within { (result ≤ end) × (end ≤ result + 33) }
+    ensures written { drop result line.new ≡ field q ++ (point p.now ++ drop end line.old) }
+{
+    let end = write_field(p.time, line, end);
+    let end = write_field(p.signal, line, end);
+    write_field(q, line, end)
 }
 
 /// Writes a start, an end and a value, each after a blank.
-fn push_cell(text: &mut Vec<u8>, c: &Cell) -> Result<(), AllocError>
-    ensures { OnOk result (text.new.items ≡ text.old.items ++ cell c.now) }
+fn write_cell(c: &Cell, line: &mut [u8], end: usize) -> usize
+    requires { (24 ≤ end) × (end ≤ length line.old) }
+    ensures within { (result ≤ end) × (end ≤ result + 24) }
+    ensures written { drop result line.new ≡ cell c.now ++ drop end line.old }
 {
-    push_field(text, c.span.start())?;
-    push_field(text, c.span.end())?;
-    text.push(b' ')?;
-    text.push(c.value.byte())?;
-    Ok(())
+    line[end - 1] = c.value.byte();
+    line[end - 2] = b' ';
+    let end = write_field(c.span.end(), line, end - 2);
+    write_field(c.span.start(), line, end)
 }

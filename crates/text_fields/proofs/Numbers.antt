@@ -4,7 +4,7 @@ use Rattle.std.proofs.lemmas.Grind.{common_steps}
 use Rattle.std.proofs.lemmas.Bool.{eqb-true, le-leb, leb-true, le-ltb, lt-leb}
 use Rattle.std.proofs.lemmas.Option.{cond_some}
 use Rattle.std.proofs.lemmas.Str.Parse.{IsNumeralModel, numerals_by_fold}
-use Rattle.std.proofs.lemmas.Fmt.{digits_decimal, digits_value-decimal, decimal-digits_value, decimal_nonempty, first_decimal, decimal_digit}
+use Rattle.std.proofs.lemmas.Fmt.{digits_decimal, digits_value-decimal, decimal-digits_value, decimal_nonempty, first_decimal, decimal_digit, length-decimal-le}
 use Rattle.std.specs.Char.{is_ascii_digit}
 use Rattle.std.specs.Fmt.{decimal}
 use Rattle.std.specs.Str.{all_ascii_digits}
@@ -163,3 +163,8 @@ number_read text rest n is small some alone =
         by : (b : Bool) → eqb f 48 ≡ b → (not b || leb l m) ≡ true
         by true e = le-leb l m (alone (eqb-true f 48 e))
         by false e = refl
+
+-- ---- the code's writing
+
+pub number_len : (n : ℕ) → n < 2 ^ 32 → length (decimal n) ≤ 10
+number_len n small = length-decimal-le 10 n (omega arith) (omega (arith, small)) (omega (arith, small))
