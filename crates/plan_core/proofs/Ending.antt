@@ -1,9 +1,8 @@
 -- The turn of a strand that ends a claim.
-use Rattle.std.proofs.Common.{◌≡◌, ℕ, ◌<◌, ◌%◌, false, List, [], ◌∷◌, length, map, get_or, slice_get, slice_set, refl, ap, sym, ◌∙◌, subst, arith, Option, Some, None, Ok, Err}
+use Rattle.std.proofs.Common.{◌≡◌, ℕ, ◌<◌, ◌%◌, false, List, [], ◌∷◌, length, map, get_or, slice_get, slice_set, refl, ap, sym, ◌∙◌, subst, arith, Option, Some, None, Ok}
 use Rattle.std.proofs.Math.ListN.{length-map, length-set}
 use Rattle.std.proofs.lemmas.List.{map-set}
 use Rattle.std.proofs.lemmas.Option.{slice_get_within}
-use Rattle.owned_text.specs.declared.OutOfMemory.{OutOfMemory}
 use Rattle.valid_intervals.specs.declared.Point.{Point}
 use Rattle.valid_intervals.specs.declared.SignalCell.{SignalCell}
 use Rattle.journal_meaning.specs.declared.Entry.TheVariants as entry
@@ -33,8 +32,8 @@ use Rattle.memo_shards.proofs.Seen.{waiting-seen, none-here, none-other, zip-see
 use Rattle.plan_core.specs.inner.Places.{seat, seats, AreNumbered, HaveNumbers}
 use Rattle.plan_core.specs.inner.Parts.{waited_shards, plan_at, IsPlan}
 use Rattle.plan_core.specs.inner.Turns.{OfTurn, IsSeen}
-use Rattle.plan_core.proofs.Lists.{set-twice, put-over, put-changed, have-numbers, set-numbers}
-use Rattle.plan_core.proofs.Seen.{here, in-plan, awake, home, homes, shard-here, seen, rest-set}
+use Rattle.plan_core.proofs.Lists.{put-apart, put-changed, have-numbers}
+use Rattle.plan_core.proofs.Seen.{here, in-plan, awake, home, homes, shard-here, seen}
 
 map-itself : (ws : List NumberedStrand) → map (changed itself) ws ≡ ws
 map-itself [] = refl
@@ -69,6 +68,13 @@ module _ (b : Batch) (opening : ℕ → List SignalCell) (places : List (Option 
       let m = length-map places seat in
       omega arith
 
+  -- none of them has its place
+  apart : (w : NumberedStrand) → IsAmong w (kept.waiters (waited_shards shards) p) → w.number ≡ n → ⊥
+  apart w h e =
+      let k : slice_get (seats places) w.number ≡ Some None = (parts.kept.parts.waiter p w h).0 in
+      let there : slice_get (seats places) w.number ≡ Some (Some s0.strand) = ap (λ i. slice_get (seats places) i) e ∙ here b opening places shards parts n s0 at in
+      absurd (cc (k, there))
+
   module _ (f : Strand → Strand) (quiet : (o : Strand) → o.waits ≡ false → (f o).waits ≡ false) (fits : (o : Strand) → o.waits ≡ false → strands.awake (f (waiting o)) ≡ f o)
       (list : List Demand) (out : map numbered_strand list ≡ map (changed f) (map numbered_strand (waiting_at h0.waiting p))) where
     abbrev among : List NumberedStrand
@@ -77,52 +83,47 @@ module _ (b : Batch) (opening : ℕ → List SignalCell) (places : List (Option 
     told : map numbered_strand list ≡ map (changed f) (kept.waiters (waited_shards shards) p)
     told = out ∙ ap (map (changed f)) (sym waits)
 
-    numbers : HaveNumbers (length (slice_set places n None)) list
-    numbers = subst (λ m. HaveNumbers m list) (sym (length-set places n None)) (have-numbers f (length places) list (kept.waiters (waited_shards shards) p) told low)
+    numbers : (o : Option Demand) → HaveNumbers (length (slice_set places n o)) list
+    numbers o = subst (λ m. HaveNumbers m list) (sym (length-set places n o)) (have-numbers f (length places) list (kept.waiters (waited_shards shards) p) told low)
 
     -- the strand makes its step, and all that waited at the point go back
-    ended : (mid : List (Option Demand)) → seats mid ≡ put_back itself (seats (slice_set places n None)) (map numbered_strand list) → length mid ≡ length (slice_set places n None) → AreNumbered mid
-        → (s : Demand) (h : KeptShard) (e : Strand → Strand) (g : Shard → Shard) → TakesStep e s0 s → (e s0.strand).waits ≡ false → IsKnownShard b opening h → h.number ≡ h0.number → LeavesNone h0 h p → h.shard ≡ g h0.shard
+    ended : (s : Demand) (h : KeptShard) (e : Strand → Strand) (g : Shard → Shard) → TakesStep e s0 s → (e s0.strand).waits ≡ false → IsKnownShard b opening h → h.number ≡ h0.number → LeavesNone h0 h p → h.shard ≡ g h0.shard
         → turn b old n ≡ with_shard (with_strand (with_woken old f p) n (e s0.strand)) p (g (shard_of old p))
-        → IsSeen b opening (slice_set mid n (Some s)) (slice_set shards slot h) (turn b old n)
-    ended mid seats_are long numbered s h e g step calm known number leaves shard turns =
+        → (after : List (Option Demand)) → seats after ≡ put_back itself (seats (slice_set places n (Some s))) (map numbered_strand list) → AreNumbered after
+        → IsSeen b opening after (slice_set shards slot h) (turn b old n)
+    ended s h e g step calm known number leaves shard turns after seats_are numbered =
         let t = e s0.strand in
         let ps = seats places in
         let ws = kept.waiters (waited_shards shards) p in
         let hs = slice_set (waited_shards shards) (p.signal % length (waited_shards shards)) (waited_shard h) in
         let home_0 = home b opening places shards parts n s0 at p slot slot-is h0 index in
-        let cleared : seats (slice_set places n None) ≡ slice_set ps n None = map-set seat places n None in
-        let mid_is : seats mid ≡ put_back f (slice_set ps n None) ws =
-        seats_are ∙ ap (λ xs. put_back itself xs (map numbered_strand list)) cleared ∙ ap (put_back itself (slice_set ps n None)) told ∙ put-changed f (slice_set ps n None) ws in
-        let shape : seats (slice_set mid n (Some s)) ≡ slice_set (put_back f ps ws) n (Some t) =
-        map-set seat mid n (Some s) ∙ ap (λ z. slice_set (seats mid) n (Some z)) step.strand ∙ ap (λ xs. slice_set xs n (Some t)) mid_is
-        ∙ put-over f n (Some t) (slice_set ps n None) ps ws (set-twice ps n None (Some t)) in
-        let wide : n < length mid = let x = length-set places n None in let z = slice_get_within places n (Some s0) at in omega arith in
+        let stepped : seats (slice_set places n (Some s)) ≡ slice_set ps n (Some t) = map-set seat places n (Some s) ∙ ap (λ z. slice_set ps n (Some z)) step.strand in
+        let shape : seats after ≡ slice_set (put_back f ps ws) n (Some t) =
+        seats_are ∙ ap (λ xs. put_back itself xs (map numbered_strand list)) stepped ∙ ap (put_back itself (slice_set ps n (Some t))) told ∙ put-changed f (slice_set ps n (Some t)) ws
+        ∙ put-apart f n (Some t) ps ws apart in
         let now = kept-wake ps (waited_shards shards) old.strands parts.kept n s0.strand (here b opening places shards parts n s0 at) p f quiet fits t (waited_shard h) calm
         (none-here h0 h p leaves)
         (λ x ne. none-other h0 h p leaves x ne ∙ ap (λ (m : WaitedShard). kept.waiting_at m.parked x) (sym home_0))
         (homes b opening places shards parts n s0 at p slot slot-is h0 index h known number) in
-        seen b opening places shards parts n s0 at p slot slot-is h0 index (slice_set mid n (Some s)) h (λ ys. slice_set (map (woken f p) ys) n t) g
-        (set-numbers mid numbered n s (step.number ∙ parts.numbers n s0 at) wide) number
+        seen b opening places shards parts n s0 at p slot slot-is h0 index after h (λ ys. slice_set (map (woken f p) ys) n t) g numbered number
         (subst (λ z. IsKeptPlan z hs (slice_set (map (woken f p) old.strands) n t)) (sym shape) now) shard turns
 
   -- a fill
   filled-out : (s : Demand) (h : KeptShard) (list : List Demand) → FillsIt b h0 h p s0 s list → map numbered_strand list ≡ map (changed heard) (map numbered_strand (waiting_at h0.waiting p))
   filled-out s h list f = zip-seen heard (waiting_at h0.waiting p) list f.hears
 
-  pub filled-numbers : (s : Demand) (h : KeptShard) (list : List Demand) → FillsIt b h0 h p s0 s list → HaveNumbers (length (slice_set places n None)) list
-  filled-numbers s h list f = numbers heard (λ o w. w) heard-fits list (filled-out s h list f)
+  pub filled-numbers : (s : Demand) (h : KeptShard) (list : List Demand) → FillsIt b h0 h p s0 s list → HaveNumbers (length (slice_set places n (Some s))) list
+  filled-numbers s h list f = numbers heard (λ o w. w) heard-fits list (filled-out s h list f) (Some s)
 
-  pub filled : next s0.strand ≡ Fill p → (s r : Demand) (h : KeptShard) (list : List Demand) → IsKnownShard b opening h → FillsIt b h0 h p s0 s list → TakesStep itself s r
-      → (mid : List (Option Demand)) → seats mid ≡ put_back itself (seats (slice_set places n None)) (map numbered_strand list) → length mid ≡ length (slice_set places n None) → AreNumbered mid
-      → OfTurn b opening old n (slice_set mid n (Some r)) (slice_set shards slot h) (Ok comes.Filled)
-  filled fills s r h list known f more mid seats_are long numbered =
+  pub filled : next s0.strand ≡ Fill p → (s : Demand) (h : KeptShard) (list : List Demand) → IsKnownShard b opening h → FillsIt b h0 h p s0 s list
+      → (after : List (Option Demand)) → seats after ≡ put_back itself (seats (slice_set places n (Some s))) (map numbered_strand list) → AreNumbered after
+      → OfTurn b opening old n after (slice_set shards slot h) (Ok comes.Filled)
+  filled fills s h list known f after seats_are numbered =
       let q = s0.strand.query.number in
       let at_plan = in-plan b opening places shards parts n s0 at in
       let calm = awake b opening places shards parts n s0 at in
-      let is = filled-turn b old n s0.strand at_plan calm p fills in
-      let step : TakesStep finished s0 r = record { number = more.number ∙ f.strand.number; from = more.from ∙ f.strand.from; to = more.to ∙ f.strand.to; strand = more.strand ∙ f.strand.strand } in (
-        ended heard (λ o w. w) heard-fits list (filled-out s h list f) mid seats_are long numbered r h finished (filled_shard b.capacity q p (cell_at b.circuit p)) step calm known f.number f.waiting f.shard is.turn,
+      let is = filled-turn b old n s0.strand at_plan calm p fills in (
+        ended heard (λ o w. w) heard-fits list (filled-out s h list f) s h finished (filled_shard b.capacity q p (cell_at b.circuit p)) f.strand calm known f.number f.waiting f.shard is.turn after seats_are numbered,
         sym (ap turned_by is.step),
       )
 
@@ -133,24 +134,21 @@ module _ (b : Batch) (opening : ℕ → List SignalCell) (places : List (Option 
   itself-fits : (o : Strand) → o.waits ≡ false → strands.awake (itself (waiting o)) ≡ itself o
   itself-fits o w = ap (λ z. record o { waits = z }) (sym w)
 
-  pub dropped-numbers : (s : Demand) (h : KeptShard) (list : List Demand) → DropsIt h0 h p s0 s list → HaveNumbers (length (slice_set places n None)) list
-  dropped-numbers s h list f = numbers itself (λ o w. w) itself-fits list (dropped-out s h list f)
+  -- the drop, and base answers heard after it
+  pub dropped-step : (s r : Demand) (h : KeptShard) (list : List Demand) → DropsIt h0 h p s0 s list → TakesStep itself s r → TakesStep dropped s0 r
+  dropped-step s r h list f more = record { number = more.number ∙ f.strand.number; from = more.from ∙ f.strand.from; to = more.to ∙ f.strand.to; strand = more.strand ∙ f.strand.strand }
+
+  pub dropped-numbers : (s r : Demand) (h : KeptShard) (list : List Demand) → DropsIt h0 h p s0 s list → HaveNumbers (length (slice_set places n (Some r))) list
+  dropped-numbers s r h list f = numbers itself (λ o w. w) itself-fits list (dropped-out s h list f) (Some r)
 
   pub dropped-seen : next s0.strand ≡ Drop p → (s r : Demand) (h : KeptShard) (list : List Demand) → IsKnownShard b opening h → DropsIt h0 h p s0 s list → TakesStep itself s r
-      → (mid : List (Option Demand)) → seats mid ≡ put_back itself (seats (slice_set places n None)) (map numbered_strand list) → length mid ≡ length (slice_set places n None) → AreNumbered mid
-      → OfTurn b opening old n (slice_set mid n (Some r)) (slice_set shards slot h) (Ok comes.Dropped)
-  dropped-seen drops s r h list known f more mid seats_are long numbered =
+      → (after : List (Option Demand)) → seats after ≡ put_back itself (seats (slice_set places n (Some r))) (map numbered_strand list) → AreNumbered after
+      → OfTurn b opening old n after (slice_set shards slot h) (Ok comes.Dropped)
+  dropped-seen drops s r h list known f more after seats_are numbered =
       let q = s0.strand.query.number in
       let at_plan = in-plan b opening places shards parts n s0 at in
       let calm = awake b opening places shards parts n s0 at in
-      let is = dropped-turn b old n s0.strand at_plan calm p drops in
-      let step : TakesStep dropped s0 r = record { number = more.number ∙ f.strand.number; from = more.from ∙ f.strand.from; to = more.to ∙ f.strand.to; strand = more.strand ∙ f.strand.strand } in (
-        ended itself (λ o w. w) itself-fits list (dropped-out s h list f) mid seats_are long numbered r h dropped (recorded (entry.Dropped q p)) step calm known f.number f.waiting f.shard is.turn,
+      let is = dropped-turn b old n s0.strand at_plan calm p drops in (
+        ended itself (λ o w. w) itself-fits list (dropped-out s h list f) r h dropped (recorded (entry.Dropped q p)) (dropped-step s r h list f more) calm known f.number f.waiting f.shard is.turn after seats_are numbered,
         sym (ap turned_by is.step),
       )
-
-  -- a fill that was refused memory
-  pub filled-not : (s r : Demand) (h : KeptShard) (error : OutOfMemory) → s ≡ s0 → h ≡ h0 → TakesStep itself s r → OfTurn b opening old n (slice_set (slice_set places n None) n (Some r)) (slice_set shards slot h) (Err error)
-  filled-not s r h error same kept_is step =
-      subst (λ xs. IsSeen b opening xs (slice_set shards slot h) old) (sym (set-twice places n None (Some r)))
-      (rest-set b opening places shards parts n s0 at p slot slot-is h0 index r h (subst (λ z. TakesStep itself z r) same step) kept_is)

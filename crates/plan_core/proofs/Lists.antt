@@ -32,6 +32,12 @@ get-or-at [] n x d e = absurd (cc e)
 get-or-at (y ∷ xs) zero x d e = cc e
 get-or-at (y ∷ xs) (suc n) x d e = get-or-at xs n x d e
 
+-- the strand that was read from its place
+pub in-place : (places : List (Option Demand)) (n : ℕ) (o : Option Demand) (r s : Demand) → slice_get places n ≡ Some (Some r) → o ≡ get_or places n o → o ≡ Some s → r ≡ s
+in-place places n o r s at index is =
+    let there : o ≡ Some r = index ∙ get-or-at places n (Some r) o at in
+    cc (there, is)
+
 set-over : {A : Type 0} (xs : List A) (m n : ℕ) (a b : A) → (m ≡ n → ⊥) → slice_set (slice_set xs m a) n b ≡ slice_set (slice_set xs n b) m a
 set-over [] m n a b ne = refl
 set-over (x ∷ xs) zero zero a b ne = absurd (ne refl)
@@ -39,15 +45,12 @@ set-over (x ∷ xs) zero (suc n) a b ne = refl
 set-over (x ∷ xs) (suc m) zero a b ne = refl
 set-over (x ∷ xs) (suc m) (suc n) a b ne = ap (λ ys. x ∷ ys) (set-over xs m n a b (λ e. ne (ap suc e)))
 
--- lists that differ only at n do so after the others went back
-pub put-over : (f : Strand → Strand) (n : ℕ) (t : Option Strand) (xs ys : List (Option Strand)) (ws : List NumberedStrand) → slice_set xs n t ≡ slice_set ys n t → slice_set (put_back f xs ws) n t ≡ slice_set (put_back f ys ws) n t
-put-over f n t xs ys [] e = e
-put-over f n t xs ys (w ∷ ws) e = put-over f n t (slice_set xs w.number (Some (f w.strand))) (slice_set ys w.number (Some (f w.strand))) ws (elim (cases_eq w.number n) [
-  | inl k ↦
-      let at = λ (zs : List (Option Strand)). subst (λ m. slice_set (slice_set zs m (Some (f w.strand))) n t ≡ slice_set zs n t) (sym k) (set-twice zs n (Some (f w.strand)) t) in
-      at xs ∙ e ∙ sym (at ys)
-  | inr k ↦ set-over xs w.number n (Some (f w.strand)) t k ∙ ap (λ zs. slice_set zs w.number (Some (f w.strand))) e ∙ sym (set-over ys w.number n (Some (f w.strand)) t k)
-])
+-- a place to which none of them goes back
+pub put-apart : (f : Strand → Strand) (n : ℕ) (t : Option Strand) (xs : List (Option Strand)) (ws : List NumberedStrand) → ((w : NumberedStrand) → IsAmong w ws → w.number ≡ n → ⊥) → put_back f (slice_set xs n t) ws ≡ slice_set (put_back f xs ws) n t
+put-apart f n t xs [] apart = refl
+put-apart f n t xs (w ∷ ws) apart =
+    ap (λ zs. put_back f zs ws) (sym (set-over xs w.number n (Some (f w.strand)) t (apart w (inl refl))))
+    ∙ put-apart f n t (slice_set xs w.number (Some (f w.strand))) ws (λ v h. apart v (inr h))
 
 -- those that are changed already go back as they are
 pub put-changed : (f : Strand → Strand) (xs : List (Option Strand)) (ws : List NumberedStrand) → put_back itself xs (map (changed f) ws) ≡ put_back f xs ws
@@ -72,6 +75,10 @@ numbers-set places numbers n o at s e i r h = elim (cases_eq i n) [
       ap (λ (z : Demand). z.number) (sym same) ∙ e ∙ sym k
   | inr k ↦ numbers i r (sym (set-other places n i (Some s) k) ∙ h)
 ]
+
+-- a strand in its place that has made a step
+pub stays-numbered : (places : List (Option Demand)) → AreNumbered places → (n : ℕ) (s : Demand) → slice_get places n ≡ Some (Some s) → (f : Strand → Strand) (r : Demand) → TakesStep f s r → AreNumbered (slice_set places n (Some r))
+stays-numbered places numbers n s at f r step = numbers-set places numbers n (Some s) at r (step.number ∙ numbers n s at)
 
 pub numbers-none : (places : List (Option Demand)) → AreNumbered places → (n : ℕ) (o : Option Demand) → slice_get places n ≡ Some o → AreNumbered (slice_set places n None)
 numbers-none places numbers n o at i r h = elim (cases_eq i n) [

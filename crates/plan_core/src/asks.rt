@@ -1,8 +1,10 @@
 //! Turns in which a strand asks.
 
-ghost use Rattle.std.specs.Prelude.{◌≡◌, ℕ, slice_get, Some};
+ghost use Rattle.std.specs.Prelude.{◌≡◌, ℕ, slice_get, IsSome, Some};
+ghost use Rattle.journal_meaning.specs.States.{holder};
 ghost use Rattle.strand_meaning.specs.Strands.{next};
 ghost use Rattle.strand_meaning.specs.declared.Next.TheVariants.{Ask};
+ghost use Rattle.valid_intervals.specs.Cells.{stored_at};
 ghost use Rattle.demand_points.specs.Demands.{Demand};
 ghost use Rattle.memo_shards.specs.KeptShards.{KeptShard, IsKnownShard};
 ghost use Rattle.memo_shards.specs.Asks.{IsHere};
@@ -10,10 +12,9 @@ ghost use Rattle.plan_core.specs.inner.Parts.{plan_at, IsPlan};
 ghost use Rattle.plan_core.specs.inner.Turns.{OfAskTurn, OfTurn};
 
 use crate::paused::Paused;
-use crate::places::{put_at, take_at};
 use demand_points::BatchName;
 use design::Design;
-use memo_shards::{Asked, Shard, shard_number};
+use memo_shards::{Answer, Shard, shard_number};
 use owned_text::OutOfMemory;
 use plan_machine::Turned;
 use valid_intervals::Point;
@@ -28,28 +29,58 @@ pub fn know_all<B: BatchName>(shards: &[Shard<B>])
     }
 }
 
-/// Asks the shard for the point. Returns the strand, unless it waits.
-fn ask<B: BatchName>(
+/// Lets the strand wait at the claimed point. Where memory runs out, it stays in its place.
+fn park<B: BatchName>(
     shard: &mut Shard<B>,
-    paused: Paused<B>,
+    place: &mut Option<Paused<B>>,
     design: &Design,
     p: Point,
-) -> (Result<Turned, OutOfMemory>, Option<Paused<B>>)
+) -> Result<Turned, OutOfMemory>
     requires design { design.now.circuit ≡ B.batch.circuit }
-    requires asks { next paused.strand ≡ Ask p }
+    requires asks { (s : Demand) × ((place.old ≡ Some s) × (next s.strand ≡ Ask p)) }
+    requires missed { stored_at shard.old.shard.state.cells p ≡ None }
+    requires claimed { IsSome (holder shard.old.shard.state.claims p) }
+    ensures { (s : Demand) → place.old ≡ Some s
+        → OfAskTurn B.batch shard.old shard.new p s result place.new }
+{
+    let Some(paused) = place.take() else {
+        unreachable!();
+    };
+    match shard.park(paused.into_strand(), p) {
+        Ok(()) => Ok(Turned::Waits),
+        Err((strand, error)) => {
+            *place = Some(Paused::new(strand, design));
+            Err(error)
+        }
+    }
+}
+
+/// Asks the shard for the point. The strand leaves its place only where it waits.
+fn ask<B: BatchName>(
+    shard: &mut Shard<B>,
+    place: &mut Option<Paused<B>>,
+    design: &Design,
+    p: Point,
+) -> Result<Turned, OutOfMemory>
+    requires design { design.now.circuit ≡ B.batch.circuit }
+    requires asks { (s : Demand) × ((place.old ≡ Some s) × (next s.strand ≡ Ask p)) }
     requires here { IsHere B.batch shard.old p }
-    ensures came { OfAskTurn B.batch shard.old shard.new p paused result.0 result.1 }
+    ensures came { (s : Demand) → place.old ≡ Some s
+        → OfAskTurn B.batch shard.old shard.new p s result place.new }
     ensures known { IsKnownShard B.batch B.opening shard.new }
 {
-    let asked = shard.ask(paused.into_strand(), design, p);
+    let Some(paused) = place else {
+        unreachable!();
+    };
+    let came = match paused.ask(shard, design, p) {
+        Ok(Answer::Heard) => Ok(Turned::Told),
+        Ok(Answer::Holds) => Ok(Turned::Claimed),
+        Ok(Answer::Refused) => Ok(Turned::Spent),
+        Ok(Answer::Taken) => park(shard, place, design, p),
+        Err(error) => Err(error),
+    };
     shard.facts();
-    match asked {
-        Ok(Asked::Told(s)) => (Ok(Turned::Told), Some(Paused::new(s, design))),
-        Ok(Asked::Claimed(s)) => (Ok(Turned::Claimed), Some(Paused::new(s, design))),
-        Ok(Asked::Waits) => (Ok(Turned::Waits), None),
-        Ok(Asked::Spent(s)) => (Ok(Turned::Spent), Some(Paused::new(s, design))),
-        Err((s, error)) => (Err(error), Some(Paused::new(s, design))),
-    }
+    came
 }
 
 /// The turn of a strand that asks for the point.
@@ -68,8 +99,5 @@ pub fn ask_turn<B: BatchName>(
         places.new.items shards.new.items result }
 {
     let home = shard_number(p.signal, shards.len());
-    let paused = take_at(places, number);
-    let (came, back) = ask(&mut shards[home], paused, design, p);
-    put_at(places, number, back);
-    came
+    ask(&mut shards[home], &mut places[number], design, p)
 }

@@ -6,7 +6,7 @@ ghost use Rattle.strand_meaning.specs.Strands.{next};
 ghost use Rattle.strand_meaning.specs.declared.Next.TheVariants.{Fill, Drop};
 ghost use Rattle.demand_points.specs.Demands.{Demand};
 ghost use Rattle.memo_shards.specs.KeptShards.{IsKnownShard};
-ghost use Rattle.memo_shards.specs.Ends.{OfFill, DropsIt};
+ghost use Rattle.memo_shards.specs.Ends.{DropsIt};
 ghost use Rattle.plan_core.specs.inner.Parts.{plan_at, IsPlan};
 ghost use Rattle.plan_core.specs.inner.Turns.{OfTurn};
 
@@ -21,24 +21,6 @@ use valid_intervals::Point;
 
 /// A strand, and those that its step woke.
 type Ended<B> = (Strand<B>, Vec<Strand<B>>);
-
-/// Fills the point in its shard.
-fn fill<B: BatchName>(
-    shard: &mut Shard<B>,
-    strand: Strand<B>,
-    design: &Design,
-    p: Point,
-) -> Result<Ended<B>, (Strand<B>, OutOfMemory)>
-    requires design { design.now.circuit ≡ B.batch.circuit }
-    requires fills { next strand.strand ≡ Fill p }
-    requires held { holder shard.old.shard.state.claims p ≡ Some strand.strand.query.number }
-    ensures came { OfFill B.batch shard.old shard.new p strand result }
-    ensures known { IsKnownShard B.batch B.opening shard.new }
-{
-    let came = shard.fill(strand, design, p);
-    shard.facts();
-    came
-}
 
 /// The turn of a strand that fills the point.
 pub fn fill_turn<B: BatchName>(
@@ -56,18 +38,12 @@ pub fn fill_turn<B: BatchName>(
         places.new.items shards.new.items result }
 {
     let home = shard_number(p.signal, shards.len());
-    let strand = take_at(places, number).into_strand();
-    match fill(&mut shards[home], strand, design, p) {
-        Ok((strand, woken)) => {
-            put_back(places, woken, design);
-            put_at(places, number, Some(Paused::new(strand, design)));
-            Ok(Turned::Filled)
-        }
-        Err((strand, error)) => {
-            put_at(places, number, Some(Paused::new(strand, design)));
-            Err(error)
-        }
-    }
+    let Some(paused) = &mut places[number] else {
+        unreachable!();
+    };
+    let woken = paused.fill(&mut shards[home], design, p)?;
+    put_back(places, woken, design);
+    Ok(Turned::Filled)
 }
 
 /// Drops the point in its shard.
@@ -100,7 +76,7 @@ pub fn drop_turn<B: BatchName>(
     let home = shard_number(p.signal, shards.len());
     let strand = take_at(places, number).into_strand();
     let (strand, woken) = drop_top(&mut shards[home], strand, p);
-    put_back(places, woken, design);
     put_at(places, number, Some(Paused::new(strand, design)));
+    put_back(places, woken, design);
     Turned::Dropped
 }

@@ -17,7 +17,8 @@
 //!
 //! A call that fails for lack of memory leaves the plan as it was. `run` keeps the turns made before the failure. `run_alone` leaves turns
 //! of its strand alone (`StopsAlone`): those that were recorded, or one more, in which the strand was refused without an entry. A turn
-//! costs what its shard's call costs, and one more step for each strand that is woken. No list is shifted or copied.
+//! costs what its shard's call costs, and one more step for each strand that is woken. No list is shifted or copied. A strand that asks
+//! or fills is changed in its place, and moved only where it waits.
 //!
 //! ```
 //! let mut plan = Plan::new(alloc, &design, strands, shards)?;

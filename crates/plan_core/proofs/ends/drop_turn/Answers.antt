@@ -2,18 +2,15 @@ use Rattle.std.proofs.Common.{◌≡◌, ◌<◌, ◌%◌, arith, List, length, 
 use Rattle.batch_meaning.specs.Batches.{shard_number}
 use Rattle.std.proofs.Math.ListN.{length-set}
 use Rattle.std.proofs.lemmas.Option.{slice_get_within}
-use Rattle.strand_meaning.specs.Strands.{next}
+use Rattle.strand_meaning.specs.Strands.{next, dropped}
 use Rattle.strand_meaning.specs.declared.Next.TheVariants.{Drop}
 use Rattle.plan_machine.specs.Plans.{itself}
 use Rattle.plan_machine.specs.inner.Parts.{put_back as put_all}
-use Rattle.plan_machine.specs.Turns.{turn}
 use Rattle.demand_points.specs.Demands.{Demand}
 use Rattle.memo_shards.specs.inner.Seen.{numbered_strand}
 use Rattle.plan_core.specs.inner.Places.{seats, AreNumbered, HaveNumbers}
-use Rattle.plan_core.specs.inner.Parts.{plan_at}
-use Rattle.plan_core.specs.inner.Turns.{IsSeen}
-use Rattle.plan_core.proofs.Lists.{numbers-none}
-use Rattle.plan_core.proofs.Ending.{holds-dropped, dropped-numbers, dropped-seen}
+use Rattle.plan_core.proofs.Lists.{set-twice, stays-numbered}
+use Rattle.plan_core.proofs.Ending.{holds-dropped, dropped-step, dropped-numbers, dropped-seen}
 use Rattle.plan_core.proofs.ends.drop_turn.Goals as goal
 
 pub drop_top-strand-requires : goal.drop_top-strand-requires
@@ -38,6 +35,14 @@ drop_top-strand-requires g c =
       held = holds-dropped b o places shards parts n s at p c.shard_number-home.result slot_is h0 index step;
     }
 
+pub put_at-requires : goal.put_at-requires
+put_at-requires g c =
+    let places = c.args.places.now.items in
+    let n = c.args.number in
+    let long : length c.take_at.new.places.items ≡ length places = ap (λ (xs : List (Option Demand)). length xs) c.take_at.ensures.rest ∙ length-set places n None in
+    let low : n < length places = slice_get_within places n (Some c.take_at.result) c.take_at.ensures.taken in
+    omega arith
+
 pub put_back-requires : goal.put_back-requires
 put_back-requires g c =
     let b = g.B.BatchName.batch in
@@ -52,28 +57,16 @@ put_back-requires g c =
     let slot_is : c.shard_number-home.result ≡ p.signal % length shards = c.shard_number-home.ensures.number ∙ ap (shard_number p.signal) (c.len.ensures ∙ c.args.shards.now.ok.0) in
     let h0 = c.index_mut.result.now in
     let index = c.index_mut.ensures.value in
+    let back : c.put_at.new.places.items ≡ slice_set places n (Some c.new.result) = c.put_at.ensures ∙ ap (λ (xs : List (Option Demand)). slice_set xs n (Some c.new.result)) c.take_at.ensures.rest ∙ set-twice places n None (Some c.new.result) in
+    let came = c.drop_top-strand.ensures.came in
+    let list = c.drop_top-strand.result.1.items in
     record {
       design = c.requires.design;
-      numbers = subst (λ (xs : List (Option Demand)). HaveNumbers (length xs) c.drop_top-strand.result.1.items) (sym c.take_at.ensures.rest) (dropped-numbers b o places shards parts n s at p c.shard_number-home.result slot_is h0 index c.drop_top-strand.result.0 c.drop_top-strand.new.shard c.drop_top-strand.result.1.items c.drop_top-strand.ensures.came);
-      numbered = subst AreNumbered (sym c.take_at.ensures.rest) (numbers-none places parts.numbers n (Some s) at);
+      numbers = subst (λ (xs : List (Option Demand)). HaveNumbers (length xs) list) (sym back)
+          (dropped-numbers b o places shards parts n s at p c.shard_number-home.result slot_is h0 index c.drop_top-strand.result.0 c.new.result c.drop_top-strand.new.shard list came);
+      numbered = subst AreNumbered (sym back) (stays-numbered places parts.numbers n s at dropped c.new.result
+          (dropped-step b o places shards parts n s at p c.shard_number-home.result slot_is h0 index c.drop_top-strand.result.0 c.new.result c.drop_top-strand.new.shard list came c.new.ensures));
     }
-
-pub put_at-requires : goal.put_at-requires
-put_at-requires g c =
-    let b = g.B.BatchName.batch in
-    let o = g.B.BatchName.opening in
-    let places = c.args.places.now.items in
-    let shards = c.args.shards.now.items in
-    let n = c.args.number in
-    let p = c.args.p in
-    let parts = c.requires.parts in
-    let s = c.into_strand-strand.result in
-    let at : slice_get places n ≡ Some (Some s) = c.take_at.ensures.taken ∙ ap (λ (z : Demand). Some (Some z)) (sym c.into_strand-strand.ensures) in
-    let rest : c.take_at.new.places.items ≡ slice_set places n None = c.take_at.ensures.rest in
-    let long : length c.take_at.new.places.items ≡ length places = ap (λ (xs : List (Option Demand)). length xs) rest ∙ length-set places n None in
-    let low : n < length places = slice_get_within places n (Some s) at in
-    let more = c.put_back.ensures.length in
-    omega arith
 
 pub returns : goal.returns
 returns g c =
@@ -92,10 +85,8 @@ returns g c =
     let slot_is : c.shard_number-home.result ≡ p.signal % length shards = c.shard_number-home.ensures.number ∙ ap (shard_number p.signal) (c.len.ensures ∙ c.args.shards.now.ok.0) in
     let h0 = c.index_mut.result.now in
     let index = c.index_mut.ensures.value in
-    let rest = c.take_at.ensures.rest in
-    let mid = c.put_back.new.places.items in
+    let back : c.put_at.new.places.items ≡ slice_set places n (Some c.new.result) = c.put_at.ensures ∙ ap (λ (xs : List (Option Demand)). slice_set xs n (Some c.new.result)) c.take_at.ensures.rest ∙ set-twice places n None (Some c.new.result) in
     let list = c.drop_top-strand.result.1.items in
-    let seats_are = subst (λ (xs : List (Option Demand)). seats mid ≡ put_all itself (seats xs) (map numbered_strand list)) rest c.put_back.ensures.seats in
-    let long = subst (λ (xs : List (Option Demand)). length mid ≡ length xs) rest c.put_back.ensures.length in
-    let k = dropped-seen b o places shards parts n s at p c.shard_number-home.result slot_is h0 index step c.drop_top-strand.result.0 c.new.result c.drop_top-strand.new.shard list c.drop_top-strand.ensures.known c.drop_top-strand.ensures.came c.new.ensures mid seats_are long c.put_back.ensures.numbered in
-    (subst (λ (xs : List (Option Demand)). IsSeen b o xs (slice_set shards c.shard_number-home.result c.drop_top-strand.new.shard) (turn b (plan_at places shards) n)) (sym c.put_at.ensures) k.0, k.1)
+    let after = c.put_back.new.places.items in
+    let seats_are = subst (λ (xs : List (Option Demand)). seats after ≡ put_all itself (seats xs) (map numbered_strand list)) back c.put_back.ensures.seats in
+    dropped-seen b o places shards parts n s at p c.shard_number-home.result slot_is h0 index step c.drop_top-strand.result.0 c.new.result c.drop_top-strand.new.shard list c.drop_top-strand.ensures.known c.drop_top-strand.ensures.came c.new.ensures after seats_are c.put_back.ensures.numbered
