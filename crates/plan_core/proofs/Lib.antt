@@ -7,5 +7,6 @@ pub mod Readying
 pub mod Beginning
 pub mod Running
 pub mod Refusing
+pub mod Refused
 pub mod Rounds
 pub mod InTurn

@@ -1,5 +1,5 @@
 -- Strands that run one after another, each alone.
-use Rattle.std.specs.Prelude.{◌≡◌, ℕ, List, [], Some, None, slice_get}
+use Rattle.std.specs.Prelude.{◌≡◌, ℕ, true, List, [], Some, None, slice_get}
 use Rattle.valid_intervals.specs.declared.Point.{Point}
 use Rattle.circuit_meaning.specs.Circuit.{Circuit}
 use Rattle.journal_meaning.specs.declared.Entry.{Entry}
@@ -19,6 +19,13 @@ pub record IsUnbegun (b : Batch) (plan : Plan) : Type 0 where
   pub bare : entries plan ≡ []
   pub free : (p : Point) → claim_of plan p ≡ None
   pub strands : AreStarted b.circuit plan.strands
+
+-- some strand was refused a point
+pub record SomeRefused (plan : Plan) : Type 0 where
+  pub number : ℕ
+  pub strand : Strand
+  pub at : slice_get plan.strands number ≡ Some strand
+  pub refused : strand.spent ≡ true
 
 -- whatever query a point was evaluated for, its children are covered
 abbrev pub AllChildrenCovered : Circuit → List Entry → Type 0

@@ -18,7 +18,7 @@ ghost use Rattle.plan_machine.specs.Turns.{turn, run, turns};
 ghost use Rattle.plan_machine.specs.Bounds.{all_left, bound};
 ghost use Rattle.plan_machine.specs.Journals.{entries};
 ghost use Rattle.plan_machine.specs.Sound.{IsSound, HasEnded};
-ghost use Rattle.plan_core.specs.InTurn.{AllChildrenCovered, IsUnbegun};
+ghost use Rattle.plan_core.specs.InTurn.{AllChildrenCovered, IsUnbegun, SomeRefused};
 ghost use Rattle.demand_points.specs.Demands.{Demand};
 ghost use Rattle.plan_core.specs.Parts.{AreFreshStrands, AreFree, AreInOrder, IsAwake, plan_of_new, shards_in};
 
@@ -214,6 +214,9 @@ impl<B: BatchName> Plan<B> {
             → (unrefused.old ≡ true → RunsAlone B.batch B.opening number a old self.old None)
             → IfOk result (λ more. more ≡ false → unrefused.new ≡ true
             → RanAlone B.batch B.opening number a old self.new None) }
+        ensures kept { OnOk result (SomeRefused self.old → SomeRefused self.new) }
+        ensures refused { OnOk result ((unrefused.old ≡ false → SomeRefused self.old)
+            → unrefused.new ≡ false → SomeRefused self.new) }
     {
         match self.turn(design, number)? {
             Turned::NotReady => Ok(false),
@@ -233,6 +236,8 @@ impl<B: BatchName> Plan<B> {
         ensures ran { (a : Start) → BeginsAlone B.batch B.opening number a self.old
             → IfOk result (λ unrefused. unrefused ≡ true
             → RanAlone B.batch B.opening number a self.old self.new None) }
+        ensures kept { OnOk result (SomeRefused self.old → SomeRefused self.new) }
+        ensures refused { IfOk result (λ unrefused. unrefused ≡ false → SomeRefused self.new) }
     {
         self.facts();
         let mut unrefused = true;
@@ -247,6 +252,7 @@ impl<B: BatchName> Plan<B> {
         ensures count { length self.new.strands ≡ length self.old.strands }
         ensures heard { IsUnbegun B.batch self.old → IfOk result (λ unrefused. unrefused ≡ true
             → AllChildrenCovered B.batch.circuit (entries self.new)) }
+        ensures refused { IfOk result (λ unrefused. unrefused ≡ false → SomeRefused self.new) }
     {
         self.facts();
         let mut unrefused = true;
@@ -254,8 +260,8 @@ impl<B: BatchName> Plan<B> {
             let Ok(number) = u32::try_from(place) else {
                 return Err(OutOfMemory);
             };
-            let went_on = self.run_to_end(design, number)?;
-            unrefused = unrefused && went_on;
+            let served = self.run_to_end(design, number)?;
+            unrefused = unrefused && served;
         }
         Ok(unrefused)
     }

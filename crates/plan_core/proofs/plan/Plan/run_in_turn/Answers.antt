@@ -14,7 +14,7 @@ loop-place-preserved g c = record {
   run = λ u e.
       let b = g.B.BatchName.batch in
       let o = g.B.BatchName.opening in
-      let both : (c.loop-place.unrefused ≡ true) × (c.in_ok-went_on.went_on ≡ true) = elim c.if-unrefused.branch [
+      let both : (c.loop-place.unrefused ≡ true) × (c.in_ok-served.served ≡ true) = elim c.if-unrefused.branch [
         | then-unrefused w ↦ (w.if-unrefused.true, sym w.unrefused-is ∙ e)
         | else-unrefused w ↦ absurd (true≢false (sym e ∙ w.unrefused-is ∙ w.if-unrefused.false))
       ] in
@@ -29,9 +29,16 @@ loop-place-preserved g c = record {
       let same : c.in-Ok.number ≡ c.loop-place.place = search rules in
       let r = c.loop-place.invariant.run u both.0 in
       let s = next-start b o c.loop-place.place c.loop-place.self r low in
-      let ran = c.in_ok-went_on.ensures.ran s.0 (subst (λ n. BeginsAlone b o n s.0 c.loop-place.self) (sym same) s.1) both.1 in
+      let ran = c.in_ok-served.ensures.ran s.0 (subst (λ n. BeginsAlone b o n s.0 c.loop-place.self) (sym same) s.1) both.1 in
       one-run b o c.loop-place.place c.loop-place.self c.run_to_end.new.self s.0 r (subst (λ n. RanAlone b o n s.0 c.loop-place.self c.run_to_end.new.self None) same ran);
+  refused = λ e. elim c.if-unrefused.branch [
+    | then-unrefused w ↦ c.in_ok-served.ensures.refused (sym w.unrefused-is ∙ e)
+    | else-unrefused w ↦ c.in_ok-served.ensures.kept (c.loop-place.invariant.refused w.if-unrefused.false)
+  ];
 }
 
 pub returns-clause-heard : goal.returns-clause-heard
 returns-clause-heard g c = λ u e. (c.loop-place.invariant.run u e).heard
+
+pub returns-clause-refused : goal.returns-clause-refused
+returns-clause-refused g c = c.loop-place.invariant.refused
