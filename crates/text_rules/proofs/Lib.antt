@@ -1,4 +1,6 @@
 pub mod Cuts
 pub mod Digits
+pub mod Finds
+pub mod NameEnds
 pub mod Stream
 pub mod Tokens

@@ -3,6 +3,19 @@
 ghost use Rattle.std.specs.Prelude.{◌≡◌, ◌||◌, not, position};
 ghost use Rattle.text_rules.specs.Text as text;
 
+use memchr::memchr;
+
+/// Each byte of a name stands at its own place, and a comma at every other place.
+static NAME_BYTES: [u8; 256] = *b"\
+    ,,,,,,,,,,,,,,,,,,,,,,,,,,,,,,,,\
+    ,!\",$%&',,*+,-./0123456789:;<,>?\
+    @ABCDEFGHIJKLMNOPQRSTUVWXYZ[\\]^_\
+    `abcdefghijklmnopqrstuvwxyz{|}~,\
+    ,,,,,,,,,,,,,,,,,,,,,,,,,,,,,,,,\
+    ,,,,,,,,,,,,,,,,,,,,,,,,,,,,,,,,\
+    ,,,,,,,,,,,,,,,,,,,,,,,,,,,,,,,,\
+    ,,,,,,,,,,,,,,,,,,,,,,,,,,,,,,,,";
+
 pub fn is_blank(byte: u8) -> bool
     ensures { result ≡ text.is_blank byte }
 {
@@ -18,7 +31,7 @@ pub fn is_mark(byte: u8) -> bool
 pub fn is_name_byte(byte: u8) -> bool
     ensures { result ≡ text.is_name_byte byte }
 {
-    byte >= 33 && byte <= 126 && !is_mark(byte) && byte != b'#'
+    NAME_BYTES[byte as usize] != b','
 }
 
 pub fn is_digit(byte: u8) -> bool
@@ -30,13 +43,13 @@ pub fn is_digit(byte: u8) -> bool
 pub fn feed_at(bytes: &[u8]) -> Option<usize>
     ensures { result ≡ position text.is_feed bytes.now }
 {
-    bytes.iter().position(|byte| *byte == b'\n')
+    memchr(b'\n', bytes)
 }
 
 pub fn hash_at(bytes: &[u8]) -> Option<usize>
     ensures { result ≡ position text.is_hash bytes.now }
 {
-    bytes.iter().position(|byte| *byte == b'#')
+    memchr(b'#', bytes)
 }
 
 pub fn filled_at(bytes: &[u8]) -> Option<usize>
@@ -51,10 +64,20 @@ pub fn blank_at(bytes: &[u8]) -> Option<usize>
     bytes.iter().position(|byte| is_blank(*byte))
 }
 
+pub fn is_token_end(byte: u8) -> bool
+    ensures { result ≡ (text.is_blank byte || text.is_mark byte) }
+{
+    is_blank(byte) || is_mark(byte)
+}
+
 pub fn token_end_at(bytes: &[u8]) -> Option<usize>
     ensures { result ≡ position (λ b. text.is_blank b || text.is_mark b) bytes.now }
 {
-    bytes
-        .iter()
-        .position(|byte| is_blank(*byte) || is_mark(*byte))
+    bytes.iter().position(|byte| is_token_end(*byte))
+}
+
+pub fn name_end_at(bytes: &[u8]) -> Option<usize>
+    ensures { result ≡ position (λ b. not (text.is_name_byte b)) bytes.now }
+{
+    bytes.iter().position(|byte| !is_name_byte(*byte))
 }

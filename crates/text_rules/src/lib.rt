@@ -13,8 +13,8 @@
 //!
 //! Which words make a line of which file is for the readers above to say. They
 //! go over a text with `next_line` and over the content of each line with
-//! `next_word` or `next_token`, and test a word with `is_name` or
-//! `read_amount`:
+//! `next_word`, `next_token` or `next_tested_token`, and test a word with
+//! `is_name` or `read_amount`:
 //!
 //! ```text
 //! let (line, later) = next_line(text);
@@ -24,8 +24,9 @@
 //!
 //! Nothing here takes memory: each call gives parts of the slice that it was
 //! given. A call reads each byte up to the end of its answer a fixed number of
-//! times, so a walk over a text takes time in proportion to its length, however
-//! it is cut into lines and words.
+//! times, and at most some hundred bytes after that, so a walk over a text takes
+//! time in proportion to its length, however it is cut into words, and to the
+//! number of its lines.
 #![tactic(auto)]
 
 mod byte;
@@ -36,7 +37,7 @@ mod word;
 
 pub use line::{content, next_line};
 pub use number::read_amount;
-pub use token::next_token;
+pub use token::{next_tested_token, next_token};
 pub use word::{is_name, next_word};
 
 /// A word read as a number of any length, against a limit.
