@@ -1,7 +1,7 @@
 //! Names in chains, by a hash.
 
 ghost use Rattle.std.specs.Prelude.{◌≡◌, ◌+◌, ◌<◌, ◌≤◌, ◌^◌, [], length, set, slice_index, fold, MatchOption, IfOk, OnOk};
-ghost use Rattle.bench_reader.specs.inner.Chains.{mixed, bucket_at, IsChained, AreChained, BeginsChain, IsNowhere, HasNumber};
+ghost use Rattle.bench_reader.specs.inner.Chains.{AreChained, BeginsChain, IsNowhere, HasNumber};
 ghost use Rattle.bench_reader.specs.inner.Chains as chains;
 
 use crate::texts::TextList;
@@ -24,24 +24,68 @@ const MIXER: u64 = 11_400_714_819_323_198_485;
 
 const HALF_WORD: u64 = 4_294_967_296;
 
-fn hash_of(name: &[u8]) -> u64
-    ensures { result ≡ fold mixed 0 name.now }
+/// The hash with one more word.
+fn mixed(hash: u64, word: u64) -> u64
+    ensures { result ≡ chains.mixed hash word }
+{
+    (hash ^ word).wrapping_mul(MIXER)
+}
+
+fn by_bytes(name: &[u8]) -> u64
+    ensures { result ≡ fold chains.mixed 0 name.now }
 {
     let mut hash: u64 = 0;
     for byte in name {
-        hash = (hash ^ *byte as u64).wrapping_mul(MIXER);
+        hash = mixed(hash, *byte as u64);
     }
     hash
 }
 
-/// The bucket of a name, of so many, by the upper half of its hash.
-pub fn bucket_of(name: &[u8], count: usize) -> usize
+/// By the first four bytes and the last four.
+fn by_fours(name: &[u8]) -> u64
+    requires { 4 ≤ length name.now }
+    ensures { result ≡ chains.by_fours name.now }
+{
+    let first = u32::from_le_bytes(*name.first_chunk().unwrap());
+    let last = u32::from_le_bytes(*name.last_chunk().unwrap());
+    mixed(mixed(0, first as u64), last as u64)
+}
+
+/// By the first eight bytes and the last eight.
+fn by_eights(name: &[u8]) -> u64
+    requires { 8 ≤ length name.now }
+    ensures { result ≡ chains.by_eights name.now }
+{
+    let first = u64::from_le_bytes(*name.first_chunk().unwrap());
+    let last = u64::from_le_bytes(*name.last_chunk().unwrap());
+    mixed(mixed(0, first), last)
+}
+
+/// The hash of a name. Names of 4 to 16 bytes, as most are, take two steps.
+#[tactic(auto, unfolding(crate::specs::inner::Chains::hash_of))]
+pub fn hash_of(name: &[u8]) -> u64
+    ensures { result ≡ chains.hash_of name.now }
+{
+    let len = name.len();
+    if len < 4 {
+        by_bytes(name)
+    } else if len <= 8 {
+        by_fours(name)
+    } else if len <= 16 {
+        by_eights(name)
+    } else {
+        by_bytes(name)
+    }
+}
+
+/// The bucket of a hash, of so many, by the hash's upper half.
+pub fn bucket_of(hash: u64, count: usize) -> usize
     requires some { 0 < count }
     requires few { count < 4294967296 }
-    ensures bucket { result ≡ chains.bucket_of count name.now }
+    ensures bucket { result ≡ chains.bucket_in count hash }
     ensures within { result < count }
 {
-    let upper = hash_of(name) / HALF_WORD;
+    let upper = hash / HALF_WORD;
     (upper * count as u64 / HALF_WORD) as usize
 }
 
@@ -93,7 +137,7 @@ impl Chains {
             earlier: vec![in alloc; 0; count]?,
         };
         for number in 0..names.len() {
-            all.link(number, bucket_of(names.get(number), count));
+            all.link(number, bucket_of(hash_of(names.get(number)), count));
         }
         Ok(all)
     }

@@ -10,7 +10,7 @@ ghost use Rattle.bench_reader.specs.inner.Views.{names_of};
 
 use smallvec::SmallVec;
 use std::alloc::{AllocError, Global};
-use text_rules::{content, is_name, next_token};
+use text_rules::{content, next_tested_token, next_token};
 
 /// A line, read by its form. The kind of a gate is any name.
 #[derive(Drop)]
@@ -55,7 +55,7 @@ fn port_of<'a>(word: &[u8], name: &'a [u8]) -> Form<'a>
 fn port_form<'a>(word: &[u8], bytes: &'a [u8]) -> Form<'a>
     ensures { view result ≡ form.port_line word.now (tokens bytes.entry.now) }
 {
-    let (name, rest) = match next_token(bytes) {
+    let (name, is_name, rest) = match next_tested_token(bytes) {
         None => return Form::Malformed,
         Some(found) => found,
     };
@@ -66,7 +66,7 @@ fn port_form<'a>(word: &[u8], bytes: &'a [u8]) -> Form<'a>
     match next_token(rest) {
         Some(_) => Form::Malformed,
         None => {
-            if is_name(name) && is_the(b')', close) {
+            if is_name && is_the(b')', close) {
                 port_of(word, name)
             } else {
                 Form::Malformed
@@ -82,7 +82,7 @@ fn listed(alloc: Global, bytes: &[u8]) -> Result<Option<SmallVec<&[u8], 4>>, All
     let mut names = SmallVec::new(alloc);
     let mut rest = bytes;
     'names: loop {
-        let (name, after) = match next_token(rest) {
+        let (name, is_name, after) = match next_tested_token(rest) {
             None => return Ok(None),
             Some(found) => found,
         };
@@ -90,7 +90,7 @@ fn listed(alloc: Global, bytes: &[u8]) -> Result<Option<SmallVec<&[u8], 4>>, All
             None => return Ok(None),
             Some(found) => found,
         };
-        if !is_name(name) {
+        if !is_name {
             return Ok(None);
         }
         names.push(name)?;
@@ -111,6 +111,9 @@ fn listed(alloc: Global, bytes: &[u8]) -> Result<Option<SmallVec<&[u8], 4>>, All
 fn pins_of(alloc: Global, bytes: &[u8]) -> Result<Option<SmallVec<&[u8], 4>>, AllocError>
     ensures { IfOk result (λ found. names_of found ≡ form.pins_of (tokens bytes.entry.now)) }
 {
+    if let Some(names) = listed(alloc, bytes)? {
+        return Ok(Some(names));
+    }
     let (first, rest) = match next_token(bytes) {
         None => return Ok(None),
         Some(found) => found,
@@ -123,7 +126,7 @@ fn pins_of(alloc: Global, bytes: &[u8]) -> Result<Option<SmallVec<&[u8], 4>>, Al
                 Ok(None)
             }
         }
-        Some(_) => listed(alloc, bytes),
+        Some(_) => Ok(None),
     }
 }
 
@@ -132,7 +135,7 @@ fn gate_form<'a>(alloc: Global, name: &'a [u8], bytes: &'a [u8]) -> Result<Form<
     ensures { IfOk result (λ found. view found ≡ form.gate_line name.entry.now
         (tokens bytes.entry.now)) }
 {
-    let (kind, rest) = match next_token(bytes) {
+    let (kind, is_name, rest) = match next_tested_token(bytes) {
         None => return Ok(Form::Malformed),
         Some(found) => found,
     };
@@ -140,7 +143,7 @@ fn gate_form<'a>(alloc: Global, name: &'a [u8], bytes: &'a [u8]) -> Result<Form<
         None => return Ok(Form::Malformed),
         Some(found) => found,
     };
-    if !is_name(kind) || !is_the(b'(', paren) {
+    if !is_name || !is_the(b'(', paren) {
         return Ok(Form::Malformed);
     }
     match pins_of(alloc, rest)? {
@@ -152,7 +155,7 @@ fn gate_form<'a>(alloc: Global, name: &'a [u8], bytes: &'a [u8]) -> Result<Form<
 fn by_tokens(alloc: Global, bytes: &[u8]) -> Result<Form<'_>, AllocError>
     ensures { IfOk result (λ found. view found ≡ form.by_tokens (tokens bytes.entry.now)) }
 {
-    let (first, rest) = match next_token(bytes) {
+    let (first, is_name, rest) = match next_tested_token(bytes) {
         None => return Ok(Form::Blank),
         Some(found) => found,
     };
@@ -160,7 +163,7 @@ fn by_tokens(alloc: Global, bytes: &[u8]) -> Result<Form<'_>, AllocError>
         None => return Ok(Form::Malformed),
         Some(found) => found,
     };
-    if !is_name(first) {
+    if !is_name {
         return Ok(Form::Malformed);
     }
     if is_the(b'=', second) {

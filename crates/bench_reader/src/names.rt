@@ -5,8 +5,9 @@ ghost use Rattle.std.specs.Str.{bytes_eq};
 ghost use Rattle.indexmap.specs.IndexSet.{insert_key, insert_all};
 ghost use Rattle.bench_reader.specs.Netlists.{out_of_memory, place};
 ghost use Rattle.bench_reader.specs.Views.{each_now};
+ghost use Rattle.bench_reader.specs.inner.Chains as chains;
 
-use crate::chains::{Chains, bucket_of, seek};
+use crate::chains::{Chains, bucket_of, hash_of, seek};
 use crate::fault::BenchFault;
 use crate::texts::TextList;
 use std::alloc::{AllocError, Global};
@@ -62,16 +63,24 @@ impl Names {
     pub fn find(&self, name: &[u8]) -> Option<u32>
         ensures { result ≡ position (bytes_eq name.now) self.now }
     {
+        self.find_hashed(name, hash_of(name))
+    }
+
+    fn find_hashed(&self, name: &[u8], hash: u64) -> Option<u32>
+        requires { hash ≡ chains.hash_of name.now }
+        ensures { result ≡ position (bytes_eq name.now) self.now }
+    {
         let buckets = self.chains.latest.len();
         if buckets == 0 {
             return None;
         }
-        let last = self.chains.latest[bucket_of(name, buckets)];
+        let last = self.chains.latest[bucket_of(hash, buckets)];
         seek(&self.texts, &self.chains.earlier, last, name)
     }
 
     /// Gives a new name the next number.
-    fn add(&mut self, alloc: Global, name: &[u8]) -> Result<u32, AllocError>
+    fn add(&mut self, alloc: Global, name: &[u8], hash: u64) -> Result<u32, AllocError>
+        requires hash { hash ≡ chains.hash_of name.now }
         requires few { length self.old < 2147483648 }
         requires fresh { position (bytes_eq name.now) self.old ≡ None }
         ensures added { OnOk result (self.new ≡ self.old ++ name.now ∷ []) }
@@ -81,7 +90,7 @@ impl Names {
         self.chains.make_room(alloc, &self.texts)?;
         let number = self.texts.len();
         self.texts.push(name)?;
-        let bucket = bucket_of(name, self.chains.latest.len());
+        let bucket = bucket_of(hash, self.chains.latest.len());
         self.chains.link(number, bucket);
         Ok(number as u32)
     }
@@ -96,9 +105,10 @@ impl Names {
         ensures room { length self.new ≤ length self.old + 1 }
         ensures memory { IfErr result (λ fault. fault ≡ out_of_memory) }
     {
-        match self.find(name) {
+        let hash = hash_of(name);
+        match self.find_hashed(name, hash) {
             Some(number) => Ok(number),
-            None => Ok(self.add(alloc, name)?),
+            None => Ok(self.add(alloc, name, hash)?),
         }
     }
 

@@ -1,14 +1,34 @@
 -- Names in buckets, by a hash, and in chains through each bucket.
-use Rattle.std.specs.Prelude.{◌≡◌, ℕ, zero, suc, ◌*◌, ◌/◌, ◌%◌, ◌^◌, ◌<◌, ◌≤◌, ◌==◌, List, [], length, get_or, fold, bit_xor, if◌then◌else◌}
+use Rattle.std.specs.Prelude.{◌≡◌, ℕ, zero, suc, ◌-◌, ◌*◌, ◌/◌, ◌%◌, ◌^◌, ◌<◌, ◌≤◌, ◌==◌, nat_lt, nat_le, List, [], length, take, drop, get_or, fold, bit_xor, if◌then◌else◌}
+use Rattle.std.specs.Int.{w32, w64, from_le_bytes}
 use Rattle.bench_reader.specs.Netlists.{place}
 
--- the hash with one more byte
+-- the hash with one more word
 abbrev pub mixed : ℕ → ℕ → ℕ
-mixed hash byte = (bit_xor hash byte * 11400714819323198485) % 2 ^ 64
+mixed hash word = (bit_xor hash word * 11400714819323198485) % 2 ^ 64
+
+-- by the first four bytes and the last four
+abbrev pub by_fours : List ℕ → ℕ
+by_fours name = mixed (mixed 0 (from_le_bytes w32 (take 4 name))) (from_le_bytes w32 (drop (length name - 4) name))
+
+-- by the first eight bytes and the last eight
+abbrev pub by_eights : List ℕ → ℕ
+by_eights name = mixed (mixed 0 (from_le_bytes w64 (take 8 name))) (from_le_bytes w64 (drop (length name - 8) name))
+
+-- the hash of a name
+unfoldable pub hash_of : List ℕ → ℕ
+hash_of name =
+    if nat_lt (length name) 4 then fold mixed 0 name else (
+    if nat_le (length name) 8 then by_fours name else (
+    if nat_le (length name) 16 then by_eights name else fold mixed 0 name))
+
+-- the bucket of a hash, of so many
+unfoldable pub bucket_in : ℕ → ℕ → ℕ
+bucket_in count hash = (hash / 4294967296 * count) / 4294967296
 
 -- the bucket of a name, of so many
-unfoldable pub bucket_of : ℕ → List ℕ → ℕ
-bucket_of count name = (fold mixed 0 name / 4294967296 * count) / 4294967296
+abbrev pub bucket_of : ℕ → List ℕ → ℕ
+bucket_of count name = bucket_in count (hash_of name)
 
 -- the bucket of the name with this number
 abbrev pub bucket_at : List (List ℕ) → ℕ → ℕ → ℕ

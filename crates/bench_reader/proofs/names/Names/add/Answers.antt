@@ -1,7 +1,7 @@
 use Rattle.std.proofs.Common.{◌≡◌, ℕ, ◌+◌, List, None, length, get_or, set, ap, subst, sym, ◌∙◌, arith}
 use Rattle.std.specs.List.{position}
 use Rattle.std.specs.Str.{bytes_eq}
-use Rattle.bench_reader.specs.inner.Chains.{bucket_of, AreNumbered}
+use Rattle.bench_reader.specs.inner.Chains.{bucket_in, bucket_of, AreNumbered}
 use Rattle.bench_reader.proofs.Numbering.{numbered-new}
 use Rattle.bench_reader.proofs.names.Names.add.Goals as goal
 
@@ -18,6 +18,6 @@ invariant_of-self-2 c =
     subst (λ (t : List (List ℕ)). AreNumbered t c.link.new.self.latest.items c.link.new.self.earlier.items) (sym c.in_ok-push.ensures.added)
     (numbered-new c.self.inside.texts c.args.name.now latest earlier c.link.new.self.latest.items c.link.new.self.earlier.items c.bucket_of-bucket.result c.make_room.ensures.chained c.self.invariant.distinct
     (subst (λ (t : List (List ℕ)). position (bytes_eq c.args.name.now) t ≡ None) (sym c.self.view_is) c.requires.fresh) c.in_ok-make_room.ensures.room
-    (c.bucket_of-bucket.ensures.bucket ∙ ap (λ (n : ℕ). bucket_of n c.args.name.now) buckets) (omega (arith, c.bucket_of-bucket.ensures.within, buckets))
+    (c.bucket_of-bucket.ensures.bucket ∙ ap (bucket_in c.len.result) c.requires.hash ∙ ap (λ (n : ℕ). bucket_of n c.args.name.now) buckets) (omega (arith, c.bucket_of-bucket.ensures.within, buckets))
     (c.link.ensures.latest ∙ ap (λ (n : ℕ). set latest c.bucket_of-bucket.result (n + 1)) c.len-number.ensures)
     (c.link.ensures.earlier ∙ ap (λ (n : ℕ). set earlier n (get_or latest c.bucket_of-bucket.result 0)) c.len-number.ensures))
