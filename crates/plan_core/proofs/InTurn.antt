@@ -2,7 +2,8 @@
 use Rattle.std.specs.List.{AllByRecursion}
 use Rattle.std.proofs.lemmas.List.Elements.{All-from_recursion, Contains-get_or}
 use Rattle.std.proofs.lemmas.Option.{slice_get_within, get_or_from_slice_get}
-use Rattle.std.proofs.Common.{◌≡◌, ℕ, zero, suc, ◌∷◌, Option, flat_map, ◌+◌, ◌<◌, List, [], length, slice_get, refl, sym, ap, subst, ◌∙◌, arith, Some, None, Contains, All}
+use Rattle.std.proofs.lemmas.Bool.{cases_eq}
+use Rattle.std.proofs.Common.{◌≡◌, ℕ, zero, suc, ◌∷◌, Option, inl, inr, flat_map, ◌+◌, ◌<◌, ◌≤◌, false, List, [], length, slice_get, refl, sym, ap, subst, ◌∙◌, arith, Some, None, Contains, All}
 use Rattle.valid_intervals.specs.declared.SignalCell.{SignalCell}
 use Rattle.journal_meaning.specs.declared.Entry.{Entry}
 use Rattle.journal_meaning.specs.declared.Entry.TheVariants.{Filled}
@@ -14,8 +15,8 @@ use Rattle.plan_machine.specs.Plans.{Plan}
 use Rattle.plan_machine.specs.Journals.{entries}
 use Rattle.plan_machine.specs.Sound.{IsSound}
 use Rattle.plan_machine.specs.Laws.{BeginsAlone}
-use Rattle.plan_machine.specs.Alone.{RanAlone}
-use Rattle.plan_core.specs.InTurn.{IsUnbegun}
+use Rattle.plan_machine.specs.Alone.{HasRun, RanAlone}
+use Rattle.plan_core.specs.InTurn.{IsUnbegun, IsServed}
 use Rattle.plan_core.specs.inner.InTurn.{AreRun}
 use Rattle.plan_core.specs.inner.Places.{one_in}
 use Rattle.plan_core.specs.inner.Parts.{plan_at, IsPlan}
@@ -48,14 +49,32 @@ handed-out b opening places shards parts plan same =
     let k = placed-awake b opening places shards parts i plan same s at in
     contained plan.strands i s.strand k.at))
 
+-- a strand that has ended and was refused no point
+served-one : (n : ℕ) (a : Start) (new : Plan) (run : HasRun n a new None) → IsServed run.strand
+served-one n a new run =
+    let unrefused : run.strand.spent ≡ false = run.spent in
+    record {
+      roots = elim run.ended.cause [
+        | inl t ↦ absurd (cc (t, unrefused))
+        | inr e ↦ e
+      ];
+      stack = run.ended.empty;
+      unrefused = unrefused;
+    }
+
 module _ (b : Batch) (opening : ℕ → List SignalCell) where
   pub none-run : (plan : Plan) → IsSound b opening plan → IsUnbegun b plan → AreRun b opening 0 plan
   none-run plan sound u = record {
     sound = sound;
     heard = λ q p x h. absurd (none-there (Filled q p x) (entries plan) u.bare h);
     free = u.free;
+    served = λ n s low at. absurd (omega (arith, low));
     later = λ n s low at. u.strands n s at;
   }
+
+  -- when all have run, each is served
+  pub all-served : (k : ℕ) (plan : Plan) → AreRun b opening k plan → length plan.strands ≤ k → (n : ℕ) (s : Strand) → slice_get plan.strands n ≡ Some s → IsServed s
+  all-served k plan r all n s at = let low = slice_get_within plan.strands n s at in r.served n s (omega arith) at
 
   -- the start with which the next strand begins alone
   pub next-start : (k : ℕ) (plan : Plan) → AreRun b opening k plan → k < length plan.strands → (a : Start) × BeginsAlone b opening k a plan
@@ -69,5 +88,14 @@ module _ (b : Batch) (opening : ℕ → List SignalCell) where
     sound = ran.sound;
     heard = λ q. children-kept (entries plan) ran.added (entries new) ran.journals.together b.circuit q (r.heard q) (λ p x h. ran.children q p x h);
     free = ran.free;
+    served = λ n s low at. elim (cases_eq n k) [
+      | inl e ↦
+          let run = ran.strand in
+          let there : slice_get new.strands k ≡ Some s = ap (λ i. slice_get new.strands i) (sym e) ∙ at in
+          let found = run.at in
+          let same : run.strand ≡ s = cc (found, there) in
+          subst IsServed same (served-one k a new run)
+      | inr e ↦ r.served n s (omega (arith, low, e)) (sym (ran.others n e) ∙ at)
+    ];
     later = λ n s low at. r.later n s (omega arith) (sym (ran.others n (λ e. omega arith)) ∙ at);
   }

@@ -1,5 +1,5 @@
 -- Strands that run one after another, each alone.
-use Rattle.std.specs.Prelude.{◌≡◌, ℕ, true, List, [], Some, None, slice_get}
+use Rattle.std.specs.Prelude.{◌≡◌, ℕ, true, false, List, [], Some, None, slice_get}
 use Rattle.valid_intervals.specs.declared.Point.{Point}
 use Rattle.circuit_meaning.specs.Circuit.{Circuit}
 use Rattle.journal_meaning.specs.declared.Entry.{Entry}
@@ -19,6 +19,12 @@ pub record IsUnbegun (b : Batch) (plan : Plan) : Type 0 where
   pub bare : entries plan ≡ []
   pub free : (p : Point) → claim_of plan p ≡ None
   pub strands : AreStarted b.circuit plan.strands
+
+-- the strand has heard all its roots, holds no point, and was refused none
+pub record IsServed (s : Strand) : Type 0 where
+  pub roots : s.roots ≡ []
+  pub stack : s.stack ≡ []
+  pub unrefused : s.spent ≡ false
 
 -- some strand was refused a point
 pub record SomeRefused (plan : Plan) : Type 0 where

@@ -18,7 +18,7 @@ ghost use Rattle.plan_machine.specs.Turns.{turn, run, turns};
 ghost use Rattle.plan_machine.specs.Bounds.{all_left, bound};
 ghost use Rattle.plan_machine.specs.Journals.{entries};
 ghost use Rattle.plan_machine.specs.Sound.{IsSound, HasEnded};
-ghost use Rattle.plan_core.specs.InTurn.{AllChildrenCovered, IsUnbegun, SomeRefused};
+ghost use Rattle.plan_core.specs.InTurn.{AllChildrenCovered, IsServed, IsUnbegun, SomeRefused};
 ghost use Rattle.demand_points.specs.Demands.{Demand};
 ghost use Rattle.plan_core.specs.Parts.{AreFreshStrands, AreFree, AreInOrder, IsAwake, plan_of_new, shards_in};
 
@@ -246,12 +246,14 @@ impl<B: BatchName> Plan<B> {
     }
 
     /// Turns of one strand after another, in the order of their numbers, each until none is left to it. Returns whether no strand was
-    /// refused a point. Then each point that was evaluated has heard its children.
+    /// refused a point. Then each strand has heard its roots, and each point that was evaluated its children.
     pub fn run_in_turn(&mut self, design: &Design) -> Result<bool, OutOfMemory>
         requires design { design.now.circuit ≡ B.batch.circuit }
         ensures count { length self.new.strands ≡ length self.old.strands }
         ensures heard { IsUnbegun B.batch self.old → IfOk result (λ unrefused. unrefused ≡ true
             → AllChildrenCovered B.batch.circuit (entries self.new)) }
+        ensures served { IsUnbegun B.batch self.old → IfOk result (λ unrefused. unrefused ≡ true
+            → (i : ℕ) (s : MachineStrand) → slice_get self.new.strands i ≡ Some s → IsServed s) }
         ensures refused { IfOk result (λ unrefused. unrefused ≡ false → SomeRefused self.new) }
     {
         self.facts();

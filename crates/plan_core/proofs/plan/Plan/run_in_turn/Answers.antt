@@ -1,10 +1,10 @@
-use Rattle.std.proofs.Common.{◌≡◌, ◌<◌, ◌∙◌, None, true, true≢false, length, subst, sym, ap, rules, arith}
+use Rattle.std.proofs.Common.{◌≡◌, ◌<◌, ◌≤◌, ◌∙◌, None, true, true≢false, length, subst, sym, ap, rules, arith}
 use Rattle.std.proofs.Math.ListN.{length-map}
 use Rattle.plan_machine.specs.Plans.{Plan}
 use Rattle.plan_core.specs.inner.Places.{seat}
 use Rattle.plan_machine.specs.Laws.{BeginsAlone}
 use Rattle.plan_machine.specs.Alone.{RanAlone}
-use Rattle.plan_core.proofs.InTurn.{next-start, one-run}
+use Rattle.plan_core.proofs.InTurn.{next-start, one-run, all-served}
 use Rattle.plan_core.proofs.plan.Plan.run_in_turn.Goals as goal
 use Rattle.plan_core.proofs.plan.Plan.run_in_turn.Goals.{then-unrefused, else-unrefused}
 
@@ -42,3 +42,15 @@ returns-clause-heard g c = λ u e. (c.loop-place.invariant.run u e).heard
 
 pub returns-clause-refused : goal.returns-clause-refused
 returns-clause-refused g c = c.loop-place.invariant.refused
+
+pub returns-clause-served : goal.returns-clause-served
+returns-clause-served g c = λ u e.
+    let all : length c.loop-place.self.strands ≤ c.loop-place.place =
+    let parts = c.self.invariant.kept.parts.length in
+    let seated = length-map c.self.inside.places.items seat in
+    let seen = ap (λ (z : Plan). length z.strands) c.self.view_is in
+    let end = c.len-place-end.ensures ∙ c.self.inside.places.ok.0 in
+    let count = c.loop-place.invariant.count in
+    let test = c.loop-place-test.false in
+    omega (arith, parts, seated, seen, end, count, test) in
+    all-served g.B.BatchName.batch g.B.BatchName.opening c.loop-place.place c.loop-place.self (c.loop-place.invariant.run u e) all
