@@ -1,9 +1,8 @@
 -- A plan as it begins.
-use Rattle.std.proofs.Common.{◌≡◌, ℕ, zero, suc, ◌<◌, ◌≤◌, ◌%◌, ◌+◌, false, List, [], ◌∷◌, ◌++◌, length, map, get_or, slice_get, refl, ap, sym, ◌∙◌, subst, arith, inl, inr, Option, Some, None, IsSome}
+use Rattle.std.proofs.Common.{◌≡◌, All, ℕ, zero, suc, ◌<◌, ◌≤◌, ◌%◌, ◌+◌, false, List, [], ◌∷◌, ◌++◌, length, map, get_or, slice_get, refl, ap, sym, ◌∙◌, subst, arith, Option, Some, None, IsSome}
 use Rattle.std.specs.List.{AllByRecursion}
 use Rattle.std.proofs.Math.ListN.{length-map}
-use Rattle.std.proofs.lemmas.Bool.{cases_eq}
-use Rattle.std.proofs.lemmas.Option.{slice_get_within}
+use Rattle.std.proofs.lemmas.Option.{get_or_from_slice_get, slice_get_within}
 use Rattle.valid_intervals.specs.declared.Point.{Point}
 use Rattle.valid_intervals.specs.declared.SignalCell.{SignalCell}
 use Rattle.journal_meaning.specs.States.{holder}
@@ -247,16 +246,6 @@ module _ (b : Batch) (lawful : IsLawful b) (opening : ℕ → List SignalCell) (
       at = ap (λ xs. slice_get xs n) strands-are ∙ map-get (λ (z : Demand). z.strand) strands n s at ∙ ap Some is;
     }
 
--- what is known of the first shards, and of one more
-pub known-one : (b : Batch) (opening : ℕ → List SignalCell) (shards : List KeptShard) (n : ℕ) (x : KeptShard) → ((i : ℕ) (m : KeptShard) → i < n → slice_get shards i ≡ Some m → IsKnownShard b opening m)
-    → x ≡ get_or shards n x → IsKnownShard b opening x → (i : ℕ) (m : KeptShard) → i < n + 1 → slice_get shards i ≡ Some m → IsKnownShard b opening m
-known-one b opening shards n x before is here i m low at = elim (cases_eq i n) [
-  | inl e ↦
-      let same : get_or shards n x ≡ m = ap (λ j. get_or shards j x) (sym e) ∙ get-or-at shards i m x at in
-      subst (IsKnownShard b opening) (is ∙ same) here
-  | inr ne ↦ before i m (omega arith) at
-]
-
-pub known-all : (b : Batch) (opening : ℕ → List SignalCell) (shards : List KeptShard) (n : ℕ) → ((i : ℕ) (m : KeptShard) → i < n → slice_get shards i ≡ Some m → IsKnownShard b opening m) → length shards ≤ n
-    → (i : ℕ) (m : KeptShard) → slice_get shards i ≡ Some m → IsKnownShard b opening m
-known-all b opening shards n before long i m at = let low = slice_get_within shards i m at in before i m (omega arith) at
+-- each shard of a list is known, where all are
+pub each-known : (b : Batch) (opening : ℕ → List SignalCell) (shards : List KeptShard) → All (IsKnownShard b opening) shards → (i : ℕ) (m : KeptShard) → slice_get shards i ≡ Some m → IsKnownShard b opening m
+each-known b opening shards known i m at = subst (IsKnownShard b opening) (get_or_from_slice_get shards i m m at) (known i m (slice_get_within shards i m at))

@@ -1,12 +1,12 @@
 //! Turns in which a strand asks.
 
-ghost use Rattle.std.specs.Prelude.{◌≡◌, ℕ, slice_get, IsSome, Some};
+ghost use Rattle.std.specs.Prelude.{◌≡◌, slice_get, IsSome, Some};
 ghost use Rattle.journal_meaning.specs.States.{holder};
 ghost use Rattle.strand_meaning.specs.Strands.{next};
 ghost use Rattle.strand_meaning.specs.declared.Next.TheVariants.{Ask};
 ghost use Rattle.valid_intervals.specs.Cells.{stored_at};
 ghost use Rattle.demand_points.specs.Demands.{Demand};
-ghost use Rattle.memo_shards.specs.KeptShards.{KeptShard, IsKnownShard};
+ghost use Rattle.memo_shards.specs.KeptShards.{IsKnownShard};
 ghost use Rattle.memo_shards.specs.Asks.{IsHere};
 ghost use Rattle.plan_core.specs.inner.Parts.{plan_at, IsPlan};
 ghost use Rattle.plan_core.specs.inner.Turns.{OfAskTurn, OfTurn};
@@ -18,16 +18,6 @@ use memo_shards::{Answer, Shard, shard_number};
 use owned_text::OutOfMemory;
 use plan_machine::Turned;
 use valid_intervals::Point;
-
-/// What holds of every shard of a list.
-pub fn know_all<B: BatchName>(shards: &[Shard<B>])
-    ensures { (i : ℕ) (m : KeptShard) → slice_get shards.now i ≡ Some m
-        → IsKnownShard B.batch B.opening m }
-{
-    for shard in shards {
-        shard.facts();
-    }
-}
 
 /// Lets the strand wait at the claimed point. Where memory runs out, it stays in its place.
 fn park<B: BatchName>(

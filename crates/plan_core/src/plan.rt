@@ -23,13 +23,12 @@ ghost use Rattle.demand_points.specs.Demands.{Demand};
 ghost use Rattle.plan_core.specs.Parts.{AreFreshStrands, AreFree, AreInOrder, IsAwake, plan_of_new, shards_in};
 
 use crate::alone::{Alone, asked_at, refuse};
-use crate::asks::know_all;
 use crate::paused::Paused;
 use crate::places::{pause_all, ready_in, strand_at, strands_in};
 use crate::turns;
 use demand_points::{BatchName, Strand};
 use design::Design;
-use memo_shards::Shard;
+use memo_shards::{Shard, know_all};
 use owned_text::OutOfMemory;
 use plan_machine::Turned;
 use std::alloc::Global;
