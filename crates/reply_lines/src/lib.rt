@@ -20,6 +20,3 @@ pub use reply::{
     WhyReply,
 };
 pub use text::{dump_text, question_text, reply_text, stats_text, trimmed_text};
-
-#[cfg(test)]
-mod tests;

@@ -61,6 +61,3 @@ pub use crew::Crew;
 pub use gate::{Gate, OpenGate, Pass};
 pub use ran::{CountList, EndedList, Ran, ShardList};
 pub use workers::Workers;
-
-#[cfg(test)]
-mod tests;
