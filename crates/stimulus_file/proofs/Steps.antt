@@ -1,20 +1,22 @@
 -- What the reader knows after one more line.
-use Rattle.std.proofs.Common.{◌≡◌, ℕ, ◌+◌, ◌&&◌, ◌||◌, Bool, true, false, not, cond, eqb, List, [], ◌∷◌, ◌++◌, length, Option, Some, None, refl, sym, ap, subst, ◌∙◌, is_none, is_some}
+use Rattle.std.proofs.Common.{◌≡◌, ℕ, ◌+◌, Bool, false, not, List, [], ◌∷◌, ◌++◌, length, Option, Some, None, refl, sym, ap, ap₂, subst, ◌∙◌, is_none, is_some}
 use Rattle.std.specs.Prelude.{option_to_list}
 use Rattle.std.specs.List.{list_all, list_any, flat_map}
-use Rattle.std.specs.Str.{bytes_eq}
-use Rattle.std.specs.Borrow.{Bor}
 use Rattle.std.proofs.Math.Bool.{and-false, and-true, or-true, or-false}
 use Rattle.std.proofs.lemmas.Grind.{flat_map-append}
-use Rattle.std.proofs.lemmas.List.{append-nil}
+use Rattle.std.proofs.lemmas.List.{append-nil, map-append}
 use Rattle.std.proofs.lemmas.List.Folds.{list_all-append, list_any-append}
 use Rattle.gate_values.specs.declared.Value.{Value}
 use Rattle.line_faults.proofs.Rows.{rows-push}
-use Rattle.stimulus_file.specs.declared.SetRow.{SetRow}
+use Rattle.stimulus_file.specs.declared.names.Found.{Found}
+use Rattle.stimulus_file.specs.declared.names.Names.{Names}
 use Rattle.stimulus_file.specs.declared.reader.Reader.{Reader}
 use Rattle.stimulus_file.specs.Forms.{Line, Blank, Horizon, Setting}
-use Rattle.stimulus_file.specs.Stimulus.{is_blank, is_horizon, sets, cause_of, stated, row_of, rows_of}
-use Rattle.stimulus_file.specs.inner.Reading.{HasRead, key_eq}
+use Rattle.stimulus_file.specs.Stimulus.{SetRow, is_blank, is_horizon, sets, cause_of, stated, row_of, rows_of}
+use Rattle.stimulus_file.specs.Named.{with_name, named}
+use Rattle.stimulus_file.specs.inner.Kept.{is_at, then_at, HasNames, HasSeen, Finds}
+use Rattle.stimulus_file.specs.inner.Reading.{HasRead}
+use Rattle.stimulus_file.proofs.Naming.{sets_at, rows_set, named_any}
 
 pub none_is : {X : Type 0} (o : Option X) → is_some o ≡ false → o ≡ None
 none_is None h = refl
@@ -34,7 +36,8 @@ horizon_step before r h read none =
         blank = list_all-append is_blank before (Horizon (Some h) ∷ []) ∙ and-false (list_all is_blank before);
         horizon_line = list_any-append is_horizon before (Horizon (Some h) ∷ []) ∙ or-true (list_any is_horizon before);
         rows = read.rows ∙ sym (rows-push row_of before (Horizon (Some h)) (length before + 1) refl ∙ append-nil (rows_of before));
-        seen = λ q. read.seen q ∙ sym (list_any-append (sets q.0.now q.1) before (Horizon (Some h) ∷ []) ∙ or-false (list_any (sets q.0.now q.1) before));
+        names = read.names;
+        seen = read.seen;
       },
     )
 
@@ -45,42 +48,37 @@ blank_step before r read = record {
   blank = list_all-append is_blank before (Blank ∷ []) ∙ and-true (list_all is_blank before) ∙ read.blank;
   horizon_line = list_any-append is_horizon before (Blank ∷ []) ∙ or-false (list_any is_horizon before) ∙ read.horizon_line;
   rows = read.rows ∙ sym (rows-push row_of before Blank (length before + 1) refl ∙ append-nil (rows_of before));
-  seen = λ q. read.seen q ∙ sym (list_any-append (sets q.0.now q.1) before (Blank ∷ []) ∙ or-false (list_any (sets q.0.now q.1) before));
+  names = read.names;
+  seen = read.seen;
 }
 
-joined : (a b : Bool) → cond a true b ≡ (b || (a || false))
-joined true true = refl
-joined true false = refl
-joined false true = refl
-joined false false = refl
-
-pub is_set_before : (before : List Line) (r : Reader) (key : Bor (List ℕ) × ℕ) (name : List ℕ) (t : ℕ) → HasRead before r → key.0.now ≡ name → key.1 ≡ t → (b : Bool) → list_any (key_eq key) r.seen.keys ≡ b → list_any (sets name t) before ≡ b
-is_set_before before r key name t read n-is t-is b h =
-    let seen : list_any (sets key.0.now key.1) before ≡ b = sym (read.seen key) ∙ h in
-    subst (λ (x : ℕ). list_any (sets name x) before ≡ b) t-is (subst (λ (x : List ℕ). list_any (sets x key.1) before ≡ b) n-is seen)
+-- a line that sets a name at a time has the cause for which the settings tell that it does so again
+pub set_before : (before : List Line) (r : Reader) (names : Names) (found : Found) (name : List ℕ) (t : ℕ) → HasRead before r → Finds r.names names r.sets.items name t found
+    → list_any (sets name t) before ≡ list_any (is_at found.place t) r.sets.items
+set_before before r names found name t read f =
+    rows_set name t 1 before ∙ ap (list_any (sets_at name t)) (sym (f.same ∙ read.rows)) ∙ named_any names.texts.items r.sets.items name found.place t f.placed f.place
 
 -- a line that sets a name at a time for the first time
-pub setting_step : (before : List Line) (r new : Reader) (key : Bor (List ℕ) × ℕ) (name : List ℕ) (t line : ℕ) (value : Value) → HasRead before r → length before + 1 ≡ line → key.0.now ≡ name → key.1 ≡ t
-    → is_none r.horizon ≡ false → new.horizon ≡ r.horizon
-    → list_any (key_eq key) r.seen.keys ≡ false → ((q : Bor (List ℕ) × ℕ) → list_any (key_eq q) new.seen.keys ≡ cond (key_eq key q) true (list_any (key_eq q) r.seen.keys))
-    → new.sets.items ≡ r.sets.items ++ record { line = line; name = name; time = t; value = value } ∷ []
+pub setting_step : (before : List Line) (r new : Reader) (found : Found) (name : List ℕ) (t line : ℕ) (value : Value) → HasRead before r → length before + 1 ≡ line
+    → is_none r.horizon ≡ false → new.horizon ≡ r.horizon → Finds r.names new.names r.sets.items name t found
+    → list_any (is_at found.place t) r.sets.items ≡ false → then_at r.sets.items found.place t (HasSeen new.seen)
+    → new.sets.items ≡ r.sets.items ++ record { line = line; name = found.place; time = t; value = value } ∷ []
     → (cause_of before (Setting name (Some t) value) ≡ None) × HasRead (before ++ Setting name (Some t) value ∷ []) new
-setting_step before r new key name t line value read line-is n-is t-is some same fresh seen rows =
+setting_step before r new found name t line value read line-is some same f fresh seen pushed =
     let horizon : list_all is_blank before ≡ false = read.blank ∙ some in
-    let unset : list_any (sets name t) before ≡ false = is_set_before before r key name t read n-is t-is false fresh in (
+    let unset : list_any (sets name t) before ≡ false = set_before before r new.names found name t read f ∙ fresh in (
       rw (horizon, unset) refl,
       record {
         horizon = flat_map-append stated before (Setting name (Some t) value ∷ []) ∙ append-nil (flat_map stated before) ∙ read.horizon ∙ ap option_to_list (sym same);
         blank = list_all-append is_blank before (Setting name (Some t) value ∷ []) ∙ and-false (list_all is_blank before) ∙ sym some ∙ ap is_none (sym same);
         horizon_line = list_any-append is_horizon before (Setting name (Some t) value ∷ []) ∙ or-false (list_any is_horizon before) ∙ read.horizon_line ∙ ap is_some (sym same);
-        rows = rows ∙ ap (λ (l : List SetRow). l ++ record { line = line; name = name; time = t; value = value } ∷ []) read.rows ∙ sym (rows-push row_of before (Setting name (Some t) value) line line-is);
-        seen = λ q. seen q ∙ ap (λ (b : Bool). cond (key_eq key q) true b) (read.seen q) ∙ joined (key_eq key q) (list_any (sets q.0.now q.1) before)
-            ∙ sym (list_any-append (sets q.0.now q.1) before (Setting name (Some t) value ∷ []) ∙ ap (λ (b : Bool). list_any (sets q.0.now q.1) before || (b || false)) (sym (key-is q)));
+        rows = ap (named new.names.texts.items) pushed ∙ map-append (with_name new.names.texts.items) r.sets.items (record { line = line; name = found.place; time = t; value = value } ∷ [])
+            ∙ ap₂ (λ (rows : List SetRow) (n : List ℕ). rows ++ record { line = line; name = n; time = t; value = value } ∷ []) (f.same ∙ read.rows) f.place.there
+            ∙ sym (rows-push row_of before (Setting name (Some t) value) line line-is);
+        names = subst (HasNames new.names) (sym pushed) (f.next line value);
+        seen = subst (HasSeen new.seen) (sym pushed) (seen line value);
       },
     )
-  where
-    key-is : (q : Bor (List ℕ) × ℕ) → key_eq key q ≡ (bytes_eq name q.0.now && eqb t q.1)
-    key-is q = ap (λ (x : List ℕ). bytes_eq x q.0.now && eqb key.1 q.1) n-is ∙ ap (λ (x : ℕ). bytes_eq name q.0.now && eqb x q.1) t-is
 
 pub states : {X : Type 0} (o : Option X) (b : Bool) → is_some o ≡ not b → b ≡ false → is_none o ≡ false
 states o b h e = ap not h ∙ ap (λ (x : Bool). not (not x)) e

@@ -15,9 +15,8 @@ use Rattle.line_faults.specs.declared.causes.LineFault.{LineFault}
 use Rattle.line_faults.specs.Faults.{first_fault, unless_fault}
 use Rattle.line_faults.specs.Rows.{rows_from}
 use Rattle.stimulus_file.specs.declared.StimulusCause.{StimulusCause}
-use Rattle.stimulus_file.specs.declared.SetRow.{SetRow}
 use Rattle.stimulus_file.specs.Forms.{Line, Blank, Other, Horizon, Setting, horizon_of_amount, setting_of_parts, by_words, line_of}
-use Rattle.stimulus_file.specs.Stimulus.{Content, stated, cause_of, row_of, rows_of, horizon_of, with_horizon, stimulus_of}
+use Rattle.stimulus_file.specs.Stimulus.{Content, SetRow, stated, cause_of, row_of, rows_of, horizon_of, with_horizon, stimulus_of}
 use Rattle.stimulus_file.specs.Ranges.{IsStimulus}
 
 abbrev IsTime : ℕ → Type 0

@@ -2,14 +2,21 @@
 use Rattle.std.specs.Prelude.{ℕ, Bool, true, false, ◌&&◌, ◌==◌, List, [], ◌∷◌, map, Option, Some, None, Result, Ok, Err, if◌then◌else◌, slice_get}
 use Rattle.std.specs.List.{list_all, list_any, flat_map}
 use Rattle.std.specs.Str.{bytes_eq}
+use Rattle.gate_values.specs.declared.Value.{Value}
 use Rattle.text_rules.specs.Text.{lines}
 use Rattle.line_faults.specs.declared.causes.LineFault.{LineFault}
 use Rattle.line_faults.specs.Faults.{at_no_line, first_fault, unless_fault}
 use Rattle.line_faults.specs.Rows.{rows_from}
 use Rattle.stimulus_file.specs.declared.StimulusCause.{StimulusCause}
 use Rattle.stimulus_file.specs.declared.StimulusCause.TheVariants.{Syntax, NoHorizon, Range, Twice}
-use Rattle.stimulus_file.specs.declared.SetRow.{SetRow}
 use Rattle.stimulus_file.specs.Forms.{Line, Blank, Other, Horizon, Setting, line_of}
+
+-- a setting: from the time on the input with this name has this value
+pub record SetRow : Type 0 where
+  pub line : ℕ
+  pub name : List ℕ
+  pub time : ℕ
+  pub value : Value
 
 -- what the file says: the horizon, and the settings in the order of their lines
 pub record Content : Type 0 where

@@ -14,23 +14,29 @@
 //! `read_stimulus` reads a whole file. Its one clause says that the answer is
 //! `stimulus_of` of the text (`specs/Stimulus`): the content, or the first line
 //! at fault with its cause. Only want of memory is left open. `Stimulus` is seen by contracts as
-//! its content, `horizon` and `sets`, the settings in the order of the file.
+//! its content, `horizon` and `sets`, the settings in the order of the file. It keeps each name
+//! once, and a setting has the place of its name (`specs/Named`).
 //! Whether a name is an input of some netlist is for the crate above to test.
 //!
-//! Reading takes one walk over the text, one look-up in a hash set a `set` line
-//! and one copy of its name, so time and memory grow with the length of the
-//! text. The set of what was seen borrows the names from the text.
+//! Reading takes one walk over the text, one look-up in a hash map a `set` line and one copy of
+//! each name, so time and memory grow with the length of the text. The map has the greatest time
+//! of each name. While each name is set at later and later times, that shows that none is set
+//! twice at one time. From the first setting on that is not later, a hash set of all settings
+//! shows it, with one look-up more a line. The map borrows the names from the text.
 //!
 //! ```text
 //! let stimulus = read_stimulus(alloc, b"horizon 10\nset a 0 1\n")?;
-//! for row in stimulus.sets() { .. row.name.bytes() .. row.time .. }
+//! let NamedSets { names, sets } = stimulus.sets();
+//! for set in sets { .. names[set.name as usize].bytes() .. set.time .. }
 //! ```
 #![tactic(auto)]
 
 ghost use Rattle.std.specs.Prelude.{◌≡◌};
 
 mod form;
+mod names;
 mod reader;
+mod seen;
 
 use gate_values::Value;
 use line_faults::{LineCause, LineFault};
@@ -85,42 +91,65 @@ impl LineCause for StimulusCause {
 /// at line 0.
 pub type StimulusFault = LineFault<StimulusCause>;
 
-/// A `set` line: from `time` on the input `name` has `value`. `time` is at most
-/// 1,000,000.
-#[derive(Drop)]
-pub struct SetRow {
+/// A `set` line: from `time` on an input has `value`. `name` is the place of its name in the list
+/// of names. `time` is at most 1,000,000.
+#[derive(Clone, Copy)]
+pub struct NumberedSet {
     pub line: u32,
-    pub name: Text,
+    pub name: u32,
     pub time: u32,
     pub value: Value,
+}
+
+/// The settings of a file, in its order, and the names of the inputs that they set, each once.
+#[derive(Clone, Copy)]
+pub struct NamedSets<'a> {
+    pub names: &'a [Text],
+    pub sets: &'a [NumberedSet],
 }
 
 /// What a stimulus file says.
 #[derive(Drop)]
 pub struct Stimulus {
     horizon: u32,
-    sets: Vec<SetRow>,
+    names: Vec<Text>,
+    sets: Vec<NumberedSet>,
 }
 
 impl Model for Stimulus {
     ghost use Rattle.stimulus_file.specs.Stimulus.{Content};
+    ghost use Rattle.stimulus_file.specs.Named.{named, HavePlaces};
     ghost use Rattle.stimulus_file.specs.Ranges.{IsStimulus};
 
     ghost Value = { Content };
 
-    ghost view = { λ s. record { horizon = s.horizon; sets = s.sets.items } };
+    ghost view = { λ s. record { horizon = s.horizon; sets = named s.names.items s.sets.items } };
 
-    ghost invariant = { λ s. IsStimulus (record { horizon = s.horizon; sets = s.sets.items }) };
+    ghost invariant = { λ s. IsStimulus (record {
+      horizon = s.horizon;
+      sets = named s.names.items
+          s.sets.items;
+    }) × HavePlaces s.names.items s.sets.items };
 }
 
 impl Stimulus {
+    ghost use Rattle.stimulus_file.specs.Named.{named, HavePlaces};
     ghost use Rattle.stimulus_file.specs.Ranges.{IsStimulus};
 
-    fn new(horizon: u32, sets: Vec<SetRow>) -> Stimulus
-        requires { IsStimulus (record { horizon = horizon; sets = sets.items }) }
-        ensures { result ≡ record { horizon = horizon; sets = sets.items } }
+    fn new(horizon: u32, names: Vec<Text>, sets: Vec<NumberedSet>) -> Stimulus
+        requires ranges { IsStimulus (record {
+          horizon = horizon;
+          sets = named names.items
+              sets.items;
+        }) }
+        requires places { HavePlaces names.items sets.items }
+        ensures { result ≡ record { horizon = horizon; sets = named names.items sets.items } }
     {
-        Stimulus { horizon, sets }
+        Stimulus {
+            horizon,
+            names,
+            sets,
+        }
     }
 
     /// Does nothing, and tells a proof that no time is above 1,000,000.
@@ -138,10 +167,14 @@ impl Stimulus {
     }
 
     /// The settings, in the order of the file.
-    pub fn sets(&self) -> &[SetRow]
-        ensures { result.now ≡ self.now.sets }
+    pub fn sets(&self) -> NamedSets<'_>
+        ensures named { named result.names.now result.sets.now ≡ self.now.sets }
+        ensures places { HavePlaces result.names.now result.sets.now }
     {
-        &self.sets
+        NamedSets {
+            names: &self.names,
+            sets: &self.sets,
+        }
     }
 }
 

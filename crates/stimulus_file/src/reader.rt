@@ -8,19 +8,22 @@ ghost use Rattle.stimulus_file.specs.Stimulus.{stimulus_of};
 ghost use Rattle.stimulus_file.specs.inner.Reading.{Reads, line_seen};
 
 use crate::form::{Form, form_of};
-use crate::{SetRow, Stimulus, StimulusCause, StimulusFault};
+use crate::names::Names;
+use crate::seen::{Seen, is_new};
+use crate::{NumberedSet, Stimulus, StimulusCause, StimulusFault};
 use gate_values::Value;
 use line_faults::{LineReader, fault, read_lines};
-use owned_text::Text;
 use std::alloc::Global;
-use std::collections::HashSet;
+use std::collections::HashMap;
 
-/// What is known after some lines. The names in `seen` lie in the text.
+/// What is known after some lines.
 #[derive(Drop)]
 pub struct Reader<'a> {
     pub horizon: Option<u32>,
-    pub sets: Vec<SetRow>,
-    pub seen: HashSet<(&'a [u8], u32)>,
+    pub names: Names<'a>,
+    pub sets: Vec<NumberedSet>,
+    /// The places and times of `sets`, once one came that is not later than all of its name before.
+    pub seen: Option<Seen>,
 }
 
 fn take_horizon(reader: &mut Reader, number: u32, horizon: u32) -> Result<(), StimulusFault>
@@ -46,13 +49,13 @@ fn take_setting<'a>(
     if reader.horizon.is_none() {
         return fault(StimulusCause::NoHorizon, number);
     }
-    if !reader.seen.insert((name, time))? {
+    let found = reader.names.find(alloc, name, time)?;
+    if !is_new(alloc, &mut reader.seen, &reader.sets, found, time)? {
         return fault(StimulusCause::Twice, number);
     }
-    let name = Text::from_bytes(alloc, name)?;
-    reader.sets.push(SetRow {
+    reader.sets.push(NumberedSet {
         line: number,
-        name,
+        name: found.place,
         time,
         value,
     })?;
@@ -112,15 +115,25 @@ pub fn read_stimulus(alloc: Global, text: &[u8]) -> Result<Stimulus, StimulusFau
 {
     let empty = Reader {
         horizon: None,
+        names: Names {
+            texts: Vec::new(alloc),
+            known: HashMap::new(alloc),
+        },
         sets: Vec::new(alloc),
-        seen: HashSet::new(alloc),
+        seen: None,
     };
     let reader = read_lines(alloc, empty, text)?;
-    match reader.horizon {
+    let Reader {
+        horizon,
+        names,
+        sets,
+        ..
+    } = reader;
+    match horizon {
         None => Err(StimulusFault {
             cause: StimulusCause::NoHorizon,
             line: 0,
         }),
-        Some(horizon) => Ok(Stimulus::new(horizon, reader.sets)),
+        Some(horizon) => Ok(Stimulus::new(horizon, names.texts, sets)),
     }
 }

@@ -19,28 +19,34 @@ fn refused(cause: StimulusCause, line: u32) -> Option<StimulusFault> {
 
 #[test]
 fn says_what_the_lines_say(rt: HostRuntime) -> Result<(), Fail> {
-    let text = b"# a comment\r\n\thorizon 0010\r\n\nset a 00 Z# x\nset set 5 1";
+    let text = b"# a comment\r\n\thorizon 0010\r\n\nset a 00 Z# x\nset set 5 1\nset a 3 0";
     let said = read_stimulus(rt.alloc(), text.as_slice())
         .ok()
         .ok_or("the file is right")?;
     assert_eq!(rt; said.horizon(), 10);
-    let first = said.sets().first().ok_or("a first setting")?;
-    let second = said.sets().last().ok_or("a second setting")?;
-    assert_eq!(rt; said.sets().len(), 2);
+    let NamedSets { names, sets } = said.sets();
+    let first_name = names.first().ok_or("a first name")?;
+    let last_name = names.last().ok_or("a last name")?;
+    assert_eq!(rt; names.len(), 2);
+    assert_eq!(rt; first_name.bytes(), b"a".as_slice());
+    assert_eq!(rt; last_name.bytes(), b"set".as_slice());
+    let first = sets.first().ok_or("a first setting")?;
+    let last = sets.last().ok_or("a last setting")?;
+    assert_eq!(rt; sets.len(), 3);
     assert_eq!(rt; first.line, 4);
-    assert_eq!(rt; first.name.bytes(), b"a".as_slice());
+    assert_eq!(rt; first.name, 0);
     assert_eq!(rt; first.time, 0);
     assert_eq!(rt; first.value, Value::Z);
-    assert_eq!(rt; second.line, 5);
-    assert_eq!(rt; second.name.bytes(), b"set".as_slice());
-    assert_eq!(rt; second.time, 5);
-    assert_eq!(rt; second.value, Value::One);
+    assert_eq!(rt; last.line, 6);
+    assert_eq!(rt; last.name, 0);
+    assert_eq!(rt; last.time, 3);
+    assert_eq!(rt; last.value, Value::Zero);
     Ok(())
 }
 
 #[test]
 fn tells_the_first_line_at_fault(rt: HostRuntime) -> Result<(), Fail> {
-    let rows: [(&[u8], StimulusCause, u32); 10] = [
+    let rows: [(&[u8], StimulusCause, u32); 11] = [
         (b"", NoHorizon, 0),
         (b"\n # a comment", NoHorizon, 0),
         (b"\nset a 0 0\nhorizon 9", NoHorizon, 2),
@@ -49,6 +55,11 @@ fn tells_the_first_line_at_fault(rt: HostRuntime) -> Result<(), Fail> {
         (b"horizon 9\nset a 1000001 0\nset", Range, 2),
         (b"horizon 9\nhorizon 9", Twice, 2),
         (b"horizon 9\nset a 1 0\nset A 1 0\nset a 01 x", Twice, 4),
+        (
+            b"horizon 9\nset a 5 0\nset a 1 0\nset a 7 0\nset a 5 1",
+            Twice,
+            5,
+        ),
         (b"Horizon 9", Syntax, 1),
         (b"horizon 9\nset a\xc8 0 0", Syntax, 2),
     ];

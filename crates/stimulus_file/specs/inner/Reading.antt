@@ -1,8 +1,6 @@
 -- What the reader knows between two lines.
-use Rattle.std.specs.Prelude.{◌≡◌, ℕ, Bool, ◌&&◌, nat_eq, List, Result, is_none, is_some, option_to_list}
+use Rattle.std.specs.Prelude.{◌≡◌, ℕ, List, Result, is_none, is_some, option_to_list}
 use Rattle.std.specs.List.{list_all, list_any, flat_map}
-use Rattle.std.specs.Str.{bytes_eq}
-use Rattle.std.specs.Borrow.{Bor}
 use Rattle.line_faults.specs.declared.causes.LineFault.{LineFault}
 use Rattle.line_faults.specs.Reading.{TakesLine}
 use Rattle.stimulus_file.specs.declared.StimulusCause.{StimulusCause}
@@ -11,7 +9,9 @@ use Rattle.stimulus_file.specs.declared.form.Form.{Form}
 use Rattle.stimulus_file.specs.declared.form.Form.TheVariants as forms
 use Rattle.stimulus_file.specs.declared.reader.Reader.{Reader}
 use Rattle.stimulus_file.specs.Forms.{Line, Blank, Other, Horizon, Setting}
-use Rattle.stimulus_file.specs.Stimulus.{is_blank, is_horizon, sets, cause_of, stated, rows_of}
+use Rattle.stimulus_file.specs.Stimulus.{is_blank, is_horizon, cause_of, stated, rows_of}
+use Rattle.stimulus_file.specs.Named.{named}
+use Rattle.stimulus_file.specs.inner.Kept.{HasNames, HasSeen}
 
 -- a form that was read, without where its name lies in memory
 abbrev pub line_seen : Form → Line
@@ -20,17 +20,14 @@ line_seen forms.Other = Other
 line_seen (forms.Horizon h) = Horizon h
 line_seen (forms.Setting name time value) = Setting name.now time value
 
--- two settings of one name at one time
-abbrev pub key_eq : Bor (List ℕ) × ℕ → Bor (List ℕ) × ℕ → Bool
-key_eq a b = bytes_eq a.0.now b.0.now && nat_eq a.1 b.1
-
 -- the reader has read these lines, none of which is at fault
 pub record HasRead (before : List Line) (r : Reader) : Type 0 where
   pub horizon : flat_map stated before ≡ option_to_list r.horizon
   pub blank : list_all is_blank before ≡ is_none r.horizon
   pub horizon_line : list_any is_horizon before ≡ is_some r.horizon
-  pub rows : r.sets.items ≡ rows_of before
-  pub seen : (q : Bor (List ℕ) × ℕ) → list_any (key_eq q) r.seen.keys ≡ list_any (sets q.0.now q.1) before
+  pub rows : named r.names.texts.items r.sets.items ≡ rows_of before
+  pub names : HasNames r.names r.sets.items
+  pub seen : HasSeen r.seen r.sets.items
 
 -- what the reader answers to a line
 abbrev pub Reads : Reader → Reader → ℕ → Line → Result (Unit {0}) (LineFault StimulusCause) → Type 0

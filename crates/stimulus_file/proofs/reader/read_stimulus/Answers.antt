@@ -10,8 +10,11 @@ returns-in_err-reader c = let p = err_from_is_err_and c.from_residual.result c.f
 pub returns-in-None : goal.returns-in-None
 returns-in-None c = inr (said c.args.text.now c.in_ok-reader.reader _ c.in_ok-reader.ensures c.in-None.is)
 
-pub returns-in-Some : goal.returns-in-Some
-returns-in-Some c = said c.args.text.now c.in_ok-reader.reader _ c.in_ok-reader.ensures c.in-Some.is ∙ ap Ok (sym c.new-in-Some.ensures)
+pub returns : goal.returns
+returns c = said c.args.text.now c.in_ok-reader.reader _ c.in_ok-reader.ensures c.in-Some.is ∙ ap Ok (sym c.new-in-Some.ensures)
 
 pub new-requires-in-Some : goal.new-requires-in-Some
-new-requires-in-Some c = stimulus-within c.args.text.now _ (said c.args.text.now c.in_ok-reader.reader _ c.in_ok-reader.ensures c.in-Some.is)
+new-requires-in-Some c = record {
+  ranges = stimulus-within c.args.text.now _ (said c.args.text.now c.in_ok-reader.reader _ c.in_ok-reader.ensures c.in-Some.is);
+  places = c.in_ok-reader.ensures.1.names.placed;
+}

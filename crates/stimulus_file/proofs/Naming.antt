@@ -1,0 +1,172 @@
+-- Names with places, and what is known of each.
+use Rattle.std.proofs.Common.{◌≡◌, ℕ, ◌+◌, ◌<◌, ◌≤◌, ◌&&◌, ◌||◌, Bool, true, false, cond, eqb, eqb-true, eq-eqb, List, [], ◌∷◌, ◌++◌, length, get_or, Option, Some, None, refl, sym, ap, ap₂, subst, ◌∙◌, arith, inl, inr, length-append}
+use Rattle.std.specs.List.{list_any}
+use Rattle.std.specs.Str.{bytes_eq}
+use Rattle.std.specs.Borrow.{Bor}
+use Rattle.std.proofs.lemmas.Bool.{cases_lt}
+use Rattle.std.proofs.lemmas.List.{get_or_append_left, get_or_push}
+use Rattle.std.proofs.lemmas.List.Elements.{All-head, All-tail, All-weaker}
+use Rattle.std.proofs.lemmas.List.Folds.{list_any-append}
+use Rattle.std.proofs.lemmas.Slice.Eq.{bytes_eq-Decides}
+use Rattle.line_faults.specs.Rows.{rows_from}
+use Rattle.stimulus_file.specs.declared.NumberedSet.{NumberedSet}
+use Rattle.stimulus_file.specs.declared.names.Known.{Known}
+use Rattle.stimulus_file.specs.Forms.{Line, Blank, Other, Horizon, Setting}
+use Rattle.stimulus_file.specs.Stimulus.{SetRow, sets, row_of}
+use Rattle.stimulus_file.specs.Named.{named, HavePlaces}
+use Rattle.stimulus_file.specs.inner.Kept.{is_at, IsPlace, IsLatest, IsKnown}
+
+pub is_false : (b : Bool) → (b ≡ true → ⊥) → b ≡ false
+is_false true never = absurd (never refl)
+is_false false never = refl
+
+pub both : (a b : Bool) → (a && b) ≡ true → (a ≡ true) × (b ≡ true)
+both true b h = (refl, h)
+both false b h = absurd cc
+
+same_tests : (a b : Bool) → (a ≡ true → b ≡ true) → (b ≡ true → a ≡ true) → a ≡ b
+same_tests true b f g = sym (f refl)
+same_tests false true f g = g refl
+same_tests false false f g = refl
+
+pub swapped : (a b : ℕ) → eqb a b ≡ eqb b a
+swapped a b = same_tests (eqb a b) (eqb b a) (λ h. eq-eqb b a (sym (eqb-true a b h))) (λ h. eq-eqb a b (sym (eqb-true b a h)))
+
+pub same_name : (a b : List ℕ) → bytes_eq a b ≡ true → a ≡ b
+same_name a b h = (bytes_eq-Decides a b).0 h
+
+other_name : (a b : List ℕ) → bytes_eq a b ≡ false → a ≡ b → ⊥
+other_name a b h e = let t : bytes_eq a b ≡ true = (bytes_eq-Decides a b).1 e in absurd cc
+
+-- whether a setting is of this name and at this time
+abbrev pub sets_at : List ℕ → ℕ → SetRow → Bool
+sets_at name time row = bytes_eq row.name name && eqb row.time time
+
+pub rows_set : (name : List ℕ) (time n : ℕ) (all : List Line) → list_any (sets name time) all ≡ list_any (sets_at name time) (rows_from row_of n all)
+rows_set name time n [] = refl
+rows_set name time n (Blank ∷ all) = rows_set name time (n + 1) all
+rows_set name time n (Other ∷ all) = rows_set name time (n + 1) all
+rows_set name time n (Horizon h ∷ all) = rows_set name time (n + 1) all
+rows_set name time n (Setting other None value ∷ all) = rows_set name time (n + 1) all
+rows_set name time n (Setting other (Some t) value ∷ all) = ap (λ (b : Bool). (bytes_eq other name && eqb t time) || b) (rows_set name time (n + 1) all)
+
+module _ (names : List (List ℕ)) where
+  -- the name at a place is the one that has that place
+  place_test : (i : ℕ) (name : List ℕ) (place : ℕ) → i < length names → IsPlace names name place → bytes_eq (get_or names i []) name ≡ eqb place i
+  place_test i name place lt p =
+      same_tests (bytes_eq (get_or names i []) name) (eqb place i) (λ h. eq-eqb place i (sym (p.only i lt (same_name (get_or names i []) name h))))
+      (λ h. (bytes_eq-Decides (get_or names i []) name).1 (ap (λ (k : ℕ). get_or names k []) (sym (eqb-true place i h)) ∙ p.there))
+
+  -- a name is set at a time as its place is
+  pub named_any : (xs : List NumberedSet) (name : List ℕ) (place time : ℕ) → HavePlaces names xs → IsPlace names name place → list_any (sets_at name time) (named names xs) ≡ list_any (is_at place time) xs
+  named_any [] name place time h p = refl
+  named_any (x ∷ xs) name place time h p =
+      let lt : x.name < length names = All-head (λ (s : NumberedSet). s.name < length names) x xs h in
+      ap₂ (λ (a b : Bool). a || b) (ap₂ (λ (a b : Bool). a && b) (place_test x.name name place lt p) (swapped x.time time))
+      (named_any xs name place time (All-tail (λ (s : NumberedSet). s.name < length names) x xs h) p)
+
+  -- no setting is at the place after the last
+  pub beyond : (xs : List NumberedSet) (time : ℕ) → HavePlaces names xs → list_any (is_at (length names) time) xs ≡ false
+  beyond [] time h = refl
+  beyond (x ∷ xs) time h =
+      let lt : x.name < length names = All-head (λ (s : NumberedSet). s.name < length names) x xs h in
+      let never : eqb (length names) x.name ≡ false = is_false (eqb (length names) x.name) (λ t. let e = eqb-true (length names) x.name t in absurd (omega (arith, e))) in
+      let rest : list_any (is_at (length names) time) xs ≡ false = beyond xs time (All-tail (λ (s : NumberedSet). s.name < length names) x xs h) in
+      rw (never, rest) refl
+
+  -- a name more keeps the names of the settings
+  pub named_more : (name : List ℕ) (xs : List NumberedSet) → HavePlaces names xs → named (names ++ name ∷ []) xs ≡ named names xs
+  named_more name [] h = refl
+  named_more name (x ∷ xs) h =
+      ap₂ (λ (n : List ℕ) (rows : List SetRow). record { line = x.line; name = n; time = x.time; value = x.value } ∷ rows)
+      (get_or_append_left names (name ∷ []) [] x.name (All-head (λ (s : NumberedSet). s.name < length names) x xs h)) (named_more name xs (All-tail (λ (s : NumberedSet). s.name < length names) x xs h))
+
+  longer : (name : List ℕ) → length (names ++ name ∷ []) ≡ length names + 1
+  longer name = length-append names (name ∷ [])
+
+  pub places_more : (name : List ℕ) (xs : List NumberedSet) → HavePlaces names xs → HavePlaces (names ++ name ∷ []) xs
+  places_more name xs h = let long = longer name in All-weaker (λ (s : NumberedSet). s.name < length names) (λ (s : NumberedSet). s.name < length (names ++ name ∷ [])) (λ s lt. omega (arith, long, lt)) xs h
+
+  -- the place of a name that is new
+  pub place_new : (name : List ℕ) → ((i : ℕ) → i < length names → get_or names i [] ≡ name → ⊥) → IsPlace (names ++ name ∷ []) name (length names)
+  place_new name never = record {
+    within = let long = longer name in omega (arith, long);
+    there = get_or_push names name [] (length names) refl;
+    only = λ i lt e. elim (cases_lt i (length names)) [
+      | inl early ↦ absurd (never i early (sym (get_or_append_left names (name ∷ []) [] i early) ∙ e))
+      | inr late ↦ let long = longer name in omega (arith, long, lt, late)
+    ];
+  }
+
+  place_other : (name other : List ℕ) (place : ℕ) → bytes_eq name other ≡ false → IsPlace names other place → IsPlace (names ++ name ∷ []) other place
+  place_other name other place differ p = record {
+    within = let long = longer name in let lt = p.within in omega (arith, long, lt);
+    there = get_or_append_left names (name ∷ []) [] place p.within ∙ p.there;
+    only = λ i lt e. elim (cases_lt i (length names)) [
+      | inl early ↦ p.only i early (sym (get_or_append_left names (name ∷ []) [] i early) ∙ e)
+      | inr late ↦
+          let long = longer name in
+          let i-is : length names ≡ i = omega (arith, long, lt, late) in
+          absurd (other_name name other differ (sym (get_or_push names name [] i i-is) ∙ e))
+    ];
+  }
+
+  none_other : (name other : List ℕ) → bytes_eq name other ≡ false → ((i : ℕ) → i < length names → get_or names i [] ≡ other → ⊥) → (i : ℕ) → i < length (names ++ name ∷ []) → get_or (names ++ name ∷ []) i [] ≡ other → ⊥
+  none_other name other differ never i lt e = elim (cases_lt i (length names)) [
+    | inl early ↦ never i early (sym (get_or_append_left names (name ∷ []) [] i early) ∙ e)
+    | inr late ↦
+        let long = longer name in
+        let i-is : length names ≡ i = omega (arith, long, lt, late) in
+        other_name name other differ (sym (get_or_push names name [] i i-is) ∙ e)
+  ]
+
+-- after one setting more, of this name or of another
+pub latest_push : (xs : List NumberedSet) (k : Known) (x : NumberedSet) (latest : ℕ) → IsLatest xs k → k.latest ≤ latest → (k.place ≡ x.name → x.time ≤ latest) → IsLatest (xs ++ x ∷ []) (record { place = k.place; latest = latest })
+latest_push xs k x latest old le new time lt =
+    let before : list_any (is_at k.place time) xs ≡ false = old time (omega (arith, le, lt)) in
+    let last : is_at k.place time x ≡ false = is_false (is_at k.place time x) (λ t. apart (both (eqb k.place x.name) (eqb time x.time) t)) in
+    list_any-append (is_at k.place time) xs (x ∷ []) ∙ ap₂ (λ (a b : Bool). a || (b || false)) before last
+  where
+    apart : (eqb k.place x.name ≡ true) × (eqb time x.time ≡ true) → ⊥
+    apart h =
+        let le : x.time ≤ latest = new (eqb-true k.place x.name h.0) in
+        let e : time ≡ x.time = eqb-true time x.time h.1 in
+        omega (arith, le, e, lt)
+
+module _ (names : List (List ℕ)) (xs : List NumberedSet) (f g : Bor (List ℕ) → Option Known) (q : Bor (List ℕ)) (known : (p : Bor (List ℕ)) → IsKnown names xs p.now (f p)) (x : NumberedSet) where
+  -- what is known after a setting of a name that is known
+  module _ (k : Known) (latest : ℕ) (is : f q ≡ Some k) (gives : (p : Bor (List ℕ)) → g p ≡ cond (bytes_eq q.now p.now) (Some (record { place = k.place; latest = latest })) (f p)) where
+    pub here : IsPlace names q.now k.place × IsLatest xs k
+    here = subst (IsKnown names xs q.now) is (known q)
+
+    pub known_again : k.latest ≤ latest → x.name ≡ k.place → x.time ≤ latest → (p : Bor (List ℕ)) → IsKnown names (xs ++ x ∷ []) p.now (g p)
+    known_again later place time p = subst (IsKnown names (xs ++ x ∷ []) p.now) (sym (gives p)) (either (bytes_eq q.now p.now) refl)
+      where
+        others : bytes_eq q.now p.now ≡ false → (o : Option Known) → IsKnown names xs p.now o → IsKnown names (xs ++ x ∷ []) p.now o
+        others differ None h = h
+        others differ (Some j) h =
+            (h.0, latest_push xs j x j.latest h.1 (omega arith) (λ same. absurd (other_name q.now p.now differ (sym here.0.there ∙ ap (λ (i : ℕ). get_or names i []) (sym (same ∙ place)) ∙ h.0.there))))
+
+        either : (b : Bool) → bytes_eq q.now p.now ≡ b → IsKnown names (xs ++ x ∷ []) p.now (cond b (Some (record { place = k.place; latest = latest })) (f p))
+        either true same = (subst (λ (n : List ℕ). IsPlace names n k.place) (same_name q.now p.now same) here.0, latest_push xs k x latest here.1 later (λ _. time))
+        either false differ = others differ (f p) (known p)
+
+  -- what is known after the first setting of a name
+  module _ (is : f q ≡ None) (gives : (p : Bor (List ℕ)) → g p ≡ cond (bytes_eq q.now p.now) (Some (record { place = length names; latest = x.time })) (f p)) where
+    pub nowhere : (i : ℕ) → i < length names → get_or names i [] ≡ q.now → ⊥
+    nowhere = subst (IsKnown names xs q.now) is (known q)
+
+    pub known_first : HavePlaces names xs → x.name ≡ length names → (p : Bor (List ℕ)) → IsKnown (names ++ q.now ∷ []) (xs ++ x ∷ []) p.now (g p)
+    known_first placed place p = subst (IsKnown (names ++ q.now ∷ []) (xs ++ x ∷ []) p.now) (sym (gives p)) (either (bytes_eq q.now p.now) refl)
+      where
+        others : bytes_eq q.now p.now ≡ false → (o : Option Known) → IsKnown names xs p.now o → IsKnown (names ++ q.now ∷ []) (xs ++ x ∷ []) p.now o
+        others differ None h = none_other names q.now p.now differ h
+        others differ (Some j) h =
+            (place_other names q.now p.now j.place differ h.0, latest_push xs j x j.latest h.1 (omega arith) (λ same. let lt = h.0.within in absurd (omega (arith, lt, same, place))))
+
+        either : (b : Bool) → bytes_eq q.now p.now ≡ b → IsKnown (names ++ q.now ∷ []) (xs ++ x ∷ []) p.now (cond b (Some (record { place = length names; latest = x.time })) (f p))
+        either true same = (
+          subst (λ (n : List ℕ). IsPlace (names ++ q.now ∷ []) n (length names)) (same_name q.now p.now same) (place_new names q.now nowhere),
+          latest_push xs (record { place = length names; latest = x.time }) x x.time (λ t lt. beyond names xs t placed) (omega arith) (λ _. omega arith),
+        )
+        either false differ = others differ (f p) (known p)

@@ -1,0 +1,66 @@
+-- What is kept of the settings that were read.
+use Rattle.std.specs.Prelude.{◌≡◌, ℕ, ◌<◌, Bool, true, false, not, ◌&&◌, nat_eq, List, [], ◌∷◌, ◌++◌, length, get_or, Option, Some, None, ⊤}
+use Rattle.std.specs.List.{list_any}
+use Rattle.std.specs.Str.{bytes_eq}
+use Rattle.std.specs.Borrow.{Bor}
+use Rattle.std.specs.HashMap.{get}
+use Rattle.std.specs.HashSet.{HashSet}
+use Rattle.gate_values.specs.declared.Value.{Value}
+use Rattle.stimulus_file.specs.declared.NumberedSet.{NumberedSet}
+use Rattle.stimulus_file.specs.declared.names.Known.{Known}
+use Rattle.stimulus_file.specs.declared.names.Found.{Found}
+use Rattle.stimulus_file.specs.declared.names.Names.{Names}
+use Rattle.stimulus_file.specs.Named.{named, HavePlaces}
+
+-- a setting of the name at this place, at this time
+abbrev pub is_at : ℕ → ℕ → NumberedSet → Bool
+is_at place time set = nat_eq place set.name && nat_eq time set.time
+
+-- the name stands at this place, and at no other
+pub record IsPlace (names : List (List ℕ)) (name : List ℕ) (place : ℕ) : Type 0 where
+  pub within : place < length names
+  pub there : get_or names place [] ≡ name
+  pub only : (i : ℕ) → i < length names → get_or names i [] ≡ name → i ≡ place
+
+-- the name at this place is set at no later time
+abbrev pub IsLatest : List NumberedSet → Known → Type 0
+IsLatest sets known = (time : ℕ) → known.latest < time → list_any (is_at known.place time) sets ≡ false
+
+-- what is known of a name
+abbrev pub IsKnown : List (List ℕ) → List NumberedSet → List ℕ → Option Known → Type 0
+IsKnown names sets name None = (i : ℕ) → i < length names → get_or names i [] ≡ name → ⊥
+IsKnown names sets name (Some known) = IsPlace names name known.place × IsLatest sets known
+
+abbrev pub same_bytes : Bor (List ℕ) → Bor (List ℕ) → Bool
+same_bytes a b = bytes_eq a.now b.now
+
+-- the names of these settings
+pub record HasNames (n : Names) (sets : List NumberedSet) : Type 0 where
+  pub placed : HavePlaces n.texts.items sets
+  pub known : (q : Bor (List ℕ)) → IsKnown n.texts.items sets q.now (get same_bytes n.known q)
+
+-- the setting at this place, of which the line and the value are open
+abbrev pub then_at : List NumberedSet → ℕ → ℕ → (List NumberedSet → Type 0) → Type 0
+then_at sets place time P = (line : ℕ) (value : Value) → P (sets ++ record { line = line; name = place; time = time; value = value } ∷ [])
+
+-- a name was found that is now set at this time, after these settings
+pub record Finds (old new : Names) (sets : List NumberedSet) (name : List ℕ) (time : ℕ) (found : Found) : Type 0 where
+  pub same : named new.texts.items sets ≡ named old.texts.items sets
+  pub placed : HavePlaces new.texts.items sets
+  pub place : IsPlace new.texts.items name found.place
+  pub later : found.is_later ≡ true → list_any (is_at found.place time) sets ≡ false
+  pub next : then_at sets found.place time (HasNames new)
+
+-- two pairs of a place and a time
+abbrev pub key_eq : ℕ × ℕ → ℕ × ℕ → Bool
+key_eq a b = nat_eq a.0 b.0 && nat_eq a.1 b.1
+
+-- the set, if there is one, has the places and times of these settings
+abbrev pub HasSeen : {S : Type 0} → Option (HashSet (ℕ × ℕ) S) → List NumberedSet → Type 0
+HasSeen None sets = ⊤
+HasSeen (Some seen) sets = (q : ℕ × ℕ) → list_any (key_eq q) seen.keys ≡ list_any (is_at q.0 q.1) sets
+
+-- it was asked whether a setting at this place and time is new after these
+pub record Tells {S : Type 0} (seen : Option (HashSet (ℕ × ℕ) S)) (sets : List NumberedSet) (place time : ℕ) (is_new : Bool) : Type 0 where
+  pub tells : is_new ≡ not (list_any (is_at place time) sets)
+  pub next : then_at sets place time (HasSeen seen)

@@ -1,0 +1,49 @@
+//! Whether a name is set twice at one time.
+
+ghost use Rattle.std.specs.Prelude.{◌≡◌, IfOk, map, true, false};
+ghost use Rattle.std.specs.HashSet.{IsFromIterResult};
+ghost use Rattle.std.specs.List.{list_any};
+ghost use Rattle.stimulus_file.specs.declared.NumberedSet.{NumberedSet as Numbered};
+ghost use Rattle.stimulus_file.specs.inner.Kept.{HasSeen, Tells, is_at, key_eq};
+
+use crate::NumberedSet;
+use crate::names::Found;
+use std::alloc::{AllocError, Global};
+use std::collections::HashSet;
+
+/// The places and times of some settings.
+pub type Seen = HashSet<(u32, u32)>;
+
+/// The set that these settings make.
+fn seen_in(alloc: Global, sets: &[NumberedSet]) -> Result<Seen, AllocError>
+    ensures { IfOk result (IsFromIterResult key_eq (map (λ (set : Numbered). (set.name, set.time))
+        sets.now)) }
+{
+    sets.iter().map(|set| (set.name, set.time)).collect(alloc)
+}
+
+/// Whether none of these settings is of the name that was found, at this time. A setting that is
+/// later than all of its name before is new without a look-up. From the first that is not, a set
+/// of all of them tells.
+pub fn is_new(
+    alloc: Global,
+    seen: &mut Option<Seen>,
+    sets: &[NumberedSet],
+    found: Found,
+    time: u32,
+) -> Result<bool, AllocError>
+    ensures { HasSeen seen.old sets.now
+        → (found.is_later ≡ true → list_any (is_at found.place time) sets.now ≡ false)
+        → IfOk result (Tells seen.new sets.now found.place time) }
+{
+    match seen {
+        Some(seen) => Ok(seen.insert((found.place, time))?),
+        None if found.is_later => Ok(true),
+        None => {
+            let mut all = seen_in(alloc, sets)?;
+            let is_new = all.insert((found.place, time))?;
+            *seen = Some(all);
+            Ok(is_new)
+        }
+    }
+}
