@@ -6,7 +6,7 @@ use Rattle.std.proofs.lemmas.List.{map-append, append-nil, map-set, get_or-set_s
 use Rattle.std.proofs.Math.ListN.{get_or-map}
 use Rattle.circuit_meaning.specs.declared.Setting.{Setting}
 use Rattle.bench_reader.specs.Netlists as netlists
-use Rattle.stimulus_file.specs.declared.SetRow.{SetRow}
+use Rattle.stimulus_file.specs.Stimulus.{SetRow}
 use Rattle.design.specs.declared.fault.JoinFile.TheVariants as file
 use Rattle.design.specs.declared.fault.JoinCause.TheVariants.{NotInput, PastHorizon}
 use Rattle.design.specs.Join.{number, driver_at, is_input, is_signal, setting_of, fault_of, cause_of_set, set_fault, unless}

@@ -4,7 +4,7 @@ use Rattle.std.specs.Prelude.{Ok, Err}
 use Rattle.bench_reader.specs.Netlists as netlists
 use Rattle.timing_file.specs.Timing as timings
 use Rattle.stimulus_file.specs.Stimulus as stimuli
-use Rattle.stimulus_file.specs.declared.SetRow.{SetRow}
+use Rattle.stimulus_file.specs.Stimulus.{SetRow}
 use Rattle.design.specs.declared.fault.JoinFault.{JoinFault}
 use Rattle.design.specs.Causes.{out_of_memory}
 use Rattle.design.specs.Joined.{Joined}

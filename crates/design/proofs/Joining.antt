@@ -30,7 +30,7 @@ use Rattle.timing_file.specs.declared.ClockRow.{ClockRow}
 use Rattle.timing_file.specs.declared.TimingWhat.{TimingWhat}
 use Rattle.timing_file.specs.declared.TimingWhat.TheVariants as what
 use Rattle.stimulus_file.specs.Stimulus as stimuli
-use Rattle.stimulus_file.specs.declared.SetRow.{SetRow}
+use Rattle.stimulus_file.specs.Stimulus.{SetRow}
 use Rattle.design.specs.declared.rows.Row.{Row}
 use Rattle.design.specs.declared.rows.Row.TheVariants as row
 use Rattle.design.specs.Joined.{IsDesign}

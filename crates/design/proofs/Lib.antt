@@ -12,6 +12,7 @@ pub mod Rereads
 pub mod SortedSettings
 pub mod Joining
 pub mod Rowed
+pub mod Named
 pub mod Bucketed
 pub mod Finished
 pub mod SettingOrder

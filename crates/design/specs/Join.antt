@@ -20,7 +20,7 @@ use Rattle.timing_file.specs.declared.TimingRow.{TimingRow}
 use Rattle.timing_file.specs.declared.TimingWhat.{TimingWhat}
 use Rattle.timing_file.specs.declared.TimingWhat.TheVariants.{Delay, Init, Pin, Clocked}
 use Rattle.stimulus_file.specs.Stimulus as stimuli
-use Rattle.stimulus_file.specs.declared.SetRow.{SetRow}
+use Rattle.stimulus_file.specs.Stimulus.{SetRow}
 use Rattle.design.specs.declared.fault.JoinCause.{JoinCause}
 use Rattle.design.specs.declared.fault.JoinCause.TheVariants.{UnknownName, NotGate, NotInput, NotFlop, PastHorizon, NotPin, NoClock}
 use Rattle.design.specs.declared.fault.JoinFile.{JoinFile}

@@ -1,20 +1,48 @@
 //! The settings of a stimulus file, by signal.
 
-ghost use Rattle.std.specs.Prelude.{◌≡◌, List, [], IfOk, map, length, vec_len};
+ghost use Rattle.std.specs.Prelude.{◌≡◌, ◌<◌, List, ℕ, [], All, IfOk, map, length, vec_len};
 ghost use Rattle.design.specs.declared.fault.JoinFile.TheVariants as file;
-ghost use Rattle.stimulus_file.specs.declared.SetRow.{SetRow as RowOf};
+ghost use Rattle.bench_reader.specs.Netlists as netlists;
+ghost use Rattle.stimulus_file.specs.Stimulus.{SetRow};
+ghost use Rattle.stimulus_file.specs.Named.{named, with_name, HavePlaces};
 ghost use Rattle.design.specs.Join as join;
-ghost use Rattle.design.specs.inner.Said.{HasSets, TakesSet, TakesSets};
+ghost use Rattle.design.specs.inner.Said.{HasSets, TakesSet, TakesSets, input_of};
 
 use crate::fault::{JoinCause, JoinFault, JoinFile};
 use crate::lists::{Lists, empty_lists};
 use crate::stated::is_input;
 use bench_reader::Netlist;
 use circuit_meaning::Setting;
+use owned_text::Text;
 use std::alloc::{AllocError, Global};
-use stimulus_file::SetRow;
+use stimulus_file::{NamedSets, NumberedSet};
 
-fn refused(cause: JoinCause, row: &SetRow) -> JoinFault
+/// The input with this name.
+fn input_named(netlist: &Netlist, name: &Text) -> Result<u32, JoinCause>
+    ensures { result ≡ input_of netlist.now name.now }
+{
+    match netlist.id_of(name.bytes()) {
+        None => Err(JoinCause::UnknownName),
+        Some(signal) if is_input(netlist, signal) => Ok(signal),
+        Some(_) => Err(JoinCause::NotInput),
+    }
+}
+
+/// The inputs with these names.
+fn inputs_named(
+    alloc: Global,
+    netlist: &Netlist,
+    names: &[Text],
+) -> Result<Vec<Result<u32, JoinCause>>, AllocError>
+    ensures { IfOk result (λ inputs. inputs.items ≡ map (input_of netlist.now) names.now) }
+{
+    names
+        .iter()
+        .map(|name| input_named(netlist, name))
+        .collect(alloc)
+}
+
+fn refused(cause: JoinCause, row: &NumberedSet) -> JoinFault
     ensures { result ≡ record { cause = cause; file = file.Stimulus; line = row.now.line } }
 {
     JoinFault {
@@ -24,24 +52,24 @@ fn refused(cause: JoinCause, row: &SetRow) -> JoinFault
     }
 }
 
-/// Keeps what a row sets.
+/// Keeps what a row sets. The inputs are those of the names.
 fn take(
-    netlist: &Netlist,
+    inputs: &[Result<u32, JoinCause>],
     horizon: u32,
     settings: &mut Vec<Vec<Setting>>,
-    row: &SetRow,
+    row: &NumberedSet,
 ) -> Result<(), JoinFault>
-    requires { vec_len settings.old ≡ length netlist.now.names }
-    ensures { (before : List RowOf) → HasSets netlist.now before settings.old.items
-        → TakesSet netlist.now horizon before row.now settings.new.items result }
+    requires name { row.now.name < length inputs.now }
+    requires signals { All (λ input. IfOk input (λ signal. signal < vec_len settings.old))
+        inputs.now }
+    ensures { (netlist : netlists.Content) (names : List (List ℕ)) (before : List SetRow)
+        → inputs.now ≡ map (input_of netlist) names → HasSets netlist before settings.old.items
+        → TakesSet netlist horizon before (with_name names row.now) settings.new.items result }
 {
-    let signal = match netlist.id_of(row.name.bytes()) {
-        None => return Err(refused(JoinCause::UnknownName, row)),
-        Some(signal) => signal,
+    let signal = match inputs[row.name as usize] {
+        Err(cause) => return Err(refused(cause, row)),
+        Ok(signal) => signal,
     };
-    if !is_input(netlist, signal) {
-        return Err(refused(JoinCause::NotInput, row));
-    }
     if row.time > horizon {
         return Err(refused(JoinCause::PastHorizon, row));
     }
@@ -57,13 +85,16 @@ pub fn read(
     alloc: Global,
     netlist: &Netlist,
     horizon: u32,
-    rows: &[SetRow],
+    stimulus: NamedSets<'_>,
 ) -> Result<Vec<Vec<Setting>>, JoinFault>
-    ensures { TakesSets netlist.now horizon rows.now result }
+    requires { HavePlaces stimulus.names.now stimulus.sets.now }
+    ensures { TakesSets netlist.now horizon
+        (named stimulus.entry.names.now stimulus.entry.sets.now) result }
 {
+    let inputs = inputs_named(alloc, netlist, stimulus.names)?;
     let mut settings = empty_lists(alloc, netlist.signals())?;
-    for row in rows {
-        take(netlist, horizon, &mut settings, row)?;
+    for row in stimulus.sets {
+        take(&inputs, horizon, &mut settings, row)?;
     }
     Ok(settings)
 }

@@ -1,5 +1,5 @@
 -- What is kept of the rows of the two files while they are read.
-use Rattle.std.specs.Prelude.{◌≡◌, ℕ, Bool, ◌&&◌, nat_eq, List, [], ◌∷◌, ◌++◌, length, map, filter, get_or, Some, None, Result, Ok, Err, ◌⊎◌, ◌<◌, true, false, fold, min}
+use Rattle.std.specs.Prelude.{◌≡◌, ℕ, Bool, ◌&&◌, nat_eq, List, [], ◌∷◌, ◌++◌, length, map, filter, get_or, Option, Some, None, Result, Ok, Err, if◌then◌else◌, ◌⊎◌, ◌<◌, true, false, fold, min}
 use Rattle.std.specs.Global.{Vec}
 use Rattle.std.specs.Str.{bytes_eq}
 use Rattle.std.specs.HashMap as hash
@@ -12,7 +12,9 @@ use Rattle.bench_reader.specs.Netlists.{NetlistDriver, Primary, Driven}
 use Rattle.timing_file.specs.Timing as timings
 use Rattle.timing_file.specs.declared.ClockRow.{ClockRow}
 use Rattle.timing_file.specs.declared.TimingRow.{TimingRow}
-use Rattle.stimulus_file.specs.declared.SetRow.{SetRow}
+use Rattle.stimulus_file.specs.Stimulus.{SetRow}
+use Rattle.design.specs.declared.fault.JoinCause.{JoinCause}
+use Rattle.design.specs.declared.fault.JoinCause.TheVariants.{UnknownName, NotInput}
 use Rattle.design.specs.declared.fault.JoinFault.{JoinFault}
 use Rattle.design.specs.declared.rows.Row.{Row}
 use Rattle.design.specs.declared.rows.Row.TheVariants as row
@@ -20,7 +22,7 @@ use Rattle.design.specs.declared.stated.Stated.{Stated}
 use Rattle.design.specs.declared.stated.Rows.{Rows}
 use Rattle.std.specs.List.{range_with_len}
 use Rattle.design.specs.Causes.{out_of_memory}
-use Rattle.design.specs.Join.{number, driver_at, is_dff, clock_of_row, last_said, rows_say, delay_said, pin_said, initial_said, clock_said, timing_fault, set_fault, first_fault, is_signal, setting_of, pin_delays, flop_of}
+use Rattle.design.specs.Join.{number, driver_at, is_dff, is_input, clock_of_row, last_said, rows_say, delay_said, pin_said, initial_said, clock_said, timing_fault, set_fault, first_fault, is_signal, setting_of, pin_delays, flop_of}
 
 -- the clocks of these rows, by their names
 abbrev pub KnowsClocks : List ClockRow → List (Vec ℕ × Clock) → Type 0
@@ -45,6 +47,15 @@ TakesRow netlist timing before row stated (Err fault) = (fault ≡ out_of_memory
 abbrev pub TakesRows : netlists.Content → timings.Content → Result Stated JoinFault → Type 0
 TakesRows netlist timing (Ok stated) = (first_fault (timing_fault netlist timing) timing.rows ≡ None) × HasStated netlist timing timing.rows stated
 TakesRows netlist timing (Err fault) = (fault ≡ out_of_memory) ⊎ (first_fault (timing_fault netlist timing) timing.rows ≡ Some fault)
+
+-- the input with this number, or why it is none
+abbrev pub input_numbered : netlists.Content → Option ℕ → Result ℕ JoinCause
+input_numbered netlist None = Err UnknownName
+input_numbered netlist (Some s) = if is_input (driver_at netlist s) then Ok s else Err NotInput
+
+-- the input with this name, or why it is none
+abbrev pub input_of : netlists.Content → List ℕ → Result ℕ JoinCause
+input_of netlist name = input_numbered netlist (number netlist name)
 
 abbrev pub bucket_of : netlists.Content → List SetRow → ℕ → List Setting
 bucket_of netlist rows s = map setting_of (filter (λ row. is_signal s (number netlist row.name)) rows)

@@ -1,5 +1,6 @@
 use Rattle.std.proofs.Common.{ap, ◌∙◌, sym, subst, inl, Err}
 use Rattle.std.proofs.lemmas.Result.{err_from_is_err_and}
+use Rattle.stimulus_file.specs.Named.{named}
 use Rattle.design.specs.Join.{AnswersDesign, design_of}
 use Rattle.design.specs.inner.Said.{HasSets}
 use Rattle.design.proofs.Finished.{refused-timing, refused-set, none-at, accepted}
@@ -16,7 +17,7 @@ pub returns-in_err-settings : goal.returns-in_err-settings
 returns-in_err-settings c =
     let p = err_from_is_err_and c.from_residual-in_err-settings.result c.from_residual-in_err-settings.ensures.1 in
     subst (λ r. AnswersDesign r (design_of c.args.netlist c.args.timing.now c.args.stimulus.now)) (sym (p.1 ∙ ap Err p.2))
-    (refused-set c.args.netlist c.args.timing.now c.args.stimulus.now c.horizon.result c.sets.result.now c.in_err-settings.field-0.0 c.horizon.ensures c.sets.ensures c.in_ok-stated.ensures.0 c.in_err-settings.ensures)
+    (refused-set c.args.netlist c.args.timing.now c.args.stimulus.now c.horizon.result (named c.sets.result.names.now c.sets.result.sets.now) c.in_err-settings.field-0.0 c.horizon.ensures c.sets.ensures.named c.in_ok-stated.ensures.0 c.in_err-settings.ensures)
 
 pub returns-in_err-rows : goal.returns-in_err-rows
 returns-in_err-rows c =
@@ -28,9 +29,9 @@ invariant_of-origin c =
     let netlist = c.args.netlist in
     let timing = c.args.timing.now in
     let stimulus = c.args.stimulus.now in
-    let none = none-at netlist timing stimulus c.horizon.result c.sets.result.now c.horizon.ensures c.sets.ensures c.in_ok-settings.ensures.0 in
+    let none = none-at netlist timing stimulus c.horizon.result (named c.sets.result.names.now c.sets.result.sets.now) c.horizon.ensures c.sets.ensures.named c.in_ok-settings.ensures.0 in
     let kept = c.in_ok-rows.ensures c.in_ok-stated.ensures.1 in
-    let has = subst (λ sets. HasSets netlist sets c.in_ok-settings.settings.items) c.sets.ensures c.in_ok-settings.ensures.1 in
+    let has = subst (λ sets. HasSets netlist sets c.in_ok-settings.settings.items) c.sets.ensures.named c.in_ok-settings.ensures.1 in
     is-kept netlist timing stimulus c.facts.ensures c.facts-2.ensures c.facts-3.ensures none c.horizon-2.result c.in_ok-rows.field-0.rows.items c.in_ok-rows.field-0.delays c.in_ok-settings-2.settings
     c.horizon-2.ensures kept.rows kept.delays (ordered-are netlist stimulus.sets c.in_ok-settings.settings.items c.in_ok-settings-2.settings has c.in_ok-settings-2.ensures)
 
@@ -39,9 +40,9 @@ returns c =
     let netlist = c.args.netlist in
     let timing = c.args.timing.now in
     let stimulus = c.args.stimulus.now in
-    let none = none-at netlist timing stimulus c.horizon.result c.sets.result.now c.horizon.ensures c.sets.ensures c.in_ok-settings.ensures.0 in
+    let none = none-at netlist timing stimulus c.horizon.result (named c.sets.result.names.now c.sets.result.sets.now) c.horizon.ensures c.sets.ensures.named c.in_ok-settings.ensures.0 in
     let kept = c.in_ok-rows.ensures c.in_ok-stated.ensures.1 in
-    let has = subst (λ sets. HasSets netlist sets c.in_ok-settings.settings.items) c.sets.ensures c.in_ok-settings.ensures.1 in
+    let has = subst (λ sets. HasSets netlist sets c.in_ok-settings.settings.items) c.sets.ensures.named c.in_ok-settings.ensures.1 in
     accepted netlist timing stimulus c.in_ok-of.field-0 c.in_ok-stated.ensures.0 none
     (c.in_ok-of.ensures ∙ joined-is netlist timing stimulus c.facts.ensures c.facts-2.ensures c.facts-3.ensures none c.horizon-2.result c.in_ok-rows.field-0.rows.items c.in_ok-rows.field-0.delays c.in_ok-settings-2.settings
     c.horizon-2.ensures kept.rows kept.delays (ordered-are netlist stimulus.sets c.in_ok-settings.settings.items c.in_ok-settings-2.settings has c.in_ok-settings-2.ensures))

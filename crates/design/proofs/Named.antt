@@ -1,0 +1,93 @@
+-- The settings of names that were looked up once each.
+use Rattle.std.proofs.Common.{◌≡◌, ℕ, ◌+◌, ◌<◌, Bool, true, false, cond, List, [], ◌∷◌, ◌++◌, length, map, get_or, take, drop, Option, Some, None, Result, Ok, Err, refl, sym, ap, ap₂, subst, ◌∙◌, arith, ◌⊎◌}
+use Rattle.std.specs.Prelude.{IfOk, All, nat_le}
+use Rattle.std.specs.Str.{bytes_eq}
+use Rattle.std.proofs.lemmas.Bool.{lt-leb}
+use Rattle.std.proofs.lemmas.List.{length-map, get_or_default}
+use Rattle.std.proofs.lemmas.List.Elements.{All-from_get_or}
+use Rattle.std.proofs.lemmas.List.Quantifiers.{position-Some}
+use Rattle.std.proofs.Math.ListN.{get_or-map}
+use Rattle.bench_reader.specs.Netlists as netlists
+use Rattle.stimulus_file.specs.declared.NumberedSet.{NumberedSet}
+use Rattle.stimulus_file.specs.Stimulus.{SetRow}
+use Rattle.stimulus_file.specs.Named.{named, with_name}
+use Rattle.design.specs.declared.fault.JoinCause.{JoinCause}
+use Rattle.design.specs.declared.fault.JoinCause.TheVariants.{UnknownName, NotInput, PastHorizon}
+use Rattle.design.specs.declared.fault.JoinFault.{JoinFault}
+use Rattle.design.specs.declared.fault.JoinFile.TheVariants as file
+use Rattle.design.specs.Causes.{out_of_memory}
+use Rattle.design.specs.Join.{number, driver_at, is_input, unless, cause_of_set, fault_of, set_fault, first_fault}
+use Rattle.design.specs.inner.Said.{input_numbered, input_of}
+use Rattle.design.proofs.Rereads.{refused-at, passed-at, taken-at}
+
+module _ (netlist : netlists.Content) where
+  pub input-known : (o : Option ℕ) (s : ℕ) → input_numbered netlist o ≡ Ok s → (o ≡ Some s) × (is_input (driver_at netlist s) ≡ true)
+  input-known None s h = absurd cc
+  input-known (Some n) s h = go (is_input (driver_at netlist n)) refl h
+    where
+      go : (b : Bool) → is_input (driver_at netlist n) ≡ b → ◌≡◌ {A = Result ℕ JoinCause} (cond b (Ok n) (Err NotInput)) (Ok s) → (◌≡◌ {A = Option ℕ} (Some n) (Some s)) × (is_input (driver_at netlist s) ≡ true)
+      go true e h = let same : n ≡ s = cc in (ap Some same, ap (λ (k : ℕ). is_input (driver_at netlist k)) (sym same) ∙ e)
+      go false e h = absurd cc
+
+  pub input-refused : (o : Option ℕ) (cause : JoinCause) (horizon time : ℕ) → input_numbered netlist o ≡ Err cause → cause_of_set netlist horizon o time ≡ Some cause
+  input-refused None cause horizon time h = let same : UnknownName ≡ cause = cc in ap Some same
+  input-refused (Some n) cause horizon time h = go (is_input (driver_at netlist n)) refl h
+    where
+      go : (b : Bool) → is_input (driver_at netlist n) ≡ b → ◌≡◌ {A = Result ℕ JoinCause} (cond b (Ok n) (Err NotInput)) (Err cause) → cause_of_set netlist horizon (Some n) time ≡ Some cause
+      go true e h = absurd cc
+      go false e h = let same : NotInput ≡ cause = cc in rw e (ap Some same)
+
+  -- each input that was found is a signal
+  pub inputs-within : (names : List (List ℕ)) (signals : ℕ) → signals ≡ length netlist.names → All (λ input. IfOk input (λ signal. signal < signals)) (map (input_of netlist) names)
+  inputs-within names signals long =
+      All-from_get_or (λ (input : Result ℕ JoinCause). IfOk input (λ (signal : ℕ). signal < signals)) (map (input_of netlist) names) (input_of netlist [])
+      (λ i l. subst (λ (input : Result ℕ JoinCause). IfOk input (λ (signal : ℕ). signal < signals)) (sym (get_or-map (input_of netlist) names i [])) (at (input_of netlist (get_or names i [])) (get_or names i []) refl))
+    where
+      at : (input : Result ℕ JoinCause) (name : List ℕ) → input_of netlist name ≡ input → IfOk input (λ (signal : ℕ). signal < signals)
+      at (Err cause) name h = tt
+      at (Ok s) name h = let lt = (position-Some (bytes_eq name) netlist.names s [] (input-known (number netlist name) s h).0).0 in omega (arith, lt, long)
+
+-- what was found for the name of a row
+pub input-at : (netlist : netlists.Content) (names : List (List ℕ)) (inputs : List (Result ℕ JoinCause)) (row : NumberedSet) (d : Result ℕ JoinCause) → inputs ≡ map (input_of netlist) names → row.name < length inputs
+    → get_or inputs row.name d ≡ input_of netlist (with_name names row).name
+input-at netlist names inputs row d e l =
+    get_or_default inputs row.name d (input_of netlist []) l ∙ ap (λ (l : List (Result ℕ JoinCause)). get_or l row.name (input_of netlist [])) e ∙ get_or-map (input_of netlist) names row.name []
+
+-- an input that was found is a signal
+pub input-within : (inputs : List (Result ℕ JoinCause)) (place : ℕ) (d : Result ℕ JoinCause) (signal signals : ℕ) → All (λ input. IfOk input (λ s. s < signals)) inputs → place < length inputs → get_or inputs place d ≡ Ok signal → signal < signals
+input-within inputs place d signal signals every l is = subst (λ (input : Result ℕ JoinCause). IfOk input (λ (s : ℕ). s < signals)) is (every place d l)
+
+module _ (netlist : netlists.Content) (horizon : ℕ) (row : SetRow) where
+  -- a row whose name is no input
+  pub set-refused : (cause : JoinCause) → input_of netlist row.name ≡ Err cause → set_fault netlist horizon row ≡ Some (record { cause = cause; file = file.Stimulus; line = row.line })
+  set-refused cause h = ap (fault_of file.Stimulus row.line) (input-refused netlist (number netlist row.name) cause horizon row.time h)
+
+  -- a row after the horizon
+  pub set-late : (s : ℕ) → input_of netlist row.name ≡ Ok s → horizon < row.time → set_fault netlist horizon row ≡ Some (record { cause = PastHorizon; file = file.Stimulus; line = row.line })
+  set-late s h l =
+      let known = input-known netlist (number netlist row.name) s h in
+      let late : nat_le row.time horizon ≡ false = lt-leb row.time horizon l in
+      ap (λ (o : Option ℕ). fault_of file.Stimulus row.line (cause_of_set netlist horizon o row.time)) known.0
+      ∙ ap₂ (λ (a : Bool) (b : Bool). fault_of file.Stimulus row.line (unless a NotInput (unless b PastHorizon None))) known.1 late
+
+module _ (names : List (List ℕ)) (sets : List NumberedSet) (i : ℕ) (d : NumberedSet) (within : i < length sets) where
+  in-range : i < length (named names sets)
+  in-range = let long = length-map sets (with_name names) in omega (arith, long, within)
+
+  -- a row at its place
+  at-place : with_name names (get_or sets i d) ≡ get_or (named names sets) i (with_name names (get_or sets i d))
+  at-place = sym (get_or-map (with_name names) sets i d) ∙ get_or_default (named names sets) i (with_name names d) (with_name names (get_or sets i d)) in-range
+
+  pub named-refused : (fault : SetRow → Option JoinFault) (f : JoinFault) → first_fault fault (named names sets) ≡ first_fault fault (drop i (named names sets))
+      → (f ≡ out_of_memory) ⊎ (fault (with_name names (get_or sets i d)) ≡ Some f) → (f ≡ out_of_memory) ⊎ (first_fault fault (named names sets) ≡ Some f)
+  named-refused fault f e h = refused-at fault (named names sets) i (with_name names (get_or sets i d)) f in-range at-place e h
+
+  pub named-passed : (fault : SetRow → Option JoinFault) → first_fault fault (named names sets) ≡ first_fault fault (drop i (named names sets))
+      → fault (with_name names (get_or sets i d)) ≡ None → first_fault fault (named names sets) ≡ first_fault fault (drop (i + 1) (named names sets))
+  named-passed fault e none = passed-at fault (named names sets) i (with_name names (get_or sets i d)) in-range at-place e none
+
+  pub named-taken : take i (named names sets) ++ with_name names (get_or sets i d) ∷ [] ≡ take (i + 1) (named names sets)
+  named-taken = taken-at (named names sets) i (with_name names (get_or sets i d)) in-range at-place
+
+pub below-same : (a m n : ℕ) → m ≡ n → a < n → a < m
+below-same a m n e l = omega (arith, e, l)
