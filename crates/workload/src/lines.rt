@@ -1,25 +1,33 @@
-//! Writing the lines of the texts from their draws.
+//! Writing the lines of the texts from their draws. A line is written from its end into a buffer,
+//! and appended to the text at once.
 
 ghost use Rattle.std.specs.Prelude.{◌≡◌, ◌++◌, ◌+◌, ◌<◌, OnOk};
 ghost use Rattle.workload.specs.Texts as texts;
 
-use crate::words::{kind_word, put, put_below, put_gate, put_input, put_number};
+use crate::words::{write_below, write_gate, write_input, write_kind, write_number, write_word};
 use owned_text::OutOfMemory;
+
+/// Room for the line of a gate whose numbers have ten digits each.
+const LONGEST_LINE: usize = 78;
 
 pub fn put_input_line(text: &mut Vec<u8>, number: u32) -> Result<(), OutOfMemory>
     ensures { OnOk result (text.new.items ≡ text.old.items ++ texts.input_line number) }
 {
-    put(text, b"INPUT(")?;
-    put_input(text, number)?;
-    put(text, b")\n")
+    let mut line = [0; LONGEST_LINE];
+    let end = write_word(b")\n", &mut line, LONGEST_LINE);
+    let end = write_input(number, &mut line, end);
+    let start = write_word(b"INPUT(", &mut line, end);
+    put(text, &line[start..])
 }
 
 pub fn put_output_line(text: &mut Vec<u8>, place: u32) -> Result<(), OutOfMemory>
     ensures { OnOk result (text.new.items ≡ text.old.items ++ texts.output_line place) }
 {
-    put(text, b"OUTPUT(")?;
-    put_gate(text, 99, place)?;
-    put(text, b")\n")
+    let mut line = [0; LONGEST_LINE];
+    let end = write_word(b")\n", &mut line, LONGEST_LINE);
+    let end = write_gate(99, place, &mut line, end);
+    let start = write_word(b"OUTPUT(", &mut line, end);
+    put(text, &line[start..])
 }
 
 /// Writes the line of a gate of the kind with this number.
@@ -33,21 +41,16 @@ pub fn put_gate_line(
     requires place { place < 2000 }
     ensures { OnOk result (text.new.items ≡ text.old.items ++ texts.gate_text layer place kind) }
 {
-    put_gate(text, layer, place)?;
-    put(text, b" = ")?;
-    put(text, kind_word(kind))?;
-    put_pins(text, layer, place)
-}
-
-fn put_pins(text: &mut Vec<u8>, layer: u32, place: u32) -> Result<(), OutOfMemory>
-    requires { place < 2000 }
-    ensures { OnOk result (text.new.items ≡ text.old.items ++ texts.pins_text layer place) }
-{
-    put(text, b"(")?;
-    put_below(text, layer, place)?;
-    put(text, b", ")?;
-    put_below(text, layer, place + 1)?;
-    put(text, b")\n")
+    let mut line = [0; LONGEST_LINE];
+    let end = write_word(b")\n", &mut line, LONGEST_LINE);
+    let end = write_below(layer, place + 1, &mut line, end);
+    let end = write_word(b", ", &mut line, end);
+    let end = write_below(layer, place, &mut line, end);
+    let end = write_word(b"(", &mut line, end);
+    let end = write_kind(kind, &mut line, end);
+    let end = write_word(b" = ", &mut line, end);
+    let start = write_gate(layer, place, &mut line, end);
+    put(text, &line[start..])
 }
 
 pub fn put_setting_line(
@@ -58,13 +61,13 @@ pub fn put_setting_line(
 ) -> Result<(), OutOfMemory>
     ensures { OnOk result (text.new.items ≡ text.old.items ++ texts.setting_text input time value) }
 {
-    put(text, b"set ")?;
-    put_input(text, input)?;
-    put(text, b" ")?;
-    put_number(text, time)?;
-    put(text, b" ")?;
-    put_number(text, value)?;
-    put(text, b"\n")
+    let mut line = [0; LONGEST_LINE];
+    let end = write_word(b"\n", &mut line, LONGEST_LINE);
+    let end = write_number(b' ', value, &mut line, end);
+    let end = write_number(b' ', time, &mut line, end);
+    let end = write_input(input, &mut line, end);
+    let start = write_word(b"set ", &mut line, end);
+    put(text, &line[start..])
 }
 
 /// Writes the line of the query with this number.
@@ -88,21 +91,30 @@ fn put_wave_line(text: &mut Vec<u8>, place: u32, time: u32) -> Result<(), OutOfM
     requires { time < 100000 }
     ensures { OnOk result (text.new.items ≡ text.old.items ++ texts.wave_text place time) }
 {
-    put(text, b"wave ")?;
-    put_gate(text, 99, place)?;
-    put(text, b" ")?;
-    put_number(text, time)?;
-    put(text, b" ")?;
-    put_number(text, time + 20)?;
-    put(text, b" 20000\n")
+    let mut line = [0; LONGEST_LINE];
+    let end = write_word(b" 20000\n", &mut line, LONGEST_LINE);
+    let end = write_number(b' ', time + 20, &mut line, end);
+    let end = write_number(b' ', time, &mut line, end);
+    let end = write_gate(99, place, &mut line, end);
+    let start = write_word(b"wave ", &mut line, end);
+    put(text, &line[start..])
 }
 
 fn put_at_line(text: &mut Vec<u8>, place: u32, time: u32) -> Result<(), OutOfMemory>
     ensures { OnOk result (text.new.items ≡ text.old.items ++ texts.at_text place time) }
 {
-    put(text, b"at ")?;
-    put_gate(text, 99, place)?;
-    put(text, b" ")?;
-    put_number(text, time)?;
-    put(text, b" 20000\n")
+    let mut line = [0; LONGEST_LINE];
+    let end = write_word(b" 20000\n", &mut line, LONGEST_LINE);
+    let end = write_number(b' ', time, &mut line, end);
+    let end = write_gate(99, place, &mut line, end);
+    let start = write_word(b"at ", &mut line, end);
+    put(text, &line[start..])
+}
+
+/// Appends a line to the text.
+pub fn put(text: &mut Vec<u8>, line: &[u8]) -> Result<(), OutOfMemory>
+    ensures { OnOk result (text.new.items ≡ text.old.items ++ line.now) }
+{
+    text.extend_from_slice(line)?;
+    Ok(())
 }

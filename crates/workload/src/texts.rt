@@ -6,9 +6,8 @@ ghost use Rattle.workload.specs.Texts.{lines_of};
 
 use crate::draws::Draws;
 use crate::lines::{
-    put_gate_line, put_input_line, put_output_line, put_query_line, put_setting_line,
+    put, put_gate_line, put_input_line, put_output_line, put_query_line, put_setting_line,
 };
-use crate::words::put;
 use owned_text::OutOfMemory;
 use std::alloc::Global;
 

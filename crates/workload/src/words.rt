@@ -1,63 +1,79 @@
-//! Writing numbers and the names of signals at the end of a text.
+//! Writing words, numbers and the names of signals. A line is written from its end to its front:
+//! each part is written so that it ends at `end`, where the next part starts, and its own start is
+//! returned.
 
-ghost use Rattle.std.specs.Prelude.{◌≡◌, ◌++◌, ◌<◌, OnOk, decimal};
+ghost use Rattle.std.specs.Prelude.{◌≡◌, ◌+◌, ◌<◌, ◌≤◌, ◌∷◌, ◌++◌, length, drop, decimal};
 ghost use Rattle.workload.specs.Texts.{input, gate, below, kind};
 
-use itoa::Buffer;
-use owned_text::OutOfMemory;
-
-pub fn put(text: &mut Vec<u8>, word: &[u8]) -> Result<(), OutOfMemory>
-    ensures { OnOk result (text.new.items ≡ text.old.items ++ word.now) }
+/// Writes a word. Where it is a constant, this is one store or two.
+#[inline(always)]
+pub fn write_word(word: &[u8], line: &mut [u8], end: usize) -> usize
+    requires { (length word.now ≤ end) × (end ≤ length line.old) }
+    ensures start { result + length word.now ≡ end }
+    ensures written { drop result line.new ≡ word.now ++ drop end line.old }
 {
-    text.extend_from_slice(word)?;
-    Ok(())
+    let start = end - word.len();
+    line[start..end].copy_from_slice(word);
+    start
 }
 
-pub fn put_number(text: &mut Vec<u8>, number: u32) -> Result<(), OutOfMemory>
-    ensures { OnOk result (text.new.items ≡ text.old.items ++ decimal number) }
+/// Writes this byte and a number after it.
+#[tactic(auto, using(crate::proofs::Numbers::number_len))]
+pub fn write_number(first: u8, number: u32, line: &mut [u8], end: usize) -> usize
+    requires { (11 ≤ end) × (end ≤ length line.old) }
+    ensures room { (result ≤ end) × (end ≤ result + 11) }
+    ensures written { drop result line.new ≡ first ∷ decimal number ++ drop end line.old }
 {
-    let mut buffer = Buffer::new();
-    put(text, buffer.format(number).as_bytes())
+    let start = itoa::write_digits(u64::from(number), line, end) - 1;
+    line[start] = first;
+    start
 }
 
-pub fn put_input(text: &mut Vec<u8>, number: u32) -> Result<(), OutOfMemory>
-    ensures { OnOk result (text.new.items ≡ text.old.items ++ input number) }
+/// Writes the name of an input.
+pub fn write_input(number: u32, line: &mut [u8], end: usize) -> usize
+    requires { (11 ≤ end) × (end ≤ length line.old) }
+    ensures room { (result ≤ end) × (end ≤ result + 11) }
+    ensures written { drop result line.new ≡ input number ++ drop end line.old }
 {
-    put(text, b"i")?;
-    put_number(text, number)
+    write_number(b'i', number, line, end)
 }
 
-pub fn put_gate(text: &mut Vec<u8>, layer: u32, place: u32) -> Result<(), OutOfMemory>
-    ensures { OnOk result (text.new.items ≡ text.old.items ++ gate layer place) }
+/// Writes the name of the gate at this place of this layer.
+pub fn write_gate(layer: u32, place: u32, line: &mut [u8], end: usize) -> usize
+    requires { (22 ≤ end) × (end ≤ length line.old) }
+    ensures room { (result ≤ end) × (end ≤ result + 22) }
+    ensures written { drop result line.new ≡ gate layer place ++ drop end line.old }
 {
-    put(text, b"g")?;
-    put_number(text, layer)?;
-    put(text, b"_")?;
-    put_number(text, place)
+    let end = write_number(b'_', place, line, end);
+    write_number(b'g', layer, line, end)
 }
 
 /// Writes the name of a signal in the layer below this one.
-pub fn put_below(text: &mut Vec<u8>, layer: u32, place: u32) -> Result<(), OutOfMemory>
-    ensures { OnOk result (text.new.items ≡ text.old.items ++ below layer place) }
+pub fn write_below(layer: u32, place: u32, line: &mut [u8], end: usize) -> usize
+    requires { (22 ≤ end) × (end ≤ length line.old) }
+    ensures room { (result ≤ end) × (end ≤ result + 22) }
+    ensures written { drop result line.new ≡ below layer place ++ drop end line.old }
 {
     if layer == 0 {
-        put_input(text, place % 16)
+        write_input(place % 16, line, end)
     } else {
-        put_gate(text, layer - 1, place % 2000)
+        write_gate(layer - 1, place % 2000, line, end)
     }
 }
 
-/// The word of the kind with this number.
-pub fn kind_word(number: u32) -> &'static [u8]
-    requires { number < 6 }
-    ensures { result.now ≡ kind number }
+/// Writes the word of the kind with this number.
+pub fn write_kind(number: u32, line: &mut [u8], end: usize) -> usize
+    requires number { number < 6 }
+    requires end { (4 ≤ end) × (end ≤ length line.old) }
+    ensures room { (result ≤ end) × (end ≤ result + 4) }
+    ensures written { drop result line.new ≡ kind number ++ drop end line.old }
 {
     match number {
-        0 => b"AND",
-        1 => b"NAND",
-        2 => b"OR",
-        3 => b"NOR",
-        4 => b"XOR",
-        _ => b"XNOR",
+        0 => write_word(b"AND", line, end),
+        1 => write_word(b"NAND", line, end),
+        2 => write_word(b"OR", line, end),
+        3 => write_word(b"NOR", line, end),
+        4 => write_word(b"XOR", line, end),
+        _ => write_word(b"XNOR", line, end),
     }
 }
