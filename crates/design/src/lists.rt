@@ -68,9 +68,7 @@ impl<T: Copy> Lists<T> {
             start: self.items.len(),
             length: list.len(),
         };
-        for item in list {
-            self.items.push(*item)?;
-        }
+        self.items.extend_from_slice(list)?;
         self.ranges.push(range)?;
         Ok(())
     }

@@ -1,6 +1,7 @@
 //! What the rows of a timing file say, by signal.
 
-ghost use Rattle.std.specs.Prelude.{◌≡◌, ◌++◌, ◌∷◌, [], ◌<◌, List, Some, IfOk, IfErr, OnOk, length, map};
+ghost use Rattle.std.specs.Prelude.{◌≡◌, ◌++◌, ◌∷◌, [], ◌<◌, List, Some, IfOk, IfErr, OnOk, length, map, unwrap_or};
+ghost use Rattle.std.specs.HashMap.{get};
 ghost use Rattle.std.specs.List.{range_with_len};
 ghost use Rattle.bench_reader.specs.Netlists as netlists;
 ghost use Rattle.bench_reader.specs.KeptNetlists.{driver_of_row};
@@ -9,7 +10,7 @@ ghost use Rattle.timing_file.specs.declared.TimingRow.{TimingRow as RowOf};
 ghost use Rattle.design.specs.declared.fault.JoinFile.TheVariants as file;
 ghost use Rattle.design.specs.Causes.{out_of_memory};
 ghost use Rattle.design.specs.Join as join;
-ghost use Rattle.design.specs.Join.{number, cause_of_what, clock_named, flop_of};
+ghost use Rattle.design.specs.Join.{number, cause_of_what, clock_named, flop_of, rows_say, pin_said};
 ghost use Rattle.design.specs.inner.Said as said;
 ghost use Rattle.design.specs.inner.Said.{KnowsClocks, HasStated, TakesRow, TakesRows, KeepsRows, delays_of, row_of};
 
@@ -23,6 +24,7 @@ use gate_values::{Kind, Value};
 use indexmap::IndexMap;
 use std::alloc::{AllocError, Global};
 use std::collections::HashMap;
+use std::hash::Hash;
 use timing_file::{ClockRow, Timing, TimingRow, TimingWhat};
 
 /// What rows state of signals, or of pins by signal and place.
@@ -252,22 +254,16 @@ impl Stated {
             → HasStated netlist timing.now timing.now.rows self.now
             → result ≡ join.delay_of netlist timing.now signal kind }
     {
-        self.delays
-            .get(&signal)
-            .copied()
-            .unwrap_or(timing.default_of(kind))
+        stated_at(&self.delays, &signal).unwrap_or(timing.default_of(kind))
     }
 
-    /// The delay of a pin.
-    fn pin_delay(&self, timing: &Timing, signal: u32, kind: Kind, place: u32) -> u32
-        ensures { (netlist : netlists.Content)
-            → HasStated netlist timing.now timing.now.rows self.now
-            → result ≡ join.pin_delay netlist timing.now signal kind place }
+    /// The delay of a pin of a gate that has this delay.
+    fn pin_delay(&self, signal: u32, place: u32, of_gate: u32) -> u32
+        ensures { (netlist : netlists.Content) (timing : timings.Content)
+            → HasStated netlist timing timing.rows self.now
+            → result ≡ unwrap_or (rows_say netlist timing.rows signal (pin_said place)) of_gate }
     {
-        self.pins
-            .get(&(signal, place))
-            .copied()
-            .unwrap_or(self.delay_of(timing, signal, kind))
+        stated_at(&self.pins, &(signal, place)).unwrap_or(of_gate)
     }
 
     fn flop_of(&self, timing: &Timing, signal: u32, pins: &[u32]) -> FlipFlop
@@ -279,74 +275,61 @@ impl Stated {
         FlipFlop {
             pin: pins[0],
             delay: self.delay_of(timing, signal, Kind::Dff),
-            clock: self.clocks.get(&signal).copied().or(timing.clock()),
-            initial: self.initials.get(&signal).copied().unwrap_or(Value::X),
+            clock: stated_at(&self.clocks, &signal).or(timing.clock()),
+            initial: stated_at(&self.initials, &signal).unwrap_or(Value::X),
         }
     }
 
-    /// The delays of the first pins of a gate.
-    fn pin_delays(
+    /// Appends the delays of the first pins of a gate.
+    fn push_pin_delays(
         &self,
-        alloc: Global,
         timing: &Timing,
         signal: u32,
         kind: Kind,
         count: u32,
-    ) -> Result<Vec<u32>, AllocError>
-        ensures { IfOk result (λ delays. (netlist : netlists.Content)
+        delays: &mut Vec<u32>,
+    ) -> Result<(), AllocError>
+        ensures { OnOk result ((netlist : netlists.Content)
             → HasStated netlist timing.now timing.now.rows self.now
-            → delays.items ≡ map (join.pin_delay netlist timing.now signal kind)
-            (range_with_len 0 count)) }
+            → delays.new.items ≡ delays.old.items ++ map (join.pin_delay netlist timing.now signal
+            kind) (range_with_len 0 count)) }
     {
-        let mut delays = Vec::with_capacity(alloc, count as usize)?;
+        let of_gate = self.delay_of(timing, signal, kind);
         for place in 0..count {
-            delays.push(self.pin_delay(timing, signal, kind, place))?;
+            delays.push(self.pin_delay(signal, place, of_gate))?;
         }
-        Ok(delays)
+        Ok(())
     }
 
-    /// The delays of the pins of a gate; none for an input or a flip-flop.
-    fn delays_of(
+    /// The row of a signal. The list becomes that of the delays of its pins, which is empty for
+    /// an input and a flip-flop.
+    fn row_of(
         &self,
-        alloc: Global,
         netlist: &Netlist,
         timing: &Timing,
         signal: u32,
-    ) -> Result<Vec<u32>, AllocError>
+        delays: &mut Vec<u32>,
+    ) -> Result<Row, AllocError>
         requires { signal < length netlist.now.names }
-        ensures { IfOk result (λ delays. HasStated netlist.now timing.now timing.now.rows self.now
-            → delays.items ≡ delays_of netlist.now timing.now signal
+        ensures delays { OnOk result (HasStated netlist.now timing.now timing.now.rows self.now
+            → delays.new.items ≡ delays_of netlist.now timing.now signal
             (join.driver_at netlist.now signal)) }
+        ensures row { IfOk result (λ row. HasStated netlist.now timing.now timing.now.rows self.now
+            → row ≡ row_of netlist.now timing.now signal (join.driver_at netlist.now signal)
+            delays.new.items) }
     {
+        delays.clear();
         match row_at(netlist, signal) {
-            NetlistRow::Input => Ok(Vec::new(alloc)),
+            NetlistRow::Input => Ok(Row::Input),
             NetlistRow::Gate { kind, pins } => {
                 if is_dff(kind) {
-                    Ok(Vec::new(alloc))
+                    Ok(Row::Flop(self.flop_of(timing, signal, pins)))
                 } else {
-                    self.pin_delays(alloc, timing, signal, kind, pins.len() as u32)
-                }
-            }
-        }
-    }
-
-    /// The row of a signal, if the pins of a gate have these delays.
-    fn row_of(&self, netlist: &Netlist, timing: &Timing, signal: u32, delays: &[u32]) -> Row
-        requires { signal < length netlist.now.names }
-        ensures { HasStated netlist.now timing.now timing.now.rows self.now
-            → result ≡ row_of netlist.now timing.now signal (join.driver_at netlist.now signal)
-            delays.now }
-    {
-        match row_at(netlist, signal) {
-            NetlistRow::Input => Row::Input,
-            NetlistRow::Gate { kind, pins } => {
-                if is_dff(kind) {
-                    Row::Flop(self.flop_of(timing, signal, pins))
-                } else {
-                    Row::Gate {
+                    self.push_pin_delays(timing, signal, kind, pins.len() as u32, delays)?;
+                    Ok(Row::Gate {
                         kind,
                         least: least_of(delays),
-                    }
+                    })
                 }
             }
         }
@@ -364,9 +347,9 @@ impl Stated {
     {
         let mut rows = Vec::new(alloc);
         let mut delays = Lists::new(alloc);
+        let mut of_pins = Vec::new(alloc);
         for signal in 0..netlist.signals() {
-            let of_pins = self.delays_of(alloc, netlist, timing, signal)?;
-            rows.push(self.row_of(netlist, timing, signal, &of_pins))?;
+            rows.push(self.row_of(netlist, timing, signal, &mut of_pins)?)?;
             delays.push(&of_pins)?;
         }
         Ok(Rows { rows, delays })
@@ -378,6 +361,17 @@ impl Stated {
 pub struct Rows {
     pub rows: Vec<Row>,
     pub delays: Lists<u32>,
+}
+
+/// What a map has at a key. Most files leave most maps empty, and there no key is hashed.
+fn stated_at<K: Eq + Hash, V: Copy>(map: &HashMap<K, V>, key: &K) -> Option<V>
+    ensures { result ≡ get K.eq map.now key.now }
+{
+    if map.is_empty() {
+        None
+    } else {
+        map.get(key).copied()
+    }
 }
 
 /// The least of these delays.
