@@ -19,8 +19,8 @@ pub fn empty_lists<T: Copy>(alloc: Global, count: u32) -> Result<Vec<Vec<T>>, Al
 /// The range of a list in the array.
 #[derive(Clone, Copy)]
 pub struct Range {
-    pub start: usize,
-    pub length: usize,
+    pub start: u32,
+    pub length: u32,
 }
 
 /// Lists that stand one after another in one array.
@@ -48,28 +48,32 @@ impl<T: Copy> Lists<T> {
         ensures { slice_get self.now place ≡ Some result.now }
     {
         let range = self.ranges[place as usize];
-        &self.items[range.start..range.start + range.length]
+        let start = range.start as usize;
+        &self.items[start..start + range.length as usize]
     }
 
-    pub fn new(alloc: Global) -> Lists<T>
-        ensures { result ≡ [] }
+    /// No list yet, with room for the ranges of this many.
+    pub fn with_room(alloc: Global, lists: usize) -> Result<Lists<T>, AllocError>
+        ensures { IfOk result (λ none. none ≡ []) }
     {
-        Lists {
-            ranges: Vec::new(alloc),
+        Ok(Lists {
+            ranges: Vec::with_capacity(alloc, lists)?,
             items: Vec::new(alloc),
-        }
+        })
     }
 
-    /// Appends a list.
+    /// Appends a list. Where the items would be too many, it is answered as where memory runs out.
     pub fn push(&mut self, list: &[T]) -> Result<(), AllocError>
         ensures { OnOk result (self.new ≡ self.old ++ list.now ∷ []) }
     {
-        let range = Range {
-            start: self.items.len(),
-            length: list.len(),
+        let Ok(start) = u32::try_from(self.items.len()) else {
+            return Err(AllocError);
+        };
+        let Ok(length) = u32::try_from(list.len()) else {
+            return Err(AllocError);
         };
         self.items.extend_from_slice(list)?;
-        self.ranges.push(range)?;
+        self.ranges.push(Range { start, length })?;
         Ok(())
     }
 }

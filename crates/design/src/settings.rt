@@ -113,7 +113,7 @@ pub fn in_order(alloc: Global, settings: Vec<Vec<Setting>>) -> Result<Lists<Sett
     ensures { IfOk result (λ lists. lists ≡ map (λ list. join.scheduled list.items)
         settings.items) }
 {
-    let mut lists = Lists::new(alloc);
+    let mut lists = Lists::with_room(alloc, settings.len())?;
     for list in settings {
         lists.push(&scheduled(list)?)?;
     }

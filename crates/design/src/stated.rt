@@ -345,10 +345,11 @@ impl Stated {
         ensures { IfOk result (λ kept. HasStated netlist.now timing.now timing.now.rows self.now
             → KeepsRows netlist.now timing.now (length netlist.now.names) kept) }
     {
-        let mut rows = Vec::new(alloc);
-        let mut delays = Lists::new(alloc);
+        let signals = netlist.signals();
+        let mut rows = Vec::with_capacity(alloc, signals as usize)?;
+        let mut delays = Lists::with_room(alloc, signals as usize)?;
         let mut of_pins = Vec::new(alloc);
-        for signal in 0..netlist.signals() {
+        for signal in 0..signals {
             rows.push(self.row_of(netlist, timing, signal, &mut of_pins)?)?;
             delays.push(&of_pins)?;
         }

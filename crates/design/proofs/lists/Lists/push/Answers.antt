@@ -1,4 +1,4 @@
-use Rattle.std.proofs.Common.{◌++◌, ◌∷◌, [], List, ap, ◌∙◌, refl, arith, length}
+use Rattle.std.proofs.Common.{◌++◌, ◌∷◌, [], List, ap, ◌∙◌, arith}
 use Rattle.design.specs.declared.lists.Range.{Range}
 use Rattle.design.specs.inner.Lists.{pieces}
 use Rattle.design.proofs.Listed.{pieces-pushed}
@@ -9,5 +9,5 @@ returns g c =
     let items = c.extend_from_slice.new.self.items in
     ap (λ (r : List Range). pieces r items) c.in_ok-push.ensures.items
     ∙ pieces-pushed c.self.inside.ranges.items c.self.inside.items.items c.args.list.now items c.self.invariant c.in_ok-extend_from_slice.ensures.items
-    (record { start = c.len.result; length = length c.args.list.now }) (let e = c.len.ensures in let k = c.self.inside.items.ok in omega (arith, e, k)) refl
+    (record { start = c.in-Ok.start; length = c.in-Ok-try_from.length }) (let e = c.in-Ok.ensures in let n = c.len.ensures in let k = c.self.inside.items.ok in omega (arith, e, n, k)) (let e = c.in-Ok-try_from.ensures in omega (arith, e))
     ∙ ap (λ v. v ++ c.args.list.now ∷ []) c.self.view_is
