@@ -10,4 +10,3 @@ pub mod Steps
 pub mod End
 pub mod Loop
 pub mod Whole
-pub mod Copies

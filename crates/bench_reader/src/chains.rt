@@ -113,17 +113,6 @@ impl Chains {
         self.latest[bucket] = number as u32 + 1;
     }
 
-    /// The same chains once more, in memory of their own.
-    pub fn copy(&self, alloc: Global) -> Result<Chains, AllocError>
-        ensures latest { IfOk result (λ copy. copy.latest.items ≡ self.now.latest.items) }
-        ensures earlier { IfOk result (λ copy. copy.earlier.items ≡ self.now.earlier.items) }
-    {
-        Ok(Chains {
-            latest: Vec::from_slice(alloc, &self.latest)?,
-            earlier: Vec::from_slice(alloc, &self.earlier)?,
-        })
-    }
-
     /// All these names in chains, by so many buckets.
     fn of_names(alloc: Global, names: &TextList, count: usize) -> Result<Chains, AllocError>
         requires room { length names.now < count }

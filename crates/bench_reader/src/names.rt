@@ -132,14 +132,4 @@ impl Names {
         }
         Ok(())
     }
-
-    /// The same names once more, in memory of their own.
-    pub fn copy(&self, alloc: Global) -> Result<Names, AllocError>
-        ensures { IfOk result (λ copy. copy ≡ self.now) }
-    {
-        Ok(Names {
-            texts: self.texts.copy(alloc)?,
-            chains: self.chains.copy(alloc)?,
-        })
-    }
 }

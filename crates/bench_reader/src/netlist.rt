@@ -1,6 +1,6 @@
 //! The netlist that a text says.
 
-ghost use Rattle.std.specs.Prelude.{◌≡◌, ◌<◌, length, position, slice_get, Some, IfOk};
+ghost use Rattle.std.specs.Prelude.{◌≡◌, ◌<◌, length, position, slice_get, Some};
 ghost use Rattle.std.specs.Str.{bytes_eq};
 ghost use Rattle.bench_reader.specs.Netlists.{IsNetlist};
 ghost use Rattle.bench_reader.specs.KeptNetlists.{driver_of_row};
@@ -8,7 +8,6 @@ ghost use Rattle.bench_reader.specs.KeptNetlists.{driver_of_row};
 use crate::names::Names;
 use gate_values::Kind;
 use indexmap::IndexSet;
-use std::alloc::{AllocError, Global};
 use std::marker::Model;
 
 /// What the lines so far say of a signal's definition. In a netlist none is missing.
@@ -57,18 +56,6 @@ impl Netlist {
         ensures { IsNetlist self.now }
     {
         let _ = &self.rows;
-    }
-
-    /// The same netlist once more, in memory of its own. It takes time in proportion to the netlist, and hashes each name.
-    pub fn copy(&self, alloc: Global) -> Result<Netlist, AllocError>
-        ensures { IfOk result (λ copy. copy ≡ self.now) }
-    {
-        Ok(Netlist {
-            names: self.names.copy(alloc)?,
-            rows: Vec::from_slice(alloc, &self.rows)?,
-            pins: Vec::from_slice(alloc, &self.pins)?,
-            outputs: self.outputs.clone()?,
-        })
     }
 
     /// How many signals there are.

@@ -1,6 +1,6 @@
 //! Texts, and where each is kept.
 
-ghost use Rattle.std.specs.Prelude.{◌≡◌, ◌++◌, ◌<◌, ◌≤◌, [], ◌∷◌, length, take, slice_get, Some, IfOk, OnOk, OnErr};
+ghost use Rattle.std.specs.Prelude.{◌≡◌, ◌++◌, ◌<◌, ◌≤◌, [], ◌∷◌, length, take, slice_get, Some, OnOk, OnErr};
 
 use std::alloc::{AllocError, Global};
 use std::marker::Model;
@@ -97,15 +97,5 @@ impl TextList {
             end: end as u32,
         })?;
         Ok(())
-    }
-
-    /// The same texts once more, in memory of their own.
-    pub fn copy(&self, alloc: Global) -> Result<TextList, AllocError>
-        ensures { IfOk result (λ copy. copy ≡ self.now) }
-    {
-        Ok(TextList {
-            places: Vec::from_slice(alloc, &self.places)?,
-            bytes: Vec::from_slice(alloc, &self.bytes)?,
-        })
     }
 }
