@@ -1,6 +1,6 @@
 //! Names in chains, by a hash.
 
-ghost use Rattle.std.specs.Prelude.{◌≡◌, ◌+◌, ◌<◌, ◌≤◌, ◌^◌, [], length, set, slice_index, fold, MatchOption, IfOk, OnOk};
+ghost use Rattle.std.specs.Prelude.{◌≡◌, ◌+◌, ◌<◌, ◌≤◌, ◌^◌, length, set, slice_index, fold, MatchOption, IfOk, OnOk};
 ghost use Rattle.bench_reader.specs.inner.Chains.{AreChained, BeginsChain, IsNowhere, HasNumber};
 ghost use Rattle.bench_reader.specs.inner.Chains as chains;
 
@@ -90,16 +90,6 @@ pub fn bucket_of(hash: u64, count: usize) -> usize
 }
 
 impl Chains {
-    pub fn new(alloc: Global) -> Chains
-        ensures latest { result.latest.items ≡ [] }
-        ensures earlier { result.earlier.items ≡ [] }
-    {
-        Chains {
-            latest: Vec::new(alloc),
-            earlier: Vec::new(alloc),
-        }
-    }
-
     /// Puts the name with the next number into its bucket.
     pub fn link(&mut self, number: usize, bucket: usize)
         requires number { number < length self.old.earlier.items }
@@ -114,7 +104,7 @@ impl Chains {
     }
 
     /// All these names in chains, by so many buckets.
-    fn of_names(alloc: Global, names: &TextList, count: usize) -> Result<Chains, AllocError>
+    pub fn of_names(alloc: Global, names: &TextList, count: usize) -> Result<Chains, AllocError>
         requires room { length names.now < count }
         requires few { count < 4294967296 }
         ensures chained { IfOk result (λ all. AreChained names.now all.latest.items

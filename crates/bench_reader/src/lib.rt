@@ -36,10 +36,11 @@
 //! Reading takes one walk over the text and one look-up by a hash for each name
 //! that it meets, so its time grows with the length of the text. A netlist keeps
 //! each name once, and the pins of all gates in one list. A name of at most 11
-//! bytes takes 16 bytes, with 4 to 8 for each of the two lists by which it is
-//! found; the bytes of longer names lie in one list. `id_of` is one look-up, and
-//! the other calls read one place each. The hash is fixed: a text whose names
-//! were chosen to share a hash is read slowly.
+//! bytes takes 16 bytes, and the bytes of longer names lie in one list. The two
+//! lists by which names are found take 4 bytes each for each 24 bytes of the
+//! text, or 4 to 8 for each name where there are more names. `id_of` is one
+//! look-up, and the other calls read one place each. The hash is fixed: a text
+//! whose names were chosen to share a hash is read slowly.
 //!
 //! ```text
 //! let netlist = read_bench(alloc, b"INPUT(a)\nOUTPUT(y)\ny = NOT(a)\n")?;

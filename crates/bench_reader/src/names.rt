@@ -36,13 +36,15 @@ impl Model for Names {
 }
 
 impl Names {
-    pub fn new(alloc: Global) -> Names
-        ensures { result ≡ [] }
+    /// No names, and buckets for so many.
+    pub fn with_room(alloc: Global, count: usize) -> Result<Names, AllocError>
+        requires some { 0 < count }
+        requires few { count < 4294967296 }
+        ensures { IfOk result (λ names. names ≡ []) }
     {
-        Names {
-            texts: TextList::new(alloc),
-            chains: Chains::new(alloc),
-        }
+        let texts = TextList::new(alloc);
+        let chains = Chains::of_names(alloc, &texts, count)?;
+        Ok(Names { texts, chains })
     }
 
     pub fn len(&self) -> usize

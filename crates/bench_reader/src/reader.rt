@@ -1,6 +1,6 @@
 //! Reading the lines one after another.
 
-ghost use Rattle.std.specs.Prelude.{◌≡◌, ◌+◌, ◌≤◌, ℕ, false, List, [], ◌∷◌, length, OnOk, IfErr};
+ghost use Rattle.std.specs.Prelude.{◌≡◌, ◌+◌, ◌<◌, ◌≤◌, ℕ, false, List, [], ◌∷◌, length, OnOk, IfOk, IfErr};
 ghost use Rattle.std.specs.List.{list_any};
 ghost use Rattle.bench_reader.specs.Lines.{Input, Output, Gate};
 ghost use Rattle.bench_reader.specs.Netlists.{out_of_memory, bench_of};
@@ -37,6 +37,18 @@ const MOST_GATE_PINS: usize = 64;
 const MOST_NAMES: usize = 1_048_576;
 
 const MOST_PINS: usize = 4_194_304;
+
+/// A line that names a signal first has about so many bytes.
+const LINE_BYTES: usize = 24;
+
+/// For so many names there is room from the start. Where a text has more, room is made as they
+/// come.
+fn room_for(len: usize) -> usize
+    ensures some { 0 < result }
+    ensures few { result ≤ 1048576 }
+{
+    (len / LINE_BYTES + 1).min(MOST_NAMES)
+}
 
 fn is_gate(rows: &[Definition], id: u32) -> bool
     ensures { result ≡ is_gate_at rows.now id }
@@ -93,15 +105,17 @@ fn add_rows(rows: &mut Vec<Definition>, names: &Names, line: u32) -> Result<(), 
 }
 
 impl Reader {
-    fn new(alloc: Global) -> Reader
-        ensures { IsRead [] result }
+    /// What no line says, with room for the names of a text of so many bytes.
+    fn new(alloc: Global, len: usize) -> Result<Reader, BenchFault>
+        ensures read { IfOk result (IsRead []) }
+        ensures memory { IfErr result (λ fault. fault ≡ out_of_memory) }
     {
-        Reader {
-            names: Names::new(alloc),
+        Ok(Reader {
+            names: Names::with_room(alloc, room_for(len))?,
             rows: Vec::new(alloc),
             pins: Vec::new(alloc),
             outputs: IndexSet::new(alloc),
-        }
+        })
     }
 
     fn is_crowded(&self) -> bool
@@ -259,12 +273,14 @@ fn missing_line(rows: &[Definition]) -> Option<u32>
 /// The netlist that a text says, or its first fault.
 ///
 /// The text is read once, in a time that grows with its length. The netlist takes memory for each
-/// name, row and pin; a line at fault may want memory for a list as long as the line.
+/// name, row and pin, and about a third of the text's length, at most 8 MiB, for finding names; a
+/// line at fault may want memory for a list as long as the line.
 pub fn read_bench(alloc: Global, text: &[u8]) -> Result<Netlist, BenchFault>
     requires { length text.now ≤ 67108864 }
     ensures { Answers OutOfMemory result (bench_of text.now) }
 {
-    let reader = read_lines(alloc, Reader::new(alloc), text)?;
+    let empty = Reader::new(alloc, text.len())?;
+    let reader = read_lines(alloc, empty, text)?;
     match missing_line(&reader.rows) {
         Some(line) => Err(BenchFault {
             cause: BenchCause::Undefined,
