@@ -1,13 +1,14 @@
 -- Tokens, one at a time.
-use Rattle.std.proofs.Common.{◌≡◌, ℕ, suc, ◌+◌, ◌<◌, ◌||◌, Bool, true, false, not, cond, eqb, List, [], ◌∷◌, ◌++◌, length, take, drop, get_or, Some, None, refl, sym, ap, subst, ◌∙◌, arith, add-zero, length-drop, inl, inr, ◌⊎◌}
-use Rattle.std.specs.List.{slice_split, onto_first, position, position_or_len, filter, flat_map}
-use Rattle.std.proofs.lemmas.Bool.{eqb-true}
+use Rattle.std.proofs.Common.{◌≡◌, ℕ, zero, suc, ◌+◌, ◌<◌, ◌||◌, ◌&&◌, Bool, true, false, not, cond, eqb, List, [], ◌∷◌, ◌++◌, length, take, drop, get_or, Some, None, refl, sym, ap, subst, ◌∙◌, arith, add-zero, length-drop, inl, inr, ◌⊎◌}
+use Rattle.std.specs.List.{slice_split, onto_first, position, position_or_len, filter, flat_map, list_all}
+use Rattle.std.proofs.lemmas.Bool.{eqb-true, true≢false}
+use Rattle.std.proofs.lemmas.Bool.Decides.{nat_tests}
 use Rattle.std.proofs.lemmas.List.{append-nil, get_or-drop, length-take}
 use Rattle.std.proofs.lemmas.List.Sums.{passes_at_first}
 use Rattle.std.proofs.lemmas.List.Concat.{flat_map-cons}
 use Rattle.std.proofs.Math.Seq.{drop-length, take-length}
 use Rattle.text_rules.proofs.Cuts.{found, found_none}
-use Rattle.text_rules.specs.Text.{is_blank, is_mark, is_filled, words, spaced, tokens}
+use Rattle.text_rules.specs.Text.{is_blank, is_mark, is_hash, is_filled, content, words, spaced, tokens}
 
 abbrev pub stops : ℕ → Bool
 stops b = is_blank b || is_mark b
@@ -127,11 +128,76 @@ whole_token bytes h some =
     let alone : parts bytes ≡ glue bytes (parts []) = run ∙ ap (λ (l : List ℕ). glue l (parts (drop (length bytes) bytes))) (take-length bytes) ∙ ap (λ (l : List ℕ). glue bytes (parts l)) (drop-length bytes) in
     ap (filter is_filled) alone ∙ after_run bytes [] some (inl refl)
 
+pub whole_len : (bytes : List ℕ) (n : ℕ) → position stops bytes ≡ None → 0 < length bytes → n ≡ length bytes → tokens bytes ≡ take n bytes ∷ tokens (drop n bytes)
+whole_len bytes n h some all =
+    let front : take n bytes ≡ bytes = ap (λ (k : ℕ). take k bytes) all ∙ take-length bytes in
+    let rest : drop n bytes ≡ [] = ap (λ (k : ℕ). drop k bytes) all ∙ drop-length bytes in
+    whole_token bytes h some ∙ ap (λ (l : List ℕ). l ∷ tokens []) (sym front) ∙ ap (λ (l : List ℕ). take n bytes ∷ tokens l) (sym rest)
+
 -- the token at the front, where it is a mark
-pub mark_front : (bytes : List ℕ) → 0 < length bytes → is_blank (get_or bytes 0 0) ≡ false → position stops bytes ≡ Some 0 → tokens bytes ≡ take 1 bytes ∷ tokens (drop 1 bytes)
-mark_front [] some h e = absurd (omega arith)
-mark_front (b ∷ bytes) some h e =
-    let at = found stops (b ∷ bytes) 0 e in
-    let passes : stops (get_or (b ∷ bytes) (position_or_len stops (b ∷ bytes)) 0) ≡ true = passes_at_first stops (b ∷ bytes) 0 (omega (arith, at.0, at.1)) in
-    let stop : stops b ≡ true = subst (λ (n : ℕ). stops (get_or (b ∷ bytes) n 0) ≡ true) at.0 passes in
-    mark_token b bytes h (rw h at stop)
+pub mark_front : (bytes : List ℕ) → 0 < length bytes → is_blank (get_or bytes 0 0) ≡ false → is_mark (get_or bytes 0 0) ≡ true → tokens bytes ≡ take 1 bytes ∷ tokens (drop 1 bytes)
+mark_front [] some h m = absurd (omega arith)
+mark_front (b ∷ bytes) some h m = mark_token b bytes h m
+
+-- and where it is none
+pub plain_front : (bytes : List ℕ) (i : ℕ) → position stops bytes ≡ Some i → is_blank (get_or bytes 0 0) ≡ false → is_mark (get_or bytes 0 0) ≡ false → tokens bytes ≡ take i bytes ∷ tokens (drop i bytes)
+plain_front bytes zero e h m =
+    let at = found stops bytes 0 e in
+    let passes : stops (get_or bytes (position_or_len stops bytes) 0) ≡ true = passes_at_first stops bytes 0 (omega (arith, at.0, at.1)) in
+    let stop : stops (get_or bytes 0 0) ≡ true = subst (λ (n : ℕ). stops (get_or bytes n 0) ≡ true) at.0 passes in
+    let plain : stops (get_or bytes 0 0) ≡ false = rw (h, m) refl in
+    absurd (true≢false (sym stop ∙ plain))
+plain_front bytes (suc i) e h m = run_token bytes (suc i) e (omega arith)
+
+-- no `#`
+abbrev pub is_clean : List ℕ → Bool
+is_clean bytes = list_all (λ b. not (is_hash b)) bytes
+
+blank_clean : (b : ℕ) → is_blank b ≡ true → not (is_hash b) ≡ true
+blank_clean b h = grind (arith, nat_tests)
+
+onto_clean : (b : ℕ) (ps : List (List ℕ)) → list_all is_clean (onto_first b ps) ≡ (not (is_hash b) && list_all is_clean ps)
+onto_clean b [] = cases (not (is_hash b))
+  where
+    cases : (v : Bool) → ((v && true) && true) ≡ (v && true)
+    cases true = refl
+    cases false = refl
+onto_clean b (p ∷ ps) = cases (not (is_hash b))
+  where
+    cases : (v : Bool) → ((v && is_clean p) && list_all is_clean ps) ≡ (v && (is_clean p && list_all is_clean ps))
+    cases true = refl
+    cases false = refl
+
+parts_clean : (bytes : List ℕ) → list_all is_clean (parts bytes) ≡ is_clean bytes
+parts_clean [] = refl
+parts_clean (b ∷ bytes) = cases (parts_clean bytes) (is_blank b) (is_mark b) refl refl
+  where
+    alone : (t : Bool) → ((t && true) && is_clean bytes) ≡ (t && is_clean bytes)
+    alone true = refl
+    alone false = refl
+
+    cases : (again : list_all is_clean (parts bytes) ≡ is_clean bytes) (v w : Bool) → is_blank b ≡ v → is_mark b ≡ w → list_all is_clean (parts (b ∷ bytes)) ≡ is_clean (b ∷ bytes)
+    cases again true w h m = rw (blank_parts b bytes h, blank_clean b h) again
+    cases again false true h m = rw (mark_parts b bytes h m, again) (alone (not (is_hash b)))
+    cases again false false h m = rw (plain_parts b bytes h m) (onto_clean b (parts bytes) ∙ ap (λ (v : Bool). not (is_hash b) && v) again)
+
+filled_clean : (ps : List (List ℕ)) → list_all is_clean (filter is_filled ps) ≡ list_all is_clean ps
+filled_clean [] = refl
+filled_clean ([] ∷ ps) = filled_clean ps
+filled_clean ((b ∷ p) ∷ ps) = ap (λ (v : Bool). is_clean (b ∷ p) && v) (filled_clean ps)
+
+-- a `#` stands in some token
+pub tokens_clean : (bytes : List ℕ) → list_all is_clean (tokens bytes) ≡ is_clean bytes
+unfolding tokens words
+tokens_clean bytes = filled_clean (parts bytes) ∙ parts_clean bytes
+
+-- all of a line without `#` counts
+pub content_clean : (line : List ℕ) → is_clean line ≡ true → content line ≡ line
+content_clean [] h = refl
+content_clean (b ∷ line) h = cases (content_clean line) (is_hash b) h
+  where
+    cases : (again : is_clean line ≡ true → content line ≡ line) (v : Bool) → (not v && is_clean line) ≡ true → take (cond (not v) (1 + position_or_len is_hash line) 0) (b ∷ line) ≡ b ∷ line
+    cases again true h = absurd cc
+    cases again false h =
+        let k : 1 + position_or_len is_hash line ≡ suc (position_or_len is_hash line) = omega arith in
+        rw k (ap (λ (l : List ℕ). b ∷ l) (again h))

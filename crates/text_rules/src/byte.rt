@@ -76,6 +76,8 @@ pub fn token_end_at(bytes: &[u8]) -> Option<usize>
     bytes.iter().position(|byte| is_token_end(*byte))
 }
 
+/// It is kept out of line, so that its loop has the registers.
+#[inline(never)]
 pub fn name_end_at(bytes: &[u8]) -> Option<usize>
     ensures { result ≡ position (λ b. not (text.is_name_byte b)) bytes.now }
 {

@@ -1,17 +1,9 @@
-use Rattle.std.proofs.Common.{◌≡◌, ◌<◌, Some, sym, ap, ◌∙◌, arith}
-use Rattle.text_rules.proofs.Tokens.{stops, whole_token, mark_front, run_token}
-use Rattle.std.specs.List.{position}
+use Rattle.std.proofs.Common.{sym, ◌∙◌}
+use Rattle.text_rules.proofs.Tokens.{mark_front}
 use Rattle.text_rules.proofs.token.first_token.Goals as goal
 
-pub returns-in-None : goal.returns-in-None
-returns-in-None c = whole_token _ (sym c.in-None.ensures) c.requires.some
+pub returns-then-is_mark : goal.returns-then-is_mark
+returns-then-is_mark c = rw (c.split_at.ensures.front, c.split_at.ensures.back) (mark_front _ c.requires.some c.requires.filled (sym c.is_mark.ensures ∙ c.if-is_mark.true))
 
-pub returns-then-end-eq0 : goal.returns-then-end-eq0
-returns-then-end-eq0 c =
-    let zero_at : position stops c.args.bytes.now ≡ Some 0 = sym c.in-Some.ensures ∙ ap Some c.if-end-eq0.true in
-    rw (c.split_at.ensures.front, c.split_at.ensures.back) (mark_front _ c.requires.some c.requires.filled zero_at)
-
-pub returns-else-end-eq0 : goal.returns-else-end-eq0
-returns-else-end-eq0 c =
-    let some : 0 < c.in-Some.end = omega arith in
-    rw (c.split_at-else-end-eq0.ensures.front, c.split_at-else-end-eq0.ensures.back) (run_token _ _ (sym c.in-Some.ensures) some)
+pub returns : goal.returns
+returns c = rw (c.split_at-2.ensures.front, c.split_at-2.ensures.back) c.run_len.ensures.cut
