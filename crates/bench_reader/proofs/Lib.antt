@@ -10,3 +10,4 @@ pub mod Steps
 pub mod End
 pub mod Loop
 pub mod Whole
+pub mod Comments

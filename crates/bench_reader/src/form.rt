@@ -76,6 +76,7 @@ fn port_form<'a>(word: &[u8], bytes: &'a [u8]) -> Form<'a>
 }
 
 /// Names divided by `,`, and then `)`.
+#[inline(always)]
 fn listed(alloc: Global, bytes: &[u8]) -> Result<Option<SmallVec<&[u8], 4>>, AllocError>
     ensures { IfOk result (λ found. names_of found ≡ form.listed (tokens bytes.entry.now)) }
 {
@@ -108,6 +109,7 @@ fn listed(alloc: Global, bytes: &[u8]) -> Result<Option<SmallVec<&[u8], 4>>, All
 }
 
 /// The pins after `(`.
+#[inline(always)]
 fn pins_of(alloc: Global, bytes: &[u8]) -> Result<Option<SmallVec<&[u8], 4>>, AllocError>
     ensures { IfOk result (λ found. names_of found ≡ form.pins_of (tokens bytes.entry.now)) }
 {
@@ -131,6 +133,7 @@ fn pins_of(alloc: Global, bytes: &[u8]) -> Result<Option<SmallVec<&[u8], 4>>, Al
 }
 
 /// What follows `name =`.
+#[inline(always)]
 fn gate_form<'a>(alloc: Global, name: &'a [u8], bytes: &'a [u8]) -> Result<Form<'a>, AllocError>
     ensures { IfOk result (λ found. view found ≡ form.gate_line name.entry.now
         (tokens bytes.entry.now)) }
@@ -152,7 +155,9 @@ fn gate_form<'a>(alloc: Global, name: &'a [u8], bytes: &'a [u8]) -> Result<Form<
     }
 }
 
-fn by_tokens(alloc: Global, bytes: &[u8]) -> Result<Form<'_>, AllocError>
+/// The form that the tokens say.
+#[inline(always)]
+pub fn by_tokens(alloc: Global, bytes: &[u8]) -> Result<Form<'_>, AllocError>
     ensures { IfOk result (λ found. view found ≡ form.by_tokens (tokens bytes.entry.now)) }
 {
     let (first, is_name, rest) = match next_tested_token(bytes) {
@@ -175,7 +180,7 @@ fn by_tokens(alloc: Global, bytes: &[u8]) -> Result<Form<'_>, AllocError>
     Ok(Form::Malformed)
 }
 
-/// The form of a line.
+/// The form of a line, less its comment.
 #[tactic(auto, unfolding(crate::specs::Lines::line_of))]
 pub fn form_of(alloc: Global, line: &[u8]) -> Result<Form<'_>, AllocError>
     ensures { IfOk result (λ found. view found ≡ line_of line.entry.now) }

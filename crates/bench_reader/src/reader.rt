@@ -2,7 +2,7 @@
 
 ghost use Rattle.std.specs.Prelude.{◌≡◌, ◌+◌, ◌<◌, ◌≤◌, ℕ, false, List, [], ◌∷◌, length, OnOk, IfOk, IfErr};
 ghost use Rattle.std.specs.List.{list_any};
-ghost use Rattle.bench_reader.specs.Lines.{Input, Output, Gate};
+ghost use Rattle.bench_reader.specs.Lines.{Input, Output, Gate, line_of};
 ghost use Rattle.bench_reader.specs.Netlists.{out_of_memory, bench_of};
 ghost use Rattle.bench_reader.specs.Netlists as netlists;
 ghost use Rattle.bench_reader.specs.inner.Reading.{IsRead, IsSoundReading, Takes, CountsPins, padded, first_missing, is_gate_at, is_defined_at};
@@ -11,7 +11,7 @@ ghost use Rattle.bench_reader.specs.declared.fault.BenchCause.TheVariants.{OutOf
 ghost use Rattle.line_faults.specs.Faults.{Answers};
 
 use crate::fault::{BenchCause, BenchFault};
-use crate::form::{Form, form_of};
+use crate::form::{Form, by_tokens, form_of};
 use crate::names::Names;
 use crate::netlist::{Definition, Netlist};
 use gate_values::Kind;
@@ -222,6 +222,7 @@ impl Reader {
     }
 
     /// Takes one line.
+    #[inline(always)]
     fn take_form(&mut self, alloc: Global, line: u32, form: Form) -> Result<(), BenchFault>
         requires sound { IsSoundReading self.old }
         ensures sound { OnOk result (IsSoundReading self.new) }
@@ -236,6 +237,17 @@ impl Reader {
                 self.take_gate(alloc, line, name, kind, pins.as_slice())
             }
         }
+    }
+
+    /// Takes one line, less its comment.
+    #[cold]
+    #[inline(never)]
+    fn take_content(&mut self, alloc: Global, line: u32, bytes: &[u8]) -> Result<(), BenchFault>
+        requires sound { IsSoundReading self.old }
+        ensures sound { OnOk result (IsSoundReading self.new) }
+        ensures steps { Takes self.old (line_of bytes.now) line self.new result }
+    {
+        self.take_form(alloc, line, form_of(alloc, bytes)?)
     }
 }
 
@@ -253,8 +265,13 @@ impl<'a> LineReader<'a> for Reader {
 
     ghost has_read = { reading.IsRead };
 
+    /// No `#` stands in a name, so a line that has a form as it stands has no comment, and is not
+    /// searched for one.
     fn take(&mut self, alloc: Global, number: u32, line: &'a [u8]) -> Result<(), BenchFault> {
-        self.take_form(alloc, number, form_of(alloc, line)?)
+        match by_tokens(alloc, line)? {
+            Form::Malformed => self.take_content(alloc, number, line),
+            form => self.take_form(alloc, number, form),
+        }
     }
 }
 
