@@ -10,7 +10,8 @@ use Rattle.stimulus_file.specs.Stimulus.{SetRow}
 use Rattle.design.specs.declared.fault.JoinFile.TheVariants as file
 use Rattle.design.specs.declared.fault.JoinCause.TheVariants.{NotInput, PastHorizon}
 use Rattle.design.specs.Join.{number, driver_at, is_input, is_signal, setting_of, fault_of, cause_of_set, set_fault, unless}
-use Rattle.design.specs.inner.Said.{bucket_of, lists_in, HasSets}
+use Rattle.design.specs.inner.Said.{inputs_of, bucket_of, lists_in, HasSets}
+use Rattle.design.proofs.Places.{places-differ}
 
 filter-push : {A : Type 0} (p : A → Bool) (xs : List A) (x : A) → filter p (xs ++ x ∷ []) ≡ filter p xs ++ cond (p x) (x ∷ []) []
 filter-push p [] x = refl
@@ -22,10 +23,10 @@ filter-push {A} p (y ∷ ys) x = go (p y) (filter-push p ys x)
     go false h = h
 
 -- nothing is set at first
-pub sets-none : (netlist : netlists.Content) (buckets : List (Vec Setting)) → lists_in buckets ≡ replicate (length netlist.names) [] → HasSets netlist [] buckets
-sets-none netlist buckets e = record {
-  long = sym (length-map buckets (λ (b : Vec Setting). b.items)) ∙ ap length e ∙ length-replicate (length netlist.names) [];
-  each = λ s l. ap (λ xs. get_or xs s []) e ∙ nothing (length netlist.names) s;
+pub sets-none : (netlist : netlists.Content) (buckets : List (Vec Setting)) (inputs : ℕ) → inputs ≡ length (inputs_of netlist) → lists_in buckets ≡ replicate inputs [] → HasSets netlist [] buckets
+sets-none netlist buckets inputs count e = record {
+  long = sym (length-map buckets (λ (b : Vec Setting). b.items)) ∙ ap length e ∙ length-replicate inputs [] ∙ count;
+  each = λ k l. ap (λ xs. get_or xs k []) e ∙ nothing inputs k;
 }
   where
     nothing : (n s : ℕ) → get_or {A = List Setting} (replicate n []) s [] ≡ []
@@ -45,31 +46,45 @@ module _ (netlist : netlists.Content) (before : List SetRow) (row : SetRow) (n :
       inner true = refl
       inner false = refl
 
-  -- one setting more
-  pub sets-more : (old : List (Vec Setting)) (w b : Vec Setting) → n < length netlist.names → w ≡ get_or old n w → b.items ≡ w.items ++ setting_of row ∷ [] → HasSets netlist before old → HasSets netlist (before ++ row ∷ []) (set old n b)
-  sets-more old w b l at put has = record {
-    long = length-set old n b ∙ has.long;
-    each = λ s m. go s m (nat_eq n s) refl;
+  -- one setting more, of the input at this place
+  pub sets-more : (place : ℕ) (old : List (Vec Setting)) (w b : Vec Setting) → place < length (inputs_of netlist) → get_or (inputs_of netlist) place 0 ≡ n → w ≡ get_or old place w → b.items ≡ w.items ++ setting_of row ∷ [] → HasSets netlist before old
+      → HasSets netlist (before ++ row ∷ []) (set old place b)
+  sets-more place old w b l placed at put has = record {
+    long = length-set old place b ∙ has.long;
+    each = λ k m. go k m (nat_eq place k) refl;
   }
     where
-      mapped : lists_in (set old n b) ≡ set (lists_in old) n b.items
-      mapped = map-set (λ (v : Vec Setting). v.items) old n b
+      input : ℕ → ℕ
+      input k = get_or (inputs_of netlist) k 0
 
-      inside : n < length (lists_in old)
+      mapped : lists_in (set old place b) ≡ set (lists_in old) place b.items
+      mapped = map-set (λ (v : Vec Setting). v.items) old place b
+
+      inside : place < length (lists_in old)
       inside = let e = length-map old (λ (v : Vec Setting). v.items) in let k = has.long in omega (arith, e, k, l)
 
-      was : w.items ≡ get_or (lists_in old) n []
-      was = ap (λ (v : Vec Setting). v.items) at ∙ sym (get_or_default (lists_in old) n [] w.items inside ∙ get_or-map (λ (v : Vec Setting). v.items) old n w)
+      was : w.items ≡ get_or (lists_in old) place []
+      was = ap (λ (v : Vec Setting). v.items) at ∙ sym (get_or_default (lists_in old) place [] w.items inside ∙ get_or-map (λ (v : Vec Setting). v.items) old place w)
 
-      go : (s : ℕ) → s < length netlist.names → (c : Bool) → nat_eq n s ≡ c → get_or (lists_in (set old n b)) s [] ≡ bucket_of netlist (before ++ row ∷ []) s
-      go s m true h =
-          let same : n ≡ s = eqb-true n s h in
-          ap (λ xs. get_or xs s []) mapped ∙ ap (λ k. get_or (set (lists_in old) n b.items) k []) (sym same) ∙ get_or-set_same (lists_in old) n b.items [] inside
-          ∙ put ∙ ap (λ r. r ++ setting_of row ∷ []) (was ∙ ap (λ k. get_or (lists_in old) k []) same ∙ has.each s m)
-          ∙ sym (more s ∙ ap (λ c. bucket_of netlist before s ++ cond c (setting_of row ∷ []) []) h)
-      go s m false h =
-          ap (λ xs. get_or xs s []) mapped ∙ get_or-set_other (lists_in old) n s b.items [] (λ e. absurd (let k = sym h ∙ eq-eqb n s (sym e) in cc k)) ∙ has.each s m
-          ∙ sym (more s ∙ ap (λ c. bucket_of netlist before s ++ cond c (setting_of row ∷ []) []) h ∙ append-nil (bucket_of netlist before s))
+      -- another place is that of another input
+      differs : (k : ℕ) → k < length (inputs_of netlist) → nat_eq place k ≡ false → nat_eq n (input k) ≡ false
+      differs k m h = elim (nat_eq n (input k)) as (λ c. nat_eq n (input k) ≡ c → c ≡ false) [
+        | true ↦ λ e.
+            let same : place ≡ k = places-differ netlist (length netlist.names) place k l m (placed ∙ eqb-true n (input k) e) in
+            absurd (let f = sym h ∙ eq-eqb place k same in cc f)
+        | false ↦ λ e. refl
+      ] refl
+
+      go : (k : ℕ) → k < length (inputs_of netlist) → (c : Bool) → nat_eq place k ≡ c → get_or (lists_in (set old place b)) k [] ≡ bucket_of netlist (before ++ row ∷ []) (input k)
+      go k m true h =
+          let same : place ≡ k = eqb-true place k h in
+          let is : nat_eq n (input k) ≡ true = eq-eqb n (input k) (sym placed ∙ ap input same) in
+          ap (λ xs. get_or xs k []) mapped ∙ ap (λ p. get_or (set (lists_in old) place b.items) p []) (sym same) ∙ get_or-set_same (lists_in old) place b.items [] inside
+          ∙ put ∙ ap (λ r. r ++ setting_of row ∷ []) (was ∙ ap (λ p. get_or (lists_in old) p []) same ∙ has.each k m)
+          ∙ sym (more (input k) ∙ ap (λ c. bucket_of netlist before (input k) ++ cond c (setting_of row ∷ []) []) is)
+      go k m false h =
+          ap (λ xs. get_or xs k []) mapped ∙ get_or-set_other (lists_in old) place k b.items [] (λ e. absurd (let f = sym h ∙ eq-eqb place k (sym e) in cc f)) ∙ has.each k m
+          ∙ sym (more (input k) ∙ ap (λ c. bucket_of netlist before (input k) ++ cond c (setting_of row ∷ []) []) (differs k m h) ∙ append-nil (bucket_of netlist before (input k)))
 
   -- a setting of an input within the horizon
   pub set-passes : (horizon : ℕ) → is_input (driver_at netlist n) ≡ true → row.time ≤ horizon → set_fault netlist horizon row ≡ None

@@ -1,10 +1,10 @@
 -- What is kept of the three files is a design.
-use Rattle.std.proofs.Common.{◌≡◌, ℕ, zero, suc, ◌+◌, ◌<◌, ◌≤◌, ◌≢◌, Bool, true, false, cond, min, List, [], ◌∷◌, length, get_or, map, filter, fold, Option, Some, None, refl, sym, ap, ap₂, ◌∙◌, subst, arith, leb-true, eqb-true}
+use Rattle.std.proofs.Common.{◌≡◌, ℕ, zero, suc, ◌+◌, ◌<◌, ◌≤◌, ◌≢◌, Bool, true, false, cond, min, List, [], ◌∷◌, length, get_or, map, filter, fold, take, drop, Option, Some, None, refl, sym, ap, ◌∙◌, subst, arith, leb-true, eqb-true}
 use Rattle.std.specs.Prelude.{All, IfSome, IsTrue, sum_by, nat_eq, nat_le, unwrap_or}
 use Rattle.std.specs.Global.{Vec}
 use Rattle.std.specs.List.{range_with_len, AllByRecursion}
 use Rattle.std.specs.Str.{bytes_eq}
-use Rattle.std.proofs.lemmas.List.{length-map}
+use Rattle.std.proofs.lemmas.List.{length-map, get_or-map, ext_get_or}
 use Rattle.std.proofs.lemmas.List.Elements.{recursion_from_All}
 use Rattle.std.proofs.lemmas.List.FromFn.{length-map-range_with_len, get_or-map-range_with_len, fill_by_all}
 use Rattle.gate_values.specs.declared.Kind.{Kind}
@@ -16,6 +16,7 @@ use Rattle.flip_flops.specs.declared.Clock.{Clock}
 use Rattle.flip_flops.specs.Edges.{IsClock}
 use Rattle.circuit_meaning.specs.declared.Setting.{Setting}
 use Rattle.circuit_meaning.specs.declared.Pin.{Pin}
+use Rattle.circuit_meaning.specs.declared.FlipFlop.{FlipFlop}
 use Rattle.circuit_meaning.specs.Circuit as circuits
 use Rattle.circuit_meaning.specs.Circuit.{Circuit, IsCircuit, IsDriver, AreDriverLimits, pin_count, read_by}
 use Rattle.circuit_meaning.specs.Cells.{least_delay}
@@ -34,17 +35,17 @@ use Rattle.stimulus_file.specs.Stimulus.{SetRow}
 use Rattle.design.specs.declared.rows.Row.{Row}
 use Rattle.design.specs.declared.rows.Row.TheVariants as row
 use Rattle.design.specs.Joined.{IsDesign}
-use Rattle.design.specs.inner.KeptDesigns.{KeptDesign, IsKeptDesign, joined_of, circuit_of, driver_of, InTimeOrder, FitsRow, FitsAt}
+use Rattle.design.specs.inner.KeptDesigns.{KeptDesign, IsKeptDesign, joined_of, driver_of, flop_at, InTimeOrder, FitsRow}
 use Rattle.design.specs.KeptDesigns.{pins_with}
 use Rattle.design.specs.inner.KeptDesigns as kept
-use Rattle.design.specs.Join.{number, driver_at, is_dff, or_else, last_said, when, said_of, rows_say, delay_said, pin_said, initial_said, clock_said, clock_named, clock_of_row, delay_of, pin_delay, pin_delays, joined_driver, joined_gate, circuit_from, settings_of, is_signal, setting_of, is_input, fault_of, cause_of_set, set_fault, unless, first_fault, scheduled}
-use Rattle.design.specs.inner.Said.{least_of, delays_of, gate_delays, row_of, gate_row, HasSets, lists_in}
+use Rattle.design.specs.Join.{number, driver_at, is_dff, or_else, last_said, when, said_of, rows_say, delay_said, pin_said, initial_said, clock_said, clock_named, clock_of_row, flop_of, delay_of, pin_delay, pin_delays, joined_driver, joined_gate, circuit_from, settings_of, is_signal, setting_of, is_input, fault_of, cause_of_set, set_fault, unless, first_fault, scheduled}
+use Rattle.design.specs.inner.Said.{least_of, of_first, input_at, inputs_in, inputs_of, delays_of, delays_at, gate_delays, flops_of, flops_at, row_of, row_at, gate_row, HasSets, lists_in}
 use Rattle.design.specs.declared.fault.JoinFault.{JoinFault}
 use Rattle.design.specs.declared.fault.JoinFile.TheVariants as file
 use Rattle.design.specs.declared.fault.JoinCause.TheVariants.{NotInput, PastHorizon}
 use Rattle.stimulus_file.specs.Ranges.{IsStimulus}
 use Rattle.design.proofs.Answered.{length-pins_with, get_or-pins_with, if_some}
-use Rattle.design.proofs.Kept.{driver-same, fits-same}
+use Rattle.design.proofs.Places.{within, stands, one-within, one-stands, alone-at}
 use Rattle.design.proofs.Rowed.{row-sound}
 use Rattle.design.proofs.SortedSettings.{scheduled-order, order-differs, scheduled-all}
 
@@ -90,28 +91,10 @@ same-sums f g a b m (x ∷ xs) [] e h = absurd (omega arith)
 same-sums f g a b m (x ∷ xs) (y ∷ ys) e h =
     ap (λ n. fold (λ n x. n + f x) (m + n) xs) (h 0 (omega arith)) ∙ same-sums f g a b (m + g y) xs ys (omega arith) (λ k l. h (suc k) (omega arith))
 
--- what is kept stands for the joined driver
-module _ (netlist : netlists.Content) (timing : timings.Content) (sets : List SetRow) (s : ℕ) where
-  abbrev kept-row : NetlistDriver → Row
-  kept-row d = row_of netlist timing s d (delays_of netlist timing s d)
-
-  kept-gate : (b : Bool) (kind : Kind) (pins : List ℕ) (settings : List Setting)
-      → driver_of (gate_row netlist timing s b kind pins (gate_delays netlist timing s b kind pins)) pins (gate_delays netlist timing s b kind pins) settings ≡ joined_gate netlist timing s b kind pins
-  kept-gate true kind pins settings = refl
-  kept-gate false kind pins settings = refl
-
-  pub kept-driver : (d : NetlistDriver) → driver_of (kept-row d) (pins_of d) (delays_of netlist timing s d) (settings_of netlist sets s) ≡ joined_driver netlist timing sets s d
-  kept-driver Primary = refl
-  kept-driver (Driven kind pins) = kept-gate (is_dff kind) kind pins (settings_of netlist sets s)
-
-  fits-gate : (b : Bool) (kind : Kind) (pins : List ℕ) (settings : List Setting) → is_dff kind ≡ b → (IsTrue (is_unary kind) → length pins ≡ 1)
-      → FitsRow (gate_row netlist timing s b kind pins (gate_delays netlist timing s b kind pins)) pins (gate_delays netlist timing s b kind pins) settings
-  fits-gate true kind pins settings e one = single pins (one (dff-unary kind e))
-  fits-gate false kind pins settings e one = (length-pin_delays netlist timing s kind pins, least-is pins (pin_delays netlist timing s kind pins) (length-pin_delays netlist timing s kind pins))
-
-  pub kept-fits : (d : NetlistDriver) (n : ℕ) → netlists.IsNetlistDriver n d → (settings : List Setting) → InTimeOrder settings → FitsRow (kept-row d) (pins_of d) (delays_of netlist timing s d) settings
-  kept-fits Primary n ok settings order = order
-  kept-fits (Driven kind pins) n ok settings order = fits-gate (is_dff kind) kind pins settings refl ok.one
+kept-same : (netlist : netlists.Content) (h h' : ℕ) (rows rows' : List Row) (delays delays' : List ℕ) (flops flops' : List FlipFlop) (settings settings' : List (List Setting)) → h ≡ h' → rows ≡ rows' → delays ≡ delays' → flops ≡ flops'
+    → settings ≡ settings' → ◌≡◌ {A = KeptDesign} (record { horizon = h; netlist = netlist; rows = rows; delays = delays; flops = flops; settings = settings })
+    (record { horizon = h'; netlist = netlist; rows = rows'; delays = delays'; flops = flops'; settings = settings' })
+kept-same netlist h h' rows rows' delays delays' flops flops' settings settings' a b c d e = cc (a, b, c, d, e)
 
 -- what rows say is in range
 module _ {A : Type 0} (P : A → Type 0) where
@@ -327,55 +310,98 @@ module _ (netlist : netlists.Content) (timing : timings.Content) (stimulus : sti
         signals = sym long;
       }
 
-  module _ (h : ℕ) (rows : List Row) (delays : List (List ℕ)) (settings : List (List Setting)) (hh : h ≡ stimulus.horizon)
-      (rr : rows ≡ map (λ s. row_of netlist timing s (driver_at netlist s) (delays_of netlist timing s (driver_at netlist s))) (range_with_len 0 n))
-      (dd : delays ≡ map (λ s. delays_of netlist timing s (driver_at netlist s)) (range_with_len 0 n))
-      (ss : settings ≡ map (settings_of netlist stimulus.sets) (range_with_len 0 n)) where
+  -- what is made of the three files
+  abbrev made : KeptDesign
+  made = record {
+    horizon = stimulus.horizon;
+    netlist = netlist;
+    rows = map (row_at netlist timing) (range_with_len 0 n);
+    delays = of_first (delays_at netlist timing) n;
+    flops = of_first (flops_at netlist timing) n;
+    settings = map (settings_of netlist stimulus.sets) (inputs_of netlist);
+  }
+
+  -- a row stands for the joined driver
+  gate-stands : (s : ℕ) → s < n → (b : Bool) (kind : Kind) (pins : List ℕ) → is_dff kind ≡ b → driver_at netlist s ≡ Driven kind pins → netlists.ArePins n kind pins
+      → (driver_of made pins (gate_row netlist timing s b kind pins) ≡ joined_gate netlist timing s b kind pins) × FitsRow made pins (gate_row netlist timing s b kind pins)
+  gate-stands s l true kind pins dff is ok =
+      let f = flop_of netlist timing s pins in
+      let alone : flops_at netlist timing s ≡ f ∷ [] = ap (flops_of netlist timing s) is ∙ ap (λ b. cond b (f ∷ []) []) dff in
+      let at : flop_at made (length (of_first (flops_at netlist timing) s)) ≡ f = one-stands (flops_at netlist timing) n s l f alone _ in
+      (ap circuits.Flop at, (one-within (flops_at netlist timing) n s l f alone, single pins (ok.one (dff-unary kind dff)) ∙ ap (λ (g : FlipFlop). g.pin ∷ []) (sym at)))
+  gate-stands s l false kind pins dff is ok =
+      let delays = pin_delays netlist timing s kind pins in
+      let start = length (of_first (delays_at netlist timing) s) in
+      let are : delays_at netlist timing s ≡ delays = ap (delays_of netlist timing s) is ∙ ap (λ b. gate_delays netlist timing s b kind pins) dff in
+      let long : length (delays_at netlist timing s) ≡ length pins = ap length are ∙ length-pin_delays netlist timing s kind pins in
+      let at : take (length pins) (drop start made.delays) ≡ delays = ap (λ m. take m (drop start made.delays)) (sym long) ∙ stands (delays_at netlist timing) n s l ∙ are in
+      let room = within (delays_at netlist timing) n s l in (
+        ap (λ ds. circuits.Gate kind (pins_with pins ds)) at,
+        (omega (arith, room, long), least-is pins delays (length-pin_delays netlist timing s kind pins) ∙ ap (λ ds. least_delay (pins_with pins ds)) (sym at)),
+      )
+
+  row-stands : (s : ℕ) → s < n → (d : NetlistDriver) → driver_at netlist s ≡ d → netlists.IsNetlistDriver n d
+      → (driver_of made (pins_of d) (row_of netlist timing s d) ≡ joined_driver netlist timing stimulus.sets s d) × FitsRow made (pins_of d) (row_of netlist timing s d)
+  row-stands s l Primary is ok =
+      let all = inputs_of netlist in
+      let place = length (inputs_in netlist s) in
+      let alone = alone-at netlist s (ap is_input is) in
+      let room = one-within (input_at netlist) n s l s alone in
+      let at : get_or made.settings place [] ≡ settings_of netlist stimulus.sets s =
+      get_or-map (settings_of netlist stimulus.sets) all place 0 [] room ∙ ap (settings_of netlist stimulus.sets) (one-stands (input_at netlist) n s l s alone 0) in
+      let long = length-map all (settings_of netlist stimulus.sets) in
+      (ap circuits.Input at, (omega (arith, long, room), subst InTimeOrder (sym at) (in-order s)))
+  row-stands s l (Driven kind pins) is ok = gate-stands s l (is_dff kind) kind pins refl is ok
+
+  stands-at : (s : ℕ) → s < n → (driver_of made (pins_of (driver_at netlist s)) (row_at netlist timing s) ≡ joined s) × FitsRow made (pins_of (driver_at netlist s)) (row_at netlist timing s)
+  stands-at s l = row-stands s l (driver_at netlist s) refl (row-sound netlist n-ok s l)
+
+  at-row : (s : ℕ) → s < n → get_or made.rows s (row.Input 0) ≡ row_at netlist timing s
+  at-row s l = get_or-map-range_with_len (row_at netlist timing) 0 n s s (row.Input 0) l (omega arith)
+
+  at-driver : (s : ℕ) → s < n → kept.driver_at made s ≡ joined s
+  at-driver s l = ap (driver_of made (pins_of (driver_at netlist s))) (at-row s l) ∙ (stands-at s l).0
+
+  drivers-are : map (kept.driver_at made) (range_with_len 0 n) ≡ map joined (range_with_len 0 n)
+  drivers-are = fill_by_all joined (map (kept.driver_at made) (range_with_len 0 n)) n (circuits.Input []) (length-map-range_with_len (kept.driver_at made) 0 n)
+      (λ s l. get_or-map-range_with_len (kept.driver_at made) 0 n s s (circuits.Input []) l (omega arith) ∙ at-driver s l)
+
+  made-joined : joined_of made ≡ record { netlist = netlist; circuit = circuit_from netlist timing stimulus }
+  made-joined = ap (λ (ds : List circuits.Driver). record { netlist = netlist; circuit = record { horizon = stimulus.horizon; drivers = ds } }) drivers-are
+
+  made-kept : IsKeptDesign made
+  made-kept = record {
+    design = subst IsDesign (sym made-joined) from-design;
+    shapes = n-ok.rows;
+    rows = length-map-range_with_len (row_at netlist timing) 0 n;
+    fits = λ s l. subst (FitsRow made (pins_of (driver_at netlist s))) (sym (at-row s l)) (stands-at s l).1;
+  }
+
+  module _ (h : ℕ) (rows : List Row) (delays : List ℕ) (flops : List FlipFlop) (settings : List (List Setting)) (hh : h ≡ made.horizon) (rr : rows ≡ made.rows) (dd : delays ≡ made.delays) (ff : flops ≡ made.flops)
+      (ss : settings ≡ made.settings) where
     abbrev keeps : KeptDesign
-    keeps = record { horizon = h; netlist = netlist; rows = rows; delays = delays; settings = settings }
+    keeps = record { horizon = h; netlist = netlist; rows = rows; delays = delays; flops = flops; settings = settings }
 
-    at-row : (s : ℕ) → s < n → get_or rows s row.Input ≡ row_of netlist timing s (driver_at netlist s) (delays_of netlist timing s (driver_at netlist s))
-    at-row s l = ap (λ xs. get_or xs s row.Input) rr ∙ get_or-map-range_with_len (λ s. row_of netlist timing s (driver_at netlist s) (delays_of netlist timing s (driver_at netlist s))) 0 n s s row.Input l (omega arith)
-
-    at-delays : (s : ℕ) → s < n → get_or delays s [] ≡ delays_of netlist timing s (driver_at netlist s)
-    at-delays s l = ap (λ xs. get_or xs s []) dd ∙ get_or-map-range_with_len (λ s. delays_of netlist timing s (driver_at netlist s)) 0 n s s [] l (omega arith)
-
-    at-settings : (s : ℕ) → s < n → get_or settings s [] ≡ settings_of netlist stimulus.sets s
-    at-settings s l = ap (λ xs. get_or xs s []) ss ∙ get_or-map-range_with_len (settings_of netlist stimulus.sets) 0 n s s [] l (omega arith)
-
-    at-driver : (s : ℕ) → s < n → kept.driver_at keeps s ≡ joined s
-    at-driver s l =
-        driver-same (get_or rows s row.Input) (row_of netlist timing s (driver_at netlist s) (delays_of netlist timing s (driver_at netlist s))) (pins_of (driver_at netlist s)) (pins_of (driver_at netlist s))
-        (get_or delays s []) (delays_of netlist timing s (driver_at netlist s)) (get_or settings s []) (settings_of netlist stimulus.sets s) (at-row s l) refl (at-delays s l) (at-settings s l)
-        ∙ kept-driver netlist timing stimulus.sets s (driver_at netlist s)
-
-    drivers-are : map (kept.driver_at keeps) (range_with_len 0 n) ≡ map joined (range_with_len 0 n)
-    drivers-are = fill_by_all joined (map (kept.driver_at keeps) (range_with_len 0 n)) n (circuits.Input []) (length-map-range_with_len (kept.driver_at keeps) 0 n)
-        (λ s l. get_or-map-range_with_len (kept.driver_at keeps) 0 n s s (circuits.Input []) l (omega arith) ∙ at-driver s l)
+    same : keeps ≡ made
+    same = kept-same netlist h stimulus.horizon rows made.rows delays made.delays flops made.flops settings made.settings hh rr dd ff ss
 
     -- what is kept is the design of the three files
     pub joined-is : joined_of keeps ≡ record { netlist = netlist; circuit = circuit_from netlist timing stimulus }
-    joined-is = ap₂ (λ (k : ℕ) (ds : List circuits.Driver). record { netlist = netlist; circuit = record { horizon = k; drivers = ds } }) hh drivers-are
+    joined-is = ap joined_of same ∙ made-joined
 
     pub is-kept : IsKeptDesign keeps
-    is-kept = record {
-      design = subst IsDesign (sym joined-is) from-design;
-      shapes = n-ok.rows;
-      rows = ap length rr ∙ length-map-range_with_len (λ s. row_of netlist timing s (driver_at netlist s) (delays_of netlist timing s (driver_at netlist s))) 0 n;
-      delays = ap length dd ∙ length-map-range_with_len (λ s. delays_of netlist timing s (driver_at netlist s)) 0 n;
-      settings = ap length ss ∙ length-map-range_with_len (settings_of netlist stimulus.sets) 0 n;
-      fits = λ s l. fits-same (row_of netlist timing s (driver_at netlist s) (delays_of netlist timing s (driver_at netlist s))) (get_or rows s row.Input) (pins_of (driver_at netlist s)) (pins_of (driver_at netlist s))
-          (delays_of netlist timing s (driver_at netlist s)) (get_or delays s []) (settings_of netlist stimulus.sets s) (get_or settings s []) (sym (at-row s l)) refl (sym (at-delays s l)) (sym (at-settings s l))
-          (kept-fits netlist timing stimulus.sets s (driver_at netlist s) n (row-sound netlist n-ok s l) (settings_of netlist stimulus.sets s) (in-order s));
-    }
+    is-kept = subst IsKeptDesign (sym same) made-kept
 
--- the settings of all signals, put in order
+-- the settings of all inputs, put in order
 pub ordered-are : (netlist : netlists.Content) (sets : List SetRow) (buckets : List (Vec Setting)) (lists : List (List Setting)) → HasSets netlist sets buckets
-    → lists ≡ map (λ (b : Vec Setting). scheduled b.items) buckets → lists ≡ map (settings_of netlist sets) (range_with_len 0 (length netlist.names))
+    → lists ≡ map (λ (b : Vec Setting). scheduled b.items) buckets → lists ≡ map (settings_of netlist sets) (inputs_of netlist)
 ordered-are netlist sets buckets lists has e =
-    fill_by_all (settings_of netlist sets) lists (length netlist.names) [] (ap length e ∙ length-map buckets (λ (b : Vec Setting). scheduled b.items) ∙ has.long) (λ s l. ap (λ xs. get_or xs s []) e ∙ at buckets s ∙ ap scheduled (has.each s l))
+    let all = inputs_of netlist in
+    let long = ap length e ∙ length-map buckets (λ (b : Vec Setting). scheduled b.items) ∙ has.long in
+    ext_get_or [] lists (map (settings_of netlist sets) all) (long ∙ sym (length-map all (settings_of netlist sets)))
+    (λ k l. let m : k < length all = omega (arith, l, long) in ap (λ xs. get_or xs k []) e ∙ at buckets k ∙ ap scheduled (has.each k m) ∙ sym (get_or-map (settings_of netlist sets) all k 0 [] m))
   where
-    at : (buckets : List (Vec Setting)) (s : ℕ) → get_or (map (λ (b : Vec Setting). scheduled b.items) buckets) s [] ≡ scheduled (get_or (lists_in buckets) s [])
-    at [] s = refl
+    at : (buckets : List (Vec Setting)) (k : ℕ) → get_or (map (λ (b : Vec Setting). scheduled b.items) buckets) k [] ≡ scheduled (get_or (lists_in buckets) k [])
+    at [] k = refl
     at (b ∷ buckets) zero = refl
-    at (b ∷ buckets) (suc s) = at buckets s
+    at (b ∷ buckets) (suc k) = at buckets k

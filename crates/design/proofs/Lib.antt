@@ -11,6 +11,7 @@ pub mod Listed
 pub mod Rereads
 pub mod SortedSettings
 pub mod Joining
+pub mod Places
 pub mod Rowed
 pub mod Named
 pub mod Bucketed

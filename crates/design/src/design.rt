@@ -20,7 +20,7 @@ use crate::origin::{Origin, reads_of};
 use crate::readers::{Readers, readers_in};
 use crate::rows::SignalView;
 use crate::settings;
-use crate::stated::{Rows, Stated};
+use crate::stated::Stated;
 use bench_reader::Netlist;
 use gate_values::{Kind, Value};
 use owned_text::OutOfMemory;
@@ -75,14 +75,16 @@ impl Design {
         timing.facts();
         stimulus.facts();
         let stated = Stated::read(alloc, &netlist, timing)?;
-        let settings = settings::read(alloc, &netlist, stimulus.horizon(), stimulus.sets())?;
+        let kept = stated.rows(alloc, &netlist, timing)?;
+        let horizon = stimulus.horizon();
+        let settings = settings::read(alloc, &netlist, &kept, horizon, stimulus.sets())?;
         let settings = settings::in_order(alloc, settings)?;
-        let Rows { rows, delays } = stated.rows(alloc, &netlist, timing)?;
         let origin = Origin {
             netlist,
-            horizon: stimulus.horizon(),
-            rows,
-            delays,
+            horizon,
+            rows: kept.rows,
+            delays: kept.delays,
+            flops: kept.flops,
             settings,
         };
         Ok(Design::of(alloc, origin)?)

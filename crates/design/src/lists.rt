@@ -1,20 +1,10 @@
-//! Many short lists in one array.
+//! The settings of all inputs, in one array.
 
-ghost use Rattle.std.specs.Prelude.{◌≡◌, ◌<◌, ◌++◌, [], ◌∷◌, length, slice_get, Some, OnOk, IfOk, map, replicate};
+ghost use Rattle.std.specs.Prelude.{◌≡◌, ◌<◌, ◌++◌, [], ◌∷◌, length, slice_get, Some, OnOk, IfOk};
 
+use circuit_meaning::Setting;
 use std::alloc::{AllocError, Global};
 use std::marker::Model;
-
-/// This many empty lists.
-pub fn empty_lists<T: Copy>(alloc: Global, count: u32) -> Result<Vec<Vec<T>>, AllocError>
-    ensures { IfOk result (λ lists. map (λ list. list.items) lists.items ≡ replicate count []) }
-{
-    let mut lists = Vec::with_capacity(alloc, count as usize)?;
-    for _list in 0..count {
-        lists.push(Vec::new(alloc))?;
-    }
-    Ok(lists)
-}
 
 /// The range of a list in the array.
 #[derive(Clone, Copy)]
@@ -23,56 +13,57 @@ pub struct Range {
     pub length: u32,
 }
 
-/// Lists that stand one after another in one array.
+/// Lists of settings that stand one after another in one array.
 #[derive(Drop)]
-pub struct Lists<T: Copy> {
+pub struct SettingLists {
     ranges: Vec<Range>,
-    items: Vec<T>,
+    settings: Vec<Setting>,
 }
 
-impl<T: Copy> Model for Lists<T> {
+impl Model for SettingLists {
     ghost use Rattle.std.specs.Prelude.{List};
+    ghost use Rattle.circuit_meaning.specs.declared.Setting.{Setting};
     ghost use Rattle.design.specs.inner.Lists.{pieces, ArePieces};
 
-    ghost Value = { List (List T) };
+    ghost Value = { List (List Setting) };
 
-    ghost view = { λ l. pieces l.ranges.items l.items.items };
+    ghost view = { λ l. pieces l.ranges.items l.settings.items };
 
-    ghost invariant = { λ l. ArePieces l.ranges.items l.items.items };
+    ghost invariant = { λ l. ArePieces l.ranges.items l.settings.items };
 }
 
-impl<T: Copy> Lists<T> {
+impl SettingLists {
     /// The list at a place.
-    pub fn list(&self, place: u32) -> &[T]
+    pub fn list(&self, place: u32) -> &[Setting]
         requires { place < length self.now }
         ensures { slice_get self.now place ≡ Some result.now }
     {
         let range = self.ranges[place as usize];
         let start = range.start as usize;
-        &self.items[start..start + range.length as usize]
+        &self.settings[start..start + range.length as usize]
     }
 
     /// No list yet, with room for the ranges of this many.
-    pub fn with_room(alloc: Global, lists: usize) -> Result<Lists<T>, AllocError>
+    pub fn with_room(alloc: Global, lists: usize) -> Result<SettingLists, AllocError>
         ensures { IfOk result (λ none. none ≡ []) }
     {
-        Ok(Lists {
+        Ok(SettingLists {
             ranges: Vec::with_capacity(alloc, lists)?,
-            items: Vec::new(alloc),
+            settings: Vec::new(alloc),
         })
     }
 
-    /// Appends a list. Where the items would be too many, it is answered as where memory runs out.
-    pub fn push(&mut self, list: &[T]) -> Result<(), AllocError>
+    /// Appends a list. Where the settings would be too many, it is answered as where memory runs out.
+    pub fn push(&mut self, list: &[Setting]) -> Result<(), AllocError>
         ensures { OnOk result (self.new ≡ self.old ++ list.now ∷ []) }
     {
-        let Ok(start) = u32::try_from(self.items.len()) else {
+        let Ok(start) = u32::try_from(self.settings.len()) else {
             return Err(AllocError);
         };
         let Ok(length) = u32::try_from(list.len()) else {
             return Err(AllocError);
         };
-        self.items.extend_from_slice(list)?;
+        self.settings.extend_from_slice(list)?;
         self.ranges.push(Range { start, length })?;
         Ok(())
     }

@@ -5,20 +5,24 @@ ghost use Rattle.circuit_meaning.specs.Circuit.{driver, read_by};
 ghost use Rattle.design.specs.Joined.{IsDesign};
 ghost use Rattle.design.specs.inner.KeptDesigns.{IsViewOf, FitsFrom, driver_seen};
 
-use crate::lists::Lists;
+use crate::lists::SettingLists;
 use crate::rows::{Row, SignalView, signals_of};
 use bench_reader::Netlist;
-use circuit_meaning::Setting;
+use circuit_meaning::FlipFlop;
 use std::marker::Model;
 
-/// A design without held signals, as it was joined.
+/// A design without held signals, as it was joined. What a row names by a place stands in one of the lists.
 #[derive(Drop)]
 pub struct Origin {
     pub netlist: Netlist,
     pub horizon: u32,
     pub rows: Vec<Row>,
-    pub delays: Lists<u32>,
-    pub settings: Lists<Setting>,
+    /// The delays of the pins of all gates, one gate after another.
+    pub delays: Vec<u32>,
+    /// The flip-flops in the order of the signals.
+    pub flops: Vec<FlipFlop>,
+    /// The settings of each input, in the order of the signals.
+    pub settings: SettingLists,
 }
 
 impl Model for Origin {
@@ -28,9 +32,9 @@ impl Model for Origin {
 
     ghost use Rattle.design.specs.inner.KeptDesigns.{joined_of, IsKeptDesign};
 
-    ghost view = { λ d. joined_of (record { horizon = d.horizon; netlist = d.netlist; rows = d.rows.items; delays = d.delays; settings = d.settings }) };
+    ghost view = { λ d. joined_of (record { horizon = d.horizon; netlist = d.netlist; rows = d.rows.items; delays = d.delays.items; flops = d.flops.items; settings = d.settings }) };
 
-    ghost invariant = { λ d. IsKeptDesign (record { horizon = d.horizon; netlist = d.netlist; rows = d.rows.items; delays = d.delays; settings = d.settings }) };
+    ghost invariant = { λ d. IsKeptDesign (record { horizon = d.horizon; netlist = d.netlist; rows = d.rows.items; delays = d.delays.items; flops = d.flops.items; settings = d.settings }) };
 }
 
 /// The signals that a signal with this view reads.
@@ -80,15 +84,19 @@ impl Origin {
         ensures { IsViewOf self.now.circuit signal result }
     {
         match self.rows[signal as usize] {
-            Row::Input => SignalView::Input(self.settings.list(signal)),
-            Row::Gate { kind, least } => SignalView::Gate {
-                kind,
-                signals: signals_of(&self.netlist, signal),
-                delays: self.delays.list(signal),
-                least,
-            },
-            Row::Flop(flop) => SignalView::Flop {
-                flop,
+            Row::Input { place } => SignalView::Input(self.settings.list(place)),
+            Row::Gate { kind, least, start } => {
+                let signals = signals_of(&self.netlist, signal);
+                let start = start as usize;
+                SignalView::Gate {
+                    kind,
+                    signals,
+                    delays: &self.delays[start..start + signals.len()],
+                    least,
+                }
+            }
+            Row::Flop { place } => SignalView::Flop {
+                flop: self.flops[place as usize],
                 signals: signals_of(&self.netlist, signal),
             },
         }

@@ -35,13 +35,13 @@ impl Model for Readers {
 }
 
 impl Readers {
-    /// This many signals without readers.
-    pub fn none(alloc: Global, signals: u32) -> Result<Readers, AllocError>
+    /// This many signals without readers, with room for the links of this many pins.
+    pub fn none(alloc: Global, signals: u32, pins: usize) -> Result<Readers, AllocError>
         ensures { IfOk result (λ readers. readers ≡ replicate signals []) }
     {
         Ok(Readers {
             last: vec![in alloc; 0; signals as usize]?,
-            links: Vec::new(alloc),
+            links: Vec::with_capacity(alloc, pins)?,
         })
     }
 
@@ -92,7 +92,8 @@ pub fn readers_in(alloc: Global, origin: &Origin) -> Result<Readers, AllocError>
     ensures { IfOk result (λ readers. AreReaders origin.now.circuit readers) }
 {
     let signals = origin.signals();
-    let mut readers = Readers::none(alloc, signals)?;
+    let pins = origin.delays.len() + origin.flops.len();
+    let mut readers = Readers::none(alloc, signals, pins)?;
     for signal in 0..signals {
         readers.add_to_all(origin.reads(signal), signal)?;
     }

@@ -8,13 +8,15 @@ use bench_reader::{Netlist, Row as NetlistRow};
 use circuit_meaning::{FlipFlop, Setting};
 use gate_values::Kind;
 
-/// What a signal is. The signals that it reads stand in the netlist; delays and settings have their own lists.
+/// What a signal is. The signals that it reads stand in the netlist; settings, delays and flip-flops have their own lists.
 #[derive(Clone, Copy)]
 pub enum Row {
-    Input,
-    /// A gate and the least delay of its pins.
-    Gate { kind: Kind, least: u32 },
-    Flop(FlipFlop),
+    /// An input, and how many inputs stand before it: the place of its settings.
+    Input { place: u32 },
+    /// A gate, the least delay of its pins, and where the delays of its pins start.
+    Gate { kind: Kind, least: u32, start: u32 },
+    /// A flip-flop, and how many flip-flops stand before it: its place among them.
+    Flop { place: u32 },
 }
 
 /// All that is kept of a signal.

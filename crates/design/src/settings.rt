@@ -1,45 +1,62 @@
-//! The settings of a stimulus file, by signal.
+//! The settings of a stimulus file, by input.
 
-ghost use Rattle.std.specs.Prelude.{◌≡◌, ◌<◌, List, ℕ, [], All, IfOk, map, length, vec_len};
+ghost use Rattle.std.specs.Prelude.{◌≡◌, ◌<◌, List, ℕ, [], All, IfOk, map, length, vec_len, replicate};
 ghost use Rattle.design.specs.declared.fault.JoinFile.TheVariants as file;
 ghost use Rattle.bench_reader.specs.Netlists as netlists;
 ghost use Rattle.stimulus_file.specs.Stimulus.{SetRow};
 ghost use Rattle.stimulus_file.specs.Named.{named, with_name, HavePlaces};
 ghost use Rattle.design.specs.Join as join;
-ghost use Rattle.design.specs.inner.Said.{HasSets, TakesSet, TakesSets, input_of};
+ghost use Rattle.design.specs.inner.Said.{KnowsInputs, HasSets, TakesSet, TakesSets, inputs_of, input_of};
 
 use crate::fault::{JoinCause, JoinFault, JoinFile};
-use crate::lists::{Lists, empty_lists};
-use crate::stated::is_input;
+use crate::lists::SettingLists;
+use crate::rows::Row;
+use crate::stated::Rows;
 use bench_reader::Netlist;
 use circuit_meaning::Setting;
 use owned_text::Text;
 use std::alloc::{AllocError, Global};
 use stimulus_file::{NamedSets, NumberedSet};
 
-/// The input with this name.
-fn input_named(netlist: &Netlist, name: &Text) -> Result<u32, JoinCause>
+/// The place of the input with this name among all inputs.
+fn input_named(netlist: &Netlist, rows: &[Row], name: &Text) -> Result<u32, JoinCause>
+    requires { KnowsInputs netlist.now rows.now }
     ensures { result ≡ input_of netlist.now name.now }
 {
     match netlist.id_of(name.bytes()) {
         None => Err(JoinCause::UnknownName),
-        Some(signal) if is_input(netlist, signal) => Ok(signal),
-        Some(_) => Err(JoinCause::NotInput),
+        Some(signal) => match rows[signal as usize] {
+            Row::Input { place } => Ok(place),
+            Row::Gate { .. } | Row::Flop { .. } => Err(JoinCause::NotInput),
+        },
     }
 }
 
-/// The inputs with these names.
+/// The places of the inputs with these names.
 fn inputs_named(
     alloc: Global,
     netlist: &Netlist,
+    rows: &[Row],
     names: &[Text],
 ) -> Result<Vec<Result<u32, JoinCause>>, AllocError>
+    requires { KnowsInputs netlist.now rows.now }
     ensures { IfOk result (λ inputs. inputs.items ≡ map (input_of netlist.now) names.now) }
 {
     names
         .iter()
-        .map(|name| input_named(netlist, name))
+        .map(|name| input_named(netlist, rows, name))
         .collect(alloc)
+}
+
+/// This many empty lists.
+fn empty_lists(alloc: Global, count: u32) -> Result<Vec<Vec<Setting>>, AllocError>
+    ensures { IfOk result (λ lists. map (λ list. list.items) lists.items ≡ replicate count []) }
+{
+    let mut lists = Vec::with_capacity(alloc, count as usize)?;
+    for _list in 0..count {
+        lists.push(Vec::new(alloc))?;
+    }
+    Ok(lists)
 }
 
 fn refused(cause: JoinCause, row: &NumberedSet) -> JoinFault
@@ -60,39 +77,42 @@ fn take(
     row: &NumberedSet,
 ) -> Result<(), JoinFault>
     requires name { row.now.name < length inputs.now }
-    requires signals { All (λ input. IfOk input (λ signal. signal < vec_len settings.old))
+    requires places { All (λ input. IfOk input (λ place. place < vec_len settings.old))
         inputs.now }
     ensures { (netlist : netlists.Content) (names : List (List ℕ)) (before : List SetRow)
         → inputs.now ≡ map (input_of netlist) names → HasSets netlist before settings.old.items
         → TakesSet netlist horizon before (with_name names row.now) settings.new.items result }
 {
-    let signal = match inputs[row.name as usize] {
+    let place = match inputs[row.name as usize] {
         Err(cause) => return Err(refused(cause, row)),
-        Ok(signal) => signal,
+        Ok(place) => place,
     };
     if row.time > horizon {
         return Err(refused(JoinCause::PastHorizon, row));
     }
-    settings[signal as usize].push(Setting {
+    settings[place as usize].push(Setting {
         time: row.time,
         value: row.value,
     })?;
     Ok(())
 }
 
-/// The settings of each signal, in the order of the file.
+/// The settings of each input, in the order of the file.
 pub fn read(
     alloc: Global,
     netlist: &Netlist,
+    rows: &Rows,
     horizon: u32,
     stimulus: NamedSets<'_>,
 ) -> Result<Vec<Vec<Setting>>, JoinFault>
-    requires { HavePlaces stimulus.names.now stimulus.sets.now }
+    requires rows { KnowsInputs netlist.now rows.now.rows.items }
+    requires inputs { rows.now.inputs ≡ length (inputs_of netlist.now) }
+    requires names { HavePlaces stimulus.names.now stimulus.sets.now }
     ensures { TakesSets netlist.now horizon
         (named stimulus.entry.names.now stimulus.entry.sets.now) result }
 {
-    let inputs = inputs_named(alloc, netlist, stimulus.names)?;
-    let mut settings = empty_lists(alloc, netlist.signals())?;
+    let inputs = inputs_named(alloc, netlist, &rows.rows, stimulus.names)?;
+    let mut settings = empty_lists(alloc, rows.inputs)?;
     for row in stimulus.sets {
         take(&inputs, horizon, &mut settings, row)?;
     }
@@ -108,12 +128,12 @@ fn scheduled(mut settings: Vec<Setting>) -> Result<Vec<Setting>, AllocError>
     Ok(settings)
 }
 
-/// The settings of each signal, in the order of time.
-pub fn in_order(alloc: Global, settings: Vec<Vec<Setting>>) -> Result<Lists<Setting>, AllocError>
+/// The settings of each input, in the order of time.
+pub fn in_order(alloc: Global, settings: Vec<Vec<Setting>>) -> Result<SettingLists, AllocError>
     ensures { IfOk result (λ lists. lists ≡ map (λ list. join.scheduled list.items)
         settings.items) }
 {
-    let mut lists = Lists::with_room(alloc, settings.len())?;
+    let mut lists = SettingLists::with_room(alloc, settings.len())?;
     for list in settings {
         lists.push(&scheduled(list)?)?;
     }

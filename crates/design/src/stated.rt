@@ -1,8 +1,8 @@
 //! What the rows of a timing file say, by signal.
 
-ghost use Rattle.std.specs.Prelude.{◌≡◌, ◌++◌, ◌∷◌, [], ◌<◌, List, Some, IfOk, IfErr, OnOk, length, map, unwrap_or};
-ghost use Rattle.std.specs.HashMap.{get};
+ghost use Rattle.std.specs.Prelude.{◌≡◌, ◌+◌, ◌++◌, ◌∷◌, [], ◌<◌, List, Some, IfOk, IfErr, OnOk, length, map, unwrap_or};
 ghost use Rattle.std.specs.List.{range_with_len};
+ghost use Rattle.std.specs.HashMap.{get};
 ghost use Rattle.bench_reader.specs.Netlists as netlists;
 ghost use Rattle.bench_reader.specs.KeptNetlists.{driver_of_row};
 ghost use Rattle.timing_file.specs.Timing as timings;
@@ -12,10 +12,9 @@ ghost use Rattle.design.specs.Causes.{out_of_memory};
 ghost use Rattle.design.specs.Join as join;
 ghost use Rattle.design.specs.Join.{number, cause_of_what, clock_named, flop_of, rows_say, pin_said};
 ghost use Rattle.design.specs.inner.Said as said;
-ghost use Rattle.design.specs.inner.Said.{KnowsClocks, HasStated, TakesRow, TakesRows, KeepsRows, delays_of, row_of};
+ghost use Rattle.design.specs.inner.Said.{KnowsClocks, HasStated, TakesRow, TakesRows, KeepsRows};
 
 use crate::fault::{JoinCause, JoinFault, JoinFile};
-use crate::lists::Lists;
 use crate::rows::Row;
 use bench_reader::{Netlist, Row as NetlistRow};
 use circuit_meaning::FlipFlop;
@@ -83,7 +82,7 @@ fn row_at(netlist: &Netlist, signal: u32) -> NetlistRow<'_>
 }
 
 /// Whether a signal is an input.
-pub fn is_input(netlist: &Netlist, signal: u32) -> bool
+fn is_input(netlist: &Netlist, signal: u32) -> bool
     requires { signal < length netlist.now.names }
     ensures { result ≡ join.is_input (join.driver_at netlist.now signal) }
 {
@@ -301,67 +300,85 @@ impl Stated {
         Ok(())
     }
 
-    /// The row of a signal. The list becomes that of the delays of its pins, which is empty for
-    /// an input and a flip-flop.
-    fn row_of(
+    /// Keeps what drives a signal, after the signals before it.
+    fn keep_row(
         &self,
         netlist: &Netlist,
         timing: &Timing,
         signal: u32,
-        delays: &mut Vec<u32>,
-    ) -> Result<Row, AllocError>
-        requires { signal < length netlist.now.names }
-        ensures delays { OnOk result (HasStated netlist.now timing.now timing.now.rows self.now
-            → delays.new.items ≡ delays_of netlist.now timing.now signal
-            (join.driver_at netlist.now signal)) }
-        ensures row { IfOk result (λ row. HasStated netlist.now timing.now timing.now.rows self.now
-            → row ≡ row_of netlist.now timing.now signal (join.driver_at netlist.now signal)
-            delays.new.items) }
+        kept: &mut Rows,
+    ) -> Result<(), AllocError>
+        requires signal { signal < length netlist.now.names }
+        requires stated { HasStated netlist.now timing.now timing.now.rows self.now }
+        requires kept { KeepsRows netlist.now timing.now signal kept.old }
+        ensures { OnOk result (KeepsRows netlist.now timing.now (signal + 1) kept.new) }
     {
-        delays.clear();
-        match row_at(netlist, signal) {
-            NetlistRow::Input => Ok(Row::Input),
-            NetlistRow::Gate { kind, pins } => {
-                if is_dff(kind) {
-                    Ok(Row::Flop(self.flop_of(timing, signal, pins)))
-                } else {
-                    self.push_pin_delays(timing, signal, kind, pins.len() as u32, delays)?;
-                    Ok(Row::Gate {
-                        kind,
-                        least: least_of(delays),
-                    })
-                }
+        netlist.facts();
+        let row = match row_at(netlist, signal) {
+            NetlistRow::Input => {
+                let place = kept.inputs;
+                kept.inputs += 1;
+                Row::Input { place }
             }
-        }
+            NetlistRow::Gate { kind, pins } if is_dff(kind) => {
+                let place = place_after(kept.flops.len())?;
+                kept.flops.push(self.flop_of(timing, signal, pins))?;
+                Row::Flop { place }
+            }
+            NetlistRow::Gate { kind, pins } => {
+                let start = place_after(kept.delays.len())?;
+                let count = pins.len() as u32;
+                self.push_pin_delays(timing, signal, kind, count, &mut kept.delays)?;
+                let least = least_of(&kept.delays[start as usize..]);
+                Row::Gate { kind, least, start }
+            }
+        };
+        kept.rows.push(row)?;
+        Ok(())
     }
 
-    /// The rows of all signals and the delays of their pins.
+    /// What is kept of all signals.
     pub fn rows(
         &self,
         alloc: Global,
         netlist: &Netlist,
         timing: &Timing,
     ) -> Result<Rows, AllocError>
-        ensures { IfOk result (λ kept. HasStated netlist.now timing.now timing.now.rows self.now
-            → KeepsRows netlist.now timing.now (length netlist.now.names) kept) }
+        requires { HasStated netlist.now timing.now timing.now.rows self.now }
+        ensures { IfOk result (λ kept. KeepsRows netlist.now timing.now (length netlist.now.names)
+            kept) }
     {
         let signals = netlist.signals();
-        let mut rows = Vec::with_capacity(alloc, signals as usize)?;
-        let mut delays = Lists::with_room(alloc, signals as usize)?;
-        let mut of_pins = Vec::new(alloc);
+        let mut kept = Rows {
+            inputs: 0,
+            rows: Vec::with_capacity(alloc, signals as usize)?,
+            delays: Vec::new(alloc),
+            flops: Vec::new(alloc),
+        };
         for signal in 0..signals {
-            rows.push(self.row_of(netlist, timing, signal, &mut of_pins)?)?;
-            delays.push(&of_pins)?;
+            self.keep_row(netlist, timing, signal, &mut kept)?;
         }
-        Ok(Rows { rows, delays })
+        Ok(kept)
     }
 }
 
-/// What is kept of all signals, except their settings.
+/// What is kept of the signals, except the settings of the inputs.
 #[derive(Drop)]
 pub struct Rows {
+    /// The number of inputs.
+    pub inputs: u32,
     pub rows: Vec<Row>,
-    pub delays: Lists<u32>,
+    /// The delays of the pins of all gates, one gate after another.
+    pub delays: Vec<u32>,
+    /// The flip-flops in the order of the signals.
+    pub flops: Vec<FlipFlop>,
+}
+
+/// The place after this many items. Where they are too many, it is answered as where memory runs out.
+fn place_after(items: usize) -> Result<u32, AllocError>
+    ensures { IfOk result (λ place. place ≡ items) }
+{
+    u32::try_from(items).map_err(|_| AllocError)
 }
 
 /// What a map has at a key. Most files leave most maps empty, and there no key is hashed.

@@ -1,8 +1,10 @@
 -- Definitions for proofs and private functions, beside `KeptDesigns`.
-use Rattle.std.specs.Prelude.{◌≡◌, ℕ, ◌<◌, List, [], ◌∷◌, length, map, get_or, AllPairs}
+use Rattle.std.specs.Prelude.{◌≡◌, ℕ, ◌+◌, ◌<◌, ◌≤◌, List, [], ◌∷◌, length, map, take, drop, get_or, AllPairs, None}
 use Rattle.std.specs.List.{range_with_len}
 use Rattle.bench_reader.specs.Netlists.{Primary, Content, pins_of}
+use Rattle.gate_values.specs.declared.Value.TheVariants.{X}
 use Rattle.circuit_meaning.specs.declared.Setting.{Setting}
+use Rattle.circuit_meaning.specs.declared.FlipFlop.{FlipFlop}
 use Rattle.circuit_meaning.specs.Circuit.{Driver, Input, Gate, Flop, Circuit, IsDriver, AreDriverLimits, driver}
 use Rattle.circuit_meaning.specs.Cells.{least_delay}
 use Rattle.design.specs.declared.rows.Row.{Row}
@@ -12,34 +14,49 @@ use Rattle.design.specs.declared.rows.SignalView.TheVariants as view
 use Rattle.design.specs.Joined.{Joined, IsDesign}
 use Rattle.design.specs.KeptDesigns.{pins_with}
 
-abbrev pub driver_of : Row → List ℕ → List ℕ → List Setting → Driver
-driver_of row.Input signals delays settings = Input settings
-driver_of (row.Gate kind least) signals delays settings = Gate kind (pins_with signals delays)
-driver_of (row.Flop f) signals delays settings = Flop f
-
 -- each setting is after those before it
 abbrev pub InTimeOrder : List Setting → Type 0
 InTimeOrder settings = AllPairs (λ a b. a.time < b.time) settings
-
--- the parts of a row fit each other
-abbrev pub FitsRow : Row → List ℕ → List ℕ → List Setting → Type 0
-FitsRow row.Input signals delays settings = InTimeOrder settings
-FitsRow (row.Gate kind least) signals delays settings = (length delays ≡ length signals) × (least ≡ least_delay (pins_with signals delays))
-FitsRow (row.Flop f) signals delays settings = signals ≡ f.pin ∷ []
 
 -- what is kept of all signals
 pub record KeptDesign : Type 0 where
   pub horizon : ℕ
   pub netlist : Content
   pub rows : List Row
-  pub delays : List (List ℕ)
+  pub delays : List ℕ
+  pub flops : List FlipFlop
   pub settings : List (List Setting)
+
+-- the delays of this many pins, from a place on
+abbrev pub delays_at : KeptDesign → ℕ → ℕ → List ℕ
+delays_at k start pins = take pins (drop start k.delays)
+
+abbrev pub flop_at : KeptDesign → ℕ → FlipFlop
+flop_at k place = get_or k.flops place (record { pin = 0; delay = 1; clock = None; initial = X })
+
+abbrev pub settings_at : KeptDesign → ℕ → List Setting
+settings_at k place = get_or k.settings place []
+
+-- the driver with this row, which reads these signals
+abbrev pub driver_of : KeptDesign → List ℕ → Row → Driver
+driver_of k signals (row.Input place) = Input (settings_at k place)
+driver_of k signals (row.Gate kind least start) = Gate kind (pins_with signals (delays_at k start (length signals)))
+driver_of k signals (row.Flop place) = Flop (flop_at k place)
+
+-- the row names places that are there, and what stands there fits it
+abbrev pub FitsRow : KeptDesign → List ℕ → Row → Type 0
+FitsRow k signals (row.Input place) = (place < length k.settings) × InTimeOrder (settings_at k place)
+FitsRow k signals (row.Gate kind least start) = (start + length signals ≤ length k.delays) × (least ≡ least_delay (pins_with signals (delays_at k start (length signals))))
+FitsRow k signals (row.Flop place) = (place < length k.flops) × (signals ≡ (flop_at k place).pin ∷ [])
 
 abbrev pub signals_of : KeptDesign → ℕ → List ℕ
 signals_of k s = pins_of (get_or k.netlist.rows s Primary)
 
+abbrev pub row_at : KeptDesign → ℕ → Row
+row_at k s = get_or k.rows s (row.Input 0)
+
 abbrev pub driver_at : KeptDesign → ℕ → Driver
-driver_at k s = driver_of (get_or k.rows s row.Input) (signals_of k s) (get_or k.delays s []) (get_or k.settings s [])
+driver_at k s = driver_of k (signals_of k s) (row_at k s)
 
 abbrev pub circuit_of : KeptDesign → Circuit
 circuit_of k = record { horizon = k.horizon; drivers = map (driver_at k) (range_with_len 0 (length k.netlist.names)) }
@@ -48,14 +65,12 @@ abbrev pub joined_of : KeptDesign → Joined
 joined_of k = record { netlist = k.netlist; circuit = circuit_of k }
 
 abbrev pub FitsAt : KeptDesign → ℕ → Type 0
-FitsAt k s = FitsRow (get_or k.rows s row.Input) (signals_of k s) (get_or k.delays s []) (get_or k.settings s [])
+FitsAt k s = FitsRow k (signals_of k s) (row_at k s)
 
 pub record IsKeptDesign (k : KeptDesign) : Type 0 where
   pub design : IsDesign (joined_of k)
   pub shapes : length k.netlist.rows ≡ length k.netlist.names
   pub rows : length k.rows ≡ length k.netlist.names
-  pub delays : length k.delays ≡ length k.netlist.names
-  pub settings : length k.settings ≡ length k.netlist.names
   pub fits : (s : ℕ) → s < length k.netlist.names → FitsAt k s
 
 -- the driver of a signal with this view

@@ -1,5 +1,6 @@
 -- What is kept of the rows of the two files while they are read.
-use Rattle.std.specs.Prelude.{◌≡◌, ℕ, Bool, ◌&&◌, nat_eq, List, [], ◌∷◌, ◌++◌, length, map, filter, get_or, Option, Some, None, Result, Ok, Err, if◌then◌else◌, ◌⊎◌, ◌<◌, true, false, fold, min}
+use Rattle.std.specs.Prelude.{◌≡◌, ℕ, zero, suc, Bool, ◌&&◌, nat_eq, List, [], ◌∷◌, ◌++◌, length, map, filter, get_or, Option, Some, None, Result, Ok, Err, if◌then◌else◌, ◌⊎◌, ◌<◌, true, false, fold, min}
+use Rattle.std.specs.Option.{ok_or}
 use Rattle.std.specs.Global.{Vec}
 use Rattle.std.specs.Str.{bytes_eq}
 use Rattle.std.specs.HashMap as hash
@@ -7,6 +8,7 @@ use Rattle.std.specs.Map.{lookup}
 use Rattle.gate_values.specs.declared.Kind.{Kind}
 use Rattle.flip_flops.specs.declared.Clock.{Clock}
 use Rattle.circuit_meaning.specs.declared.Setting.{Setting}
+use Rattle.circuit_meaning.specs.declared.FlipFlop.{FlipFlop}
 use Rattle.bench_reader.specs.Netlists as netlists
 use Rattle.bench_reader.specs.Netlists.{NetlistDriver, Primary, Driven}
 use Rattle.timing_file.specs.Timing as timings
@@ -48,12 +50,44 @@ abbrev pub TakesRows : netlists.Content → timings.Content → Result Stated Jo
 TakesRows netlist timing (Ok stated) = (first_fault (timing_fault netlist timing) timing.rows ≡ None) × HasStated netlist timing timing.rows stated
 TakesRows netlist timing (Err fault) = (fault ≡ out_of_memory) ⊎ (first_fault (timing_fault netlist timing) timing.rows ≡ Some fault)
 
--- the input with this number, or why it is none
+-- what the first n signals have, one after another
+abbrev pub of_first : {A : Type 0} → (ℕ → List A) → ℕ → List A
+of_first has zero = []
+of_first has (suc n) = of_first has n ++ has n
+
+-- an input by itself, and nothing for a signal that is driven
+abbrev pub input_at : netlists.Content → ℕ → List ℕ
+input_at netlist s = if is_input (driver_at netlist s) then s ∷ [] else []
+
+-- the inputs among the first n signals
+abbrev pub inputs_in : netlists.Content → ℕ → List ℕ
+inputs_in netlist n = of_first (input_at netlist) n
+
+-- all inputs, in the order of the signals
+abbrev pub inputs_of : netlists.Content → List ℕ
+inputs_of netlist = inputs_in netlist (length netlist.names)
+
+-- the place that the row of an input tells
+abbrev pub place_in : Row → Option ℕ
+place_in (row.Input place) = Some place
+place_in (row.Gate kind least start) = None
+place_in (row.Flop place) = None
+
+-- the place of an input among all inputs
+abbrev pub place_of : netlists.Content → ℕ → Option ℕ
+place_of netlist s = if is_input (driver_at netlist s) then Some (length (inputs_in netlist s)) else None
+
+-- the rows tell which signals are inputs, and their places
+pub record KnowsInputs (netlist : netlists.Content) (rows : List Row) : Type 0 where
+  pub long : length rows ≡ length netlist.names
+  pub each : (s : ℕ) → s < length netlist.names → place_in (get_or rows s (row.Input 0)) ≡ place_of netlist s
+
+-- the place of the input with this number, or why it is none
 abbrev pub input_numbered : netlists.Content → Option ℕ → Result ℕ JoinCause
 input_numbered netlist None = Err UnknownName
-input_numbered netlist (Some s) = if is_input (driver_at netlist s) then Ok s else Err NotInput
+input_numbered netlist (Some s) = ok_or (place_of netlist s) NotInput
 
--- the input with this name, or why it is none
+-- the place of the input with this name, or why it is none
 abbrev pub input_of : netlists.Content → List ℕ → Result ℕ JoinCause
 input_of netlist name = input_numbered netlist (number netlist name)
 
@@ -63,10 +97,10 @@ bucket_of netlist rows s = map setting_of (filter (λ row. is_signal s (number n
 abbrev pub lists_in : List (Vec Setting) → List (List Setting)
 lists_in buckets = map (λ b. b.items) buckets
 
--- the settings of each signal in the order of the file
+-- the settings of each input in the order of the file
 pub record HasSets (netlist : netlists.Content) (rows : List SetRow) (buckets : List (Vec Setting)) : Type 0 where
-  pub long : length buckets ≡ length netlist.names
-  pub each : (s : ℕ) → s < length netlist.names → get_or (lists_in buckets) s [] ≡ bucket_of netlist rows s
+  pub long : length buckets ≡ length (inputs_of netlist)
+  pub each : (k : ℕ) → k < length (inputs_of netlist) → get_or (lists_in buckets) k [] ≡ bucket_of netlist rows (get_or (inputs_of netlist) k 0)
 
 abbrev pub TakesSet : netlists.Content → ℕ → List SetRow → SetRow → List (Vec Setting) → Result (Unit {0}) JoinFault → Type 0
 TakesSet netlist horizon before row buckets (Ok x) = (set_fault netlist horizon row ≡ None) × HasSets netlist (before ++ row ∷ []) buckets
@@ -90,15 +124,31 @@ abbrev pub delays_of : netlists.Content → timings.Content → ℕ → NetlistD
 delays_of netlist timing s Primary = []
 delays_of netlist timing s (Driven kind pins) = gate_delays netlist timing s (is_dff kind) kind pins
 
-abbrev pub gate_row : netlists.Content → timings.Content → ℕ → Bool → Kind → List ℕ → List ℕ → Row
-gate_row netlist timing s true kind pins delays = row.Flop (flop_of netlist timing s pins)
-gate_row netlist timing s false kind pins delays = row.Gate kind (least_of delays)
+abbrev pub delays_at : netlists.Content → timings.Content → ℕ → List ℕ
+delays_at netlist timing s = delays_of netlist timing s (driver_at netlist s)
 
-abbrev pub row_of : netlists.Content → timings.Content → ℕ → NetlistDriver → List ℕ → Row
-row_of netlist timing s Primary delays = row.Input
-row_of netlist timing s (Driven kind pins) delays = gate_row netlist timing s (is_dff kind) kind pins delays
+-- a flip-flop by itself, and nothing for another signal
+abbrev pub flops_of : netlists.Content → timings.Content → ℕ → NetlistDriver → List FlipFlop
+flops_of netlist timing s Primary = []
+flops_of netlist timing s (Driven kind pins) = if is_dff kind then flop_of netlist timing s pins ∷ [] else []
+
+abbrev pub flops_at : netlists.Content → timings.Content → ℕ → List FlipFlop
+flops_at netlist timing s = flops_of netlist timing s (driver_at netlist s)
+
+abbrev pub gate_row : netlists.Content → timings.Content → ℕ → Bool → Kind → List ℕ → Row
+gate_row netlist timing s true kind pins = row.Flop (length (of_first (flops_at netlist timing) s))
+gate_row netlist timing s false kind pins = row.Gate kind (least_of (pin_delays netlist timing s kind pins)) (length (of_first (delays_at netlist timing) s))
+
+abbrev pub row_of : netlists.Content → timings.Content → ℕ → NetlistDriver → Row
+row_of netlist timing s Primary = row.Input (length (inputs_in netlist s))
+row_of netlist timing s (Driven kind pins) = gate_row netlist timing s (is_dff kind) kind pins
+
+abbrev pub row_at : netlists.Content → timings.Content → ℕ → Row
+row_at netlist timing s = row_of netlist timing s (driver_at netlist s)
 
 -- what is kept of the first n signals
 pub record KeepsRows (netlist : netlists.Content) (timing : timings.Content) (n : ℕ) (kept : Rows) : Type 0 where
-  pub rows : kept.rows.items ≡ map (λ s. row_of netlist timing s (driver_at netlist s) (delays_of netlist timing s (driver_at netlist s))) (range_with_len 0 n)
-  pub delays : kept.delays ≡ map (λ s. delays_of netlist timing s (driver_at netlist s)) (range_with_len 0 n)
+  pub inputs : kept.inputs ≡ length (inputs_in netlist n)
+  pub rows : kept.rows.items ≡ map (row_at netlist timing) (range_with_len 0 n)
+  pub delays : kept.delays.items ≡ of_first (delays_at netlist timing) n
+  pub flops : kept.flops.items ≡ of_first (flops_at netlist timing) n

@@ -13,10 +13,10 @@ take-requires c =
     let netlist = c.args.netlist.now in
     let names = c.args.stimulus.names.now in
     let settings = c.loop-row.settings in
-    let are : c.deref.result.now ≡ map (input_of netlist) names = c.deref.ensures.value ∙ c.in_ok-inputs.ensures in
+    let are : c.deref-in-loop-row.result.now ≡ map (input_of netlist) names = c.deref-in-loop-row.ensures.value ∙ c.in_ok-inputs.ensures in
     record {
-      name = below-same _ _ _ (ap length are ∙ length-map names (input_of netlist)) (c.requires c.loop-row.row-index _ c.loop-row-test.true);
-      signals = subst (λ inputs. All (λ input. IfOk input (λ signal. signal < vec_len settings)) inputs) (sym are) (inputs-within netlist names (vec_len settings) (settings.ok.0 ∙ c.loop-row.invariant.has.long));
+      name = below-same _ _ _ (ap length are ∙ length-map names (input_of netlist)) (c.requires.names c.loop-row.row-index _ c.loop-row-test.true);
+      places = subst (λ inputs. All (λ input. IfOk input (λ place. place < vec_len settings)) inputs) (sym are) (inputs-within netlist names (vec_len settings) (settings.ok.0 ∙ c.loop-row.invariant.has.long));
     }
 
 pub returns-in_err-take : goal.returns-in_err-take
@@ -25,7 +25,7 @@ returns-in_err-take c =
     let names = c.args.stimulus.names.now in
     let sets = c.args.stimulus.sets.now in
     let p = err_from_is_err_and c.from_residual-in_err-take.result c.from_residual-in_err-take.ensures.1 in
-    let step = c.in_err-take.ensures netlist names _ (c.deref.ensures.value ∙ c.in_ok-inputs.ensures) c.loop-row.invariant.has in
+    let step = c.in_err-take.ensures netlist names _ (c.deref-in-loop-row.ensures.value ∙ c.in_ok-inputs.ensures) c.loop-row.invariant.has in
     subst (TakesSets netlist c.args.horizon (named names sets)) (sym (p.1 ∙ ap Err p.2))
     (named-refused names sets c.loop-row.row-index _ c.loop-row-test.true (set_fault netlist c.args.horizon) _ c.loop-row.invariant.fault step)
 
@@ -34,7 +34,7 @@ loop-row-preserved c =
     let netlist = c.args.netlist.now in
     let names = c.args.stimulus.names.now in
     let sets = c.args.stimulus.sets.now in
-    let step = c.in_ok-take.ensures netlist names _ (c.deref.ensures.value ∙ c.in_ok-inputs.ensures) c.loop-row.invariant.has in
+    let step = c.in_ok-take.ensures netlist names _ (c.deref-in-loop-row.ensures.value ∙ c.in_ok-inputs.ensures) c.loop-row.invariant.has in
     record {
       has = subst (λ rows. HasSets netlist rows c.take.new.settings.items) (named-taken names sets c.loop-row.row-index _ c.loop-row-test.true) step.1;
       fault = named-passed names sets c.loop-row.row-index _ c.loop-row-test.true (set_fault netlist c.args.horizon) c.loop-row.invariant.fault step.0;
