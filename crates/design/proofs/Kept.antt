@@ -1,9 +1,8 @@
 -- What is kept of a signal stands for its driver.
-use Rattle.std.proofs.Common.{◌≡◌, ℕ, ◌+◌, ◌<◌, ◌≤◌, List, [], ◌∷◌, length, get_or, drop, sym, ap, ◌∙◌, subst, arith, Some}
-use Rattle.std.specs.Prelude.{slice_get}
+use Rattle.std.proofs.Common.{◌≡◌, ℕ, ◌+◌, ◌<◌, ◌≤◌, List, [], ◌∷◌, length, get_or, map, drop, sym, ap, ◌∙◌, subst, arith}
 use Rattle.std.specs.Borrow.{Bor}
-use Rattle.std.proofs.lemmas.List.{get_or_read, length-take-le, length-drop}
-use Rattle.std.proofs.lemmas.Option.{get_or_from_slice_get}
+use Rattle.std.specs.Global.{Vec}
+use Rattle.std.proofs.lemmas.List.{get_or-map, get_or_read, length-take-le, length-drop}
 use Rattle.std.proofs.lemmas.List.FromFn.{length-map-range_with_len, get_or-map-range_with_len}
 use Rattle.gate_values.specs.declared.Kind.{Kind}
 use Rattle.circuit_meaning.specs.declared.FlipFlop.{FlipFlop}
@@ -17,7 +16,7 @@ use Rattle.design.specs.declared.rows.SignalView.{SignalView as View}
 use Rattle.design.specs.declared.rows.SignalView.TheVariants as view
 use Rattle.design.specs.Joined.{Joined}
 use Rattle.design.specs.KeptDesigns.{pins_with}
-use Rattle.design.specs.inner.KeptDesigns.{KeptDesign, IsKeptDesign, joined_of, circuit_of, driver_at, driver_of, delays_at, flop_at, signals_of, row_at, driver_seen, InTimeOrder, FitsFrom, FitsRow, IsViewOf}
+use Rattle.design.specs.inner.KeptDesigns.{KeptDesign, IsKeptDesign, joined_of, circuit_of, driver_at, driver_of, delays_at, flop_at, settings_at, signals_of, row_at, driver_seen, InTimeOrder, FitsFrom, FitsRow, IsViewOf}
 
 module _ (k : KeptDesign) (ok : IsKeptDesign k) (s : ℕ) where
   here : s < length (circuit_of k).drivers → s < length k.netlist.names
@@ -37,7 +36,11 @@ module _ (k : KeptDesign) (ok : IsKeptDesign k) (s : ℕ) where
         fits = fits;
       }
 
-pub in_range : (k : KeptDesign) (d : Joined) → joined_of k ≡ d → (s : ℕ) → s < length d.circuit.drivers → s < length k.netlist.names
+-- a list that was read, among the lists
+pub list-read : (lists : List (Vec Setting)) (place : ℕ) (list : Vec Setting) → place < length lists → list ≡ get_or lists place list → list.items ≡ get_or (map (λ (v : Vec Setting). v.items) lists) place []
+list-read lists place list l at = ap (λ (v : Vec Setting). v.items) at ∙ sym (get_or-map (λ (v : Vec Setting). v.items) lists place list [] l)
+
+in_range : (k : KeptDesign) (d : Joined) → joined_of k ≡ d → (s : ℕ) → s < length d.circuit.drivers → s < length k.netlist.names
 in_range k d e s l = subst (λ m. s < m) (length-map-range_with_len (driver_at k) 0 (length k.netlist.names)) (subst (λ (x : Joined). s < length x.circuit.drivers) (sym e) l)
 
 module _ (k : KeptDesign) (ok : IsKeptDesign k) (d : Joined) (e : joined_of k ≡ d) (s : ℕ) (l : s < length d.circuit.drivers) (x : Row) (read : x ≡ get_or k.rows s x) where
@@ -57,10 +60,8 @@ module _ (k : KeptDesign) (ok : IsKeptDesign k) (d : Joined) (e : joined_of k �
     pub input-within : place < length k.settings
     input-within = (row-fits (row.Input place) is).0
 
-    pub input-view : (xs : Bor (List Setting)) → slice_get k.settings place ≡ Some xs.now → IsViewOf d.circuit s (view.Input xs)
-    input-view xs at =
-        let settings = get_or_from_slice_get k.settings place xs.now [] at in
-        view-is (view.Input xs) (driver-is (row.Input place) is ∙ ap Input settings) (subst InTimeOrder settings (row-fits (row.Input place) is).1)
+    pub input-view : (xs : Bor (List Setting)) → xs.now ≡ settings_at k place → IsViewOf d.circuit s (view.Input xs)
+    input-view xs at = view-is (view.Input xs) (driver-is (row.Input place) is ∙ ap Input (sym at)) (subst InTimeOrder (sym at) (row-fits (row.Input place) is).1)
 
   module _ (kind : Kind) (least start : ℕ) (is : x ≡ row.Gate kind least start) (signals : Bor (List ℕ)) (reads : signals.now ≡ signals_of k s) where
     gate-fits : FitsRow k signals.now (row.Gate kind least start)

@@ -7,7 +7,6 @@ pub mod Walked
 pub mod Links
 pub mod Reading
 pub mod Holding
-pub mod Listed
 pub mod Rereads
 pub mod SortedSettings
 pub mod Joining

@@ -12,9 +12,9 @@
 //! walks the cone once. It takes a flag for each signal and a place for each that it reaches. `reached` takes a flag for each signal,
 //! and time for the pins that read a signal of its result. `hold` takes constant time, and a place for each held signal: the new
 //! design shares all else with the old one. `join` takes the time of its rows and pins, and sorts the settings. It looks a name up by
-//! hashing for each timing row, and once for all settings of a name. A design holds the netlist and, in flat lists, a row for each
-//! signal, a delay for each pin of a gate, the flip-flops, the settings of all inputs, and a link for each pin, which leads from a
-//! signal to its readers.
+//! hashing for each timing row, and once for all settings of a name. A design holds the netlist, a list of settings for each input,
+//! and, in flat lists, a row for each signal, a delay for each pin of a gate, the flip-flops, and a link for each pin, which leads from
+//! a signal to its readers.
 //!
 //! ```
 //! let design = Design::join(alloc, netlist, &timing, &stimulus)?;
@@ -30,7 +30,6 @@ mod fault;
 mod flags;
 mod held;
 mod laws;
-mod lists;
 mod origin;
 mod readers;
 mod rows;

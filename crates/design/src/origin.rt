@@ -5,10 +5,9 @@ ghost use Rattle.circuit_meaning.specs.Circuit.{driver, read_by};
 ghost use Rattle.design.specs.Joined.{IsDesign};
 ghost use Rattle.design.specs.inner.KeptDesigns.{IsViewOf, FitsFrom, driver_seen};
 
-use crate::lists::SettingLists;
 use crate::rows::{Row, SignalView, signals_of};
 use bench_reader::Netlist;
-use circuit_meaning::FlipFlop;
+use circuit_meaning::{FlipFlop, Setting};
 use std::marker::Model;
 
 /// A design without held signals, as it was joined. What a row names by a place stands in one of the lists.
@@ -21,20 +20,21 @@ pub struct Origin {
     pub delays: Vec<u32>,
     /// The flip-flops in the order of the signals.
     pub flops: Vec<FlipFlop>,
-    /// The settings of each input, in the order of the signals.
-    pub settings: SettingLists,
+    /// The settings of each input in the order of time, and the inputs in the order of the signals.
+    pub settings: Vec<Vec<Setting>>,
 }
 
 impl Model for Origin {
+    ghost use Rattle.std.specs.Prelude.{map};
     ghost use Rattle.design.specs.Joined.{Joined};
 
     ghost Value = { Joined };
 
     ghost use Rattle.design.specs.inner.KeptDesigns.{joined_of, IsKeptDesign};
 
-    ghost view = { λ d. joined_of (record { horizon = d.horizon; netlist = d.netlist; rows = d.rows.items; delays = d.delays.items; flops = d.flops.items; settings = d.settings }) };
+    ghost view = { λ d. joined_of (record { horizon = d.horizon; netlist = d.netlist; rows = d.rows.items; delays = d.delays.items; flops = d.flops.items; settings = map (λ list. list.items) d.settings.items }) };
 
-    ghost invariant = { λ d. IsKeptDesign (record { horizon = d.horizon; netlist = d.netlist; rows = d.rows.items; delays = d.delays.items; flops = d.flops.items; settings = d.settings }) };
+    ghost invariant = { λ d. IsKeptDesign (record { horizon = d.horizon; netlist = d.netlist; rows = d.rows.items; delays = d.delays.items; flops = d.flops.items; settings = map (λ list. list.items) d.settings.items }) };
 }
 
 /// The signals that a signal with this view reads.
@@ -84,7 +84,7 @@ impl Origin {
         ensures { IsViewOf self.now.circuit signal result }
     {
         match self.rows[signal as usize] {
-            Row::Input { place } => SignalView::Input(self.settings.list(place)),
+            Row::Input { place } => SignalView::Input(&self.settings[place as usize]),
             Row::Gate { kind, least, start } => {
                 let signals = signals_of(&self.netlist, signal);
                 let start = start as usize;

@@ -9,7 +9,6 @@ ghost use Rattle.design.specs.Join as join;
 ghost use Rattle.design.specs.inner.Said.{KnowsInputs, HasSets, TakesSet, TakesSets, inputs_of, input_of};
 
 use crate::fault::{JoinCause, JoinFault, JoinFile};
-use crate::lists::SettingLists;
 use crate::rows::Row;
 use crate::stated::Rows;
 use bench_reader::Netlist;
@@ -129,13 +128,13 @@ fn scheduled(mut settings: Vec<Setting>) -> Result<Vec<Setting>, AllocError>
 }
 
 /// The settings of each input, in the order of time.
-pub fn in_order(alloc: Global, settings: Vec<Vec<Setting>>) -> Result<SettingLists, AllocError>
-    ensures { IfOk result (λ lists. lists ≡ map (λ list. join.scheduled list.items)
-        settings.items) }
+pub fn in_order(alloc: Global, settings: Vec<Vec<Setting>>) -> Result<Vec<Vec<Setting>>, AllocError>
+    ensures { IfOk result (λ lists. map (λ list. list.items) lists.items
+        ≡ map (λ list. join.scheduled list.items) settings.items) }
 {
-    let mut lists = SettingLists::with_room(alloc, settings.len())?;
+    let mut lists = Vec::with_capacity(alloc, settings.len())?;
     for list in settings {
-        lists.push(&scheduled(list)?)?;
+        lists.push(scheduled(list)?)?;
     }
     Ok(lists)
 }

@@ -3,4 +3,4 @@ use Rattle.design.specs.Join.{scheduled}
 use Rattle.design.proofs.settings.in_order.Given as goal
 
 abbrev pub invariant-loop-list : goal.invariant-loop-list
-invariant-loop-list l = l.lists ≡ map (λ list. scheduled list.items) l.yielded
+invariant-loop-list l = map (λ list. list.items) l.lists.items ≡ map (λ list. scheduled list.items) l.yielded

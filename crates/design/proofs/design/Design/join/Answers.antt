@@ -2,7 +2,7 @@ use Rattle.std.proofs.Common.{ap, ◌∙◌, sym, subst, Err}
 use Rattle.std.proofs.lemmas.Result.{err_from_is_err_and}
 use Rattle.stimulus_file.specs.Named.{named}
 use Rattle.design.specs.Join.{AnswersDesign, design_of}
-use Rattle.design.specs.inner.Said.{HasSets}
+use Rattle.design.specs.inner.Said.{HasSets, lists_in}
 use Rattle.design.proofs.Finished.{refused-timing, refused-set, none-at, accepted}
 use Rattle.design.proofs.Joining.{joined-is, is-kept, ordered-are}
 use Rattle.design.proofs.Rowed.{knows-inputs}
@@ -31,8 +31,8 @@ invariant_of-origin c =
     let none = none-at netlist c.args.timing.now stimulus c.horizon-horizon.result (named c.sets.result.names.now c.sets.result.sets.now) c.horizon-horizon.ensures c.sets.ensures.named c.in_ok-settings.ensures.0 in
     let has = subst (λ sets. HasSets netlist sets c.in_ok-settings.settings.items) c.sets.ensures.named c.in_ok-settings.ensures.1 in
     is-kept netlist c.args.timing.now stimulus c.facts.ensures c.facts-2.ensures c.facts-3.ensures none
-    c.horizon-horizon.result c.in_ok-kept.kept.rows.items c.in_ok-kept.kept.delays.items c.in_ok-kept.kept.flops.items c.in_ok-settings-2.settings
-    c.horizon-horizon.ensures kept.rows kept.delays kept.flops (ordered-are netlist stimulus.sets c.in_ok-settings.settings.items c.in_ok-settings-2.settings has c.in_ok-settings-2.ensures)
+    c.horizon-horizon.result c.in_ok-kept.kept.rows.items c.in_ok-kept.kept.delays.items c.in_ok-kept.kept.flops.items (lists_in c.in_ok-settings-2.settings.items)
+    c.horizon-horizon.ensures kept.rows kept.delays kept.flops (ordered-are netlist stimulus.sets c.in_ok-settings.settings.items (lists_in c.in_ok-settings-2.settings.items) has c.in_ok-settings-2.ensures)
 
 pub returns : goal.returns
 returns c =
@@ -44,5 +44,5 @@ returns c =
     let has = subst (λ sets. HasSets netlist sets c.in_ok-settings.settings.items) c.sets.ensures.named c.in_ok-settings.ensures.1 in
     accepted netlist timing stimulus c.in_ok-of.field-0 c.in_ok-stated.ensures.0 none
     (c.in_ok-of.ensures ∙ joined-is netlist timing stimulus c.facts.ensures c.facts-2.ensures c.facts-3.ensures none
-    c.horizon-horizon.result c.in_ok-kept.kept.rows.items c.in_ok-kept.kept.delays.items c.in_ok-kept.kept.flops.items c.in_ok-settings-2.settings
-    c.horizon-horizon.ensures kept.rows kept.delays kept.flops (ordered-are netlist stimulus.sets c.in_ok-settings.settings.items c.in_ok-settings-2.settings has c.in_ok-settings-2.ensures))
+    c.horizon-horizon.result c.in_ok-kept.kept.rows.items c.in_ok-kept.kept.delays.items c.in_ok-kept.kept.flops.items (lists_in c.in_ok-settings-2.settings.items)
+    c.horizon-horizon.ensures kept.rows kept.delays kept.flops (ordered-are netlist stimulus.sets c.in_ok-settings.settings.items (lists_in c.in_ok-settings-2.settings.items) has c.in_ok-settings-2.ensures))
