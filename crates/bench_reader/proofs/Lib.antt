@@ -1,4 +1,4 @@
-pub mod Lists
+pub mod Forms
 pub mod Places
 pub mod Placing
 pub mod Chained
@@ -10,4 +10,3 @@ pub mod Steps
 pub mod End
 pub mod Loop
 pub mod Whole
-pub mod Comments

@@ -1,21 +1,29 @@
 -- What all lines say.
-use Rattle.std.proofs.Common.{◌≡◌, ℕ, List, [], map, Some, None, Ok, Err, refl, sym, ap, ◌∙◌, inl, inr, ◌⊎◌}
+use Rattle.std.proofs.Common.{◌≡◌, ℕ, List, [], ◌∷◌, ◌++◌, map, Some, None, Result, Ok, Err, refl, sym, ap, subst, ◌∙◌, inl, inr, ◌⊎◌}
+use Rattle.std.specs.Prelude.{OnOk}
 use Rattle.text_rules.specs.Text.{lines}
 use Rattle.line_faults.specs.declared.causes.LineFault.{LineFault}
 use Rattle.line_faults.specs.Faults.{at_line, first_fault}
+use Rattle.line_faults.specs.Reading.{Steps}
 use Rattle.bench_reader.specs.declared.fault.BenchCause.{BenchCause}
-use Rattle.bench_reader.specs.declared.fault.BenchCause.TheVariants.{Undefined}
+use Rattle.bench_reader.specs.declared.fault.BenchCause.TheVariants.{Undefined, OutOfMemory}
 use Rattle.bench_reader.specs.declared.reader.Reader.{Reader}
-use Rattle.bench_reader.specs.Lines.{line_of}
+use Rattle.bench_reader.specs.Lines.{Line, line_of}
 use Rattle.bench_reader.specs.Netlists.{cause_of, out_of_memory, bench_of, undefined_from, Content, NetlistDriver}
 use Rattle.bench_reader.specs.inner.KeptNetlists.{driver}
-use Rattle.bench_reader.specs.inner.Reading.{IsRead, first_missing}
+use Rattle.bench_reader.specs.inner.Reading.{IsSoundReading, HasRead, IsRead, first_missing}
 use Rattle.bench_reader.proofs.End.{rows_said, outputs_said, none_undefined, some_undefined}
 
 pub fault_answers : (text : List ℕ) (fault : LineFault BenchCause) → (fault ≡ out_of_memory) ⊎ (first_fault cause_of [] (map line_of (lines text)) ≡ Some fault) → (fault ≡ out_of_memory) ⊎ (bench_of text ≡ Err fault)
 unfolding bench_of
 fault_answers text fault (inl memory) = inl memory
 fault_answers text fault (inr first) = inr (rw first refl)
+
+-- what is answered to the form of a line is answered to the line
+pub answered : (before : List Line) (l m : Line) (new : Reader) (number : ℕ) (r : Result (Unit {0}) (LineFault BenchCause)) → l ≡ m → Steps OutOfMemory (cause_of before l) (HasRead (before ++ l ∷ []) new) number r → OnOk r (IsSoundReading new)
+    → Steps OutOfMemory (cause_of before m) (IsRead (before ++ m ∷ []) new) number r
+answered before l m new number (Ok x) is steps sound = subst (λ (k : Line). (cause_of before k ≡ None) × (IsSoundReading new × HasRead (before ++ k ∷ []) new)) is (steps.0, (sound, steps.1))
+answered before l m new number (Err fault) is steps sound = subst (λ (k : Line). (fault ≡ out_of_memory) ⊎ (cause_of before k ≡ Some fault.cause) × (fault.line ≡ number)) is steps
 
 -- all lines were read, and a name is undefined
 pub undefined_said : (text : List ℕ) (r : Reader) (number : ℕ) → (first_fault cause_of [] (map line_of (lines text)) ≡ None) × IsRead (map line_of (lines text)) r → first_missing r.rows.items ≡ Some number → bench_of text ≡ Err (at_line number Undefined)

@@ -9,9 +9,10 @@ use Rattle.bench_reader.specs.Lines.{Line, Blank, Malformed, Input, Output, Gate
 abbrev pub each_now : List (Bor (List ℕ)) → List (List ℕ)
 each_now names = map (λ p. p.now) names
 
-abbrev pub view : Form → Line
-view forms.Blank = Blank
-view forms.Malformed = Malformed
-view (forms.Input name) = Input name.now
-view (forms.Output name) = Output name.now
-view (forms.Gate name kind pins) = Gate name.now kind.now (each_now pins.items)
+-- where these are the names of its list
+abbrev pub view : List (Bor (List ℕ)) → Form → Line
+view pins forms.Blank = Blank
+view pins forms.Malformed = Malformed
+view pins (forms.Input name) = Input name.now
+view pins (forms.Output name) = Output name.now
+view pins (forms.Gate name kind) = Gate name.now kind.now (each_now pins)

@@ -31,6 +31,7 @@ fn mixed(hash: u64, word: u64) -> u64
     (hash ^ word).wrapping_mul(MIXER)
 }
 
+#[inline(never)]
 fn by_bytes(name: &[u8]) -> u64
     ensures { result ≡ fold chains.mixed 0 name.now }
 {
@@ -62,6 +63,7 @@ fn by_eights(name: &[u8]) -> u64
 }
 
 /// The hash of a name. Names of 4 to 16 bytes, as most are, take two steps.
+#[inline(always)]
 #[tactic(auto, unfolding(crate::specs::inner::Chains::hash_of))]
 pub fn hash_of(name: &[u8]) -> u64
     ensures { result ≡ chains.hash_of name.now }
@@ -137,6 +139,7 @@ impl Chains {
 }
 
 /// The number of the name, in the chain that begins with this entry.
+#[inline(always)]
 pub fn seek(names: &TextList, earlier: &[u32], last: u32, name: &[u8]) -> Option<u32>
     requires { BeginsChain names.now earlier.now name.now last }
     ensures { MatchOption result (IsNowhere names.now name.now) (HasNumber names.now name.now) }

@@ -1,36 +1,26 @@
 //! The forms of a line.
 
-ghost use Rattle.std.specs.Prelude.{◌≡◌, ◌<◌, Option, Some, None, map, Result, IfOk};
+ghost use Rattle.std.specs.Prelude.{◌≡◌, List, ℕ, length, false, IfOk, ◌==◌, nat_eq};
+ghost use Rattle.std.specs.Borrow.{Bor};
 ghost use Rattle.bench_reader.specs.Lines as form;
-ghost use Rattle.bench_reader.specs.Lines.{line_of};
 ghost use Rattle.gate_values.specs.Spelling.{spells};
-ghost use Rattle.text_rules.specs.Text.{tokens};
+ghost use Rattle.text_rules.specs.Text.{line_tokens, starts_with_name};
 ghost use Rattle.bench_reader.specs.Views.{view};
-ghost use Rattle.bench_reader.specs.inner.Views.{names_of};
+ghost use Rattle.bench_reader.specs.inner.Views.{names_if, is_close};
 
 use smallvec::SmallVec;
-use std::alloc::{AllocError, Global};
-use text_rules::{content, next_tested_token, next_token};
+use std::alloc::AllocError;
+use text_rules::{has_no_token, next_mark, next_name};
 
-/// A line, read by its form. The kind of a gate is any name.
-#[derive(Drop)]
+/// A line, read by its form. The kind of a gate is any name, and its pins are kept apart.
+#[derive(Clone, Copy)]
 pub enum Form<'a> {
     Blank,
     /// None of the forms.
     Malformed,
     Input(&'a [u8]),
     Output(&'a [u8]),
-    Gate {
-        name: &'a [u8],
-        kind: &'a [u8],
-        pins: SmallVec<&'a [u8], 4>,
-    },
-}
-
-fn is_the(mark: u8, token: &[u8]) -> bool
-    ensures { result ≡ form.is_the mark token.now }
-{
-    token == [mark].as_slice()
+    Gate { name: &'a [u8], kind: &'a [u8] },
 }
 
 /// Whether a word is this keyword, in either case.
@@ -41,7 +31,8 @@ fn is_keyword(word: &[u8], keyword: &[u8]) -> bool
 }
 
 fn port_of<'a>(word: &[u8], name: &'a [u8]) -> Form<'a>
-    ensures { view result ≡ form.port_of word.now name.entry.now }
+    ensures { (pins : List (Bor (List ℕ))) → view pins result
+        ≡ form.port_of word.now name.entry.now }
 {
     if is_keyword(word, b"input") {
         return Form::Input(name);
@@ -52,138 +43,142 @@ fn port_of<'a>(word: &[u8], name: &'a [u8]) -> Form<'a>
     Form::Malformed
 }
 
+/// What follows `word (`.
 fn port_form<'a>(word: &[u8], bytes: &'a [u8]) -> Form<'a>
-    ensures { view result ≡ form.port_line word.now (tokens bytes.entry.now) }
+    ensures { (pins : List (Bor (List ℕ))) → view pins result
+        ≡ form.port_line word.now (line_tokens bytes.entry.now) }
 {
-    let (name, is_name, rest) = match next_tested_token(bytes) {
+    let (name, rest) = match next_name(bytes) {
         None => return Form::Malformed,
         Some(found) => found,
     };
-    let (close, rest) = match next_token(rest) {
+    let (mark, rest) = match next_mark(rest) {
         None => return Form::Malformed,
         Some(found) => found,
     };
-    match next_token(rest) {
-        Some(_) => Form::Malformed,
-        None => {
-            if is_name && is_the(b')', close) {
-                port_of(word, name)
-            } else {
-                Form::Malformed
-            }
-        }
+    if mark != b')' {
+        return Form::Malformed;
     }
+    if !has_no_token(rest) {
+        return Form::Malformed;
+    }
+    port_of(word, name)
 }
 
-/// Names divided by `,`, and then `)`.
+/// Reads names divided by `,`, and then `)`; and whether these are all tokens.
 #[inline(always)]
-fn listed(alloc: Global, bytes: &[u8]) -> Result<Option<SmallVec<&[u8], 4>>, AllocError>
-    ensures { IfOk result (λ found. names_of found ≡ form.listed (tokens bytes.entry.now)) }
+fn read_list<'a>(listed: &mut SmallVec<&'a [u8], 4>, bytes: &'a [u8]) -> Result<bool, AllocError>
+    ensures { IfOk result (λ ended. names_if ended listed.new.items
+        ≡ form.listed (line_tokens bytes.entry.now)) }
 {
-    let mut names = SmallVec::new(alloc);
+    listed.clear();
     let mut rest = bytes;
     'names: loop {
-        let (name, is_name, after) = match next_tested_token(rest) {
-            None => return Ok(None),
+        let (name, after) = match next_name(rest) {
+            None => return Ok(false),
             Some(found) => found,
         };
-        let (mark, after) = match next_token(after) {
-            None => return Ok(None),
+        let (mark, after) = match next_mark(after) {
+            None => return Ok(false),
             Some(found) => found,
         };
-        if !is_name {
-            return Ok(None);
+        listed.push(name)?;
+        if mark == b')' {
+            return Ok(has_no_token(after));
         }
-        names.push(name)?;
-        if is_the(b')', mark) {
-            return match next_token(after) {
-                None => Ok(Some(names)),
-                Some(_) => Ok(None),
-            };
-        }
-        if !is_the(b',', mark) {
-            return Ok(None);
+        if mark != b',' {
+            return Ok(false);
         }
         rest = after;
     }
 }
 
-/// The pins after `(`.
-#[inline(always)]
-fn pins_of(alloc: Global, bytes: &[u8]) -> Result<Option<SmallVec<&[u8], 4>>, AllocError>
-    ensures { IfOk result (λ found. names_of found ≡ form.pins_of (tokens bytes.entry.now)) }
+/// Whether `)` is the only token.
+#[cold]
+fn is_closed(bytes: &[u8]) -> bool
+    ensures { result ≡ is_close (line_tokens bytes.now) }
 {
-    if let Some(names) = listed(alloc, bytes)? {
-        return Ok(Some(names));
+    match next_mark(bytes) {
+        None => false,
+        Some((mark, rest)) => mark == b')' && has_no_token(rest),
     }
-    let (first, rest) = match next_token(bytes) {
-        None => return Ok(None),
-        Some(found) => found,
-    };
-    match next_token(rest) {
-        None => {
-            if is_the(b')', first) {
-                Ok(Some(SmallVec::new(alloc)))
-            } else {
-                Ok(None)
-            }
-        }
-        Some(_) => Ok(None),
+}
+
+/// Reads the pins after `(`, and whether they are a list with its end.
+#[inline(always)]
+fn read_pins<'a>(listed: &mut SmallVec<&'a [u8], 4>, bytes: &'a [u8]) -> Result<bool, AllocError>
+    ensures { IfOk result (λ ended. names_if ended listed.new.items
+        ≡ form.pins_of (line_tokens bytes.entry.now)) }
+{
+    if read_list(listed, bytes)? {
+        return Ok(true);
     }
+    listed.clear();
+    Ok(is_closed(bytes))
 }
 
 /// What follows `name =`.
 #[inline(always)]
-fn gate_form<'a>(alloc: Global, name: &'a [u8], bytes: &'a [u8]) -> Result<Form<'a>, AllocError>
-    ensures { IfOk result (λ found. view found ≡ form.gate_line name.entry.now
-        (tokens bytes.entry.now)) }
+fn gate_form<'a>(
+    name: &'a [u8],
+    listed: &mut SmallVec<&'a [u8], 4>,
+    bytes: &'a [u8],
+) -> Result<Form<'a>, AllocError>
+    ensures { IfOk result (λ found. view listed.new.items found
+        ≡ form.gate_line name.entry.now (line_tokens bytes.entry.now)) }
 {
-    let (kind, is_name, rest) = match next_tested_token(bytes) {
+    let (kind, rest) = match next_name(bytes) {
         None => return Ok(Form::Malformed),
         Some(found) => found,
     };
-    let (paren, rest) = match next_token(rest) {
+    let (mark, rest) = match next_mark(rest) {
         None => return Ok(Form::Malformed),
         Some(found) => found,
     };
-    if !is_name || !is_the(b'(', paren) {
+    if mark != b'(' {
         return Ok(Form::Malformed);
     }
-    match pins_of(alloc, rest)? {
-        None => Ok(Form::Malformed),
-        Some(pins) => Ok(Form::Gate { name, kind, pins }),
-    }
-}
-
-/// The form that the tokens say.
-#[inline(always)]
-pub fn by_tokens(alloc: Global, bytes: &[u8]) -> Result<Form<'_>, AllocError>
-    ensures { IfOk result (λ found. view found ≡ form.by_tokens (tokens bytes.entry.now)) }
-{
-    let (first, is_name, rest) = match next_tested_token(bytes) {
-        None => return Ok(Form::Blank),
-        Some(found) => found,
-    };
-    let (second, rest) = match next_token(rest) {
-        None => return Ok(Form::Malformed),
-        Some(found) => found,
-    };
-    if !is_name {
-        return Ok(Form::Malformed);
-    }
-    if is_the(b'=', second) {
-        return gate_form(alloc, first, rest);
-    }
-    if is_the(b'(', second) {
-        return Ok(port_form(first, rest));
+    if read_pins(listed, rest)? {
+        return Ok(Form::Gate { name, kind });
     }
     Ok(Form::Malformed)
 }
 
-/// The form of a line, less its comment.
-#[tactic(auto, unfolding(crate::specs::Lines::line_of))]
-pub fn form_of(alloc: Global, line: &[u8]) -> Result<Form<'_>, AllocError>
-    ensures { IfOk result (λ found. view found ≡ line_of line.entry.now) }
+/// The form of a line that begins with no name.
+#[cold]
+fn unnamed_form<'a>(line: &[u8]) -> Form<'a>
+    requires { starts_with_name (line_tokens line.now) ≡ false }
+    ensures { (pins : List (Bor (List ℕ))) → view pins result
+        ≡ form.by_tokens (line_tokens line.now) }
 {
-    by_tokens(alloc, content(line))
+    if has_no_token(line) {
+        return Form::Blank;
+    }
+    Form::Malformed
+}
+
+/// The form of a line. The names of its list, if it is a gate's, are put into `listed`.
+#[inline(always)]
+pub fn form_of<'a>(
+    listed: &mut SmallVec<&'a [u8], 4>,
+    line: &'a [u8],
+) -> Result<Form<'a>, AllocError>
+    ensures { IfOk result (λ found. view listed.new.items found
+        ≡ form.by_tokens (line_tokens line.entry.now)) }
+{
+    let (first, rest) = match next_name(line) {
+        None => return Ok(unnamed_form(line)),
+        Some(found) => found,
+    };
+    let (mark, rest) = match next_mark(rest) {
+        None => return Ok(Form::Malformed),
+        Some(found) => found,
+    };
+    if mark == b'=' {
+        return gate_form(first, listed, rest);
+    }
+    if mark == b'(' {
+        return Ok(port_form(first, rest));
+    }
+    Ok(Form::Malformed)
 }

@@ -34,7 +34,8 @@
 //! that the kinds take, and no name stands twice.
 //!
 //! Reading takes one walk over the text and one look-up by a hash for each name
-//! that it meets, so its time grows with the length of the text. A netlist keeps
+//! that it meets, so its time grows with the length of the text. Of a comment
+//! only the end is looked for. A netlist keeps
 //! each name once, and the pins of all gates in one list. A name of at most 11
 //! bytes takes 16 bytes, and the bytes of longer names lie in one list. The two
 //! lists by which names are found take 4 bytes each for each 24 bytes of the

@@ -68,6 +68,7 @@ impl Names {
         self.find_hashed(name, hash_of(name))
     }
 
+    #[inline(always)]
     fn find_hashed(&self, name: &[u8], hash: u64) -> Option<u32>
         requires { hash ≡ chains.hash_of name.now }
         ensures { result ≡ position (bytes_eq name.now) self.now }
@@ -81,6 +82,7 @@ impl Names {
     }
 
     /// Gives a new name the next number.
+    #[inline(never)]
     fn add(&mut self, alloc: Global, name: &[u8], hash: u64) -> Result<u32, AllocError>
         requires hash { hash ≡ chains.hash_of name.now }
         requires few { length self.old < 2147483648 }
@@ -98,6 +100,7 @@ impl Names {
     }
 
     /// The number of a name; a new name is copied and gets the next number.
+    #[inline(always)]
     pub fn number(&mut self, alloc: Global, name: &[u8]) -> Result<u32, BenchFault>
         requires { length self.old < 2147483648 }
         ensures keys { OnOk result (self.new ≡ insert_key bytes_eq self.old name.now) }

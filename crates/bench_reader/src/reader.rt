@@ -11,12 +11,13 @@ ghost use Rattle.bench_reader.specs.declared.fault.BenchCause.TheVariants.{OutOf
 ghost use Rattle.line_faults.specs.Faults.{Answers};
 
 use crate::fault::{BenchCause, BenchFault};
-use crate::form::{Form, by_tokens, form_of};
+use crate::form::{Form, form_of};
 use crate::names::Names;
 use crate::netlist::{Definition, Netlist};
 use gate_values::Kind;
 use indexmap::IndexSet;
 use line_faults::{LineReader, fault, read_lines};
+use smallvec::SmallVec;
 use std::alloc::Global;
 
 /// What the lines so far say: the names in the order of first appearance, a row for each, the pins
@@ -221,37 +222,50 @@ impl Reader {
         self.take_pins(alloc, line, name, kind, pins)
     }
 
-    /// Takes one line.
+    /// Takes one line, which has these pins if it is a gate's.
     #[inline(always)]
-    fn take_form(&mut self, alloc: Global, line: u32, form: Form) -> Result<(), BenchFault>
+    fn take_form(
+        &mut self,
+        alloc: Global,
+        line: u32,
+        form: Form,
+        pins: &[&[u8]],
+    ) -> Result<(), BenchFault>
         requires sound { IsSoundReading self.old }
         ensures sound { OnOk result (IsSoundReading self.new) }
-        ensures steps { Takes self.old (view form.entry) line self.new result }
+        ensures steps { Takes self.old (view pins.now form.entry) line self.new result }
     {
         match form {
             Form::Blank => Ok(()),
             Form::Malformed => fault(BenchCause::Syntax, line),
             Form::Input(name) => self.take_input(alloc, line, name),
             Form::Output(name) => self.take_output(alloc, line, name),
-            Form::Gate { name, kind, pins } => {
-                self.take_gate(alloc, line, name, kind, pins.as_slice())
-            }
+            Form::Gate { name, kind } => self.take_gate(alloc, line, name, kind, pins),
         }
-    }
-
-    /// Takes one line, less its comment.
-    #[cold]
-    #[inline(never)]
-    fn take_content(&mut self, alloc: Global, line: u32, bytes: &[u8]) -> Result<(), BenchFault>
-        requires sound { IsSoundReading self.old }
-        ensures sound { OnOk result (IsSoundReading self.new) }
-        ensures steps { Takes self.old (line_of bytes.now) line self.new result }
-    {
-        self.take_form(alloc, line, form_of(alloc, bytes)?)
     }
 }
 
-impl<'a> LineReader<'a> for Reader {
+/// A reading under way, with room for the names of one list.
+#[derive(Drop)]
+struct Reading<'a> {
+    known: Reader,
+    listed: SmallVec<&'a [u8], 4>,
+}
+
+impl<'a> Reading<'a> {
+    /// Before the first line of a text of so many bytes.
+    fn new(alloc: Global, len: usize) -> Result<Reading<'a>, BenchFault>
+        ensures read { IfOk result (λ reading. IsRead [] reading.known) }
+        ensures memory { IfErr result (λ fault. fault ≡ out_of_memory) }
+    {
+        Ok(Reading {
+            known: Reader::new(alloc, len)?,
+            listed: SmallVec::new(alloc),
+        })
+    }
+}
+
+impl<'a> LineReader<'a> for Reading<'a> {
     ghost use Rattle.bench_reader.specs.Lines as forms;
     ghost use Rattle.bench_reader.specs.inner.Reading as reading;
 
@@ -263,15 +277,12 @@ impl<'a> LineReader<'a> for Reader {
 
     ghost cause_of = { netlists.cause_of };
 
-    ghost has_read = { reading.IsRead };
+    ghost has_read = { λ before r. reading.IsRead before r.known };
 
-    /// No `#` stands in a name, so a line that has a form as it stands has no comment, and is not
-    /// searched for one.
     fn take(&mut self, alloc: Global, number: u32, line: &'a [u8]) -> Result<(), BenchFault> {
-        match by_tokens(alloc, line)? {
-            Form::Malformed => self.take_content(alloc, number, line),
-            form => self.take_form(alloc, number, form),
-        }
+        let form = form_of(&mut self.listed, line)?;
+        self.known
+            .take_form(alloc, number, form, self.listed.as_slice())
     }
 }
 
@@ -290,14 +301,15 @@ fn missing_line(rows: &[Definition]) -> Option<u32>
 /// The netlist that a text says, or its first fault.
 ///
 /// The text is read once, in a time that grows with its length. The netlist takes memory for each
-/// name, row and pin, and about a third of the text's length, at most 8 MiB, for finding names; a
-/// line at fault may want memory for a list as long as the line.
+/// name, row and pin, and about a third of the text's length, at most 8 MiB, for finding names; the
+/// longest list of a line takes up to 32 bytes for each of its names.
 pub fn read_bench(alloc: Global, text: &[u8]) -> Result<Netlist, BenchFault>
     requires { length text.now ≤ 67108864 }
     ensures { Answers OutOfMemory result (bench_of text.now) }
 {
-    let empty = Reader::new(alloc, text.len())?;
-    let reader = read_lines(alloc, empty, text)?;
+    let empty = Reading::new(alloc, text.len())?;
+    let whole = read_lines(alloc, empty, text)?;
+    let reader = whole.known;
     match missing_line(&reader.rows) {
         Some(line) => Err(BenchFault {
             cause: BenchCause::Undefined,

@@ -1,36 +1,43 @@
--- Tokens, one at a time.
-use Rattle.std.proofs.Common.{◌≡◌, ℕ, zero, suc, ◌+◌, ◌<◌, ◌||◌, ◌&&◌, Bool, true, false, not, cond, eqb, List, [], ◌∷◌, ◌++◌, length, take, drop, get_or, Some, None, refl, sym, ap, subst, ◌∙◌, arith, add-zero, length-drop, inl, inr, ◌⊎◌}
+-- The tokens of a line, one at a time.
+use Rattle.std.proofs.Common.{◌≡◌, ℕ, suc, ◌+◌, ◌<◌, ◌≤◌, ◌||◌, ◌&&◌, Bool, true, false, not, cond, eqb, List, [], ◌∷◌, ◌++◌, length, take, drop, get_or, Some, None, refl, sym, ap, subst, ◌∙◌, arith, inl, inr, length-take, length-drop, add-zero}
 use Rattle.std.specs.List.{slice_split, onto_first, position, position_or_len, filter, flat_map, list_all}
-use Rattle.std.proofs.lemmas.Bool.{eqb-true, true≢false}
+use Rattle.std.proofs.lemmas.Bool.{cases_lt, ne_eqb, true≢false}
 use Rattle.std.proofs.lemmas.Bool.Decides.{nat_tests}
-use Rattle.std.proofs.lemmas.List.{append-nil, get_or-drop, length-take}
-use Rattle.std.proofs.lemmas.List.Sums.{passes_at_first}
+use Rattle.std.proofs.lemmas.List.{append-nil, take-append-drop, get_or-drop}
 use Rattle.std.proofs.lemmas.List.Concat.{flat_map-cons}
-use Rattle.std.proofs.Math.Seq.{drop-length, take-length}
+use Rattle.std.proofs.lemmas.List.Sums.{passes_at_first}
+use Rattle.std.proofs.Math.Seq.{split_at, drop-length}
 use Rattle.text_rules.proofs.Cuts.{found, found_none}
-use Rattle.text_rules.specs.Text.{is_blank, is_mark, is_hash, is_filled, content, words, spaced, tokens}
+use Rattle.text_rules.specs.Text.{is_blank, is_mark, is_hash, is_name_byte, is_filled, is_name, content, words, spaced, tokens, line_tokens, ends_token, starts_with_name, starts_with_mark}
 
-abbrev pub stops : ℕ → Bool
-stops b = is_blank b || is_mark b
+-- a byte is of one kind
+blank_no_mark : (b : ℕ) → is_blank b ≡ true → is_mark b ≡ false
+blank_no_mark b h = grind (arith, nat_tests)
 
--- a blank is no mark
-or_true : (a b : Bool) → (a || b) ≡ true → (a ≡ true) ⊎ (b ≡ true)
-or_true true b h = inl refl
-or_true false b h = inr h
+blank_no_hash : (b : ℕ) → is_blank b ≡ true → is_hash b ≡ false
+blank_no_hash b h = grind (arith, nat_tests)
 
-no_mark_at : (b k : ℕ) → eqb b k ≡ true → is_mark k ≡ false → is_mark b ≡ false
-no_mark_at b k h e = subst (λ (n : ℕ). is_mark n ≡ false) (sym (eqb-true b k h)) e
+mark_no_hash : (b : ℕ) → is_mark b ≡ true → is_hash b ≡ false
+mark_no_hash b h = grind (arith, nat_tests)
 
-pub blank_no_mark : (b : ℕ) → is_blank b ≡ true → is_mark b ≡ false
-blank_no_mark b h = cases (or_true (eqb b 32 || eqb b 9) (eqb b 13) h)
-  where
-    inner : (eqb b 32 ≡ true) ⊎ (eqb b 9 ≡ true) → is_mark b ≡ false
-    inner (inl e) = no_mark_at b 32 e refl
-    inner (inr e) = no_mark_at b 9 e refl
+mark_no_name : (b : ℕ) → is_mark b ≡ true → is_name_byte b ≡ false
+mark_no_name b h = grind (arith, nat_tests)
 
-    cases : ((eqb b 32 || eqb b 9) ≡ true) ⊎ (eqb b 13 ≡ true) → is_mark b ≡ false
-    cases (inl e) = inner (or_true (eqb b 32) (eqb b 9) e)
-    cases (inr e) = no_mark_at b 13 e refl
+name_no_blank : (b : ℕ) → is_name_byte b ≡ true → is_blank b ≡ false
+name_no_blank b h = grind (arith, nat_tests)
+
+name_no_mark : (b : ℕ) → is_name_byte b ≡ true → is_mark b ≡ false
+name_no_mark b h = grind (arith, nat_tests)
+
+name_no_hash : (b : ℕ) → is_name_byte b ≡ true → is_hash b ≡ false
+name_no_hash b h = grind (arith, nat_tests)
+
+-- a byte that is no `#`, and one that is
+content_more : (b : ℕ) (line : List ℕ) → is_hash b ≡ false → content (b ∷ line) ≡ b ∷ content line
+content_more b line h = let k : 1 + position_or_len is_hash line ≡ suc (position_or_len is_hash line) = omega arith in rw (h, k) refl
+
+content_none : (b : ℕ) (line : List ℕ) → is_hash b ≡ true → content (b ∷ line) ≡ []
+content_none b line h = rw h refl
 
 abbrev parts : List ℕ → List (List ℕ)
 parts bytes = slice_split is_blank (flat_map spaced bytes)
@@ -51,153 +58,212 @@ plain_parts b bytes h m =
     let f : flat_map spaced (b ∷ bytes) ≡ b ∷ flat_map spaced bytes = flat_map-cons spaced b bytes ∙ rw m refl in
     ap (slice_split is_blank) f ∙ rw h refl
 
--- blanks in front make no token
-tokens_skip : (bytes : List ℕ) → tokens bytes ≡ tokens (drop (position_or_len (λ b. not (is_blank b)) bytes) bytes)
-unfolding tokens words
-tokens_skip [] = refl
-tokens_skip (b ∷ bytes) = cases (tokens_skip bytes) (is_blank b) refl
+-- no bytes, and a comment
+none_left : line_tokens [] ≡ []
+unfolding line_tokens tokens words
+none_left = refl
+
+pub empty_left : (line : List ℕ) → length line ≡ 0 → line_tokens line ≡ []
+empty_left [] h = none_left
+empty_left (b ∷ line) h = absurd (omega arith)
+
+comment_left : (b : ℕ) (line : List ℕ) → is_hash b ≡ true → line_tokens (b ∷ line) ≡ []
+unfolding line_tokens tokens words
+comment_left b line h = rw (content_none b line h) refl
+
+-- a blank at the front makes no token
+skip_blank : (b : ℕ) (line : List ℕ) → is_blank b ≡ true → line_tokens (b ∷ line) ≡ line_tokens line
+unfolding line_tokens tokens words
+skip_blank b line h = rw (content_more b line (blank_no_hash b h)) (ap (filter is_filled) (blank_parts b (content line) h))
+
+skip_blanks : (line : List ℕ) → line_tokens (drop (position_or_len (λ b. not (is_blank b)) line) line) ≡ line_tokens line
+skip_blanks [] = refl
+skip_blanks (b ∷ line) = cases (skip_blanks line) (is_blank b) refl
   where
-    cases : (again : tokens bytes ≡ tokens (drop (position_or_len (λ b. not (is_blank b)) bytes) bytes)) (v : Bool) → is_blank b ≡ v → filter is_filled (parts (b ∷ bytes)) ≡ tokens (drop (cond (not (not v)) (1 + position_or_len (λ b. not (is_blank b)) bytes) 0) (b ∷ bytes))
+    cases : (again : line_tokens (drop (position_or_len (λ b. not (is_blank b)) line) line) ≡ line_tokens line) (v : Bool) → is_blank b ≡ v → line_tokens (drop (cond (not (not v)) (1 + position_or_len (λ b. not (is_blank b)) line) 0) (b ∷ line)) ≡ line_tokens (b ∷ line)
     cases again true e =
-        let k : suc (position_or_len (λ b. not (is_blank b)) bytes) ≡ 1 + position_or_len (λ b. not (is_blank b)) bytes = omega arith in
-        ap (filter is_filled) (blank_parts b bytes e) ∙ again ∙ ap (λ (n : ℕ). tokens (drop n (b ∷ bytes))) k
+        let k : 1 + position_or_len (λ b. not (is_blank b)) line ≡ suc (position_or_len (λ b. not (is_blank b)) line) = omega arith in
+        rw k (again ∙ sym (skip_blank b line e))
     cases again false e = refl
 
-pub skipped : (bytes : List ℕ) (i : ℕ) → position (λ b. not (is_blank b)) bytes ≡ Some i → tokens bytes ≡ tokens (drop i bytes)
-skipped bytes i h = tokens_skip bytes ∙ ap (λ (n : ℕ). tokens (drop n bytes)) (found (λ b. not (is_blank b)) bytes i h).0
+pub skipped : (line : List ℕ) (i : ℕ) → position (λ b. not (is_blank b)) line ≡ Some i → line_tokens (drop i line) ≡ line_tokens line
+skipped line i h = ap (λ (n : ℕ). line_tokens (drop n line)) (sym (found (λ b. not (is_blank b)) line i h).0) ∙ skip_blanks line
 
-pub tokens_none : (bytes : List ℕ) → position (λ b. not (is_blank b)) bytes ≡ None → tokens bytes ≡ []
-unfolding tokens words
-tokens_none bytes h = tokens_skip bytes ∙ ap (λ (n : ℕ). tokens (drop n bytes)) (found_none (λ b. not (is_blank b)) bytes h) ∙ ap tokens (drop-length bytes)
+pub all_skipped : (line : List ℕ) → position (λ b. not (is_blank b)) line ≡ None → line_tokens [] ≡ line_tokens line
+all_skipped line h =
+    let past : drop (position_or_len (λ b. not (is_blank b)) line) line ≡ [] = ap (λ (n : ℕ). drop n line) (found_none (λ b. not (is_blank b)) line h) ∙ drop-length line in
+    ap line_tokens (sym past) ∙ skip_blanks line
 
--- a mark in front is a token
-pub mark_token : (b : ℕ) (bytes : List ℕ) → is_blank b ≡ false → is_mark b ≡ true → tokens (b ∷ bytes) ≡ (b ∷ []) ∷ tokens bytes
-unfolding tokens words
-mark_token b bytes h m = ap (filter is_filled) (mark_parts b bytes h m)
+-- a mark at the front is a token
+mark_first : (b : ℕ) (line : List ℕ) → is_blank b ≡ false → is_mark b ≡ true → line_tokens (b ∷ line) ≡ (b ∷ []) ∷ line_tokens line
+unfolding line_tokens tokens words
+mark_first b line h m = rw (content_more b line (mark_no_hash b m)) (ap (filter is_filled) (mark_parts b (content line) h m))
 
-abbrev glue : List ℕ → List (List ℕ) → List (List ℕ)
-glue run [] = run ∷ []
-glue run (p ∷ ps) = (run ++ p) ∷ ps
-
-glue-onto : (b : ℕ) (run : List ℕ) (ps : List (List ℕ)) → onto_first b (glue run ps) ≡ glue (b ∷ run) ps
-glue-onto b run [] = refl
-glue-onto b run (p ∷ ps) = refl
-
-run_parts : (bytes : List ℕ) → parts bytes ≡ glue (take (position_or_len stops bytes) bytes) (parts (drop (position_or_len stops bytes) bytes))
-run_parts [] = refl
-run_parts (b ∷ bytes) = cases (run_parts bytes) (is_blank b) (is_mark b) refl refl
-  where
-    stopped : glue [] (parts (b ∷ bytes)) ≡ parts (b ∷ bytes) → parts (b ∷ bytes) ≡ glue [] (parts (b ∷ bytes))
-    stopped e = sym e
-
-    cases : (again : parts bytes ≡ glue (take (position_or_len stops bytes) bytes) (parts (drop (position_or_len stops bytes) bytes))) (v w : Bool) → is_blank b ≡ v → is_mark b ≡ w
-        → parts (b ∷ bytes) ≡ glue (take (cond (not (v || w)) (1 + position_or_len stops bytes) 0) (b ∷ bytes)) (parts (drop (cond (not (v || w)) (1 + position_or_len stops bytes) 0) (b ∷ bytes)))
-    cases again true w h m = let e = blank_parts b bytes h in stopped (rw e refl)
-    cases again false true h m = let e = mark_parts b bytes h m in stopped (rw e refl)
-    cases again false false h m =
-        let k : 1 + position_or_len stops bytes ≡ suc (position_or_len stops bytes) = omega arith in
-        rw k (plain_parts b bytes h m ∙ ap (onto_first b) again ∙ glue-onto b (take (position_or_len stops bytes) bytes) (parts (drop (position_or_len stops bytes) bytes)))
-
--- what stops a name begins the parts anew
-after_run : (run : List ℕ) (bytes : List ℕ) → 0 < length run → (bytes ≡ []) ⊎ (stops (get_or bytes 0 0) ≡ true) × (0 < length bytes) → filter is_filled (glue run (parts bytes)) ≡ run ∷ tokens bytes
-unfolding tokens words
-after_run [] bytes h s = absurd (omega arith)
-after_run (r ∷ run) [] h s = ap (λ (l : List ℕ). (r ∷ l) ∷ []) (append-nil run)
-after_run (r ∷ run) (b ∷ bytes) h s = cases (is_blank b) (is_mark b) refl refl s
-  where
-    cases : (v w : Bool) → is_blank b ≡ v → is_mark b ≡ w → (b ∷ bytes ≡ []) ⊎ ((v || w) ≡ true) × (0 < suc (length bytes)) → filter is_filled (glue (r ∷ run) (parts (b ∷ bytes))) ≡ (r ∷ run) ∷ filter is_filled (parts (b ∷ bytes))
-    cases true w h m s = rw (blank_parts b bytes h) (ap (λ (l : List ℕ). (r ∷ l) ∷ filter is_filled (parts bytes)) (append-nil run))
-    cases false true h m s = rw (mark_parts b bytes h m) (ap (λ (l : List ℕ). (r ∷ l) ∷ (b ∷ []) ∷ filter is_filled (parts bytes)) (append-nil run))
-    cases false false h m (inl e) = absurd cc
-    cases false false h m (inr e) = absurd (let x = e.0 in cc)
-
-pub run_token : (bytes : List ℕ) (i : ℕ) → position stops bytes ≡ Some i → 0 < i → tokens bytes ≡ take i bytes ∷ tokens (drop i bytes)
-unfolding tokens words
-run_token bytes i h some =
-    let at = found stops bytes i h in
-    let run : parts bytes ≡ glue (take i bytes) (parts (drop i bytes)) = subst (λ (n : ℕ). parts bytes ≡ glue (take n bytes) (parts (drop n bytes))) at.0 (run_parts bytes) in
-    let passes : stops (get_or bytes i 0) ≡ true = subst (λ (n : ℕ). stops (get_or bytes n 0) ≡ true) at.0 (passes_at_first stops bytes 0 (omega (arith, at.0, at.1))) in
-    let first : stops (get_or (drop i bytes) 0 0) ≡ true = rw get_or-drop (rw add-zero passes) in
-    ap (filter is_filled) run ∙ after_run (take i bytes) (drop i bytes) (omega (arith, length-take i bytes, at.1)) (inr (first, omega (arith, length-drop i bytes, at.1)))
-
-pub whole_token : (bytes : List ℕ) → position stops bytes ≡ None → 0 < length bytes → tokens bytes ≡ bytes ∷ tokens []
-unfolding tokens words
-whole_token bytes h some =
-    let e : position_or_len stops bytes ≡ length bytes = found_none stops bytes h in
-    let run : parts bytes ≡ glue (take (length bytes) bytes) (parts (drop (length bytes) bytes)) = subst (λ (n : ℕ). parts bytes ≡ glue (take n bytes) (parts (drop n bytes))) e (run_parts bytes) in
-    let alone : parts bytes ≡ glue bytes (parts []) = run ∙ ap (λ (l : List ℕ). glue l (parts (drop (length bytes) bytes))) (take-length bytes) ∙ ap (λ (l : List ℕ). glue bytes (parts l)) (drop-length bytes) in
-    ap (filter is_filled) alone ∙ after_run bytes [] some (inl refl)
-
-pub whole_len : (bytes : List ℕ) (n : ℕ) → position stops bytes ≡ None → 0 < length bytes → n ≡ length bytes → tokens bytes ≡ take n bytes ∷ tokens (drop n bytes)
-whole_len bytes n h some all =
-    let front : take n bytes ≡ bytes = ap (λ (k : ℕ). take k bytes) all ∙ take-length bytes in
-    let rest : drop n bytes ≡ [] = ap (λ (k : ℕ). drop k bytes) all ∙ drop-length bytes in
-    whole_token bytes h some ∙ ap (λ (l : List ℕ). l ∷ tokens []) (sym front) ∙ ap (λ (l : List ℕ). take n bytes ∷ tokens l) (sym rest)
-
--- the token at the front, where it is a mark
-pub mark_front : (bytes : List ℕ) → 0 < length bytes → is_blank (get_or bytes 0 0) ≡ false → is_mark (get_or bytes 0 0) ≡ true → tokens bytes ≡ take 1 bytes ∷ tokens (drop 1 bytes)
+pub mark_front : (line : List ℕ) → 0 < length line → is_blank (get_or line 0 0) ≡ false → is_mark (get_or line 0 0) ≡ true → line_tokens line ≡ (get_or line 0 0 ∷ []) ∷ line_tokens (drop 1 line)
 mark_front [] some h m = absurd (omega arith)
-mark_front (b ∷ bytes) some h m = mark_token b bytes h m
+mark_front (b ∷ line) some h m = mark_first b line h m
 
--- and where it is none
-pub plain_front : (bytes : List ℕ) (i : ℕ) → position stops bytes ≡ Some i → is_blank (get_or bytes 0 0) ≡ false → is_mark (get_or bytes 0 0) ≡ false → tokens bytes ≡ take i bytes ∷ tokens (drop i bytes)
-plain_front bytes zero e h m =
-    let at = found stops bytes 0 e in
-    let passes : stops (get_or bytes (position_or_len stops bytes) 0) ≡ true = passes_at_first stops bytes 0 (omega (arith, at.0, at.1)) in
-    let stop : stops (get_or bytes 0 0) ≡ true = subst (λ (n : ℕ). stops (get_or bytes n 0) ≡ true) at.0 passes in
-    let plain : stops (get_or bytes 0 0) ≡ false = rw (h, m) refl in
-    absurd (true≢false (sym stop ∙ plain))
-plain_front bytes (suc i) e h m = run_token bytes (suc i) e (omega arith)
+some_tokens : (token : List ℕ) (more : List (List ℕ)) → eqb (length (token ∷ more)) 0 ≡ false
+some_tokens token more = ne_eqb (length (token ∷ more)) 0 (λ e. absurd (omega (arith, e)))
 
--- no `#`
-abbrev pub is_clean : List ℕ → Bool
-is_clean bytes = list_all (λ b. not (is_hash b)) bytes
-
-blank_clean : (b : ℕ) → is_blank b ≡ true → not (is_hash b) ≡ true
-blank_clean b h = grind (arith, nat_tests)
-
-onto_clean : (b : ℕ) (ps : List (List ℕ)) → list_all is_clean (onto_first b ps) ≡ (not (is_hash b) && list_all is_clean ps)
-onto_clean b [] = cases (not (is_hash b))
+-- another byte at the front begins a token that is no mark
+plain_first : (b : ℕ) (line : List ℕ) → is_blank b ≡ false → is_mark b ≡ false → is_hash b ≡ false → (starts_with_mark (line_tokens (b ∷ line)) ≡ false) × (eqb (length (line_tokens (b ∷ line))) 0 ≡ false)
+unfolding line_tokens tokens words
+plain_first b line h m x = rw (content_more b line x) (rw (plain_parts b (content line) h m) (cases (parts (content line))))
   where
-    cases : (v : Bool) → ((v && true) && true) ≡ (v && true)
-    cases true = refl
-    cases false = refl
-onto_clean b (p ∷ ps) = cases (not (is_hash b))
+    alone : (p : List ℕ) (more : List (List ℕ)) → (starts_with_mark ((b ∷ p) ∷ more) ≡ false) × (eqb (length ((b ∷ p) ∷ more)) 0 ≡ false)
+    alone [] more = (m, some_tokens (b ∷ []) more)
+    alone (c ∷ p) more = (refl, some_tokens (b ∷ c ∷ p) more)
+
+    cases : (ps : List (List ℕ)) → (starts_with_mark (filter is_filled (onto_first b ps)) ≡ false) × (eqb (length (filter is_filled (onto_first b ps))) 0 ≡ false)
+    cases [] = alone [] []
+    cases (p ∷ ps) = alone p (filter is_filled ps)
+
+pub no_mark_front : (line : List ℕ) → 0 < length line → is_blank (get_or line 0 0) ≡ false → is_mark (get_or line 0 0) ≡ false → starts_with_mark (line_tokens line) ≡ false
+no_mark_front [] some h m = absurd (omega arith)
+no_mark_front (b ∷ line) some h m = cases (is_hash b) refl
   where
-    cases : (v : Bool) → ((v && is_clean p) && list_all is_clean ps) ≡ (v && (is_clean p && list_all is_clean ps))
-    cases true = refl
-    cases false = refl
+    cases : (v : Bool) → is_hash b ≡ v → starts_with_mark (line_tokens (b ∷ line)) ≡ false
+    cases true x = rw (comment_left b line x) refl
+    cases false x = (plain_first b line h m x).0
 
-parts_clean : (bytes : List ℕ) → list_all is_clean (parts bytes) ≡ is_clean bytes
-parts_clean [] = refl
-parts_clean (b ∷ bytes) = cases (parts_clean bytes) (is_blank b) (is_mark b) refl refl
+-- whether a token is left
+pub some_left : (line : List ℕ) → 0 < length line → is_blank (get_or line 0 0) ≡ false → is_hash (get_or line 0 0) ≡ eqb (length (line_tokens line)) 0
+some_left [] some h = absurd (omega arith)
+some_left (b ∷ line) some h = cases (is_hash b) (is_mark b) refl refl
   where
-    alone : (t : Bool) → ((t && true) && is_clean bytes) ≡ (t && is_clean bytes)
-    alone true = refl
-    alone false = refl
+    cases : (v w : Bool) → is_hash b ≡ v → is_mark b ≡ w → v ≡ eqb (length (line_tokens (b ∷ line))) 0
+    cases true w x m = rw (comment_left b line x) refl
+    cases false true x m = rw (mark_first b line h m) (sym (some_tokens (b ∷ []) (line_tokens line)))
+    cases false false x m = sym (plain_first b line h m x).1
 
-    cases : (again : list_all is_clean (parts bytes) ≡ is_clean bytes) (v w : Bool) → is_blank b ≡ v → is_mark b ≡ w → list_all is_clean (parts (b ∷ bytes)) ≡ is_clean (b ∷ bytes)
-    cases again true w h m = rw (blank_parts b bytes h, blank_clean b h) again
-    cases again false true h m = rw (mark_parts b bytes h m, again) (alone (not (is_hash b)))
-    cases again false false h m = rw (plain_parts b bytes h m) (onto_clean b (parts bytes) ∙ ap (λ (v : Bool). not (is_hash b) && v) again)
+-- bytes in front of the first part
+abbrev onto_all : List ℕ → List (List ℕ) → List (List ℕ)
+onto_all [] ps = ps
+onto_all (b ∷ run) ps = onto_first b (onto_all run ps)
 
-filled_clean : (ps : List (List ℕ)) → list_all is_clean (filter is_filled ps) ≡ list_all is_clean ps
-filled_clean [] = refl
-filled_clean ([] ∷ ps) = filled_clean ps
-filled_clean ((b ∷ p) ∷ ps) = ap (λ (v : Bool). is_clean (b ∷ p) && v) (filled_clean ps)
+onto_all-cons : (run p : List ℕ) (ps : List (List ℕ)) → onto_all run (p ∷ ps) ≡ (run ++ p) ∷ ps
+onto_all-cons [] p ps = refl
+onto_all-cons (b ∷ run) p ps = ap (onto_first b) (onto_all-cons run p ps)
 
--- a `#` stands in some token
-pub tokens_clean : (bytes : List ℕ) → list_all is_clean (tokens bytes) ≡ is_clean bytes
-unfolding tokens words
-tokens_clean bytes = filled_clean (parts bytes) ∙ parts_clean bytes
+both : (a b : Bool) → (a && b) ≡ true → (a ≡ true) × (b ≡ true)
+both true b h = (refl, h)
+both false b h = absurd cc
 
--- all of a line without `#` counts
-pub content_clean : (line : List ℕ) → is_clean line ≡ true → content line ≡ line
-content_clean [] h = refl
-content_clean (b ∷ line) h = cases (content_clean line) (is_hash b) h
+abbrev AreNameBytes : List ℕ → Type 0
+AreNameBytes run = list_all is_name_byte run ≡ true
+
+-- the bytes of a name
+name_content : (run line : List ℕ) → AreNameBytes run → content (run ++ line) ≡ run ++ content line
+name_content [] line h = refl
+name_content (b ∷ run) line h = let two = both (is_name_byte b) (list_all is_name_byte run) h in content_more b (run ++ line) (name_no_hash b two.0) ∙ ap (λ (l : List ℕ). b ∷ l) (name_content run line two.1)
+
+name_parts : (run bytes : List ℕ) → AreNameBytes run → parts (run ++ bytes) ≡ onto_all run (parts bytes)
+name_parts [] bytes h = refl
+name_parts (b ∷ run) bytes h = let two = both (is_name_byte b) (list_all is_name_byte run) h in plain_parts b (run ++ bytes) (name_no_blank b two.0) (name_no_mark b two.0) ∙ ap (onto_first b) (name_parts run bytes two.1)
+
+abbrev pub ends : ℕ → Bool
+ends b = not (is_name_byte b)
+
+-- what stops a token begins the parts anew
+stopped : (b : ℕ) (line : List ℕ) → ends_token b ≡ true → (ps : List (List ℕ)) × (parts (content (b ∷ line)) ≡ [] ∷ ps)
+stopped b line h = cases (is_hash b) (is_blank b) (is_mark b) refl refl refl h
   where
-    cases : (again : is_clean line ≡ true → content line ≡ line) (v : Bool) → (not v && is_clean line) ≡ true → take (cond (not v) (1 + position_or_len is_hash line) 0) (b ∷ line) ≡ b ∷ line
-    cases again true h = absurd cc
-    cases again false h =
-        let k : 1 + position_or_len is_hash line ≡ suc (position_or_len is_hash line) = omega arith in
-        rw k (ap (λ (l : List ℕ). b ∷ l) (again h))
+    cases : (x v w : Bool) → is_hash b ≡ x → is_blank b ≡ v → is_mark b ≡ w → (v || w || x) ≡ true → (ps : List (List ℕ)) × (parts (content (b ∷ line)) ≡ [] ∷ ps)
+    cases true v w e f g t = ([], ap parts (content_none b line e))
+    cases false true w e f g t = (parts (content line), ap parts (content_more b line e) ∙ blank_parts b (content line) f)
+    cases false false true e f g t = ((b ∷ []) ∷ parts (content line), ap parts (content_more b line e) ∙ mark_parts b (content line) f g)
+    cases false false false e f g t = absurd cc
+
+-- a name at the front
+name_first : (run line : List ℕ) → 0 < length run → AreNameBytes run → (ps : List (List ℕ)) × (parts (content line) ≡ [] ∷ ps) → line_tokens (run ++ line) ≡ run ∷ line_tokens line
+unfolding line_tokens tokens words
+name_first [] line some h s = absurd (omega arith)
+name_first (r ∷ run) line some h (ps, s) =
+    let first : parts (content (r ∷ run ++ line)) ≡ ((r ∷ run) ++ []) ∷ ps = ap parts (name_content (r ∷ run) line h) ∙ name_parts (r ∷ run) (content line) h ∙ ap (onto_all (r ∷ run)) s ∙ onto_all-cons (r ∷ run) [] ps in
+    ap (filter is_filled) first ∙ rw s (ap (λ (t : List ℕ). t ∷ filter is_filled ps) (append-nil (r ∷ run)))
+
+all_names : (bytes : List ℕ) → AreNameBytes (take (position_or_len ends bytes) bytes)
+all_names [] = refl
+all_names (b ∷ bytes) = cases (all_names bytes) (is_name_byte b) refl
+  where
+    cases : (again : AreNameBytes (take (position_or_len ends bytes) bytes)) (v : Bool) → is_name_byte b ≡ v → AreNameBytes (take (cond (not (not v)) (1 + position_or_len ends bytes) 0) (b ∷ bytes))
+    cases again true e = let k : 1 + position_or_len ends bytes ≡ suc (position_or_len ends bytes) = omega arith in rw (k, e) again
+    cases again false e = refl
+
+name_is : (word : List ℕ) → 0 < length word → AreNameBytes word → is_name word ≡ true
+name_is [] some h = absurd (omega arith)
+name_is (b ∷ word) some h = h
+
+-- where nothing or a byte that stops a token comes after it
+rest_stops : (line : List ℕ) → (0 < length line → ends_token (get_or line 0 0) ≡ true) → (ps : List (List ℕ)) × (parts (content line) ≡ [] ∷ ps)
+rest_stops [] h = ([], refl)
+rest_stops (b ∷ line) h = stopped b line (h (omega arith))
+
+pub name_front : (bytes : List ℕ) (n : ℕ) → n ≡ position_or_len ends bytes → 0 < n → n ≤ length bytes → (n < length bytes → ends_token (get_or bytes n 0) ≡ true) → (line_tokens bytes ≡ take n bytes ∷ line_tokens (drop n bytes)) × (is_name (take n bytes) ≡ true)
+name_front bytes n is some room h =
+    let names : AreNameBytes (take n bytes) = subst (λ (k : ℕ). AreNameBytes (take k bytes)) (sym is) (all_names bytes) in
+    let long : 0 < length (take n bytes) = omega (arith, length-take n bytes) in
+    let rest = rest_stops (drop n bytes) (λ lt. let first : get_or (drop n bytes) 0 0 ≡ get_or bytes n 0 = rw get_or-drop (rw add-zero refl) in rw first (h (omega (arith, lt, length-drop n bytes)))) in
+    (ap line_tokens (sym (take-append-drop n bytes)) ∙ name_first (take n bytes) (drop n bytes) long names rest, name_is (take n bytes) long names)
+
+-- a token with a byte that stands in no name
+bad_all : (run p : List ℕ) (b : ℕ) → is_name_byte b ≡ false → list_all is_name_byte (run ++ b ∷ p) ≡ false
+bad_all [] p b h = rw h refl
+bad_all (r ∷ run) p b h = cases (is_name_byte r) (bad_all run p b h)
+  where
+    cases : (v : Bool) → list_all is_name_byte (run ++ b ∷ p) ≡ false → (v && list_all is_name_byte (run ++ b ∷ p)) ≡ false
+    cases true e = e
+    cases false e = refl
+
+bad_token : (run p : List ℕ) (b : ℕ) (ps : List (List ℕ)) → is_name_byte b ≡ false → starts_with_name (filter is_filled ((run ++ b ∷ p) ∷ ps)) ≡ false
+bad_token [] p b ps h = bad_all [] p b h
+bad_token (r ∷ run) p b ps h = bad_all (r ∷ run) p b h
+
+no_name_first : (run line : List ℕ) (b : ℕ) → AreNameBytes run → is_name_byte b ≡ false → ends_token b ≡ false → starts_with_name (line_tokens (run ++ b ∷ line)) ≡ false
+unfolding line_tokens tokens words
+no_name_first run line b names h s = cases (is_hash b) (is_blank b) (is_mark b) refl refl refl s
+  where
+    token : (ps : List (List ℕ)) → starts_with_name (filter is_filled (onto_all run (onto_first b ps))) ≡ false
+    token [] = rw (onto_all-cons run (b ∷ []) []) (bad_token run [] b [] h)
+    token (p ∷ ps) = rw (onto_all-cons run (b ∷ p) ps) (bad_token run p b ps h)
+
+    cases : (x v w : Bool) → is_hash b ≡ x → is_blank b ≡ v → is_mark b ≡ w → (v || w || x) ≡ false → starts_with_name (filter is_filled (parts (content (run ++ b ∷ line)))) ≡ false
+    cases false false false e f g t =
+        let first : parts (content (run ++ b ∷ line)) ≡ onto_all run (onto_first b (parts (content line))) =
+        ap parts (name_content run (b ∷ line) names ∙ ap (λ (l : List ℕ). run ++ l) (content_more b line e)) ∙ name_parts run (b ∷ content line) names ∙ ap (onto_all run) (plain_parts b (content line) f g) in
+        rw first (token (parts (content line)))
+    cases true v w e f g t = absurd (last v w t)
+      where
+        last : (v w : Bool) → (v || w || true) ≡ false → ⊥
+        last true w t = cc
+        last false true t = cc
+        last false false t = cc
+    cases false true w e f g t = absurd cc
+    cases false false true e f g t = absurd cc
+
+no_name_within : (bytes : List ℕ) (n : ℕ) → n ≡ position_or_len ends bytes → n < length bytes → ends_token (get_or bytes n 0) ≡ false → starts_with_name (line_tokens bytes) ≡ false
+no_name_within bytes n is lt s =
+    let names : AreNameBytes (take n bytes) = subst (λ (k : ℕ). AreNameBytes (take k bytes)) (sym is) (all_names bytes) in
+    let passes : ends (get_or bytes n 0) ≡ true = subst (λ (k : ℕ). ends (get_or bytes k 0) ≡ true) (sym is) (passes_at_first ends bytes 0 (omega (arith, is, lt))) in
+    subst (λ (l : List ℕ). starts_with_name (line_tokens l) ≡ false) (sym (split_at bytes n 0 lt)) (no_name_first (take n bytes) (drop (suc n) bytes) (get_or bytes n 0) names (no_true (is_name_byte (get_or bytes n 0)) passes) s)
+  where
+    no_true : (b : Bool) → not b ≡ true → b ≡ false
+    no_true true e = absurd cc
+    no_true false e = refl
+
+pub no_name_at : (bytes : List ℕ) (n : ℕ) (over : Bool) → n ≡ position_or_len ends bytes → (length bytes ≤ n → over ≡ true) → (n < length bytes → over ≡ ends_token (get_or bytes n 0)) → over ≡ false → starts_with_name (line_tokens bytes) ≡ false
+no_name_at bytes n over is end before still = elim (cases_lt n (length bytes)) [ inl lt ↦ no_name_within bytes n is lt (sym (before lt) ∙ still) | inr le ↦ absurd (true≢false (sym (end le) ∙ still)) ]
+
+-- a byte at the front that stands in no name
+pub no_name_front : (bytes : List ℕ) → (0 < length bytes → is_blank (get_or bytes 0 0) ≡ false) → 0 ≡ position_or_len ends bytes → starts_with_name (line_tokens bytes) ≡ false
+no_name_front [] h is = rw none_left refl
+no_name_front (b ∷ bytes) h is = cases (is_hash b) (is_mark b) refl refl
+  where
+    no_blank : is_blank b ≡ false
+    no_blank = h (omega arith)
+
+    cases : (x w : Bool) → is_hash b ≡ x → is_mark b ≡ w → starts_with_name (line_tokens (b ∷ bytes)) ≡ false
+    cases true w e g = rw (comment_left b bytes e) refl
+    cases false true e g = rw (mark_first b bytes no_blank g, mark_no_name b g) refl
+    cases false false e g = no_name_within (b ∷ bytes) 0 is (omega arith) (rw (no_blank, g, e) refl)

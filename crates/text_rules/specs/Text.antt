@@ -24,6 +24,10 @@ is_mark b = b == 40 || b == 41 || b == 44 || b == 61
 abbrev pub is_name_byte : ℕ → Bool
 is_name_byte b = nat_le 33 b && nat_le b 126 && not (is_mark b) && not (is_hash b)
 
+-- what may stand behind a token
+abbrev pub ends_token : ℕ → Bool
+ends_token b = is_blank b || is_mark b || is_hash b
+
 -- `0` to `9`
 abbrev pub is_digit : ℕ → Bool
 is_digit b = nat_le 48 b && nat_le b 57
@@ -61,6 +65,26 @@ tokens bytes = words (flat_map spaced bytes)
 
 abbrev pub is_name : List ℕ → Bool
 is_name word = is_filled word && list_all is_name_byte word
+
+-- the tokens of a line, less its comment
+unfoldable pub line_tokens : List ℕ → List (List ℕ)
+line_tokens line = tokens (content line)
+
+-- the first of these tokens is a name
+abbrev pub starts_with_name : List (List ℕ) → Bool
+starts_with_name [] = false
+starts_with_name (token ∷ more) = is_name token
+
+-- the token is a mark
+abbrev pub is_mark_token : List ℕ → Bool
+is_mark_token [] = false
+is_mark_token (b ∷ []) = is_mark b
+is_mark_token (b ∷ c ∷ more) = false
+
+-- the first of these tokens is a mark
+abbrev pub starts_with_mark : List (List ℕ) → Bool
+starts_with_mark [] = false
+starts_with_mark (token ∷ more) = is_mark_token token
 
 abbrev pub is_number : List ℕ → Bool
 is_number word = is_filled word && list_all is_digit word

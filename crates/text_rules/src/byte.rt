@@ -1,6 +1,7 @@
 //! The kinds of byte, and where the next one of a kind stands.
 
-ghost use Rattle.std.specs.Prelude.{◌≡◌, ◌||◌, not, position};
+ghost use Rattle.std.specs.Prelude.{◌≡◌, ◌≤◌, length, not, position};
+ghost use Rattle.std.specs.List.{position_or_len};
 ghost use Rattle.text_rules.specs.Text as text;
 
 use memchr::memchr;
@@ -64,22 +65,39 @@ pub fn blank_at(bytes: &[u8]) -> Option<usize>
     bytes.iter().position(|byte| is_blank(*byte))
 }
 
+/// Whether a token ends in front of this byte.
 pub fn is_token_end(byte: u8) -> bool
-    ensures { result ≡ (text.is_blank byte || text.is_mark byte) }
+    ensures { result ≡ text.ends_token byte }
 {
-    is_blank(byte) || is_mark(byte)
+    is_blank(byte) || is_mark(byte) || byte == b'#'
 }
 
-pub fn token_end_at(bytes: &[u8]) -> Option<usize>
-    ensures { result ≡ position (λ b. text.is_blank b || text.is_mark b) bytes.now }
-{
-    bytes.iter().position(|byte| is_token_end(*byte))
-}
-
+/// How many bytes stand in a name, up to the first that stands in none. Four are read at each turn.
+///
 /// It is kept out of line, so that its loop has the registers.
 #[inline(never)]
-pub fn name_end_at(bytes: &[u8]) -> Option<usize>
-    ensures { result ≡ position (λ b. not (text.is_name_byte b)) bytes.now }
+pub fn name_len(bytes: &[u8]) -> usize
+    ensures count { result ≡ position_or_len (λ b. not (text.is_name_byte b)) bytes.now }
+    ensures within { result ≤ length bytes.now }
 {
-    bytes.iter().position(|byte| !is_name_byte(*byte))
+    let mut len = 0;
+    while bytes.len() - len >= 4 {
+        if !is_name_byte(bytes[len]) {
+            return len;
+        }
+        if !is_name_byte(bytes[len + 1]) {
+            return len + 1;
+        }
+        if !is_name_byte(bytes[len + 2]) {
+            return len + 2;
+        }
+        if !is_name_byte(bytes[len + 3]) {
+            return len + 3;
+        }
+        len += 4;
+    }
+    while len < bytes.len() && is_name_byte(bytes[len]) {
+        len += 1;
+    }
+    len
 }

@@ -12,9 +12,9 @@
 //! decimal digits; leading zeros are accepted.
 //!
 //! Which words make a line of which file is for the readers above to say. They
-//! go over a text with `next_line` and over the content of each line with
-//! `next_word`, `next_token` or `next_tested_token`, and test a word with
-//! `is_name` or `read_amount`:
+//! go over a text with `next_line`, over the words of a line's content with
+//! `next_word`, or over the tokens of a line with `next_name` and `next_mark`,
+//! which end at a comment. They test a word with `is_name` or `read_amount`:
 //!
 //! ```text
 //! let (line, later) = next_line(text);
@@ -37,7 +37,7 @@ mod word;
 
 pub use line::{content, next_line};
 pub use number::read_amount;
-pub use token::{next_tested_token, next_token};
+pub use token::{has_no_token, next_mark, next_name};
 pub use word::{is_name, next_word};
 
 /// A word read as a number of any length, against a limit.

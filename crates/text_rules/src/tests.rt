@@ -20,12 +20,15 @@ fn cuts_a_text_with_carriage_returns(rt: HostRuntime) -> Result<(), Fail> {
 
 #[test]
 fn cuts_marks_from_names(rt: HostRuntime) -> Result<(), Fail> {
-    let (kind, rest) = next_token(b"AND(a").ok_or("a name")?;
-    let (mark, rest) = next_token(rest).ok_or("a mark")?;
-    let (pin, rest) = next_token(rest).ok_or("a name")?;
+    let (kind, rest) = next_name(b" AND(a # (").ok_or("a name")?;
+    let (mark, rest) = next_mark(rest).ok_or("a mark")?;
+    assert!(rt; next_mark(rest).is_none());
+    let (pin, rest) = next_name(rest).ok_or("a name")?;
     assert_eq!(rt; kind, b"AND".as_slice());
-    assert_eq!(rt; mark, b"(".as_slice());
+    assert_eq!(rt; mark, b'(');
     assert_eq!(rt; pin, b"a".as_slice());
-    assert!(rt; next_token(rest).is_none());
+    assert!(rt; next_mark(rest).is_none());
+    assert!(rt; has_no_token(rest));
+    assert!(rt; next_name(b"a\x7f").is_none());
     Ok(())
 }

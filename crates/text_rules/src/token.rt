@@ -1,93 +1,82 @@
-//! The tokens of a line.
+//! The tokens of a line, less its comment. No `#` stands in a name, so a walk over tokens meets the
+//! comment, and no line is searched for it.
 
-ghost use Rattle.std.specs.Prelude.{◌≡◌, ◌<◌, ◌≤◌, [], ◌∷◌, length, take, drop, false, slice_index, MatchOption};
+ghost use Rattle.std.specs.Prelude.{◌≡◌, ◌<◌, ◌≤◌, [], ◌∷◌, length, true, false, slice_index, MatchOption, ◌==◌};
 ghost use Rattle.text_rules.specs.Text as text;
 
-use crate::byte::{filled_at, is_mark, is_token_end, name_end_at, token_end_at};
-use crate::word::is_name;
+use crate::byte::{filled_at, is_mark, is_token_end, name_len};
 
-/// How long the first token is, where it is no mark. Most tokens are marks and names, and a name is
-/// cut off otherwise.
-#[cold]
-#[inline(never)]
-fn run_len(bytes: &[u8]) -> usize
-    requires some { 0 < length bytes.now }
-    requires filled { text.is_blank (slice_index bytes.now 0) ≡ false }
-    requires plain { text.is_mark (slice_index bytes.now 0) ≡ false }
-    ensures within { result ≤ length bytes.now }
-    ensures cut { text.tokens bytes.now ≡ take result bytes.now ∷ text.tokens
-        (drop result bytes.now) }
+/// What comes after the blanks at the front.
+#[inline(always)]
+fn after_blanks(line: &[u8]) -> &[u8]
+    ensures tokens { text.line_tokens result.now ≡ text.line_tokens line.now }
+    ensures filled { 0 < length result.now → text.is_blank (slice_index result.now 0) ≡ false }
 {
-    match token_end_at(bytes) {
-        None => bytes.len(),
-        Some(end) => end,
+    match filled_at(line) {
+        None => &[],
+        Some(start) => line.split_at(start).1,
     }
 }
 
+/// Whether the token that stands in front of this place ends there.
 #[inline(always)]
-fn first_token(bytes: &[u8]) -> (&[u8], &[u8])
-    requires some { 0 < length bytes.now }
-    requires filled { text.is_blank (slice_index bytes.now 0) ≡ false }
-    ensures { text.tokens bytes.now ≡ result.0.now ∷ text.tokens result.1.now }
+fn is_over(bytes: &[u8], at: usize) -> bool
+    requires { at ≤ length bytes.now }
+    ensures end { length bytes.now ≤ at → result ≡ true }
+    ensures before { at < length bytes.now → result ≡ text.ends_token (slice_index bytes.now at) }
 {
-    if is_mark(bytes[0]) {
-        return bytes.split_at(1);
+    if at == bytes.len() {
+        return true;
     }
-    bytes.split_at(run_len(bytes))
+    is_token_end(bytes[at])
 }
 
-/// Whether a token is a name, where it didn't seem to be.
-#[cold]
-#[inline(never)]
-fn is_name_still(token: &[u8]) -> bool
-    ensures { result ≡ text.is_name token.now }
-{
-    is_name(token)
-}
-
+/// The first token and what comes after it, where that token is a name.
 #[inline(always)]
-fn first_tested_token(bytes: &[u8]) -> (&[u8], bool, &[u8])
-    requires some { 0 < length bytes.now }
-    requires filled { text.is_blank (slice_index bytes.now 0) ≡ false }
-    ensures cut { text.tokens bytes.now ≡ result.0.now ∷ text.tokens result.2.now }
-    ensures name { result.1 ≡ text.is_name result.0.now }
-{
-    let end = match name_end_at(bytes) {
-        None => return (bytes, true, &[]),
-        Some(end) => end,
-    };
-    if end > 0 && is_token_end(bytes[end]) {
-        let (name, rest) = bytes.split_at(end);
-        return (name, true, rest);
-    }
-    let (token, rest) = first_token(bytes);
-    (token, is_name_still(token), rest)
-}
-
-/// The first token, and what comes after it; `None` where there is no token.
-#[inline(always)]
-pub fn next_token(bytes: &[u8]) -> Option<(&[u8], &[u8])>
+pub fn next_name(line: &[u8]) -> Option<(&[u8], &[u8])>
     ensures { MatchOption result
-        (text.tokens bytes.now ≡ [])
-        (λ p. text.tokens bytes.now ≡ p.0.now ∷ text.tokens p.1.now) }
+        (text.starts_with_name (text.line_tokens line.now) ≡ false)
+        (λ p. (text.line_tokens line.now ≡ p.0.now ∷ text.line_tokens p.1.now)
+        × (text.is_name p.0.now ≡ true)) }
 {
-    match filled_at(bytes) {
-        None => None,
-        Some(start) => Some(first_token(bytes.split_at(start).1)),
+    let bytes = after_blanks(line);
+    let len = name_len(bytes);
+    if len == 0 {
+        return None;
     }
+    if !is_over(bytes, len) {
+        return None;
+    }
+    Some(bytes.split_at(len))
 }
 
-/// The first token, whether it is a name, and what comes after it; `None` where there is no token.
-/// A name is read once.
+/// The first token and what comes after it, where that token is a mark.
 #[inline(always)]
-pub fn next_tested_token(bytes: &[u8]) -> Option<(&[u8], bool, &[u8])>
+pub fn next_mark(line: &[u8]) -> Option<(u8, &[u8])>
     ensures { MatchOption result
-        (text.tokens bytes.now ≡ [])
-        (λ p. (text.tokens bytes.now ≡ p.0.now ∷ text.tokens p.2.now)
-        × (p.1 ≡ text.is_name p.0.now)) }
+        (text.starts_with_mark (text.line_tokens line.now) ≡ false)
+        (λ p. (text.line_tokens line.now ≡ (p.0 ∷ []) ∷ text.line_tokens p.1.now)
+        × (text.is_mark p.0 ≡ true)) }
 {
-    match filled_at(bytes) {
-        None => None,
-        Some(start) => Some(first_tested_token(bytes.split_at(start).1)),
+    let bytes = after_blanks(line);
+    if bytes.is_empty() {
+        return None;
     }
+    let mark = bytes[0];
+    if !is_mark(mark) {
+        return None;
+    }
+    Some((mark, bytes.split_at(1).1))
+}
+
+/// Whether no token is left.
+#[inline(always)]
+pub fn has_no_token(line: &[u8]) -> bool
+    ensures { result ≡ (length (text.line_tokens line.now) == 0) }
+{
+    let bytes = after_blanks(line);
+    if bytes.is_empty() {
+        return true;
+    }
+    bytes[0] == b'#'
 }
