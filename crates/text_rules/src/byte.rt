@@ -53,12 +53,27 @@ pub fn hash_at(bytes: &[u8]) -> Option<usize>
     memchr(b'#', bytes)
 }
 
+/// Mostly it is the first byte.
 pub fn filled_at(bytes: &[u8]) -> Option<usize>
+    ensures { result ≡ position (λ b. not (text.is_blank b)) bytes.now }
+{
+    match bytes {
+        [] => None,
+        [first, ..] if !is_blank(*first) => Some(0),
+        _ => later_filled_at(bytes),
+    }
+}
+
+#[cold]
+#[inline(never)]
+fn later_filled_at(bytes: &[u8]) -> Option<usize>
     ensures { result ≡ position (λ b. not (text.is_blank b)) bytes.now }
 {
     bytes.iter().position(|byte| !is_blank(*byte))
 }
 
+/// It is kept out of line, so that its loop has the registers.
+#[inline(never)]
 pub fn blank_at(bytes: &[u8]) -> Option<usize>
     ensures { result ≡ position text.is_blank bytes.now }
 {

@@ -1,33 +1,31 @@
 //! Decimal numbers.
 
 ghost use Rattle.std.specs.Prelude.{◌≡◌};
-ghost use Rattle.std.specs.List.{list_all};
 ghost use Rattle.text_rules.specs.Text as text;
 
 use crate::Amount;
 use crate::byte::is_digit;
 
-fn all_digits(word: &[u8]) -> bool
-    ensures { result ≡ list_all text.is_digit word.now }
-{
-    word.iter().all(|byte| is_digit(*byte))
-}
-
 /// Reads a word as a decimal number of any length, against the greatest value
-/// that is in range. Leading zeros are accepted.
+/// that is in range. Leading zeros are accepted. It is kept out of line, so that its loop has the
+/// registers.
+#[inline(never)]
 pub fn read_amount(word: &[u8], limit: u32) -> Amount
     ensures { result ≡ text.amount limit word.now }
 {
-    if word.is_empty() || !all_digits(word) {
+    if word.is_empty() {
         return Amount::NoNumber;
     }
-    let mut value: u32 = 0;
+    let above = limit as u64 + 1;
+    let mut value: u64 = 0;
     for digit in word {
-        let next = value as u64 * 10 + (*digit - b'0') as u64;
-        if next > limit as u64 {
-            return Amount::Above;
+        if !is_digit(*digit) {
+            return Amount::NoNumber;
         }
-        value = next as u32;
+        value = (value * 10 + (*digit - b'0') as u64).min(above);
     }
-    Amount::Within(value)
+    if value == above {
+        return Amount::Above;
+    }
+    Amount::Within(value as u32)
 }
