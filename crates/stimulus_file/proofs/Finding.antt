@@ -1,79 +1,76 @@
 -- What a name that is found tells of the settings.
-use Rattle.std.proofs.Common.{◌≡◌, ℕ, ◌<◌, ◌≤◌, ◌&&◌, ◌||◌, Bool, true, false, not, cond, List, [], ◌∷◌, ◌++◌, length, map, get_or, Some, None, refl, sym, ap, ap₂, subst, ◌∙◌, arith, length-append}
+use Rattle.std.proofs.Common.{◌≡◌, ℕ, ◌<◌, ◌&&◌, ◌||◌, Bool, true, false, not, cond, ltb, List, [], ◌∷◌, ◌++◌, length, map, get_or, Some, None, refl, sym, ap, ap₂, subst, ◌∙◌, arith, length-append}
 use Rattle.std.specs.List.{list_any}
 use Rattle.std.specs.Str.{bytes_eq}
 use Rattle.std.specs.Borrow.{Bor}
 use Rattle.std.specs.HashMap.{get}
 use Rattle.std.specs.HashSet.{HashSet, IsFromIterResult}
+use Rattle.std.proofs.lemmas.Bool.{ltb-true}
+use Rattle.std.proofs.lemmas.List.{get_or_push}
 use Rattle.std.proofs.lemmas.List.Elements.{All-push}
 use Rattle.std.proofs.lemmas.List.Folds.{list_any-append}
 use Rattle.gate_values.specs.declared.Value.{Value}
 use Rattle.stimulus_file.specs.declared.NumberedSet.{NumberedSet}
-use Rattle.stimulus_file.specs.declared.names.Known.{Known}
 use Rattle.stimulus_file.specs.declared.names.Names.{Names}
 use Rattle.stimulus_file.specs.Named.{named, HavePlaces}
-use Rattle.stimulus_file.specs.inner.Kept.{is_at, key_eq, same_bytes, IsPlace, IsKnown, HasNames, HasSeen, Finds, Tells}
-use Rattle.stimulus_file.proofs.Naming.{swapped, beyond, named_more, places_more, place_new, known_again, known_first}
+use Rattle.stimulus_file.specs.inner.Kept.{is_at, key_eq, same_bytes, AreLatest, ArePlaces, IsPlace, StandsAt, HasNames, HasSeen, Finds, Tells}
+use Rattle.stimulus_file.proofs.Naming.{both, swapped, beyond, named_more, places_more, place_new, places_first, latest_push, grows_more, grows_at, reaches, long_as, with_time, is_later as later_at}
 
 module _ (old new : Names) (sets : List NumberedSet) (q : Bor (List ℕ)) (time : ℕ) (has : HasNames old sets) where
   -- a name that is known
-  pub finds_again : (k : Known) (latest : ℕ) (is_later : Bool) → new.texts.items ≡ old.texts.items → get same_bytes old.known q ≡ Some k
-      → ((p : Bor (List ℕ)) → get same_bytes new.known p ≡ cond (bytes_eq q.now p.now) (Some (record { place = k.place; latest = latest })) (get same_bytes old.known p))
-      → k.latest ≤ latest → time ≤ latest → (is_later ≡ true → k.latest < time) → Finds old new sets q.now time (record { place = k.place; is_later = is_later })
-  finds_again k latest is_later texts is gives more late later = record {
+  pub finds_again : (place : ℕ) (is_later : Bool) → new.texts.items ≡ old.texts.items → ArePlaces new → IsPlace old.texts.items q.now place → is_later ≡ later_at old.latest.items place time
+      → new.latest.items ≡ with_time old.latest.items place time is_later → Finds old new sets q.now time (record { place = place; is_later = is_later })
+  finds_again place is_later texts places is later latest = record {
     same = ap (λ (t : List (List ℕ)). named t sets) texts;
     placed = subst (λ (t : List (List ℕ)). HavePlaces t sets) (sym texts) has.placed;
-    place = subst (λ (t : List (List ℕ)). IsPlace t q.now k.place) (sym texts) known.0;
-    later = λ l. known.1 time (later l);
+    place = subst (λ (t : List (List ℕ)). IsPlace t q.now place) (sym texts) is;
+    later = λ l. has.latest place time (ltb-true (get_or old.latest.items place 0) time (both (ltb place (length old.latest.items)) _ (sym later ∙ l)).1);
     next = λ line value. next line value;
   }
     where
-      known : IsPlace old.texts.items q.now k.place × ((t : ℕ) → k.latest < t → list_any (is_at k.place t) sets ≡ false)
-      known = subst (IsKnown old.texts.items sets q.now) is (has.known q)
+      within : place < length old.latest.items
+      within = let lt = is.within in let each = has.each in omega (arith, lt, each)
 
-      next : (line : ℕ) (value : Value) → HasNames new (sets ++ record { line = line; name = k.place; time = time; value = value } ∷ [])
+      next : (line : ℕ) (value : Value) → HasNames new (sets ++ record { line = line; name = place; time = time; value = value } ∷ [])
       next line value =
-          let x : NumberedSet = record { line = line; name = k.place; time = time; value = value } in
+          let x : NumberedSet = record { line = line; name = place; time = time; value = value } in
           record {
-            placed = subst (λ (t : List (List ℕ)). HavePlaces t (sets ++ x ∷ [])) (sym texts) (All-push (λ (s : NumberedSet). s.name < length old.texts.items) sets x has.placed known.0.within);
-            known = λ p. subst (λ (t : List (List ℕ)). IsKnown t (sets ++ x ∷ []) p.now (get same_bytes new.known p)) (sym texts)
-                (known_again old.texts.items sets (get same_bytes old.known) (get same_bytes new.known) q has.known x k latest is gives more refl late p);
+            placed = subst (λ (t : List (List ℕ)). HavePlaces t (sets ++ x ∷ [])) (sym texts) (All-push (λ (s : NumberedSet). s.name < length old.texts.items) sets x has.placed is.within);
+            each = ap length latest ∙ long_as old.latest.items place time is_later ∙ has.each ∙ ap length (sym texts);
+            latest = subst (λ (l : List ℕ). AreLatest l (sets ++ x ∷ [])) (sym latest)
+                (latest_push old.latest.items _ sets x has.latest (grows_at old.latest.items place time is_later (sym later)) (reaches old.latest.items place time is_later (sym later) within));
+            places = places;
           }
 
   -- a name that is new
-  pub finds_first : new.texts.items ≡ old.texts.items ++ q.now ∷ [] → get same_bytes old.known q ≡ None
-      → ((p : Bor (List ℕ)) → get same_bytes new.known p ≡ cond (bytes_eq q.now p.now) (Some (record { place = length old.texts.items; latest = time })) (get same_bytes old.known p))
-      → Finds old new sets q.now time (record { place = length old.texts.items; is_later = true })
-  finds_first texts is gives = record {
+  pub finds_new : (place : ℕ) → place ≡ length old.texts.items → new.texts.items ≡ old.texts.items ++ q.now ∷ [] → new.latest.items ≡ old.latest.items ++ time ∷ [] → StandsAt old.texts.items q.now None
+      → ((p : Bor (List ℕ)) → get same_bytes new.places p ≡ cond (bytes_eq q.now p.now) (Some place) (get same_bytes old.places p))
+      → Finds old new sets q.now time (record { place = place; is_later = true })
+  finds_new place is texts latest never gives = record {
     same = ap (λ (t : List (List ℕ)). named t sets) texts ∙ named_more old.texts.items q.now sets has.placed;
     placed = subst (λ (t : List (List ℕ)). HavePlaces t sets) (sym texts) (places_more old.texts.items q.now sets has.placed);
-    place = subst (λ (t : List (List ℕ)). IsPlace t q.now (length old.texts.items)) (sym texts) (place_new old.texts.items q.now never);
-    later = λ _. beyond old.texts.items sets time has.placed;
+    place = subst (λ (t : List (List ℕ)). IsPlace t q.now place) (sym texts) (subst (IsPlace (old.texts.items ++ q.now ∷ []) q.now) (sym is) (place_new old.texts.items q.now never));
+    later = λ _. subst (λ (n : ℕ). list_any (is_at n time) sets ≡ false) (sym is) (beyond old.texts.items sets time has.placed);
     next = λ line value. next line value;
   }
     where
-      never : (i : ℕ) → i < length old.texts.items → get_or old.texts.items i [] ≡ q.now → ⊥
-      never = subst (IsKnown old.texts.items sets q.now) is (has.known q)
-
-      next : (line : ℕ) (value : Value) → HasNames new (sets ++ record { line = line; name = length old.texts.items; time = time; value = value } ∷ [])
+      next : (line : ℕ) (value : Value) → HasNames new (sets ++ record { line = line; name = place; time = time; value = value } ∷ [])
       next line value =
-          let x : NumberedSet = record { line = line; name = length old.texts.items; time = time; value = value } in
+          let x : NumberedSet = record { line = line; name = place; time = time; value = value } in
           let long = length-append old.texts.items (q.now ∷ []) in
-          let within : x.name < length (old.texts.items ++ q.now ∷ []) = omega (arith, long) in
+          let times = length-append old.latest.items (time ∷ []) in
+          let each = has.each in
+          let within : place < length (old.texts.items ++ q.now ∷ []) = omega (arith, long, is) in
+          let here : get_or (old.latest.items ++ time ∷ []) place 0 ≡ time = get_or_push old.latest.items time 0 place (omega (arith, each, is)) in
           record {
             placed = subst (λ (t : List (List ℕ)). HavePlaces t (sets ++ x ∷ [])) (sym texts)
                 (All-push (λ (s : NumberedSet). s.name < length (old.texts.items ++ q.now ∷ [])) sets x (places_more old.texts.items q.now sets has.placed) within);
-            known = λ p. subst (λ (t : List (List ℕ)). IsKnown t (sets ++ x ∷ []) p.now (get same_bytes new.known p)) (sym texts)
-                (known_first old.texts.items sets (get same_bytes old.known) (get same_bytes new.known) q has.known x is gives has.placed refl p);
+            each = ap length latest ∙ (let same : length (old.latest.items ++ time ∷ []) ≡ length (old.texts.items ++ q.now ∷ []) = omega (arith, long, times, each) in same) ∙ ap length (sym texts);
+            latest = subst (λ (l : List ℕ). AreLatest l (sets ++ x ∷ [])) (sym latest)
+                (latest_push old.latest.items (old.latest.items ++ time ∷ []) sets x has.latest (grows_more old.latest.items time) (omega (arith, here)));
+            places = λ p. subst (λ (t : List (List ℕ)). StandsAt t p.now (get same_bytes new.places p)) (sym texts)
+                (places_first old.texts.items q (get same_bytes old.places) has.places (get same_bytes new.places) never (λ r. gives r ∙ ap (λ (n : ℕ). cond (bytes_eq q.now r.now) (Some n) (get same_bytes old.places r)) is) p);
           }
-
--- a name that is new, at a place that is the number of the names before
-pub finds_new : (old new : Names) (sets : List NumberedSet) (q : Bor (List ℕ)) (time place : ℕ) → HasNames old sets → place ≡ length old.texts.items → new.texts.items ≡ old.texts.items ++ q.now ∷ []
-    → get same_bytes old.known q ≡ None → ((p : Bor (List ℕ)) → get same_bytes new.known p ≡ cond (bytes_eq q.now p.now) (Some (record { place = place; latest = time })) (get same_bytes old.known p))
-    → Finds old new sets q.now time (record { place = place; is_later = true })
-finds_new old new sets q time place has is texts none gives =
-    subst (λ (n : ℕ). Finds old new sets q.now time (record { place = n; is_later = true })) (sym is)
-    (finds_first old new sets q time has texts none (subst (λ (n : ℕ). (p : Bor (List ℕ)) → get same_bytes new.known p ≡ cond (bytes_eq q.now p.now) (Some (record { place = n; latest = time })) (get same_bytes old.known p)) is gives))
 
 joined : (a b : Bool) → cond a true b ≡ (b || (a || false))
 joined true true = refl

@@ -1,20 +1,19 @@
 -- Names with places, and what is known of each.
-use Rattle.std.proofs.Common.{◌≡◌, ℕ, ◌+◌, ◌<◌, ◌≤◌, ◌&&◌, ◌||◌, Bool, true, false, cond, eqb, eqb-true, eq-eqb, List, [], ◌∷◌, ◌++◌, length, get_or, Option, Some, None, refl, sym, ap, ap₂, subst, ◌∙◌, arith, inl, inr, length-append}
+use Rattle.std.proofs.Common.{◌≡◌, ℕ, zero, suc, ◌+◌, ◌<◌, ◌≤◌, ◌&&◌, ◌||◌, Bool, true, false, cond, eqb, ltb, eqb-true, eq-eqb, List, [], ◌∷◌, ◌++◌, length, get_or, set, Option, Some, None, refl, sym, ap, ap₂, subst, ◌∙◌, arith, inl, inr, length-append}
 use Rattle.std.specs.List.{list_any}
 use Rattle.std.specs.Str.{bytes_eq}
 use Rattle.std.specs.Borrow.{Bor}
-use Rattle.std.proofs.lemmas.Bool.{cases_lt}
-use Rattle.std.proofs.lemmas.List.{get_or_append_left, get_or_push}
+use Rattle.std.proofs.lemmas.Bool.{cases_eq, cases_lt, ltb-true, ltb-false, lt-ltb}
+use Rattle.std.proofs.lemmas.List.{get_or_append_left, get_or_push, get_or-set_same, get_or-set_other, length-set}
 use Rattle.std.proofs.lemmas.List.Elements.{All-head, All-tail, All-weaker}
 use Rattle.std.proofs.lemmas.List.Folds.{list_any-append}
 use Rattle.std.proofs.lemmas.Slice.Eq.{bytes_eq-Decides}
 use Rattle.line_faults.specs.Rows.{rows_from}
 use Rattle.stimulus_file.specs.declared.NumberedSet.{NumberedSet}
-use Rattle.stimulus_file.specs.declared.names.Known.{Known}
 use Rattle.stimulus_file.specs.Forms.{Line, Blank, Other, Horizon, Setting}
 use Rattle.stimulus_file.specs.Stimulus.{SetRow, sets, row_of}
 use Rattle.stimulus_file.specs.Named.{named, HavePlaces}
-use Rattle.stimulus_file.specs.inner.Kept.{is_at, IsPlace, IsLatest, IsKnown}
+use Rattle.stimulus_file.specs.inner.Kept.{is_at, AreLatest, IsPlace, StandsAt}
 
 pub is_false : (b : Bool) → (b ≡ true → ⊥) → b ≡ false
 is_false true never = absurd (never refl)
@@ -120,53 +119,73 @@ module _ (names : List (List ℕ)) where
         other_name name other differ (sym (get_or_push names name [] i i-is) ∙ e)
   ]
 
--- after one setting more, of this name or of another
-pub latest_push : (xs : List NumberedSet) (k : Known) (x : NumberedSet) (latest : ℕ) → IsLatest xs k → k.latest ≤ latest → (k.place ≡ x.name → x.time ≤ latest) → IsLatest (xs ++ x ∷ []) (record { place = k.place; latest = latest })
-latest_push xs k x latest old le new time lt =
-    let before : list_any (is_at k.place time) xs ≡ false = old time (omega (arith, le, lt)) in
-    let last : is_at k.place time x ≡ false = is_false (is_at k.place time x) (λ t. apart (both (eqb k.place x.name) (eqb time x.time) t)) in
-    list_any-append (is_at k.place time) xs (x ∷ []) ∙ ap₂ (λ (a b : Bool). a || (b || false)) before last
+module _ (names : List (List ℕ)) (q : Bor (List ℕ)) (f : Bor (List ℕ) → Option ℕ) (known : (p : Bor (List ℕ)) → StandsAt names p.now (f p)) where
+  -- a name that stands at a place is the one that the map has there
+  pub is_place : (place : ℕ) → place < length names → get_or names place [] ≡ q.now → IsPlace names q.now place
+  is_place place lt e = at (f q) (known q)
+    where
+      at : (o : Option ℕ) → StandsAt names q.now o → IsPlace names q.now place
+      at None never = absurd (never place lt e)
+      at (Some p) is = subst (IsPlace names q.now) (sym (is.only place lt e)) is
+
+  -- the places after a name that is new
+  pub places_first : (g : Bor (List ℕ) → Option ℕ) → StandsAt names q.now None → ((p : Bor (List ℕ)) → g p ≡ cond (bytes_eq q.now p.now) (Some (length names)) (f p)) → (p : Bor (List ℕ)) → StandsAt (names ++ q.now ∷ []) p.now (g p)
+  places_first g never gives p = subst (StandsAt (names ++ q.now ∷ []) p.now) (sym (gives p)) (either (bytes_eq q.now p.now) refl)
+    where
+      others : bytes_eq q.now p.now ≡ false → (o : Option ℕ) → StandsAt names p.now o → StandsAt (names ++ q.now ∷ []) p.now o
+      others differ None h = none_other names q.now p.now differ h
+      others differ (Some i) h = place_other names q.now p.now i differ h
+
+      either : (b : Bool) → bytes_eq q.now p.now ≡ b → StandsAt (names ++ q.now ∷ []) p.now (cond b (Some (length names)) (f p))
+      either true same = subst (λ (n : List ℕ). IsPlace (names ++ q.now ∷ []) n (length names)) (same_name q.now p.now same) (place_new names q.now never)
+      either false differ = others differ (f p) (known p)
+
+-- ---- the latest times
+
+-- after one setting more
+pub latest_push : (latest after : List ℕ) (xs : List NumberedSet) (x : NumberedSet) → AreLatest latest xs → ((i : ℕ) → get_or latest i 0 ≤ get_or after i 0) → x.time ≤ get_or after x.name 0 → AreLatest after (xs ++ x ∷ [])
+latest_push latest after xs x old grows new place time lt =
+    let le = grows place in
+    let before : list_any (is_at place time) xs ≡ false = old place time (omega (arith, le, lt)) in
+    let last : is_at place time x ≡ false = is_false (is_at place time x) (λ t. apart (both (eqb place x.name) (eqb time x.time) t)) in
+    list_any-append (is_at place time) xs (x ∷ []) ∙ ap₂ (λ (a b : Bool). a || (b || false)) before last
   where
-    apart : (eqb k.place x.name ≡ true) × (eqb time x.time ≡ true) → ⊥
+    apart : (eqb place x.name ≡ true) × (eqb time x.time ≡ true) → ⊥
     apart h =
-        let le : x.time ≤ latest = new (eqb-true k.place x.name h.0) in
-        let e : time ≡ x.time = eqb-true time x.time h.1 in
-        omega (arith, le, e, lt)
+        let late : time ≤ get_or after place 0 = subst (λ (i : ℕ). time ≤ get_or after i 0) (sym (eqb-true place x.name h.0)) (subst (λ (t : ℕ). t ≤ get_or after x.name 0) (sym (eqb-true time x.time h.1)) new) in
+        omega (arith, late, lt)
 
-module _ (names : List (List ℕ)) (xs : List NumberedSet) (f g : Bor (List ℕ) → Option Known) (q : Bor (List ℕ)) (known : (p : Bor (List ℕ)) → IsKnown names xs p.now (f p)) (x : NumberedSet) where
-  -- what is known after a setting of a name that is known
-  module _ (k : Known) (latest : ℕ) (is : f q ≡ Some k) (gives : (p : Bor (List ℕ)) → g p ≡ cond (bytes_eq q.now p.now) (Some (record { place = k.place; latest = latest })) (f p)) where
-    pub here : IsPlace names q.now k.place × IsLatest xs k
-    here = subst (IsKnown names xs q.now) is (known q)
+-- a time more
+pub grows_more : (latest : List ℕ) (time i : ℕ) → get_or latest i 0 ≤ get_or (latest ++ time ∷ []) i 0
+grows_more [] time zero = omega arith
+grows_more [] time (suc i) = omega arith
+grows_more (t ∷ latest) time zero = omega arith
+grows_more (t ∷ latest) time (suc i) = grows_more latest time i
 
-    pub known_again : k.latest ≤ latest → x.name ≡ k.place → x.time ≤ latest → (p : Bor (List ℕ)) → IsKnown names (xs ++ x ∷ []) p.now (g p)
-    known_again later place time p = subst (IsKnown names (xs ++ x ∷ []) p.now) (sym (gives p)) (either (bytes_eq q.now p.now) refl)
-      where
-        others : bytes_eq q.now p.now ≡ false → (o : Option Known) → IsKnown names xs p.now o → IsKnown names (xs ++ x ∷ []) p.now o
-        others differ None h = h
-        others differ (Some j) h =
-            (h.0, latest_push xs j x j.latest h.1 (omega arith) (λ same. absurd (other_name q.now p.now differ (sym here.0.there ∙ ap (λ (i : ℕ). get_or names i []) (sym (same ∙ place)) ∙ h.0.there))))
+-- a time that is kept where it is later
+abbrev pub is_later : List ℕ → ℕ → ℕ → Bool
+is_later latest place time = ltb place (length latest) && ltb (get_or latest place 0) time
 
-        either : (b : Bool) → bytes_eq q.now p.now ≡ b → IsKnown names (xs ++ x ∷ []) p.now (cond b (Some (record { place = k.place; latest = latest })) (f p))
-        either true same = (subst (λ (n : List ℕ). IsPlace names n k.place) (same_name q.now p.now same) here.0, latest_push xs k x latest here.1 later (λ _. time))
-        either false differ = others differ (f p) (known p)
+module _ (latest : List ℕ) (place time : ℕ) where
+  abbrev pub with_time : Bool → List ℕ
+  with_time b = cond b (set latest place time) latest
 
-  -- what is known after the first setting of a name
-  module _ (is : f q ≡ None) (gives : (p : Bor (List ℕ)) → g p ≡ cond (bytes_eq q.now p.now) (Some (record { place = length names; latest = x.time })) (f p)) where
-    pub nowhere : (i : ℕ) → i < length names → get_or names i [] ≡ q.now → ⊥
-    nowhere = subst (IsKnown names xs q.now) is (known q)
+  pub grows_at : (b : Bool) → is_later latest place time ≡ b → (i : ℕ) → get_or latest i 0 ≤ get_or (with_time b) i 0
+  grows_at false e i = omega arith
+  grows_at true e i = elim (cases_eq i place) [
+    | inl same ↦
+        let two = both (ltb place (length latest)) (ltb (get_or latest place 0) time) e in
+        let less = ltb-true (get_or latest place 0) time two.1 in
+        subst (λ (k : ℕ). get_or latest k 0 ≤ get_or (set latest place time) k 0) (sym same) (rw (get_or-set_same latest place time 0 (ltb-true place (length latest) two.0)) (omega (arith, less)))
+    | inr other ↦ rw (get_or-set_other latest place i time 0 other) (omega arith)
+  ]
 
-    pub known_first : HavePlaces names xs → x.name ≡ length names → (p : Bor (List ℕ)) → IsKnown (names ++ q.now ∷ []) (xs ++ x ∷ []) p.now (g p)
-    known_first placed place p = subst (IsKnown (names ++ q.now ∷ []) (xs ++ x ∷ []) p.now) (sym (gives p)) (either (bytes_eq q.now p.now) refl)
-      where
-        others : bytes_eq q.now p.now ≡ false → (o : Option Known) → IsKnown names xs p.now o → IsKnown (names ++ q.now ∷ []) (xs ++ x ∷ []) p.now o
-        others differ None h = none_other names q.now p.now differ h
-        others differ (Some j) h =
-            (place_other names q.now p.now j.place differ h.0, latest_push xs j x j.latest h.1 (omega arith) (λ same. let lt = h.0.within in absurd (omega (arith, lt, same, place))))
+  pub reaches : (b : Bool) → is_later latest place time ≡ b → place < length latest → time ≤ get_or (with_time b) place 0
+  reaches true e lt = rw (get_or-set_same latest place time 0 lt) (omega arith)
+  reaches false e lt =
+      let late : ltb (get_or latest place 0) time ≡ false = sym (ap (λ (b : Bool). b && ltb (get_or latest place 0) time) (lt-ltb place (length latest) lt)) ∙ e in
+      omega (arith, ltb-false (get_or latest place 0) time late)
 
-        either : (b : Bool) → bytes_eq q.now p.now ≡ b → IsKnown (names ++ q.now ∷ []) (xs ++ x ∷ []) p.now (cond b (Some (record { place = length names; latest = x.time })) (f p))
-        either true same = (
-          subst (λ (n : List ℕ). IsPlace (names ++ q.now ∷ []) n (length names)) (same_name q.now p.now same) (place_new names q.now nowhere),
-          latest_push xs (record { place = length names; latest = x.time }) x x.time (λ t lt. beyond names xs t placed) (omega arith) (λ _. omega arith),
-        )
-        either false differ = others differ (f p) (known p)
+  pub long_as : (b : Bool) → length (with_time b) ≡ length latest
+  long_as true = length-set latest place time
+  long_as false = refl

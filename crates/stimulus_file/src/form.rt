@@ -1,9 +1,9 @@
 //! The form of a line.
 
-ghost use Rattle.std.specs.Prelude.{◌≡◌, codes};
+ghost use Rattle.std.specs.Prelude.{◌≡◌, ◌∷◌, codes};
 ghost use Rattle.text_rules.specs.Text.{words};
 ghost use Rattle.stimulus_file.specs.Forms as forms;
-ghost use Rattle.stimulus_file.specs.Forms.{line_of, horizon_line, setting_line};
+ghost use Rattle.stimulus_file.specs.Forms.{line_of, setting_line};
 ghost use Rattle.stimulus_file.specs.inner.Reading.{line_seen};
 
 use gate_values::Value;
@@ -21,10 +21,16 @@ pub enum Form<'a> {
     Setting(&'a [u8], Option<u32>, Value),
 }
 
-fn horizon_form(keyword: &[u8], horizon: &[u8]) -> Form<'static>
-    ensures { line_seen result ≡ horizon_line keyword.now horizon.now }
+/// What follows `horizon`.
+#[tactic(auto, using(crate::proofs::Keywords::no_horizon))]
+fn horizon_form(bytes: &[u8]) -> Form<'static>
+    ensures { line_seen result ≡ forms.by_words (codes "horizon" ∷ words bytes.now) }
 {
-    if keyword != b"horizon".as_slice() {
+    let (horizon, rest) = match next_word(bytes) {
+        None => return Form::Other,
+        Some(found) => found,
+    };
+    if next_word(rest).is_some() {
         return Form::Other;
     }
     match read_amount(horizon, LAST_TIME) {
@@ -34,10 +40,10 @@ fn horizon_form(keyword: &[u8], horizon: &[u8]) -> Form<'static>
     }
 }
 
-fn setting_form<'a>(keyword: &[u8], name: &'a [u8], time: &[u8], value: &[u8]) -> Form<'a>
-    ensures { line_seen result ≡ setting_line keyword.now name.entry.now time.now value.now }
+fn setting_of_words<'a>(name: &'a [u8], time: &[u8], value: &[u8]) -> Form<'a>
+    ensures { line_seen result ≡ setting_line (codes "set") name.entry.now time.now value.now }
 {
-    if keyword != b"set".as_slice() || !is_name(name) {
+    if !is_name(name) {
         return Form::Other;
     }
     let time = read_amount(time, LAST_TIME);
@@ -49,35 +55,72 @@ fn setting_form<'a>(keyword: &[u8], name: &'a [u8], time: &[u8], value: &[u8]) -
     }
 }
 
-fn by_words(bytes: &[u8]) -> Form<'_>
-    ensures { line_seen result ≡ forms.by_words (words bytes.entry.now) }
+/// What follows `set`.
+#[inline(always)]
+fn setting_form(bytes: &[u8]) -> Form<'_>
+    ensures { line_seen result ≡ forms.by_words (codes "set" ∷ words bytes.entry.now) }
 {
-    let (keyword, rest) = match next_word(bytes) {
-        None => return Form::Blank,
-        Some(found) => found,
-    };
-    let (first, rest) = match next_word(rest) {
+    let (name, rest) = match next_word(bytes) {
         None => return Form::Other,
         Some(found) => found,
     };
-    let (second, rest) = match next_word(rest) {
-        None => return horizon_form(keyword, first),
+    let (time, rest) = match next_word(rest) {
+        None => return Form::Other,
         Some(found) => found,
     };
-    let (third, rest) = match next_word(rest) {
+    let (value, rest) = match next_word(rest) {
         None => return Form::Other,
         Some(found) => found,
     };
     match next_word(rest) {
-        None => setting_form(keyword, first, second, third),
+        None => setting_of_words(name, time, value),
         Some(_) => Form::Other,
     }
 }
 
-/// The form of a line.
+#[inline(never)]
+fn keyword_form<'a>(keyword: &[u8], rest: &'a [u8]) -> Form<'a>
+    ensures { line_seen result ≡ forms.by_words (keyword.now ∷ words rest.entry.now) }
+{
+    if keyword == b"set".as_slice() {
+        return setting_form(rest);
+    }
+    if keyword == b"horizon".as_slice() {
+        return horizon_form(rest);
+    }
+    Form::Other
+}
+
+/// The form of a line without a comment. Most lines begin with `set` and a space.
+#[inline(always)]
+fn by_words(bytes: &[u8]) -> Form<'_>
+    ensures { line_seen result ≡ forms.by_words (words bytes.entry.now) }
+{
+    if let Some(rest) = bytes.strip_prefix(b"set ") {
+        return setting_form(rest);
+    }
+    match next_word(bytes) {
+        None => Form::Blank,
+        Some((keyword, rest)) => keyword_form(keyword, rest),
+    }
+}
+
+/// The form of a line that has none as it stands.
+#[cold]
+#[inline(never)]
 #[tactic(auto, unfolding(crate::specs::Forms::line_of))]
-pub fn form_of(line: &[u8]) -> Form<'_>
+fn by_content(line: &[u8]) -> Form<'_>
     ensures { line_seen result ≡ line_of line.entry.now }
 {
     by_words(content(line))
+}
+
+/// The form of a line. A line that has a form as it stands is not searched for a comment.
+pub fn form_of(line: &[u8]) -> Form<'_>
+    ensures { line_seen result ≡ line_of line.entry.now }
+{
+    match by_words(line) {
+        Form::Other => by_content(line),
+        form => form,
+    }
 }

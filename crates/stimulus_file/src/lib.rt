@@ -18,11 +18,15 @@
 //! once, and a setting has the place of its name (`specs/Named`).
 //! Whether a name is an input of some netlist is for the crate above to test.
 //!
-//! Reading takes one walk over the text, one look-up in a hash map a `set` line and one copy of
-//! each name, so time and memory grow with the length of the text. The map has the greatest time
-//! of each name. While each name is set at later and later times, that shows that none is set
+//! Reading takes one walk over the text and one copy of each name, so time and memory grow with
+//! the length of the text. A line is searched for a comment only where it has no form as it
+//! stands. A name is first compared with the one that came after the last name the time before,
+//! which finds it without a hash where the settings come in rounds over the inputs, or one input
+//! after another. Any other is looked up in a hash map, whose keys lie in the text.
+//!
+//! While each name is set at later and later times, its greatest time shows that none is set
 //! twice at one time. From the first setting on that is not later, a hash set of all settings
-//! shows it, with one look-up more a line. The map borrows the names from the text.
+//! shows it, with one look-up more a line.
 //!
 //! ```text
 //! let stimulus = read_stimulus(alloc, b"horizon 10\nset a 0 1\n")?;

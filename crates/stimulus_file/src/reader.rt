@@ -14,7 +14,6 @@ use crate::{NumberedSet, Stimulus, StimulusCause, StimulusFault};
 use gate_values::Value;
 use line_faults::{LineReader, fault, read_lines};
 use std::alloc::Global;
-use std::collections::HashMap;
 
 /// What is known after some lines.
 #[derive(Drop)]
@@ -115,10 +114,7 @@ pub fn read_stimulus(alloc: Global, text: &[u8]) -> Result<Stimulus, StimulusFau
 {
     let empty = Reader {
         horizon: None,
-        names: Names {
-            texts: Vec::new(alloc),
-            known: HashMap::new(alloc),
-        },
+        names: Names::new(alloc),
         sets: Vec::new(alloc),
         seen: None,
     };

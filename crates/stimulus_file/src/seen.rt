@@ -22,6 +22,28 @@ fn seen_in(alloc: Global, sets: &[NumberedSet]) -> Result<Seen, AllocError>
     sets.iter().map(|set| (set.name, set.time)).collect(alloc)
 }
 
+/// Whether none of these settings is of the name at this place, at this time, by a set of them all.
+#[inline(never)]
+fn is_unseen(
+    alloc: Global,
+    seen: &mut Option<Seen>,
+    sets: &[NumberedSet],
+    place: u32,
+    time: u32,
+) -> Result<bool, AllocError>
+    ensures { HasSeen seen.old sets.now → IfOk result (Tells seen.new sets.now place time) }
+{
+    match seen {
+        Some(seen) => Ok(seen.insert((place, time))?),
+        None => {
+            let mut all = seen_in(alloc, sets)?;
+            let is_new = all.insert((place, time))?;
+            *seen = Some(all);
+            Ok(is_new)
+        }
+    }
+}
+
 /// Whether none of these settings is of the name that was found, at this time. A setting that is
 /// later than all of its name before is new without a look-up. From the first that is not, a set
 /// of all of them tells.
@@ -36,14 +58,8 @@ pub fn is_new(
         → (found.is_later ≡ true → list_any (is_at found.place time) sets.now ≡ false)
         → IfOk result (Tells seen.new sets.now found.place time) }
 {
-    match seen {
-        Some(seen) => Ok(seen.insert((found.place, time))?),
-        None if found.is_later => Ok(true),
-        None => {
-            let mut all = seen_in(alloc, sets)?;
-            let is_new = all.insert((found.place, time))?;
-            *seen = Some(all);
-            Ok(is_new)
-        }
+    if found.is_later && seen.is_none() {
+        return Ok(true);
     }
+    is_unseen(alloc, seen, sets, found.place, time)
 }

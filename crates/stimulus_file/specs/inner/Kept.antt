@@ -7,7 +7,6 @@ use Rattle.std.specs.HashMap.{get}
 use Rattle.std.specs.HashSet.{HashSet}
 use Rattle.gate_values.specs.declared.Value.{Value}
 use Rattle.stimulus_file.specs.declared.NumberedSet.{NumberedSet}
-use Rattle.stimulus_file.specs.declared.names.Known.{Known}
 use Rattle.stimulus_file.specs.declared.names.Found.{Found}
 use Rattle.stimulus_file.specs.declared.names.Names.{Names}
 use Rattle.stimulus_file.specs.Named.{named, HavePlaces}
@@ -22,22 +21,28 @@ pub record IsPlace (names : List (List ℕ)) (name : List ℕ) (place : ℕ) : T
   pub there : get_or names place [] ≡ name
   pub only : (i : ℕ) → i < length names → get_or names i [] ≡ name → i ≡ place
 
--- the name at this place is set at no later time
-abbrev pub IsLatest : List NumberedSet → Known → Type 0
-IsLatest sets known = (time : ℕ) → known.latest < time → list_any (is_at known.place time) sets ≡ false
+-- the name at a place is set at no time after its latest
+abbrev pub AreLatest : List ℕ → List NumberedSet → Type 0
+AreLatest latest sets = (place time : ℕ) → get_or latest place 0 < time → list_any (is_at place time) sets ≡ false
 
--- what is known of a name
-abbrev pub IsKnown : List (List ℕ) → List NumberedSet → List ℕ → Option Known → Type 0
-IsKnown names sets name None = (i : ℕ) → i < length names → get_or names i [] ≡ name → ⊥
-IsKnown names sets name (Some known) = IsPlace names name known.place × IsLatest sets known
+-- where a name stands, if anywhere
+abbrev pub StandsAt : List (List ℕ) → List ℕ → Option ℕ → Type 0
+StandsAt names name None = (i : ℕ) → i < length names → get_or names i [] ≡ name → ⊥
+StandsAt names name (Some place) = IsPlace names name place
 
 abbrev pub same_bytes : Bor (List ℕ) → Bor (List ℕ) → Bool
 same_bytes a b = bytes_eq a.now b.now
 
+-- the map has the place of each name
+abbrev pub ArePlaces : Names → Type 0
+ArePlaces n = (q : Bor (List ℕ)) → StandsAt n.texts.items q.now (get same_bytes n.places q)
+
 -- the names of these settings
 pub record HasNames (n : Names) (sets : List NumberedSet) : Type 0 where
   pub placed : HavePlaces n.texts.items sets
-  pub known : (q : Bor (List ℕ)) → IsKnown n.texts.items sets q.now (get same_bytes n.known q)
+  pub each : length n.latest.items ≡ length n.texts.items
+  pub latest : AreLatest n.latest.items sets
+  pub places : ArePlaces n
 
 -- the setting at this place, of which the line and the value are open
 abbrev pub then_at : List NumberedSet → ℕ → ℕ → (List NumberedSet → Type 0) → Type 0
