@@ -8,7 +8,8 @@
 //!
 //! [`push_field`] appends a field to a text. [`write_field`] puts one in front of
 //! what stands in a buffer that is filled from its end, as itoa does with digits:
-//! a line that is written so is appended to a text at once.
+//! a line that is written so is appended to a text at once. [`write_number`] does
+//! so with a number behind any byte.
 //!
 //! [`after`], [`field_of`] and [`value_of`] read what stands at the front of
 //! some bytes, and give the bytes behind it; `None` where it does not stand
@@ -29,4 +30,4 @@ mod reading;
 mod writing;
 
 pub use reading::{after, field_of, value_of};
-pub use writing::{push_field, write_field};
+pub use writing::{push_field, write_field, write_number};

@@ -1,9 +1,11 @@
-//! Writing words, numbers and the names of signals. A line is written from its end to its front:
+//! Writing words and the names of signals. A line is written from its end to its front:
 //! each part is written so that it ends at `end`, where the next part starts, and its own start is
 //! returned.
 
-ghost use Rattle.std.specs.Prelude.{◌≡◌, ◌+◌, ◌<◌, ◌≤◌, ◌∷◌, ◌++◌, length, drop, decimal};
+ghost use Rattle.std.specs.Prelude.{◌≡◌, ◌+◌, ◌<◌, ◌≤◌, ◌++◌, length, drop};
 ghost use Rattle.workload.specs.Texts.{input, gate, below, kind};
+
+use text_fields::write_number;
 
 /// Writes a word. Where it is a constant, this is one store or two.
 #[inline(always)]
@@ -14,18 +16,6 @@ pub fn write_word(word: &[u8], line: &mut [u8], end: usize) -> usize
 {
     let start = end - word.len();
     line[start..end].copy_from_slice(word);
-    start
-}
-
-/// Writes this byte and a number after it.
-#[tactic(auto, using(crate::proofs::Numbers::number_len))]
-pub fn write_number(first: u8, number: u32, line: &mut [u8], end: usize) -> usize
-    requires { (11 ≤ end) × (end ≤ length line.old) }
-    ensures room { (result ≤ end) × (end ≤ result + 11) }
-    ensures written { drop result line.new ≡ first ∷ decimal number ++ drop end line.old }
-{
-    let start = itoa::write_digits(u64::from(number), line, end) - 1;
-    line[start] = first;
     start
 }
 

@@ -1,7 +1,7 @@
 use Rattle.std.proofs.Common.{◌≡◌, ◌+◌, ◌-◌, refl, arith}
 use Rattle.std.proofs.lemmas.List.{drop-set}
-use Rattle.workload.proofs.Numbers.{number_len}
-use Rattle.workload.proofs.words.write_number.Goals as goal
+use Rattle.text_fields.proofs.Numbers.{number_len}
+use Rattle.text_fields.proofs.writing.write_number.Goals as goal
 
 pub returns-clause-written : goal.returns-clause-written
 returns-clause-written c =
