@@ -1,4 +1,4 @@
--- What the calls of a shard come to.
+-- What an ask comes to.
 use Rattle.std.specs.Prelude.{◌≡◌, ◌<◌, if◌then◌else◌, [], ◌∷◌, ◌++◌, IsSome, Some, None, Result, Ok, Err}
 use Rattle.owned_text.specs.declared.OutOfMemory.{OutOfMemory}
 use Rattle.valid_intervals.specs.declared.Point.{Point}
@@ -10,10 +10,6 @@ use Rattle.batch_meaning.specs.Batches.{Batch, shard_number}
 use Rattle.strand_meaning.specs.Strands.{heard, claimed, given_up}
 use Rattle.plan_machine.specs.Shards.{recorded}
 use Rattle.demand_points.specs.Demands.{Demand, TakesStep}
-use Rattle.memo_shards.specs.declared.asked.Answer.{Answer}
-use Rattle.memo_shards.specs.declared.asked.Answer.TheVariants.{Heard, Holds, Taken, Refused}
-use Rattle.memo_shards.specs.declared.asked.Asked.{Asked}
-use Rattle.memo_shards.specs.declared.asked.Asked.TheVariants.{Told, Claimed, Waits, Spent}
 use Rattle.memo_shards.specs.KeptShards.{KeptShard, waiting_at}
 
 -- the point is one of the shard
@@ -61,23 +57,7 @@ pub record IsTaken (old new : KeptShard) (p : Point) (w s : Demand) : Type 0 whe
   pub strand : s ≡ w
   pub shard : new ≡ old
 
--- what came of an ask for the point in which the strand stays in hand
-abbrev pub OfAnswer : Batch → KeptShard → KeptShard → Point → Demand → Demand → Result Answer OutOfMemory → Type 0
-OfAnswer b old new p w s (Ok Heard) = Tells old new p w s
-OfAnswer b old new p w s (Ok Holds) = ClaimsIt b old new p w s
-OfAnswer b old new p w s (Ok Taken) = IsTaken old new p w s
-OfAnswer b old new p w s (Ok Refused) = Refuses old new p w s
-OfAnswer b old new p w s (Err e) = (s ≡ w) × (new ≡ old)
-
 -- what came of it that a strand was to wait
 abbrev pub OfPark : KeptShard → KeptShard → Point → Demand → Result Unit (Demand × OutOfMemory) → Type 0
 OfPark old new p w (Ok u) = WaitsThere old new p w
 OfPark old new p w (Err e) = (e.0 ≡ w) × (new ≡ old)
-
--- what came of an ask for the point
-abbrev pub OfAsk : {X : Type 0} → Batch → KeptShard → KeptShard → Point → Demand → Result (Asked X) (Demand × OutOfMemory) → Type 0
-OfAsk b old new p w (Ok (Told s)) = Tells old new p w s
-OfAsk b old new p w (Ok (Claimed s)) = ClaimsIt b old new p w s
-OfAsk b old new p w (Ok Waits) = WaitsThere old new p w
-OfAsk b old new p w (Ok (Spent s)) = Refuses old new p w s
-OfAsk b old new p w (Err e) = (e.0 ≡ w) × (new ≡ old)

@@ -1,9 +1,7 @@
 -- How claims end.
-use Rattle.std.specs.Prelude.{◌≡◌, if◌then◌else◌, List, [], ◌∷◌, ◌++◌, map, Result, Ok, Err}
-use Rattle.std.specs.Global.{Vec}
+use Rattle.std.specs.Prelude.{◌≡◌, if◌then◌else◌, List, [], ◌∷◌, map}
 use Rattle.std.specs.List.{AllZip}
 use Rattle.std.specs.List.Sorted.{IsStrictlySortedBy}
-use Rattle.owned_text.specs.declared.OutOfMemory.{OutOfMemory}
 use Rattle.valid_intervals.specs.declared.Point.{Point}
 use Rattle.valid_intervals.specs.Cells.{same_point, point_cmp}
 use Rattle.journal_meaning.specs.declared.Entry.{Entry}
@@ -32,15 +30,6 @@ pub record FillsIt (b : Batch) (old new : KeptShard) (p : Point) (w s : Demand) 
   pub number : new.number ≡ old.number
   pub shard : new.shard ≡ filled_shard b.capacity w.strand.query.number p (cell_at b.circuit p) old.shard
   pub waiting : LeavesNone old new p
-
--- what came of a fill in which the strand stays in hand
-abbrev pub OfFillTop : Batch → KeptShard → KeptShard → Point → Demand → Demand → Result (Vec Demand) OutOfMemory → Type 0
-OfFillTop b old new p w s (Ok woken) = FillsIt b old new p w s woken.items
-OfFillTop b old new p w s (Err e) = (s ≡ w) × (new ≡ old)
-
-abbrev pub OfFill : Batch → KeptShard → KeptShard → Point → Demand → Result (Demand × Vec Demand) (Demand × OutOfMemory) → Type 0
-OfFill b old new p w (Ok (s, woken)) = FillsIt b old new p w s woken.items
-OfFill b old new p w (Err e) = (e.0 ≡ w) × (new ≡ old)
 
 -- the claim is given up, and those that waited come out as they were
 pub record DropsIt (old new : KeptShard) (p : Point) (w s : Demand) (woken : List Demand) : Type 0 where

@@ -1,4 +1,5 @@
 pub mod KeptShards
 pub mod Asks
 pub mod Ends
+pub mod Steps
 pub mod inner

@@ -1,26 +1,27 @@
 //! A shard of the memo.
 
-ghost use Rattle.std.specs.Prelude.{◌≡◌, ◌<◌, ◌≤◌, ◌+◌, ◌*◌, true, false, [], ◌++◌, length, map, All, IsTrue, ◌↔◌, IsSome, Some, None, OnOk, OnErr, vec_len, vec_capacity};
+ghost use Rattle.std.specs.Prelude.{◌≡◌, ◌<◌, ◌≤◌, ◌+◌, ◌*◌, true, false, [], ◌++◌, length, map, All, IsTrue, ◌↔◌, IsSome, Some, None, Ok, OnOk, OnErr, vec_len, vec_capacity};
 ghost use Rattle.std.specs.List.{AllByRecursion, list_any};
 ghost use Rattle.cell_store.specs.Recency.{contents};
 ghost use Rattle.claim_waiters.specs.Claims.{claim_at, without_claim};
 ghost use Rattle.journal_meaning.specs.Allowed.{IsRight};
-ghost use Rattle.journal_meaning.specs.States.{holder, is_covered};
+ghost use Rattle.journal_meaning.specs.States.{holder};
 ghost use Rattle.batch_meaning.specs.Batches.{shard_number};
 ghost use Rattle.batch_meaning.specs.Lawful.{IsLawful};
 ghost use Rattle.journal_meaning.specs.declared.Entry.TheVariants as entry;
-ghost use Rattle.strand_meaning.specs.Strands.{next, next_in};
+ghost use Rattle.strand_meaning.specs.Strands.{next, next as next_of, next_in};
 ghost use Rattle.strand_meaning.specs.declared.Next.TheVariants.{Ask, Fill, Drop};
 ghost use Rattle.valid_intervals.specs.Cells.{stored_at};
 ghost use Rattle.plan_machine.specs.Shards.{recorded};
 ghost use Rattle.memo_shards.specs.KeptShards.{shard_at, IsKnownShard};
-ghost use Rattle.memo_shards.specs.Asks.{IsHere, IsUnfound, OfAnswer, OfAsk, OfPark};
+ghost use Rattle.memo_shards.specs.Asks.{IsHere, IsUnfound, OfPark};
 ghost use Rattle.memo_shards.specs.inner.Asks.{OfTell, OfClaim};
-ghost use Rattle.memo_shards.specs.Ends.{OfFill, OfFillTop, DropsIt, FreesAll, with_shard};
+ghost use Rattle.memo_shards.specs.Ends.{FreesAll, with_shard};
+ghost use Rattle.memo_shards.specs.Steps.{MayStep, OfStep};
 ghost use Rattle.memo_shards.specs.inner.Ends.{drop_of};
 
-use crate::asked::{Answer, Asked};
 use crate::room::{make_room, record_fill, told};
+use crate::steps::Step;
 use crate::wake::hear_all;
 use cell_store::CellStore;
 use claim_waiters::ClaimTable;
@@ -30,6 +31,7 @@ use journal_meaning::Entry;
 use owned_text::OutOfMemory;
 use std::alloc::Global;
 use std::marker::Model;
+use strand_meaning::Next;
 use valid_intervals::Point;
 
 /// The number of the shard that has the points of a signal, of so many shards.
@@ -107,13 +109,6 @@ impl<B: BatchName> Shard<B> {
         &self.journal
     }
 
-    /// Whether a stored cell covers the point.
-    pub fn covers(&self, p: Point) -> bool
-        ensures { result ≡ is_covered self.now.shard.state p }
-    {
-        self.store.covers(p)
-    }
-
     /// Whether the point is claimed here for the query with this number.
     pub fn holds(&self, p: Point, q: u32) -> bool
         ensures { IsTrue result ↔ (holder self.now.shard.state.claims p ≡ Some q) }
@@ -178,6 +173,94 @@ impl<B: BatchName> Shard<B> {
         }
     }
 
+    // Asks for the point that the strand needs next. It is told the stored cell that covers it, claims it where it is neither stored
+    // nor claimed, or is refused it where its budget is spent.
+    fn answer(
+        &mut self,
+        strand: &mut Strand<B>,
+        design: &Design,
+        p: Point,
+    ) -> Result<Step<B>, OutOfMemory>
+        requires design { design.now.circuit ≡ B.batch.circuit }
+        requires asks { next strand.old.strand ≡ Ask p }
+        requires here { IsHere B.batch self.old p }
+        ensures { OfStep B.batch self.old self.new (Ask p) strand.old strand.new result }
+    {
+        if self.tell(strand, design, p)? {
+            return Ok(Step::Heard);
+        }
+        if self.claims.holder(p).is_some() {
+            return Ok(Step::Taken);
+        }
+        if strand.charged() < strand.task().budget {
+            self.claim(strand, design, p)?;
+            return Ok(Step::Holds);
+        }
+        strand.give_up();
+        Ok(Step::Refused)
+    }
+
+    // Fills the claimed point on top of the strand's stack. Those that wait for it hear the cell.
+    fn fill_top(
+        &mut self,
+        strand: &mut Strand<B>,
+        design: &Design,
+        p: Point,
+    ) -> Result<Step<B>, OutOfMemory>
+        requires design { design.now.circuit ≡ B.batch.circuit }
+        requires fills { next strand.old.strand ≡ Fill p }
+        requires held { holder self.old.shard.state.claims p ≡ Some strand.old.strand.query.number }
+        ensures { OfStep B.batch self.old self.new (Fill p) strand.old strand.new result }
+    {
+        self.claims.facts();
+        let q = strand.query().number;
+        let cell = strand.top_cell(design);
+        record_fill(&mut self.store, &mut self.journal, q, p, &cell)?;
+        let mut woken = self.claims.take(p);
+        self.claims.facts();
+        hear_all(&mut woken, design, &cell);
+        strand.finish_with(design, &cell);
+        Ok(Step::Filled(woken))
+    }
+
+    // Gives up the claimed point on top of the stack of a spent strand.
+    fn drop_top(&mut self, strand: &mut Strand<B>, p: Point) -> Step<B>
+        requires drops { next strand.old.strand ≡ Drop p }
+        requires held { holder self.old.shard.state.claims p ≡ Some strand.old.strand.query.number }
+        ensures { OfStep B.batch self.old self.new (Drop p) strand.old strand.new (Ok result) }
+    {
+        self.claims.facts();
+        let q = strand.query().number;
+        let woken = self.claims.take(p);
+        self.claims.facts();
+        self.journal.push_reserved(Entry::Dropped { q, p });
+        let _ = strand.drop_top();
+        Step::Dropped(woken)
+    }
+
+    /// Makes the next step of the strand. Where its point is claimed, or memory runs out, nothing changes. Those that waited for a point
+    /// that it fills or gives up come back in their order, and have heard the cell of a filled one.
+    pub fn step(
+        &mut self,
+        strand: &mut Strand<B>,
+        design: &Design,
+        next: Next,
+    ) -> Result<Step<B>, OutOfMemory>
+        requires design { design.now.circuit ≡ B.batch.circuit }
+        requires next { next_of strand.old.strand ≡ next }
+        requires stands { MayStep B.batch self.old next strand.old }
+        ensures { OfStep B.batch self.old self.new next strand.old strand.new result }
+    {
+        match next {
+            Next::Ask(p) => self.answer(strand, design, p),
+            Next::Fill(p) => self.fill_top(strand, design, p),
+            Next::Drop(p) => Ok(self.drop_top(strand, p)),
+            Next::Done => unreachable!(),
+        }
+    }
+}
+
+impl<B: BatchName> Shard<B> {
     /// Lets the strand wait at the claimed point. Where memory runs out, the strand comes back.
     pub fn park(&mut self, strand: Strand<B>, p: Point) -> Result<(), (Strand<B>, OutOfMemory)>
         requires asks { next strand.strand ≡ Ask p }
@@ -189,126 +272,6 @@ impl<B: BatchName> Shard<B> {
         let parked = self.claims.wait(p, strand);
         self.claims.facts();
         parked
-    }
-
-    /// Asks for the point that the strand needs next. It is told the stored cell that covers it, claims it where it is neither stored
-    /// nor claimed, or is refused it where its budget is spent. Where the point is claimed, or memory runs out, nothing changes.
-    pub fn answer(
-        &mut self,
-        strand: &mut Strand<B>,
-        design: &Design,
-        p: Point,
-    ) -> Result<Answer, OutOfMemory>
-        requires design { design.now.circuit ≡ B.batch.circuit }
-        requires asks { next strand.old.strand ≡ Ask p }
-        requires here { IsHere B.batch self.old p }
-        ensures { OfAnswer B.batch self.old self.new p strand.old strand.new result }
-    {
-        match self.tell(strand, design, p) {
-            Err(error) => return Err(error),
-            Ok(told) => {
-                if told {
-                    return Ok(Answer::Heard);
-                }
-            }
-        }
-        if self.claims.holder(p).is_some() {
-            return Ok(Answer::Taken);
-        }
-        if strand.charged() < strand.task().budget {
-            return match self.claim(strand, design, p) {
-                Ok(()) => Ok(Answer::Holds),
-                Err(error) => Err(error),
-            };
-        }
-        strand.give_up();
-        Ok(Answer::Refused)
-    }
-
-    /// Asks for the point that the strand needs next. It is told the stored cell that covers it, waits where the point is claimed,
-    /// and else claims it, or is refused it where its budget is spent. Where memory runs out, the strand comes back.
-    pub fn ask(
-        &mut self,
-        mut strand: Strand<B>,
-        design: &Design,
-        p: Point,
-    ) -> Result<Asked<B>, (Strand<B>, OutOfMemory)>
-        requires design { design.now.circuit ≡ B.batch.circuit }
-        requires asks { next strand.strand ≡ Ask p }
-        requires here { IsHere B.batch self.old p }
-        ensures { OfAsk B.batch self.old self.new p strand result }
-    {
-        match self.answer(&mut strand, design, p) {
-            Err(error) => Err((strand, error)),
-            Ok(Answer::Heard) => Ok(Asked::Told(strand)),
-            Ok(Answer::Holds) => Ok(Asked::Claimed(strand)),
-            Ok(Answer::Refused) => Ok(Asked::Spent(strand)),
-            Ok(Answer::Taken) => match self.park(strand, p) {
-                Ok(()) => Ok(Asked::Waits),
-                Err(back) => Err(back),
-            },
-        }
-    }
-}
-
-impl<B: BatchName> Shard<B> {
-    /// Fills the claimed point on top of the strand's stack. Those that wait for it come back in their order, and have heard the cell.
-    /// Where memory runs out, nothing changes.
-    pub fn fill_top(
-        &mut self,
-        strand: &mut Strand<B>,
-        design: &Design,
-        p: Point,
-    ) -> Result<Vec<Strand<B>>, OutOfMemory>
-        requires design { design.now.circuit ≡ B.batch.circuit }
-        requires fills { next strand.old.strand ≡ Fill p }
-        requires held { holder self.old.shard.state.claims p ≡ Some strand.old.strand.query.number }
-        ensures { OfFillTop B.batch self.old self.new p strand.old strand.new result }
-    {
-        self.claims.facts();
-        let q = strand.query().number;
-        let cell = strand.top_cell(design);
-        let Ok(()) = record_fill(&mut self.store, &mut self.journal, q, p, &cell) else {
-            return Err(OutOfMemory);
-        };
-        let mut woken = self.claims.take(p);
-        self.claims.facts();
-        hear_all(&mut woken, design, &cell);
-        strand.finish_with(design, &cell);
-        Ok(woken)
-    }
-
-    /// The same for a strand that is handed over, and comes back.
-    pub fn fill(
-        &mut self,
-        mut strand: Strand<B>,
-        design: &Design,
-        p: Point,
-    ) -> Result<(Strand<B>, Vec<Strand<B>>), (Strand<B>, OutOfMemory)>
-        requires design { design.now.circuit ≡ B.batch.circuit }
-        requires fills { next strand.strand ≡ Fill p }
-        requires held { holder self.old.shard.state.claims p ≡ Some strand.strand.query.number }
-        ensures { OfFill B.batch self.old self.new p strand result }
-    {
-        match self.fill_top(&mut strand, design, p) {
-            Ok(woken) => Ok((strand, woken)),
-            Err(error) => Err((strand, error)),
-        }
-    }
-
-    /// Gives up the claimed point on top of the stack of a spent strand. Those that wait for it come back in their order.
-    pub fn drop_top(&mut self, mut strand: Strand<B>, p: Point) -> (Strand<B>, Vec<Strand<B>>)
-        requires drops { next strand.strand ≡ Drop p }
-        requires held { holder self.old.shard.state.claims p ≡ Some strand.strand.query.number }
-        ensures { DropsIt self.old self.new p strand result.0 result.1.items }
-    {
-        self.claims.facts();
-        let q = strand.query().number;
-        let woken = self.claims.take(p);
-        self.claims.facts();
-        self.journal.push_reserved(Entry::Dropped { q, p });
-        let _ = strand.drop_top();
-        (strand, woken)
     }
 
     /// Records that the spent strand was refused the point.

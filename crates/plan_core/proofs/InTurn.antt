@@ -22,7 +22,7 @@ use Rattle.plan_core.specs.inner.Places.{one_in}
 use Rattle.plan_core.specs.inner.Parts.{plan_at, IsPlan}
 use Rattle.demand_points.specs.Demands.{Demand}
 use Rattle.memo_shards.specs.KeptShards.{KeptShard}
-use Rattle.plan_core.proofs.Resting.{placed-awake}
+use Rattle.plan_core.proofs.Seen.{in-plan}
 
 none-there : (e : Entry) (es : List Entry) → es ≡ [] → Contains es e → ⊥
 none-there e es none h = let k : Contains [] e = subst (λ l. Contains l e) none h in absurd (omega (arith, k.1))
@@ -46,8 +46,7 @@ pub handed-out : (b : Batch) (opening : ℕ → List SignalCell) (places : List 
 handed-out b opening places shards parts plan same =
     let P : Demand → Type 0 = λ s. Contains plan.strands s.strand in
     All-from_recursion P (flat_map one_in places) (each-one P places (λ i s at.
-    let k = placed-awake b opening places shards parts i plan same s at in
-    contained plan.strands i s.strand k.at))
+    contained plan.strands i s.strand (subst (λ (z : Plan). slice_get z.strands i ≡ Some s.strand) same (in-plan b opening places shards parts i s at))))
 
 -- a strand that has ended and was refused no point
 served-one : (n : ℕ) (a : Start) (new : Plan) (run : HasRun n a new None) → IsServed run.strand

@@ -1,11 +1,8 @@
 pub mod Lists
 pub mod Seen
-pub mod Asking
-pub mod Ending
+pub mod Stepping
 pub mod Resting
-pub mod Readying
 pub mod Beginning
-pub mod Running
 pub mod Refusing
 pub mod Refused
 pub mod Rounds

@@ -12,11 +12,6 @@ use Rattle.memo_shards.specs.inner.Seen.{numbered_strand}
 use Rattle.memo_shards.proofs.Seen.{changed}
 use Rattle.plan_core.specs.inner.Places.{seat, seats, AreNumbered, HaveNumbers}
 
-pub set-twice : {A : Type 0} (xs : List A) (n : ℕ) (a b : A) → slice_set (slice_set xs n a) n b ≡ slice_set xs n b
-set-twice [] n a b = refl
-set-twice (x ∷ xs) zero a b = refl
-set-twice (x ∷ xs) (suc n) a b = ap (λ ys. x ∷ ys) (set-twice xs n a b)
-
 pub set-same : {A : Type 0} (xs : List A) (n : ℕ) (a : A) → slice_get xs n ≡ Some a → slice_set xs n a ≡ xs
 set-same [] n a e = refl
 set-same (x ∷ xs) zero a e = let k : x ≡ a = cc e in ap (λ y. y ∷ xs) (sym k)
@@ -31,12 +26,6 @@ pub get-or-at : {A : Type 0} (xs : List A) (n : ℕ) (x d : A) → slice_get xs 
 get-or-at [] n x d e = absurd (cc e)
 get-or-at (y ∷ xs) zero x d e = cc e
 get-or-at (y ∷ xs) (suc n) x d e = get-or-at xs n x d e
-
--- the strand that was read from its place
-pub in-place : (places : List (Option Demand)) (n : ℕ) (o : Option Demand) (r s : Demand) → slice_get places n ≡ Some (Some r) → o ≡ get_or places n o → o ≡ Some s → r ≡ s
-in-place places n o r s at index is =
-    let there : o ≡ Some r = index ∙ get-or-at places n (Some r) o at in
-    cc (there, is)
 
 set-over : {A : Type 0} (xs : List A) (m n : ℕ) (a b : A) → (m ≡ n → ⊥) → slice_set (slice_set xs m a) n b ≡ slice_set (slice_set xs n b) m a
 set-over [] m n a b ne = refl

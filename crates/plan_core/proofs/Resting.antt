@@ -15,7 +15,6 @@ use Rattle.demand_points.specs.Demands.{Demand}
 use Rattle.memo_shards.specs.KeptShards.{KeptShard}
 use Rattle.plan_core.specs.inner.Places.{seat, IsNextAt}
 use Rattle.plan_core.specs.inner.Parts.{plan_at, IsPlan}
-use Rattle.plan_core.specs.Parts.{IsAwake}
 use Rattle.plan_core.specs.inner.Turns.{OfTurn, IsSeen}
 use Rattle.plan_core.proofs.Seen.{in-plan, awake}
 
@@ -37,10 +36,7 @@ module _ (b : Batch) (opening : ℕ → List SignalCell) (places : List (Option 
   pub end-rests : IsNextAt places n (Some Done) → OfTurn b opening old n places shards (Ok comes.NotReady)
   end-rests h = rests h.0.strand (done-turn b old n h.0.strand (in-plan b opening places shards parts n h.0 h.1.0) (awake b opening places shards parts n h.0 h.1.0) h.1.1)
 
-  -- a strand in its place is awake, and one without a place waits
-  pub placed-awake : (plan : Plan) → plan_at places shards ≡ plan → (s : Demand) → slice_get places n ≡ Some (Some s) → IsAwake plan n s
-  placed-awake plan e s at = subst (λ (z : Plan). IsAwake z n s) e (record { number = parts.numbers n s at; at = in-plan b opening places shards parts n s at; awake = awake b opening places shards parts n s at })
-
+  -- a strand without a place waits
   pub unplaced-waits : (plan : Plan) → plan_at places shards ≡ plan → ((s : Demand) → slice_get places n ≡ Some (Some s) → ⊥) → (s : Strand) → slice_get plan.strands n ≡ Some s → s.waits ≡ true
   unplaced-waits plan e none s at =
       let there : slice_get old.strands n ≡ Some s = ap (λ (z : Plan). slice_get z.strands n) e ∙ at in

@@ -38,9 +38,3 @@ strands_in strands = map (λ (s : Demand). s.strand) strands
 -- the plan that begins with these strands and shards
 abbrev pub plan_of_new : List Demand → List KeptShard → Plan
 plan_of_new strands shards = record { strands = strands_in strands; shards = shards_in shards }
-
--- the strand in this place of the plan is awake
-pub record IsAwake (plan : Plan) (n : ℕ) (s : Demand) : Type 0 where
-  pub number : s.number ≡ n
-  pub at : slice_get plan.strands n ≡ Some s.strand
-  pub awake : s.strand.waits ≡ false

@@ -1,10 +1,9 @@
 //! The plan of a batch in code: its strands and the shards that they ask, by turns on one thread.
 //!
 //! A [`Plan`] runs the strands of one batch in turns, on one thread. It makes the same calls of a shard (`memo_shards`) as a worker. A
-//! turn ([`Plan::turn`]) makes one step of one strand: it asks for a point, fills one or drops one. The caller chooses the strand of each
-//! turn: one that is ready ([`Plan::ready`]), or the strands of a list ([`Plan::run`]). [`Plan::run_alone`] makes the turns of one strand
-//! until it has ended. `asked_cells` calls it to ask for one cell. [`Plan::run_in_turn`] does so with each strand, one after another, and
-//! says whether none was refused a point. `worker_gate` calls it where one worker serves a batch.
+//! turn ([`Plan::turn`]) makes one step of one strand. [`Plan::run_alone`] makes the turns of one strand until it has ended. `asked_cells`
+//! calls it to ask for one cell. [`Plan::run_in_turn`] does so with each strand, one after another, and says whether none was refused a
+//! point. `worker_gate` calls it where one worker serves a batch.
 //!
 //! The model of a plan is the pure machine of `plan_machine`: the list of its strands, including those that wait, and the list of its
 //! shards. A turn is the machine's turn, so every theorem on lists of turns holds of the code. A plan's type guarantees that it is sound
@@ -15,24 +14,20 @@
 //! returns to its place. `specs/inner/Parts.antt` reads the machine's plan from places and shards. Each strand in a place has heard all
 //! base answers, and its next step is kept with it (`paused.rt`).
 //!
-//! A call that fails for lack of memory leaves the plan as it was. `run` keeps the turns made before the failure. `run_alone` leaves turns
-//! of its strand alone (`StopsAlone`): those that were recorded, or one more, in which the strand was refused without an entry. A turn
-//! costs what its shard's call costs, and one more step for each strand that is woken. No list is shifted or copied. A strand that asks
-//! or fills is changed in its place, and moved only where it waits.
+//! A turn that fails for lack of memory leaves the plan as it was. `run_alone` leaves turns of its strand alone (`StopsAlone`): those that
+//! were recorded, or one more, in which the strand was refused without an entry. A turn costs what its shard's call costs, and one more
+//! step for each strand that is woken. No list is shifted or copied. A strand is changed in its place, and moved only where it waits.
 //!
 //! ```
 //! let mut plan = Plan::new(alloc, &design, strands, shards)?;
-//! let turns = plan.run(&design, &[0, 1, 0, 1])?;
-//! if plan.ready(alloc)?.is_empty() {
-//!     // each strand has heard its roots, or was refused a point
+//! if plan.run_in_turn(&design)? {
+//!     // each strand has heard its roots
 //! }
-//! let shards = plan.into_shards();
+//! let (strands, shards) = plan.into_parts(alloc)?;
 //! ```
 #![tactic(auto)]
 
 mod alone;
-mod asks;
-mod ends;
 mod paused;
 mod places;
 mod plan;

@@ -1,22 +1,16 @@
 //! A strand between its steps.
 
-ghost use Rattle.std.specs.Prelude.{◌≡◌, not, Some};
-ghost use Rattle.journal_meaning.specs.States.{holder};
+ghost use Rattle.std.specs.Prelude.{◌≡◌};
 ghost use Rattle.strand_meaning.specs.Strands.{next};
-ghost use Rattle.strand_meaning.specs.declared.Next.TheVariants.{Ask, Fill};
-ghost use Rattle.plan_machine.specs.Plans.{is_done};
 ghost use Rattle.demand_points.specs.Demands.{TakesStep, itself};
-ghost use Rattle.memo_shards.specs.KeptShards.{IsKnownShard};
-ghost use Rattle.memo_shards.specs.Asks.{IsHere, OfAnswer};
-ghost use Rattle.memo_shards.specs.Ends.{OfFillTop};
+ghost use Rattle.memo_shards.specs.Steps.{MayStep, OfStep};
 
 use demand_points::{BatchName, Strand};
 use design::Design;
-use memo_shards::{Answer, Shard};
+use memo_shards::{Shard, Step};
 use owned_text::OutOfMemory;
 use std::marker::Model;
 use strand_meaning::Next;
-use valid_intervals::Point;
 
 /// A strand that has heard all base answers, with its next step.
 #[derive(Drop)]
@@ -54,65 +48,27 @@ impl<B: BatchName> Paused<B> {
         self.step
     }
 
-    /// Whether a step is left.
-    pub fn has_next(&self) -> bool
-        ensures { result ≡ not (is_done (next self.now.strand)) }
-    {
-        self.step != Next::Done
-    }
-
-    pub fn number(&self) -> u32
-        ensures { result ≡ self.now.number }
-    {
-        self.strand.number()
-    }
-
     pub fn strand(&self) -> &Strand<B>
         ensures { result.now ≡ self.now }
     {
         &self.strand
     }
 
-    /// Asks the shard for the point, and goes on to the next step unless the point is claimed. Where memory runs out, nothing changes.
-    pub fn ask(
-        &mut self,
-        shard: &mut Shard<B>,
-        design: &Design,
-        p: Point,
-    ) -> Result<Answer, OutOfMemory>
+    /// Makes the next step at the shard of its point, and goes on to the one after it unless the point is claimed. Returns what came of it.
+    /// Where memory runs out, nothing changes.
+    pub fn step(&mut self, shard: &mut Shard<B>, design: &Design) -> Result<Step<B>, OutOfMemory>
         requires design { design.now.circuit ≡ B.batch.circuit }
-        requires asks { next self.old.strand ≡ Ask p }
-        requires here { IsHere B.batch shard.old p }
-        ensures { OfAnswer B.batch shard.old shard.new p self.old self.new result }
+        requires stands { MayStep B.batch shard.old (next self.old.strand) self.old }
+        ensures { OfStep B.batch shard.old shard.new (next self.old.strand) self.old self.new
+            result }
     {
-        match shard.answer(&mut self.strand, design, p)? {
-            Answer::Taken => Ok(Answer::Taken),
-            answer => {
+        match shard.step(&mut self.strand, design, self.step)? {
+            Step::Taken => Ok(Step::Taken),
+            came => {
                 self.step = self.strand.next_step(design);
-                Ok(answer)
+                Ok(came)
             }
         }
-    }
-
-    /// Fills the point in its shard, and goes on to the next step. Returns those that waited for it. Where memory runs out, nothing
-    /// changes.
-    pub fn fill(
-        &mut self,
-        shard: &mut Shard<B>,
-        design: &Design,
-        p: Point,
-    ) -> Result<Vec<Strand<B>>, OutOfMemory>
-        requires design { design.now.circuit ≡ B.batch.circuit }
-        requires fills { next self.old.strand ≡ Fill p }
-        requires held { holder shard.old.shard.state.claims p ≡ Some self.old.strand.query.number }
-        ensures came { OfFillTop B.batch shard.old shard.new p self.old self.new result }
-        ensures known { IsKnownShard B.batch B.opening shard.new }
-    {
-        let filled = shard.fill_top(&mut self.strand, design, p);
-        shard.facts();
-        let woken = filled?;
-        self.step = self.strand.next_step(design);
-        Ok(woken)
     }
 
     pub fn into_strand(self) -> Strand<B>

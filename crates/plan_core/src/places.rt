@@ -5,7 +5,7 @@ ghost use Rattle.plan_machine.specs.inner.Parts.{put_back as put_all};
 ghost use Rattle.plan_machine.specs.Plans.{itself};
 ghost use Rattle.demand_points.specs.Demands.{Demand};
 ghost use Rattle.memo_shards.specs.inner.Seen.{numbered_strand};
-ghost use Rattle.plan_core.specs.inner.Places.{one_in, seats, tags, tag_of, ready_one, ready_of, AreNumbered, HaveNumbers, IsNextAt};
+ghost use Rattle.plan_core.specs.inner.Places.{one_in, seats, tags, tag_of, AreNumbered, HaveNumbers, IsNextAt};
 
 use crate::paused::Paused;
 use demand_points::{BatchName, Strand};
@@ -36,18 +36,6 @@ pub fn strand_at<B: BatchName>(places: &[Option<Paused<B>>], number: usize) -> O
     match &places[number] {
         Some(paused) => Some(paused.strand()),
         None => None,
-    }
-}
-
-/// Takes the strand out of its place.
-pub fn take_at<B: BatchName>(places: &mut Vec<Option<Paused<B>>>, number: usize) -> Paused<B>
-    requires { (s : Demand) × (slice_get places.old.items number ≡ Some (Some s)) }
-    ensures taken { slice_get places.old.items number ≡ Some (Some result) }
-    ensures rest { places.new.items ≡ slice_set places.old.items number None }
-{
-    match places[number].take() {
-        Some(paused) => paused,
-        None => unreachable!(),
     }
 }
 
@@ -97,35 +85,6 @@ pub fn pause_all<B: BatchName>(
         places.push(Some(Paused::new(strand, design)))?;
     }
     Ok(places)
-}
-
-// Notes the number of the strand in the place, if the strand has a step left.
-fn note_ready<B: BatchName>(
-    numbers: &mut Vec<u32>,
-    place: &Option<Paused<B>>,
-) -> Result<(), OutOfMemory>
-    ensures { OnOk result (numbers.new.items ≡ numbers.old.items ++ ready_one place.now) }
-{
-    if let Some(paused) = place {
-        if paused.has_next() {
-            numbers.push(paused.number())?;
-        }
-    }
-    Ok(())
-}
-
-/// The numbers of the strands that have a step left, in the order of their places.
-pub fn ready_in<B: BatchName>(
-    alloc: Global,
-    places: &[Option<Paused<B>>],
-) -> Result<Vec<u32>, OutOfMemory>
-    ensures { IfOk result (λ v. v.items ≡ ready_of places.now) }
-{
-    let mut numbers = Vec::new(alloc);
-    for place in places {
-        note_ready(&mut numbers, place)?;
-    }
-    Ok(numbers)
 }
 
 // Adds the strand of a place, if there is one.

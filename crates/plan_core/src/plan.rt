@@ -1,30 +1,28 @@
 //! The plan.
 
-ghost use Rattle.std.specs.Prelude.{◌≡◌, ◌<◌, ◌≤◌, ℕ, List, [], All, Contains, true, false, length, take, slice_get, IfOk, OnOk, OnErr, IfSome, Some, None};
-ghost use Rattle.std.specs.List.{AllByRecursion};
+ghost use Rattle.std.specs.Prelude.{◌≡◌, ◌<◌, ℕ, All, Contains, true, false, length, slice_get, IfOk, OnOk, OnErr, Some, None};
 ghost use Rattle.batch_meaning.specs.Lawful.{IsLawful};
 ghost use Rattle.batch_meaning.specs.Pieces.{Start};
 ghost use Rattle.strand_meaning.specs.Strands.{started, Strand as MachineStrand};
-ghost use Rattle.plan_machine.specs.Shards.{Shard as MachineShard};
-ghost use Rattle.plan_machine.specs.Plans.{Plan as PlanRecord, new_plan, ready};
+ghost use Rattle.plan_machine.specs.Plans.{Plan as PlanRecord};
 ghost use Rattle.plan_machine.specs.Laws.{BeginsAlone};
 ghost use Rattle.plan_machine.specs.Alone.{refused, RunsAlone, RanAlone};
 ghost use Rattle.plan_core.specs.inner.Refusals.{IsRefusedAt, AsksFor};
 ghost use Rattle.plan_core.specs.Refusals.{point_of, StopsAlone};
 ghost use Rattle.strand_meaning.specs.declared.Next.TheVariants.{Ask};
 ghost use Rattle.valid_intervals.specs.declared.Point.{Point as PointRecord};
-ghost use Rattle.plan_machine.specs.Steps.{turned, is_turn};
-ghost use Rattle.plan_machine.specs.Turns.{turn, run, turns};
-ghost use Rattle.plan_machine.specs.Bounds.{all_left, bound};
+ghost use Rattle.plan_machine.specs.Steps.{turned};
+ghost use Rattle.plan_machine.specs.Turns.{turn};
+ghost use Rattle.plan_machine.specs.Bounds.{all_left};
 ghost use Rattle.plan_machine.specs.Journals.{entries};
-ghost use Rattle.plan_machine.specs.Sound.{IsSound, HasEnded};
+ghost use Rattle.plan_machine.specs.Sound.{IsSound};
 ghost use Rattle.plan_core.specs.InTurn.{AllChildrenCovered, IsServed, IsUnbegun, SomeRefused};
 ghost use Rattle.demand_points.specs.Demands.{Demand};
-ghost use Rattle.plan_core.specs.Parts.{AreFreshStrands, AreFree, AreInOrder, IsAwake, plan_of_new, shards_in};
+ghost use Rattle.plan_core.specs.Parts.{AreFreshStrands, AreFree, AreInOrder, plan_of_new, shards_in};
 
 use crate::alone::{Alone, asked_at, refuse};
 use crate::paused::Paused;
-use crate::places::{pause_all, ready_in, strand_at, strands_in};
+use crate::places::{pause_all, strands_in};
 use crate::turns;
 use demand_points::{BatchName, Strand};
 use design::Design;
@@ -95,28 +93,6 @@ impl<B: BatchName> Plan<B> {
         ensures err { OnErr result (self.new ≡ self.old) }
     {
         turns::turn(&mut self.places, &mut self.shards, design, number as usize)
-    }
-
-    /// Turns of the strands with these numbers, in this order. Returns how many were not NotReady. If memory runs out, the turns before
-    /// stay.
-    pub fn run(&mut self, design: &Design, schedule: &[u32]) -> Result<u64, OutOfMemory>
-        requires design { design.now.circuit ≡ B.batch.circuit }
-        requires numbers { AllByRecursion (λ i. i < length self.old.strands) schedule.now }
-        ensures ok { OnOk result (self.new ≡ run B.batch self.old schedule.now) }
-        ensures count { length self.new.strands ≡ length self.old.strands }
-        ensures turns { IfOk result (λ k. k ≡ turns B.batch self.old schedule.now) }
-        ensures left { IfOk result (λ k. k ≤ all_left B.batch self.old) }
-        ensures bounded { (starts : List Start) (shards : List MachineShard)
-            → self.old ≡ new_plan B.batch starts shards
-            → IfOk result (λ k. k ≤ bound B.batch starts) }
-        ensures err { OnErr result ((k : ℕ) ×
-            ((k ≤ length schedule.now) × (self.new ≡ run B.batch self.old (take k schedule.now)))) }
-    {
-        let mut turns = 0;
-        for &number in schedule {
-            turns += counted(self.turn(design, number)?);
-        }
-        Ok(turns)
     }
 
     // The point that the strand with this number asks for.
@@ -267,26 +243,6 @@ impl<B: BatchName> Plan<B> {
         Ok(unrefused)
     }
 
-    /// The numbers of the ready strands, in ascending order.
-    pub fn ready(&self, alloc: Global) -> Result<Vec<u32>, OutOfMemory>
-        ensures numbers { IfOk result (λ v. v.items ≡ ready self.now) }
-        ensures none { IfOk result (λ v. v.items ≡ [] → (i : ℕ) (s : MachineStrand)
-            → slice_get self.now.strands i ≡ Some s → HasEnded s) }
-        ensures all { IfOk result (λ v. ((i : ℕ) (s : MachineStrand)
-            → slice_get self.now.strands i ≡ Some s → HasEnded s) → v.items ≡ []) }
-    {
-        ready_in(alloc, &self.places)
-    }
-
-    /// The strand with this number. None if the plan has no such strand, or the strand waits.
-    pub fn strand(&self, number: u32) -> Option<&Strand<B>>
-        ensures some { IfSome result (λ s. IsAwake self.now number s.now) }
-        ensures none { result ≡ None → (s : MachineStrand)
-            → slice_get self.now.strands number ≡ Some s → s.waits ≡ true }
-    {
-        strand_at(&self.places, number as usize)
-    }
-
     /// The shards, in order.
     pub fn into_shards(self) -> Vec<Shard<B>>
         ensures shards { shards_in result.items ≡ self.shards }
@@ -306,16 +262,5 @@ impl<B: BatchName> Plan<B> {
         let Plan { places, shards } = self;
         let strands = strands_in(alloc, places)?;
         Ok((strands, shards))
-    }
-}
-
-// 1 for a turn that is not NotReady, else 0.
-fn counted(turned: Turned) -> u64
-    ensures count { result ≡ is_turn turned }
-    ensures most { result ≤ 1 }
-{
-    match turned {
-        Turned::NotReady => 0,
-        _ => 1,
     }
 }

@@ -9,16 +9,17 @@ use Rattle.circuit_meaning.specs.Cells.{cell_at}
 use Rattle.circuit_meaning.specs.Forced.{IsFree}
 use Rattle.circuit_meaning.specs.Need.{IsEvaluable}
 use Rattle.batch_meaning.specs.declared.Query.{Query}
-use Rattle.batch_meaning.specs.Batches.{Batch, Site}
+use Rattle.batch_meaning.specs.Batches.{Batch, Site, shard_number}
 use Rattle.batch_meaning.specs.Pieces.{IsStart}
 use Rattle.journal_meaning.specs.declared.Entry.{Entry}
-use Rattle.journal_meaning.specs.declared.Entry.TheVariants.{Filled, Spent}
+use Rattle.journal_meaning.specs.declared.Entry.TheVariants.{Told, Claimed, Filled, Spent}
 use Rattle.journal_meaning.specs.Answers.{IsCovered}
 use Rattle.journal_meaning.specs.Grown.{IsSaid}
 use Rattle.journal_meaning.specs.States.{holder}
-use Rattle.strand_meaning.specs.declared.Next.TheVariants.{Ask, Fill}
-use Rattle.strand_meaning.specs.Strands.{Strand, next, heard, given_up, IsHeld, IsStrand, IsChain}
-use Rattle.strand_meaning.proofs.Stacks.{asks-first, earlier}
+use Rattle.strand_meaning.specs.declared.Next.{Next}
+use Rattle.strand_meaning.specs.declared.Next.TheVariants.{Ask, Fill, Drop, Done}
+use Rattle.strand_meaning.specs.Strands.{Strand, next, next_in, heard, given_up, IsHeld, IsStrand, IsChain}
+use Rattle.strand_meaning.proofs.Stacks.{asks-first, asks-unspent, fill-top, top-held, earlier}
 use Rattle.plan_machine.specs.Alone.{IsUnderWay}
 use Rattle.plan_machine.specs.Shards.{Shard, recorded}
 use Rattle.plan_machine.specs.Bounds.{turns_left}
@@ -30,8 +31,12 @@ use Rattle.plan_machine.proofs.Settle.{child-start, child-asked}
 use Rattle.plan_core.specs.Parts.{shards_in}
 use Rattle.demand_points.specs.Demands.{Demand, TakesStep, IsKnownStrand, itself}
 use Rattle.memo_shards.specs.KeptShards.{KeptShard}
-use Rattle.memo_shards.specs.Asks.{Tells, ClaimsIt, WaitsThere, Refuses}
-use Rattle.memo_shards.specs.Ends.{with_shard, FillsIt}
+use Rattle.memo_shards.specs.Asks.{IsHere, IsUnfound, Tells, ClaimsIt, IsTaken, Refuses}
+use Rattle.memo_shards.specs.Ends.{with_shard, FillsIt, DropsIt}
+use Rattle.memo_shards.specs.Steps.{At, MayStep, OfStep, step_point}
+use Rattle.memo_shards.specs.declared.steps.Step.{Step}
+use Rattle.memo_shards.specs.declared.steps.Step.TheVariants as came
+use Rattle.owned_text.specs.declared.OutOfMemory.{OutOfMemory}
 use Rattle.asked_cells.specs.Asked.{HasAsked, AsksOn}
 use Rattle.asked_cells.specs.Memos.{entries_of, asked_at}
 use Rattle.asked_cells.specs.inner.Standings.{standing}
@@ -43,10 +48,29 @@ use Rattle.stuck_faults.specs.declared.both.Question.{Question}
 use Rattle.stuck_faults.specs.inner.Both.{IsAsked, Asks, IsGivingUpBy, GivesUp, AreKept, Extends, site_in, circuit_of, start_at}
 use Rattle.stuck_faults.specs.declared.turn.Turn.{Turn}
 use Rattle.stuck_faults.specs.declared.turn.Turn.TheVariants.{GoesOn, Ended, Refused}
-use Rattle.stuck_faults.specs.inner.Turns.{AsksFurther, IsNotFree, OfTurn}
+use Rattle.stuck_faults.specs.inner.Turns.{AsksFurther, IsOwnStep, OfTurn}
 use Rattle.stuck_faults.proofs.Asking.{tells-on, claims-on, spends-on, fills-on, hears-on, refuses-on}
 use Rattle.stuck_faults.proofs.Lawful.{IsAskedOf, asked-of, free-cell, free-evaluable, free-needed}
 use Rattle.stuck_faults.proofs.Held.{asked-one, held-lawful}
+
+-- a fill adds entries at the end
+pub fill-extends : (h : Batch) (m new : KeptShard) (s t : Demand) (woken : List Demand) (p : Point) → FillsIt h m new p s t woken → Extends m.shard.journal new.shard.journal
+fill-extends h m new s t woken p f =
+    let x = cell_at h.circuit p in
+    let entry = Filled s.strand.query.number p x in (
+      evictions_for h.capacity (cell_for p x) m.shard ++ entry ∷ [],
+      ap (λ (z : Shard). z.journal) f.shard ∙ ap (λ l. l ++ entry ∷ []) (room-journal h.capacity (cell_for p x) m.shard) ∙ append_assoc m.shard.journal (evictions_for h.capacity (cell_for p x) m.shard) (entry ∷ []),
+    )
+
+-- what comes of a drop
+pub of-drop : {X : Type 0} (b : Batch) (old new : KeptShard) (p : Point) (w s : Demand) (r : Result (Step X) OutOfMemory) → OfStep b old new (Drop p) w s r → (woken : List Demand) × DropsIt old new p w s woken
+of-drop b old new p w s (Ok came.Heard) f = absurd (cc f.0)
+of-drop b old new p w s (Ok came.Holds) f = absurd (cc f.0)
+of-drop b old new p w s (Ok came.Taken) f = absurd (cc f.0)
+of-drop b old new p w s (Ok came.Refused) f = absurd (cc f.0)
+of-drop b old new p w s (Ok (came.Filled woken)) f = absurd (cc f.0)
+of-drop b old new p w s (Ok (came.Dropped woken)) f = (woken.items, f.1)
+of-drop b old new p w s (Err e) f = absurd (f.0 refl)
 
 module _ (b h : Batch) (opening : ℕ → List SignalCell) (question : Question) (cd dd : Circuit) (flags : List Bool) (asked : IsAsked b h question cd dd flags)
     (time : ℕ) (ms : List KeptShard) (m : KeptShard) (s : Demand) (asks : Asks b opening question time ms m s) (knows : IsKnownStrand h s) where
@@ -66,31 +90,72 @@ module _ (b h : Batch) (opening : ℕ → List SignalCell) (question : Question)
   over : (new_ms : List KeptShard) (new : KeptShard) (t : Demand) → AsksFurther b opening own question time new_ms new s t → AsksFurther b opening h question time new_ms new s t
   over new_ms new t k = subst (λ z. AsksFurther b opening z question time new_ms new s t) (sym asked.own_is) k
 
-  pub turn-told : (new : KeptShard) (t : Demand) (p : Point) → next s.strand ≡ Ask p → Tells m new p s t → AsksFurther b opening h question time ms new s t
-  turn-told new t p e f = over ms new t (tells-on b opening question time asked.lawful asked.queries ms m s asks is new t p e f)
+  -- a step at the memo of its own, by what came of it
+  module _ (n : Next) (is-next : next s.strand ≡ n) (mine : IsOwnStep b question n) where
+    here : (k : KeptShard) → k ≡ m → (p : Point) → IsHere h k p
+    here k same p = subst (λ (z : Batch). shard_number p.signal z.shards ≡ k.number) (sym asked.own_is) (let l = ap (λ (z : KeptShard). z.number) same in let o = asks.number in omega arith)
 
-  pub turn-claimed : (new : KeptShard) (t : Demand) (p : Point) → next s.strand ≡ Ask p → IsNotFree b question p → ClaimsIt h m new p s t → AsksFurther b opening h question time ms new s t
-  turn-claimed new t p e away f = over ms new t (claims-on b opening question time asked.lawful asked.queries ms m s asks is new t p e away (subst (λ z. ClaimsIt z m new p s t) asked.own_is f))
+    pub own-stands : MayStep h m n s
+    own-stands = stands n is-next mine
+      where
+        stands : (k : Next) → next s.strand ≡ k → IsOwnStep b question k → MayStep h m k s
+        stands (Ask p) e _ = here m refl p
+        stands (Fill p) e _ = asks.holds.held p (top-held s.strand.stack p (fill-top s.strand p e)) ∙ ap (λ (z : Query). Some z.number) (sym asks.way.query)
+        stands (Drop p) e k = absurd k
+        stands Done e k = absurd k
 
-  -- what it asks for is not claimed, so it never waits
-  pub turn-never : (new : KeptShard) (p : Point) → next s.strand ≡ Ask p → WaitsThere m new p s → ⊥
-  turn-never new p e f = by (holder m.shard.state.claims p) refl f.claimed
-    where
-      by : (o : Option ℕ) → holder m.shard.state.claims p ≡ o → IsSome o → ⊥
-      by None k h = true≢false (sym h)
-      by (Some n) k h =
-          let d = (held-lawful b asked.lawful q asked.queries site).circuit in
-          let later = earlier (circuit_of b question) d s.strand.roots s.strand.stack p p is.chain (asks-first s.strand p e) (asks.holds.holder p n k) in
-          omega arith
+    pub own-heard : (new : KeptShard) (t : Demand) → At Ask n (λ p. Tells m new p s t) → AsksFurther b opening h question time ms new s t × Extends m.shard.journal new.shard.journal
+    own-heard new t f = (
+      over ms new t (tells-on b opening question time asked.lawful asked.queries ms m s asks is new t (step_point n) (is-next ∙ f.0) f.1),
+      (Told s.strand.query.number (step_point n) f.1.cell.cell ∷ [], ap (λ (z : KeptShard). z.shard.journal) f.1.shard),
+    )
 
-  pub turn-spent : (mid new : KeptShard) (t : Demand) (p : Point) → next s.strand ≡ Ask p → Refuses m mid p s t
-      → new ≡ with_shard mid (recorded (Spent t.strand.query.number p (length t.strand.stack)) mid.shard) → GivesUp b question time ms new t (Own p)
-  turn-spent mid new t p e f shard =
-      spends-on b opening question time asked.lawful asked.queries ms m s asks is new t p e (subst (λ z. Refuses m z p s t) f.shard f)
-      (subst (λ z. new ≡ with_shard z (recorded (Spent t.strand.query.number p (length t.strand.stack)) z.shard)) f.shard shard)
+    pub own-holds : (new : KeptShard) (t : Demand) → At Ask n (λ p. ClaimsIt h m new p s t) → AsksFurther b opening h question time ms new s t × Extends m.shard.journal new.shard.journal
+    own-holds new t f = (
+      over ms new t (claims-on b opening question time asked.lawful asked.queries ms m s asks is new t (step_point n) (is-next ∙ f.0) (subst (IsOwnStep b question) f.0 mine)
+          (subst (λ z. ClaimsIt z m new (step_point n) s t) asked.own_is f.1)),
+      (Claimed s.strand.query.number (step_point n) ∷ [], ap (λ (z : KeptShard). z.shard.journal) f.1.shard),
+    )
 
-  pub turn-filled : (new : KeptShard) (t : Demand) (woken : List Demand) (p : Point) → next s.strand ≡ Fill p → FillsIt h m new p s t woken → AsksFurther b opening h question time ms new s t
-  turn-filled new t woken p e f = over ms new t (fills-on b opening question time asked.lawful asked.queries ms m s asks is new t woken p e (subst (λ z. FillsIt z m new p s t woken) asked.own_is f))
+    pub own-filled : (new : KeptShard) (t : Demand) (woken : List Demand) → At Fill n (λ p. FillsIt h m new p s t woken) → AsksFurther b opening h question time ms new s t × Extends m.shard.journal new.shard.journal
+    own-filled new t woken f = (
+      over ms new t (fills-on b opening question time asked.lawful asked.queries ms m s asks is new t woken (step_point n) (is-next ∙ f.0) (subst (λ z. FillsIt z m new (step_point n) s t woken) asked.own_is f.1)),
+      fill-extends h m new s t woken (step_point n) f.1,
+    )
+
+    pub own-drops : (new : KeptShard) (t : Demand) (woken : List Demand) → At Drop n (λ p. DropsIt m new p s t woken) → ⊥
+    own-drops new t woken f = subst (IsOwnStep b question) f.0 mine
+
+    -- what it asks for is not claimed, so it never waits
+    pub own-waits : (new : KeptShard) (t : Demand) → At Ask n (λ p. IsTaken m new p s t) → ⊥
+    own-waits new t f = by (holder m.shard.state.claims (step_point n)) refl f.1.claimed
+      where
+        by : (o : Option ℕ) → holder m.shard.state.claims (step_point n) ≡ o → IsSome o → ⊥
+        by None k l = true≢false (sym l)
+        by (Some q) k l =
+            let d = (held-lawful b asked.lawful question.query asked.queries site).circuit in
+            let later = earlier (circuit_of b question) d s.strand.roots s.strand.stack (step_point n) (step_point n) is.chain (asks-first s.strand (step_point n) (is-next ∙ f.0)) (asks.holds.holder (step_point n) q k) in
+            omega arith
+
+    -- it is refused the point, and that can be recorded
+    module _ (mid : KeptShard) (t : Demand) (f : At Ask n (λ p. Refuses m mid p s t)) (p : Point) (point : p ≡ step_point n) where
+      pub own-spends : (t.strand.spent ≡ true) × ((next_in false t.strand.roots t.strand.stack ≡ Ask p) × (IsHere h mid p × IsUnfound mid p))
+      own-spends = (
+        ap (λ (z : Strand). z.spent) f.1.strand.strand,
+        (
+          subst (λ (z : Strand). next_in false z.roots z.stack ≡ Ask p) (sym f.1.strand.strand)
+              (subst (λ x. next_in false s.strand.roots s.strand.stack ≡ Ask x) (sym point) (subst (λ w. next_in w s.strand.roots s.strand.stack ≡ Ask (step_point n)) (asks-unspent s.strand (step_point n) (is-next ∙ f.0)) (is-next ∙ f.0))),
+          (here mid f.1.shard p, subst (IsUnfound mid) (sym point) (subst (λ z. IsUnfound z (step_point n)) (sym f.1.shard) f.1.unfound)),
+        ),
+      )
+
+      pub own-spent : (new : KeptShard) → new ≡ with_shard mid (recorded (Spent t.strand.query.number p (length t.strand.stack)) mid.shard) → GivesUp b question time ms new t (Own p) × Extends m.shard.journal new.shard.journal
+      own-spent new shard =
+          let entry = Spent t.strand.query.number p (length t.strand.stack) in
+          let over_m : new ≡ with_shard m (recorded entry m.shard) = subst (λ z. new ≡ with_shard z (recorded entry z.shard)) f.1.shard shard in (
+            spends-on b opening question time asked.lawful asked.queries ms m s asks is new t p (is-next ∙ f.0 ∙ ap Ask (sym point)) (subst (λ x. Refuses m m x s t) (sym point) (subst (λ z. Refuses m z (step_point n) s t) f.1.shard f.1)) over_m,
+            (entry ∷ [], ap (λ (z : KeptShard). z.shard.journal) over_m),
+          )
 
   -- what it asks for
   pub turn-asks : (p : Point) → next s.strand ≡ Ask p → IsAskedOf b asked.lawful site q asked.queries p
@@ -145,15 +210,6 @@ extends-none es = ([], sym (append-nil es))
 
 pub extends-then : (a b c : List Entry) → Extends a b → Extends b c → Extends a c
 extends-then a b c x y = (x.0 ++ y.0, y.1 ∙ ap (λ l. l ++ y.0) x.1 ∙ append_assoc a x.0 y.0)
-
--- a fill adds entries at the end
-pub fill-extends : (h : Batch) (m new : KeptShard) (s t : Demand) (woken : List Demand) (p : Point) → FillsIt h m new p s t woken → Extends m.shard.journal new.shard.journal
-fill-extends h m new s t woken p f =
-    let x = cell_at h.circuit p in
-    let entry = Filled s.strand.query.number p x in (
-      evictions_for h.capacity (cell_for p x) m.shard ++ entry ∷ [],
-      ap (λ (z : Shard). z.journal) f.shard ∙ ap (λ l. l ++ entry ∷ []) (room-journal h.capacity (cell_for p x) m.shard) ∙ append_assoc m.shard.journal (evictions_for h.capacity (cell_for p x) m.shard) (entry ∷ []),
-    )
 
 -- base answers that are heard change nothing that is seen
 pub asks-same : (b : Batch) (opening : ℕ → List SignalCell) (question : Question) (time : ℕ) (ms : List KeptShard) (m : KeptShard) (s t : Demand) → TakesStep itself s t → Asks b opening question time ms m s → Asks b opening question time ms m t

@@ -15,6 +15,7 @@ use crate::both::{Held, Memos, Question};
 use crate::turn::{Turn, take_turn};
 use demand_points::{BatchName, Strand};
 use design::Design;
+use memo_shards::Step;
 use owned_text::OutOfMemory;
 use std::alloc::Global;
 use strand_meaning::Next;
@@ -47,8 +48,10 @@ fn drop_all<B: BatchName, H: BatchName>(
         strand.facts();
         match strand.next_step(&held.design) {
             Next::Drop(p) => {
-                let (next, _) = memos.own.drop_top(strand, p);
-                strand = next;
+                let came = memos.own.step(&mut strand, &held.design, Next::Drop(p));
+                let Ok(Step::Dropped(_)) = came else {
+                    unreachable!();
+                };
             }
             Next::Done => return,
             Next::Ask(_) => unreachable!(),

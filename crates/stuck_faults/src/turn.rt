@@ -2,18 +2,18 @@
 
 ghost use Rattle.std.specs.Prelude.{◌≡◌, ◌<◌, IfOk, OnOk};
 ghost use Rattle.strand_meaning.specs.Strands.{next as next_of};
-ghost use Rattle.strand_meaning.specs.declared.Next.TheVariants.{Ask as AskNext, Fill as FillNext};
+ghost use Rattle.strand_meaning.specs.declared.Next.TheVariants.{Ask as AskNext};
 ghost use Rattle.asked_cells.specs.Memos.{IsChargedMemo, entries_of};
 ghost use Rattle.circuit_meaning.specs.Forced.{IsFree};
 ghost use Rattle.stuck_faults.specs.inner.Both.{IsAsked, Asks, AreKept, Extends};
-ghost use Rattle.stuck_faults.specs.inner.Turns.{OfTurn, IsNotFree};
+ghost use Rattle.stuck_faults.specs.inner.Turns.{OfTurn, IsOwnStep};
 
 use crate::both::{Held, Memos, Question};
 use asked_cells::reach;
 use batch_meaning::Query;
 use demand_points::{BatchName, Strand};
 use design::Design;
-use memo_shards::Asked;
+use memo_shards::{Step, step_point};
 use owned_text::OutOfMemory;
 use strand_meaning::Next;
 use valid_intervals::Point;
@@ -29,20 +29,21 @@ pub enum Turn<H: BatchName> {
     Refused(Strand<H>),
 }
 
-/// Fills the claimed point on top of the strand's stack.
-fn fill<B: BatchName, H: BatchName>(
+/// Makes a step at the memo of its own: a fill, or an ask for a point that is not free.
+fn step_own<B: BatchName, H: BatchName>(
     memos: &mut Memos<B, H>,
     strand: Strand<H>,
     design: &Design,
     held: &Held,
     question: Question,
     time: u32,
-    p: Point,
+    next: Next,
 ) -> Result<Turn<H>, OutOfMemory>
     requires asked { IsAsked B.batch H.batch question design.now.circuit held.now.design.circuit
         held.now.reached }
     requires asks { Asks B.batch B.opening question time memos.old.session memos.old.own strand }
-    requires fills { next_of strand.strand ≡ FillNext p }
+    requires next { next_of strand.strand ≡ next }
+    requires own { IsOwnStep B.batch question next }
     ensures turn { IfOk result (OfTurn B.batch B.opening H.batch question time memos.old.session
         memos.new.session memos.new.own strand) }
     ensures extends { OnOk result (Extends memos.old.own.shard.journal
@@ -50,47 +51,22 @@ fn fill<B: BatchName, H: BatchName>(
     ensures session { memos.new.session ≡ memos.old.session }
     ensures charge { memos.new.charge ≡ memos.old.charge }
 {
+    let mut strand = strand;
     strand.facts();
     memos.own.facts();
-    match memos.own.fill(strand, &held.design, p) {
-        Ok((strand, _)) => Ok(Turn::GoesOn(strand)),
-        Err((_, error)) => Err(error),
-    }
-}
-
-/// Asks the memo of its own for a point that is not free.
-fn ask_own<B: BatchName, H: BatchName>(
-    memos: &mut Memos<B, H>,
-    strand: Strand<H>,
-    design: &Design,
-    held: &Held,
-    question: Question,
-    time: u32,
-    p: Point,
-) -> Result<Turn<H>, OutOfMemory>
-    requires asked { IsAsked B.batch H.batch question design.now.circuit held.now.design.circuit
-        held.now.reached }
-    requires asks { Asks B.batch B.opening question time memos.old.session memos.old.own strand }
-    requires next { next_of strand.strand ≡ AskNext p }
-    requires reached { IsNotFree B.batch question p }
-    ensures turn { IfOk result (OfTurn B.batch B.opening H.batch question time memos.old.session
-        memos.new.session memos.new.own strand) }
-    ensures extends { OnOk result (Extends memos.old.own.shard.journal
-        memos.new.own.shard.journal) }
-    ensures session { memos.new.session ≡ memos.old.session }
-    ensures charge { memos.new.charge ≡ memos.old.charge }
-{
-    strand.facts();
-    memos.own.facts();
-    match memos.own.ask(strand, &held.design, p) {
-        Ok(Asked::Told(strand)) => Ok(Turn::GoesOn(strand)),
-        Ok(Asked::Claimed(strand)) => Ok(Turn::GoesOn(strand)),
-        Ok(Asked::Waits) => unreachable!(),
-        Ok(Asked::Spent(strand)) => {
+    match memos.own.step(&mut strand, &held.design, next)? {
+        Step::Heard => Ok(Turn::GoesOn(strand)),
+        Step::Holds => Ok(Turn::GoesOn(strand)),
+        Step::Filled(_) => Ok(Turn::GoesOn(strand)),
+        Step::Refused => {
+            let Some(p) = step_point(next) else {
+                unreachable!();
+            };
             memos.own.spend(&strand, p)?;
             Ok(Turn::Refused(strand))
         }
-        Err((_, error)) => Err(error),
+        Step::Taken => unreachable!(),
+        Step::Dropped(_) => unreachable!(),
     }
 }
 
@@ -167,11 +143,11 @@ pub fn take_turn<B: BatchName, H: BatchName>(
     let mut strand = strand;
     match strand.next_step(&held.design) {
         Next::Done => Ok(Turn::Ended(strand)),
-        Next::Fill(p) => fill(memos, strand, design, held, question, time, p),
+        Next::Fill(p) => step_own(memos, strand, design, held, question, time, Next::Fill(p)),
         Next::Ask(p) => {
             strand.facts();
             if held.reached.get(p.signal) {
-                ask_own(memos, strand, design, held, question, time, p)
+                step_own(memos, strand, design, held, question, time, Next::Ask(p))
             } else {
                 ask_session(memos, strand, design, held, question, time, p)
             }

@@ -7,15 +7,6 @@ use Rattle.demand_points.specs.Demands.{Demand}
 use Rattle.std.specs.Bool.{Decides}
 use Rattle.strand_meaning.specs.Strands.{next}
 use Rattle.strand_meaning.specs.declared.Next.TheVariants.{Done}
-use Rattle.std.specs.Prelude.{Bool, false, cond, sum, ◌<◌}
-use Rattle.valid_intervals.specs.declared.Cell.{Cell}
-use Rattle.valid_intervals.specs.declared.Point.{Point}
-use Rattle.valid_intervals.specs.declared.SignalCell.{SignalCell}
-use Rattle.valid_intervals.specs.Cells.{last_cell, cell_for}
-use Rattle.journal_meaning.specs.declared.Entry.TheVariants.{Filled, Evicted}
-use Rattle.journal_meaning.specs.Counts.{booked}
-use Rattle.journal_meaning.proofs.More.{booked-append}
-use Rattle.plan_machine.specs.Shards.{Shard, evicted, with_room, filled_shard}
 use Rattle.worker_gate.specs.Ends.{task_of, HasEnded, HaveEnded, AreEnds, AreCounted, AreFilled, one_if_empty, empty_in}
 
 pub read_set : {X : Type 0} (xs : List X) (n i : ℕ) (y z : X) → slice_get (set xs n y) i ≡ Some z → ((i ≡ n) × (y ≡ z)) ⊎ ((i ≢ n) × (slice_get xs i ≡ Some z))
@@ -78,25 +69,3 @@ task_eq a b = search rules
 pub ended_here : (s : Demand) (tasks : List Task) → next s.strand ≡ Done → slice_get tasks s.number ≡ Some (task_of s) → (s.strand.spent ≡ true → s.strand.charged ≡ s.strand.budget)
     → (t : Task) → slice_get tasks s.number ≡ Some t → HasEnded s s.number t
 ended_here s tasks done mine spent t at = let same : task_of s ≡ t = cc in (done, refl, same, spent)
-
--- a fill is booked once, and the eviction before it is not
-evicted-unbooked : (o : Option SignalCell) (h : Shard) → booked (evicted o h).journal ≡ booked h.journal
-evicted-unbooked None h = refl
-evicted-unbooked (Some x) h = let k = booked-append h.journal (Evicted x.signal x.cell.span.start ∷ []) in omega (arith, k)
-
-room-unbooked : (capacity : ℕ) (x : SignalCell) (h : Shard) → booked (with_room capacity x h).journal ≡ booked h.journal
-room-unbooked capacity x h = go (_)
-  where
-    go : (b : Bool) → booked (cond b (evicted (last_cell h.state.cells) h) h).journal ≡ booked h.journal
-    go true = evicted-unbooked (last_cell h.state.cells) h
-    go false = refl
-
-pub booked-fill : (capacity q : ℕ) (p : Point) (x : Cell) (h : Shard) → booked (filled_shard capacity q p x h).journal ≡ booked h.journal + 1
-booked-fill capacity q p x h =
-    let k = booked-append (with_room capacity (cell_for p x) h).journal (Filled q p x ∷ []) in
-    let r = room-unbooked capacity (cell_for p x) h in
-    omega (arith, k, r)
-
--- one more at a place
-pub sum-one_more : (xs : List ℕ) (n v : ℕ) → n < length xs → v ≡ get_or xs n v → sum (set xs n (v + 1)) ≡ sum xs + 1
-sum-one_more xs n v within is = let k = sum_by-set (λ x. x) xs n (v + 1) v within in omega (arith, k, is)

@@ -1,20 +1,19 @@
 //! What one worker does.
 
-ghost use Rattle.std.specs.Prelude.{◌≡◌, ◌<◌, true, false, IsSome, IfSome, Some};
+ghost use Rattle.std.specs.Prelude.{◌≡◌, ◌<◌, true, false, IsSome, IfSome};
 ghost use Rattle.std.specs.Sync.Mutex.{mutex_guard_value};
-ghost use Rattle.journal_meaning.specs.States.{holder};
-ghost use Rattle.memo_shards.specs.Asks.{IsHere};
+ghost use Rattle.memo_shards.specs.Steps.{MayStep, step_point};
 ghost use Rattle.worker_gate.specs.Ends.{HasRoom};
 ghost use Rattle.ready_queue.specs.Queue.{IsPassOf};
-ghost use Rattle.strand_meaning.specs.Strands.{next};
-ghost use Rattle.strand_meaning.specs.declared.Next.TheVariants.{Ask, Fill, Drop, Done};
+ghost use Rattle.strand_meaning.specs.Strands.{next as next_of};
+ghost use Rattle.strand_meaning.specs.declared.Next.TheVariants.{Done};
 
 use crate::board::Board;
 use crate::gate::{Gate, Pass};
 use crate::slot::Slot;
 use demand_points::{BatchName, Strand};
 use design::Design;
-use memo_shards::{Answer, shard_number};
+use memo_shards::{Step, shard_number, step_point};
 use ready_queue::{QueuePass, ReadyQueue};
 use std::hint::spin_loop;
 use std::sync::{Condvar, Mutex, MutexGuard, Wait};
@@ -51,6 +50,8 @@ pub struct Worker<'a, G: Gate> {
 pub enum Turn<B: BatchName> {
     /// It goes on.
     Goes(Strand<B>),
+    /// It goes on, and its step woke these.
+    Wakes(Strand<B>, Vec<Strand<B>>),
     /// It waits in a shard, or stands on the board.
     Rests,
     /// Memory ran out.
@@ -153,7 +154,7 @@ impl<B: BatchName> Shared<B> {
 
     // Puts a strand that has ended on the board, however often the board has to be looked at. The last one wakes all.
     fn put<R: Wait>(&self, rt: &R, strand: Strand<B>)
-        requires { next strand.strand ≡ Done }
+        requires { next_of strand.strand ≡ Done }
     {
         let mut strand = strand;
         for _ in rt.forever() {
@@ -171,24 +172,23 @@ impl<B: BatchName> Shared<B> {
         unreachable!()
     }
 
-    // Locks the shard of the point, once it has a count for the strand and, where the strand has claimed the point, its claim.
+    // Locks the shard of the point once it can make the strand's next step.
     fn lock_shard<G: Gate, R: Wait>(
         &self,
         rt: &R,
         worker: &Worker<'_, G>,
         strand: &Strand<B>,
+        next: Next,
         p: Point,
-        claimed: bool,
     ) -> MutexGuard<'_, Slot<B>>
+        requires { p ≡ step_point next }
         ensures some { IsSome (mutex_guard_value result).held }
-        ensures here { IfSome (mutex_guard_value result).held (λ h. IsHere B.batch h.shard p) }
+        ensures stands { IfSome (mutex_guard_value result).held
+            (λ h. MayStep B.batch h.shard next strand.now) }
         ensures room { IfSome (mutex_guard_value result).held
             (λ h. HasRoom h.counts.items strand.now.number) }
-        ensures holds { claimed ≡ true → IfSome (mutex_guard_value result).held
-            (λ h. holder h.shard.shard.state.claims p ≡ Some strand.now.strand.query.number) }
     {
         let number = shard_number(p.signal, self.count as usize);
-        let q = strand.query().number;
         for _ in rt.forever() {
             let Some(lock) = self.slots.get(number) else {
                 continue;
@@ -197,118 +197,46 @@ impl<B: BatchName> Shared<B> {
             let Some(held) = &slot.held else {
                 continue;
             };
-            if held.shard.number() as usize != number || !held.has_room(strand.number()) {
-                continue;
+            if held.can_step(strand, next, number) {
+                worker.gate.within(worker.number, number as u32);
+                return slot;
             }
-            if claimed && !held.shard.holds(p, q) {
-                continue;
-            }
-            worker.gate.within(worker.number, number as u32);
-            return slot;
         }
         unreachable!()
     }
 
-    // Asks the shard for the point, under its lock. The strand waits there where the point is claimed.
-    fn ask<G: Gate, R: Wait>(
-        &self,
-        rt: &R,
-        design: &Design,
-        worker: &Worker<'_, G>,
-        mut strand: Strand<B>,
-        p: Point,
-    ) -> Turn<B>
-        requires design { design.now.circuit ≡ B.batch.circuit }
-        requires asks { next strand.strand ≡ Ask p }
-    {
-        let mut slot = self.lock_shard(rt, worker, &strand, p, false);
-        let Some(held) = &mut slot.held else {
-            unreachable!();
-        };
-        match held.answer(&mut strand, design, p) {
-            Ok(Answer::Heard) => Turn::Goes(strand),
-            Ok(Answer::Holds) => Turn::Goes(strand),
-            Ok(Answer::Refused) => Turn::Goes(strand),
-            Ok(Answer::Taken) => match held.park(strand, p) {
-                Ok(()) => Turn::Rests,
-                Err(_) => Turn::NoMemory,
-            },
-            Err(_) => Turn::NoMemory,
-        }
-    }
-
-    // Fills the point in its shard, under its lock.
-    fn fill<G: Gate, R: Wait>(
-        &self,
-        rt: &R,
-        design: &Design,
-        worker: &Worker<'_, G>,
-        mut strand: Strand<B>,
-        p: Point,
-    ) -> Option<(Strand<B>, Vec<Strand<B>>)>
-        requires design { design.now.circuit ≡ B.batch.circuit }
-        requires fills { next strand.strand ≡ Fill p }
-    {
-        let mut slot = self.lock_shard(rt, worker, &strand, p, true);
-        let Some(held) = &mut slot.held else {
-            unreachable!();
-        };
-        match held.fill(&mut strand, design, p) {
-            Ok(woken) => Some((strand, woken)),
-            Err(_) => None,
-        }
-    }
-
-    // Gives the point up in its shard, under its lock.
-    fn drop_top<G: Gate, R: Wait>(
-        &self,
-        rt: &R,
-        worker: &Worker<'_, G>,
-        strand: Strand<B>,
-        p: Point,
-    ) -> (Strand<B>, Vec<Strand<B>>)
-        requires { next strand.strand ≡ Drop p }
-    {
-        let mut slot = self.lock_shard(rt, worker, &strand, p, true);
-        let Some(held) = &mut slot.held else {
-            unreachable!();
-        };
-        held.drop_top(strand, p)
-    }
-
-    // Makes the turn of a strand whose next step is this one.
+    // Makes the turn of a strand whose next step is this one: at the shard of its point, under its lock. Where the point is claimed the
+    // strand waits there.
     fn turn<G: Gate, R: Wait>(
         &self,
         rt: &R,
         design: &Design,
         worker: &Worker<'_, G>,
-        pass: &mut QueuePass<Strand<B>>,
-        strand: Strand<B>,
-        step: Next,
+        mut strand: Strand<B>,
+        next: Next,
     ) -> Turn<B>
         requires design { design.now.circuit ≡ B.batch.circuit }
-        requires queue { IsPassOf self.now.queue pass.old }
-        requires step { next strand.strand ≡ step }
-        ensures { IsPassOf self.now.queue pass.new }
+        requires next { next_of strand.strand ≡ next }
     {
-        match step {
-            Next::Ask(p) => self.ask(rt, design, worker, strand, p),
-            Next::Fill(p) => {
-                let Some((s, woken)) = self.fill(rt, design, worker, strand, p) else {
-                    return Turn::NoMemory;
-                };
-                self.push_all(rt, pass, woken);
-                Turn::Goes(s)
-            }
-            Next::Drop(p) => {
-                let (s, woken) = self.drop_top(rt, worker, strand, p);
-                self.push_all(rt, pass, woken);
-                Turn::Goes(s)
-            }
-            Next::Done => {
-                self.put(rt, strand);
-                Turn::Rests
-            }
+        let Some(p) = step_point(next) else {
+            self.put(rt, strand);
+            return Turn::Rests;
+        };
+        let mut slot = self.lock_shard(rt, worker, &strand, next, p);
+        let Some(held) = &mut slot.held else {
+            unreachable!();
+        };
+        match held.step(&mut strand, design, next) {
+            Ok(Step::Heard) => Turn::Goes(strand),
+            Ok(Step::Holds) => Turn::Goes(strand),
+            Ok(Step::Refused) => Turn::Goes(strand),
+            Ok(Step::Filled(woken)) => Turn::Wakes(strand, woken),
+            Ok(Step::Dropped(woken)) => Turn::Wakes(strand, woken),
+            Ok(Step::Taken) => match held.park(strand, p) {
+                Ok(()) => Turn::Rests,
+                Err(_) => Turn::NoMemory,
+            },
+            Err(_) => Turn::NoMemory,
         }
     }
 
@@ -333,8 +261,12 @@ impl<B: BatchName> Shared<B> {
                 self.push(rt, pass, strand);
                 return true;
             }
-            match self.turn(rt, design, worker, pass, strand, step) {
+            match self.turn(rt, design, worker, strand, step) {
                 Turn::Goes(s) => strand = s,
+                Turn::Wakes(s, woken) => {
+                    self.push_all(rt, pass, woken);
+                    strand = s;
+                }
                 Turn::Rests => return false,
                 Turn::NoMemory => {
                     self.give_up(rt);

@@ -1,10 +1,9 @@
 -- What only the proofs and the private functions of this crate speak of, beside `Ends`.
-use Rattle.std.specs.Prelude.{◌≡◌, if◌then◌else◌, List, [], ◌∷◌, ◌++◌, Option, Some, None}
+use Rattle.std.specs.Prelude.{List, [], ◌∷◌, ◌++◌, Option, Some, None}
 use Rattle.valid_intervals.specs.declared.Point.{Point}
 use Rattle.cell_store.specs.declared.Key.{Key}
 use Rattle.journal_meaning.specs.declared.Entry.{Entry}
 use Rattle.journal_meaning.specs.declared.Entry.TheVariants as entry
-use Rattle.journal_meaning.specs.States as states
 use Rattle.claim_waiters.specs.Claims.{WaitedClaim}
 use Rattle.demand_points.specs.Demands.{Demand}
 

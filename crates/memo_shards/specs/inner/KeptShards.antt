@@ -1,5 +1,5 @@
 -- What only the proofs and the private functions of this crate speak of, beside `KeptShards`.
-use Rattle.std.specs.Prelude.{◌≡◌, ℕ, ◌<◌, if◌then◌else◌, List, [], ◌∷◌, ◌++◌, map}
+use Rattle.std.specs.Prelude.{List, [], ◌∷◌, ◌++◌, map}
 use Rattle.valid_intervals.specs.declared.Point.{Point}
 use Rattle.claim_waiters.specs.Claims.{Claims}
 use Rattle.demand_points.specs.Demands.{Demand}

@@ -1,8 +1,7 @@
 -- The places of strands: one for each number, with a gap if its strand waits.
-use Rattle.std.specs.Prelude.{◌≡◌, ℕ, ◌<◌, List, [], ◌∷◌, ◌++◌, map, if◌then◌else◌, slice_get, Option, Some, None}
+use Rattle.std.specs.Prelude.{◌≡◌, ℕ, ◌<◌, List, [], ◌∷◌, map, slice_get, Option, Some, None}
 use Rattle.strand_meaning.specs.declared.Next.{Next}
 use Rattle.strand_meaning.specs.Strands.{Strand, next}
-use Rattle.plan_machine.specs.Plans.{is_done}
 use Rattle.plan_machine.specs.inner.Parts.{NumberedStrand}
 use Rattle.demand_points.specs.Demands.{Demand}
 use Rattle.memo_shards.specs.inner.Seen.{numbered_strand}
@@ -39,15 +38,6 @@ tags places = map tag places
 
 abbrev pub tag_of : Demand → Option NumberedStrand
 tag_of s = Some (numbered_strand s)
-
--- the number of the strand, if it has a step left
-abbrev pub ready_one : Option Demand → List ℕ
-ready_one None = []
-ready_one (Some s) = if is_done (next s.strand) then [] else s.number ∷ []
-
-abbrev pub ready_of : List (Option Demand) → List ℕ
-ready_of [] = []
-ready_of (o ∷ os) = ready_one o ++ ready_of os
 
 -- the strand in a place, if there is one
 abbrev pub one_in : Option Demand → List Demand

@@ -4,7 +4,8 @@ use Rattle.valid_intervals.specs.declared.SignalCell.{SignalCell}
 use Rattle.valid_intervals.specs.declared.Point.{Point}
 use Rattle.circuit_meaning.specs.Forced.{IsFree}
 use Rattle.batch_meaning.specs.Batches.{Batch}
-use Rattle.strand_meaning.specs.declared.Next.TheVariants.{Done}
+use Rattle.strand_meaning.specs.declared.Next.{Next}
+use Rattle.strand_meaning.specs.declared.Next.TheVariants.{Ask, Fill, Drop, Done}
 use Rattle.strand_meaning.specs.Strands.{next}
 use Rattle.plan_machine.specs.Bounds.{turns_left}
 use Rattle.demand_points.specs.Demands.{Demand}
@@ -36,3 +37,10 @@ OfTurn b opening own question time old ms m s (Refused t) = (who : RefusedBy) ×
 -- the point is not free of the site
 abbrev pub IsNotFree : Batch → Question → Point → Type 0
 IsNotFree b question p = IsFree b.circuit question.site p.signal → ⊥
+
+-- a step at the memo of its own: a fill, or an ask for a point that is not free of the site
+abbrev pub IsOwnStep : Batch → Question → Next → Type 0
+IsOwnStep b question (Ask p) = IsNotFree b question p
+IsOwnStep b question (Fill p) = Unit {0}
+IsOwnStep b question (Drop p) = ⊥
+IsOwnStep b question Done = ⊥

@@ -5,7 +5,7 @@ use Rattle.plan_machine.proofs.Ready.{has-ended}
 use Rattle.stuck_faults.proofs.Held.{held-lawful}
 use Rattle.stuck_faults.specs.Asks.{RefusedBy}
 use Rattle.stuck_faults.specs.inner.Both.{GivesUp, site_in}
-use Rattle.stuck_faults.proofs.Turns.{gives-same, chain-of, extends-none, extends-then}
+use Rattle.stuck_faults.proofs.Turns.{of-drop, gives-same, chain-of, extends-none, extends-then}
 use Rattle.stuck_faults.proofs.Resting.{drops-on, drops-leave, drops-end}
 use Rattle.stuck_faults.proofs.root.drop_all.Goals as goal
 
@@ -25,18 +25,43 @@ claims-preserved g c =
     let question = c.args.question in
     let old = c.claims.memos.own in
     let next = c.next_step.new.self in
-    let new = c.drop_top-next.new.self in
+    let new = c.step-came.new.self in
+    let f = of-drop g.H.BatchName.batch old new c.in-Drop.p next c.step-came.new.strand c.step-came.result c.step-came.ensures in
     let more = Dropped next.strand.query.number c.in-Drop.p ∷ [] in
-    let on : (who : RefusedBy) → GivesUp b question c.args.time c.claims.memos.session old c.claims.strand who → GivesUp b question c.args.time c.claims.memos.session new c.drop_top-next.result.0 who =
+    let on : (who : RefusedBy) → GivesUp b question c.args.time c.claims.memos.session old c.claims.strand who → GivesUp b question c.args.time c.claims.memos.session new c.step-came.new.strand who =
     λ who gives.
     drops-on b g.B.BatchName.opening question c.args.time c.claims.memos.session old next who
     (gives-same b question c.args.time c.claims.memos.session old c.claims.strand next who c.next_step.ensures.steps gives) (held-lawful b asked.lawful question.query asked.queries (site_in question)).circuit
     (chain-of b g.H.BatchName.batch question c.args.design.now.circuit c.args.held.now.design.circuit c.args.held.now.reached asked c.claims.strand next c.args.time gives.to c.facts.ensures c.next_step.ensures.steps)
-    new c.drop_top-next.result.0 c.drop_top-next.result.1.items c.in-Drop.p (sym c.next_step.ensures.next ∙ c.in-Drop.is) c.drop_top-next.ensures in
+    new c.step-came.new.strand f.0 c.in-Drop.p (sym c.next_step.ensures.next ∙ c.in-Drop.is) f.1 in
     record {
       gives_up = (c.claims.invariant.gives_up.0, on c.claims.invariant.gives_up.0 c.claims.invariant.gives_up.1);
       goes = λ who gives. on who (c.claims.invariant.goes who gives);
-      extends = extends-then c.args.memos.now.own.shard.journal old.shard.journal new.shard.journal c.claims.invariant.extends (more, ap (λ (z : Shard). z.journal) c.drop_top-next.ensures.shard);
+      extends = extends-then c.args.memos.now.own.shard.journal old.shard.journal new.shard.journal c.claims.invariant.extends (more, ap (λ (z : Shard). z.journal) f.1.shard);
+      session = c.claims.invariant.session;
+      charge = c.claims.invariant.charge;
+    }
+
+pub claims-preserved-in-Ok-Dropped-2 : goal.claims-preserved-in-Ok-Dropped-2
+claims-preserved-in-Ok-Dropped-2 g c =
+    let b = g.B.BatchName.batch in
+    let asked = c.requires.asked in
+    let question = c.args.question in
+    let old = c.claims.memos.own in
+    let next = c.next_step.new.self in
+    let new = c.step-came.new.self in
+    let f = of-drop g.H.BatchName.batch old new c.in-Drop.p next c.step-came.new.strand c.step-came.result c.step-came.ensures in
+    let more = Dropped next.strand.query.number c.in-Drop.p ∷ [] in
+    let on : (who : RefusedBy) → GivesUp b question c.args.time c.claims.memos.session old c.claims.strand who → GivesUp b question c.args.time c.claims.memos.session new c.step-came.new.strand who =
+    λ who gives.
+    drops-on b g.B.BatchName.opening question c.args.time c.claims.memos.session old next who
+    (gives-same b question c.args.time c.claims.memos.session old c.claims.strand next who c.next_step.ensures.steps gives) (held-lawful b asked.lawful question.query asked.queries (site_in question)).circuit
+    (chain-of b g.H.BatchName.batch question c.args.design.now.circuit c.args.held.now.design.circuit c.args.held.now.reached asked c.claims.strand next c.args.time gives.to c.facts.ensures c.next_step.ensures.steps)
+    new c.step-came.new.strand f.0 c.in-Drop.p (sym c.next_step.ensures.next ∙ c.in-Drop.is) f.1 in
+    record {
+      gives_up = (c.claims.invariant.gives_up.0, on c.claims.invariant.gives_up.0 c.claims.invariant.gives_up.1);
+      goes = λ who gives. on who (c.claims.invariant.goes who gives);
+      extends = extends-then c.args.memos.now.own.shard.journal old.shard.journal new.shard.journal c.claims.invariant.extends (more, ap (λ (z : Shard). z.journal) f.1.shard);
       session = c.claims.invariant.session;
       charge = c.claims.invariant.charge;
     }

@@ -4,8 +4,8 @@ use Rattle.asked_cells.proofs.Lists.{or-at}
 use Rattle.stuck_faults.proofs.Turns.{turn-asks, turn-same, asks-same, ok-of, session-kept, extends-none, own-extends}
 use Rattle.stuck_faults.proofs.turn.take_turn.Goals as goal
 
-pub fill-requires-clause-asks : goal.fill-requires-clause-asks
-fill-requires-clause-asks g c = asks-same g.B.BatchName.batch g.B.BatchName.opening c.args.question c.args.time c.args.memos.now.session c.args.memos.now.own c.args.strand c.next_step.new.self c.next_step.ensures.steps c.requires.asks
+pub step_own-requires-clause-asks : goal.step_own-requires-clause-asks
+step_own-requires-clause-asks g c = asks-same g.B.BatchName.batch g.B.BatchName.opening c.args.question c.args.time c.args.memos.now.session c.args.memos.now.own c.args.strand c.next_step.new.self c.next_step.ensures.steps c.requires.asks
 
 pub get-requires : goal.get-requires
 get-requires g c =
@@ -15,11 +15,11 @@ get-requires g c =
     let l = c.requires.asked.flags in
     omega arith
 
-pub ask_own-requires-clause-asks : goal.ask_own-requires-clause-asks
-ask_own-requires-clause-asks g c = asks-same g.B.BatchName.batch g.B.BatchName.opening c.args.question c.args.time c.args.memos.now.session c.args.memos.now.own c.args.strand c.next_step.new.self c.next_step.ensures.steps c.requires.asks
+pub step_own-requires-then-get-clause-asks : goal.step_own-requires-then-get-clause-asks
+step_own-requires-then-get-clause-asks g c = asks-same g.B.BatchName.batch g.B.BatchName.opening c.args.question c.args.time c.args.memos.now.session c.args.memos.now.own c.args.strand c.next_step.new.self c.next_step.ensures.steps c.requires.asks
 
-pub ask_own-requires-clause-reached : goal.ask_own-requires-clause-reached
-ask_own-requires-clause-reached g c free =
+pub step_own-requires-then-get-clause-own : goal.step_own-requires-then-get-clause-own
+step_own-requires-then-get-clause-own g c free =
     let asks = asks-same g.B.BatchName.batch g.B.BatchName.opening c.args.question c.args.time c.args.memos.now.session c.args.memos.now.own c.args.strand c.next_step.new.self c.next_step.ensures.steps c.requires.asks in
     let k = (turn-asks g.B.BatchName.batch g.H.BatchName.batch g.B.BatchName.opening c.args.question c.args.design.now.circuit c.args.held.now.design.circuit c.args.held.now.reached c.requires.asked
     c.args.time c.args.memos.now.session c.args.memos.now.own c.next_step.new.self asks c.facts.ensures c.in-Ask.p (sym c.next_step.ensures.next ∙ c.in-Ask.is)).signal in
@@ -45,16 +45,16 @@ returns-in-Done-clause-turn g c = (
 )
 
 pub returns-then-get-clause-kept_session : goal.returns-then-get-clause-kept_session
-returns-then-get-clause-kept_session g c = ok-of c.ask_own.result _ (session-kept c.args.memos.now.session c.ask_own.new.memos.session c.ask_own.ensures.session)
+returns-then-get-clause-kept_session g c = ok-of c.step_own-then-get.result _ (session-kept c.args.memos.now.session c.step_own-then-get.new.memos.session c.step_own-then-get.ensures.session)
 
 pub returns-in-Fill-clause-kept_session : goal.returns-in-Fill-clause-kept_session
-returns-in-Fill-clause-kept_session g c = ok-of c.fill.result _ (session-kept c.args.memos.now.session c.fill.new.memos.session c.fill.ensures.session)
+returns-in-Fill-clause-kept_session g c = ok-of c.step_own.result _ (session-kept c.args.memos.now.session c.step_own.new.memos.session c.step_own.ensures.session)
 
 pub returns-in-Fill-clause-turn : goal.returns-in-Fill-clause-turn
-returns-in-Fill-clause-turn g c = turn-same g.B.BatchName.batch g.B.BatchName.opening g.H.BatchName.batch c.args.question c.args.time c.args.memos.now.session c.fill.new.memos.session c.fill.new.memos.own c.args.strand c.next_step.new.self c.next_step.ensures.steps c.fill.result c.fill.ensures.turn
+returns-in-Fill-clause-turn g c = turn-same g.B.BatchName.batch g.B.BatchName.opening g.H.BatchName.batch c.args.question c.args.time c.args.memos.now.session c.step_own.new.memos.session c.step_own.new.memos.own c.args.strand c.next_step.new.self c.next_step.ensures.steps c.step_own.result c.step_own.ensures.turn
 
 pub returns-then-get-clause-turn : goal.returns-then-get-clause-turn
-returns-then-get-clause-turn g c = turn-same g.B.BatchName.batch g.B.BatchName.opening g.H.BatchName.batch c.args.question c.args.time c.args.memos.now.session c.ask_own.new.memos.session c.ask_own.new.memos.own c.args.strand c.next_step.new.self c.next_step.ensures.steps c.ask_own.result c.ask_own.ensures.turn
+returns-then-get-clause-turn g c = turn-same g.B.BatchName.batch g.B.BatchName.opening g.H.BatchName.batch c.args.question c.args.time c.args.memos.now.session c.step_own-then-get.new.memos.session c.step_own-then-get.new.memos.own c.args.strand c.next_step.new.self c.next_step.ensures.steps c.step_own-then-get.result c.step_own-then-get.ensures.turn
 
 pub returns-else-get-clause-turn : goal.returns-else-get-clause-turn
 returns-else-get-clause-turn g c = turn-same g.B.BatchName.batch g.B.BatchName.opening g.H.BatchName.batch c.args.question c.args.time c.args.memos.now.session c.ask_session.new.memos.session c.ask_session.new.memos.own c.args.strand c.next_step.new.self c.next_step.ensures.steps c.ask_session.result c.ask_session.ensures.turn

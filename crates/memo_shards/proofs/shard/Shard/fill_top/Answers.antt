@@ -67,14 +67,14 @@ invariant_of-self-2 g c =
     let items : c.record_fill.new.journal.items ≡ (filled_shard b.capacity q p (cell_at b.circuit p) (shard_at o es)).journal =
     filled-items b o s.number s.store s.claims es a q p held c.facts.ensures c.record_fill.new.journal.items
     (subst (λ (z : Cell). c.record_fill.new.journal.items ≡ after_eviction (cond (pushes_out (cell_for p z) s.store) (last_key s.store.cells) None) es ++ entry.Filled q p z ∷ []) right
-    (c.in-Ok.ensures.items ∙ ap (λ (x : Query). after_eviction (cond (pushes_out (cell_for p c.top_cell-cell.result) s.store) (last_key s.store.cells) None) es ++ entry.Filled x.number p c.top_cell-cell.result ∷ []) c.query-q.ensures)) in
+    (c.in_ok-record_fill.ensures.items ∙ ap (λ (x : Query). after_eviction (cond (pushes_out (cell_for p c.top_cell-cell.result) s.store) (last_key s.store.cells) None) es ++ entry.Filled x.number p c.top_cell-cell.result ∷ []) c.query-q.ensures)) in
     let fewer : length c.take-woken.new.self + 1 ≡ length s.claims = ap (λ (l : Claims Demand). length l + 1) c.take-woken.ensures.rest ∙ length-removed (is_at (point_cmp p)) s.claims (some-held b o s.number s.store s.claims es a p q held) in
-    let put : c.record_fill.new.store ≡ after_put s.store (cell_for p (cell_at b.circuit p)) = c.in-Ok.ensures.store ∙ ap (λ (z : Cell). after_put s.store (cell_for p z)) right in
+    let put : c.record_fill.new.store ≡ after_put s.store (cell_for p (cell_at b.circuit p)) = c.in_ok-record_fill.ensures.store ∙ ap (λ (z : Cell). after_put s.store (cell_for p z)) right in
     record {
       agrees = subst (λ (l : List Entry). Agrees b o s.number c.record_fill.new.store c.take-woken.new.self l) (sym items)
           (subst (λ (l : Claims Demand). Agrees b o s.number c.record_fill.new.store l (filled_shard b.capacity q p (cell_at b.circuit p) (shard_at o es)).journal) (sym c.take-woken.ensures.rest)
           (filled-agrees b o s.number s.store s.claims es a q p held c.facts.ensures c.record_fill.new.store put));
-      room = omega (arith, c.in-Ok.ensures.len, c.in-Ok.ensures.capacity, c.self.invariant.room, fewer);
+      room = omega (arith, c.in_ok-record_fill.ensures.len, c.in_ok-record_fill.ensures.capacity, c.self.invariant.room, fewer);
     }
 
 pub returns : goal.returns
@@ -92,6 +92,8 @@ returns g c =
     let items : c.record_fill.new.journal.items ≡ (filled_shard b.capacity q p (cell_at b.circuit p) (shard_at o es)).journal =
     filled-items b o s.number s.store s.claims es a q p held c.facts.ensures c.record_fill.new.journal.items
     (subst (λ (z : Cell). c.record_fill.new.journal.items ≡ after_eviction (cond (pushes_out (cell_for p z) s.store) (last_key s.store.cells) None) es ++ entry.Filled q p z ∷ []) right
-    (c.in-Ok.ensures.items ∙ ap (λ (x : Query). after_eviction (cond (pushes_out (cell_for p c.top_cell-cell.result) s.store) (last_key s.store.cells) None) es ++ entry.Filled x.number p c.top_cell-cell.result ∷ []) c.query-q.ensures)) in
-    subst (λ (v : KeptShard). FillsIt b v (record { number = s.number; shard = shard_at o c.record_fill.new.journal.items; waiting = waits_in c.take-woken.new.self }) p w c.finish_with.new.self c.hear_all.new.list.items) c.self.view_is
-    (filled-shown b o s.number s.store s.claims es a q p held c.facts.ensures w c.finish_with.new.self refl c.finish_with.ensures c.take-woken.result.items c.hear_all.new.list.items c.take-woken.ensures.waiters c.hear_all.ensures c.take-woken.new.self c.take-woken.ensures.rest c.facts-2.ensures c.record_fill.new.journal.items items)
+    (c.in_ok-record_fill.ensures.items ∙ ap (λ (x : Query). after_eviction (cond (pushes_out (cell_for p c.top_cell-cell.result) s.store) (last_key s.store.cells) None) es ++ entry.Filled x.number p c.top_cell-cell.result ∷ []) c.query-q.ensures)) in (
+      refl,
+      subst (λ (v : KeptShard). FillsIt b v (record { number = s.number; shard = shard_at o c.record_fill.new.journal.items; waiting = waits_in c.take-woken.new.self }) p w c.finish_with.new.self c.hear_all.new.list.items) c.self.view_is
+          (filled-shown b o s.number s.store s.claims es a q p held c.facts.ensures w c.finish_with.new.self refl c.finish_with.ensures c.take-woken.result.items c.hear_all.new.list.items c.take-woken.ensures.waiters c.hear_all.ensures c.take-woken.new.self c.take-woken.ensures.rest c.facts-2.ensures c.record_fill.new.journal.items items),
+    )
