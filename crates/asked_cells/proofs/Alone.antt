@@ -9,14 +9,14 @@ use Rattle.circuit_meaning.specs.Need.{IsEvaluable}
 use Rattle.journal_meaning.specs.declared.Entry.{Entry}
 use Rattle.batch_meaning.specs.declared.Query.{Query}
 use Rattle.batch_meaning.specs.Batches.{Batch}
-use Rattle.journal_meaning.specs.Answers.{IsCovered, filled, is_fill_of}
+use Rattle.journal_meaning.specs.Answers.{IsCovered, fill_count, is_fill_of}
 use Rattle.journal_meaning.specs.inner.Grown.{IsRightEntry}
 use Rattle.journal_meaning.specs.Grown.{AreAdded}
 use Rattle.journal_meaning.specs.inner.Index.{cells_said, IsFound, IsCellIndex}
 use Rattle.journal_meaning.proofs.Index.{found-said, said-found}
 use Rattle.journal_meaning.proofs.Lists.{Each}
 use Rattle.batch_meaning.specs.Lawful.{IsLawful}
-use Rattle.strand_meaning.specs.Strands.{Strand, IsStrand, started}
+use Rattle.strand_meaning.specs.Strands.{Strand, IsStrand, started_strand}
 use Rattle.batch_meaning.specs.Pieces.{Start, IsStart}
 use Rattle.strand_meaning.proofs.Started.{started-right}
 use Rattle.plan_machine.specs.Shards.{Shard}
@@ -57,7 +57,7 @@ free-shards b opening ms numbers fresh = record {
         subst (λ (h : Shard). h.state.claims ≡ []) (shard-at ms k d no_shard low) (fresh.free k (omega arith))
 
 -- one strand that starts is new
-pub new-strand : (b : Batch) (a : Start) → IsStart b a → (s : Demand) → s.number ≡ 0 → s.strand ≡ started b.circuit a → AreFreshStrands b (s ∷ [])
+pub new-strand : (b : Batch) (a : Start) → IsStart b a → (s : Demand) → s.number ≡ 0 → s.strand ≡ started_strand b.circuit a → AreFreshStrands b (s ∷ [])
 new-strand b a start s number is zero r e =
     let same : s ≡ r = cc e in
     subst (IsFreshStrand b 0) same (record {
@@ -120,14 +120,14 @@ module _ (b : Batch) (lawful : IsLawful b) (opening : ℕ → List SignalCell) (
   index-on index after fresh i read = index-same b.circuit after (entries_of old ++ tails (lengths_of old) new) (entries_of new) same (read (entries_of old) i (tails-right fresh))
 
   -- what the query is charged then
-  pub charged-on : (q : Query) (charge more : ℕ) → IsChargedMemo b opening old q charge → AreNumbered new → IsFresh b opening (shards_in new) → more ≡ min (charge + filled (tails (lengths_of old) new) q.number) q.budget → IsChargedMemo b opening new q more
+  pub charged-on : (q : Query) (charge more : ℕ) → IsChargedMemo b opening old q charge → AreNumbered new → IsFresh b opening (shards_in new) → more ≡ min (charge + fill_count (tails (lengths_of old) new) q.number) q.budget → IsChargedMemo b opening new q more
   charged-on q charge more a numbers fresh counts = record {
     kept = record { numbers = numbers; fresh = fresh };
     counts =
         let n = a.counts in
         let s = same.counts (is_fill_of q.number) in
         let t = filled-append (entries_of old) (tails (lengths_of old) new) q.number in
-        let u : filled (entries_of new) q.number ≡ filled (entries_of old) q.number + filled (tails (lengths_of old) new) q.number = sym s ∙ t in
+        let u : fill_count (entries_of new) q.number ≡ fill_count (entries_of old) q.number + fill_count (tails (lengths_of old) new) q.number = sym s ∙ t in
         omega arith;
   }
 

@@ -3,7 +3,7 @@ use Rattle.std.proofs.Common.{◌≡◌, ℕ, zero, suc, ◌+◌, ◌<◌, Bool,
 use Rattle.std.proofs.lemmas.List.Elements.{Contains-append_left, Contains-append_right, Contains-append_cases}
 use Rattle.std.proofs.Math.Seq.{drop-append_seam}
 use Rattle.journal_meaning.specs.declared.Entry.{Entry}
-use Rattle.journal_meaning.specs.Answers.{is_fill_of, filled}
+use Rattle.journal_meaning.specs.Answers.{is_fill_of, fill_count}
 use Rattle.journal_meaning.specs.Counts.{count}
 use Rattle.journal_meaning.proofs.Grown.{count-append}
 use Rattle.journal_meaning.proofs.Lists.{Each, each-left, each-right}
@@ -41,7 +41,7 @@ shard-at (m ∷ ms) zero d e low = refl
 shard-at (m ∷ ms) (suc k) d e low = shard-at ms k d e (omega arith)
 
 -- how many fills, of the entries of two lists
-pub filled-append : (xs ys : List Entry) (q : ℕ) → filled (xs ++ ys) q ≡ filled xs q + filled ys q
+pub filled-append : (xs ys : List Entry) (q : ℕ) → fill_count (xs ++ ys) q ≡ fill_count xs q + fill_count ys q
 filled-append xs ys q = count-append (is_fill_of q) xs ys
 
 -- two parts between others change places

@@ -16,10 +16,10 @@ use Rattle.batch_meaning.specs.Batches.{Batch}
 use Rattle.journal_meaning.proofs.Lists.{Each, each-imply}
 use Rattle.journal_meaning.proofs.Claims.{holder-each, claim-here, claim-other}
 use Rattle.batch_meaning.specs.Lawful.{IsLawful}
-use Rattle.plan_machine.specs.Shards.{Shard, IsShard, recorded}
+use Rattle.plan_machine.specs.Shards.{Shard, IsShard, shard_with_entry}
 use Rattle.plan_machine.specs.Plans.{no_shard}
 use Rattle.plan_machine.specs.Sound.{IsFresh}
-use Rattle.plan_machine.specs.Settle.{AreShards, AreFreed, IsOrder, drop_of, freed}
+use Rattle.plan_machine.specs.Settle.{AreShards, AreFreed, IsOrder, drop_of, shard_without}
 use Rattle.plan_machine.proofs.Freed.{all-freed}
 use Rattle.valid_intervals.specs.Cells.{point_cmp}
 use Rattle.memo_shards.specs.KeptShards.{KeptShard, IsKnownShard}
@@ -73,19 +73,19 @@ all-held (c ∷ cs) h = (claim-here cs c.point c.query, more cs (apart-from c.po
     more [] a k = tt
     more (d ∷ ds) a k = (claim-other cs c.point d.point c.query (λ e. a.0 (sym e)) ∙ k.0, more ds a.1 k.1)
 
-recorded-freed : (cs : List Claim) (h : Shard) → recorded_all (map (λ (c : Claim). Dropped c.query c.point) cs) h ≡ freed cs h
+recorded-freed : (cs : List Claim) (h : Shard) → recorded_all (map (λ (c : Claim). Dropped c.query c.point) cs) h ≡ shard_without cs h
 recorded-freed [] h = refl
-recorded-freed (c ∷ cs) h = recorded-freed cs (recorded (drop_of c) h)
+recorded-freed (c ∷ cs) h = recorded-freed cs (shard_with_entry (drop_of c) h)
 
 module _ (old new : KeptShard) (f : FreesAll old new) where
   freed-order : IsOrder old.shard.state.claims f.claims
   freed-order = record {
-    held = each-imply (λ (c : Claim). holder f.claims c.point ≡ Some c.query) (λ (c : Claim). holder old.shard.state.claims c.point ≡ Some c.query) (λ c h. sym (f.all c.point) ∙ h) f.claims (all-held f.claims f.order);
+    claimed = each-imply (λ (c : Claim). holder f.claims c.point ≡ Some c.query) (λ (c : Claim). holder old.shard.state.claims c.point ≡ Some c.query) (λ c h. sym (f.all c.point) ∙ h) f.claims (all-held f.claims f.order);
     different = all-different f.claims f.order;
     all = λ p q h. holder-each (λ n x. (c : Claim) × Contains f.claims c × (c.point ≡ x)) f.claims p q (each-from (λ (d : Claim). (c : Claim) × Contains f.claims c × (c.point ≡ d.point)) f.claims (λ d k. (d, k, refl))) (f.all p ∙ h);
   }
 
-  freed-shard : new.shard ≡ freed f.claims old.shard
+  freed-shard : new.shard ≡ shard_without f.claims old.shard
   freed-shard = f.shard ∙ recorded-freed f.claims old.shard
 
 -- all claims of the shards are freed, in an order that names each once
@@ -96,7 +96,7 @@ shards-freed old new count f = record {
 }
   where
     by : (old new : List KeptShard) → length new ≡ length old → ((n : ℕ) (d : KeptShard) → n < length old → FreesAll (get_or old n d) (get_or new n d)) → (n : ℕ) → n < length old
-        → (order : List Claim) × IsOrder (get_or (shards_in old) n no_shard).state.claims order × (get_or (shards_in new) n no_shard ≡ freed order (get_or (shards_in old) n no_shard))
+        → (order : List Claim) × IsOrder (get_or (shards_in old) n no_shard).state.claims order × (get_or (shards_in new) n no_shard ≡ shard_without order (get_or (shards_in old) n no_shard))
     by [] new count f n low = absurd (omega arith)
     by (m ∷ old) new count f n low =
         let k = f n m low in
@@ -106,7 +106,7 @@ shards-freed old new count f = record {
         let is : get_or (shards_in new) n no_shard ≡ d = shard-at new n m no_shard (omega arith) in (
           k.claims,
           subst (λ (h : Shard). IsOrder h.state.claims k.claims) (sym was) (freed-order (get_or (m ∷ old) n m) (get_or new n m) k),
-          is ∙ freed-shard (get_or (m ∷ old) n m) (get_or new n m) k ∙ ap (freed k.claims) (sym was),
+          is ∙ freed-shard (get_or (m ∷ old) n m) (get_or new n m) k ∙ ap (shard_without k.claims) (sym was),
         )
 
 -- the shards keep their numbers

@@ -8,7 +8,7 @@ use Rattle.journal_meaning.specs.Replay.{replay}
 use Rattle.batch_meaning.specs.Batches.{Batch}
 use Rattle.plan_machine.specs.Shards.{Shard, IsShard}
 use Rattle.plan_machine.specs.Plans.{no_shard}
-use Rattle.plan_machine.specs.Settle.{AreShards, AreFreed, IsOrder, freed}
+use Rattle.plan_machine.specs.Settle.{AreShards, AreFreed, IsOrder, shard_without}
 use Rattle.memo_shards.specs.KeptShards.{KeptShard}
 use Rattle.plan_core.specs.Parts.{shards_in}
 use Rattle.asked_cells.specs.Memos.{entries_of}
@@ -17,7 +17,7 @@ use Rattle.asked_cells.proofs.Entries.{shard-at}
 -- an order of no claims is empty
 no-order : (order : List Claim) → IsOrder [] order → order ≡ []
 no-order [] o = refl
-no-order (c ∷ order) o = absurd (cc o.held.0)
+no-order (c ∷ order) o = absurd (cc o.claimed.0)
 
 none-recorded : (ms : List KeptShard) → ((n : ℕ) → n < length ms → (get_or (shards_in ms) n no_shard).journal ≡ []) → entries_of ms ≡ []
 none-recorded [] h = refl
@@ -41,7 +41,7 @@ unused-freed b opening handed begun are f unused = none-recorded begun one
         let claims : old.state.claims ≡ [] = ap (λ s. s.claims) (is.state ∙ ap (replay (fresh (opening n))) empty) in
         let o = f.order n (omega arith) in
         let none : o.0 ≡ [] = no-order o.0 (subst (λ cs. IsOrder cs o.0) claims o.1) in
-        let same : get_or (shards_in begun) n no_shard ≡ old = o.2 ∙ ap (λ cs. freed cs old) none in
+        let same : get_or (shards_in begun) n no_shard ≡ old = o.2 ∙ ap (λ cs. shard_without cs old) none in
         ap (λ (h : Shard). h.journal) same ∙ empty
       where
         by : (ms : List KeptShard) (n : ℕ) → n < length ms → All (λ (m : KeptShard). m.shard.journal ≡ []) ms → (get_or (shards_in ms) n no_shard).journal ≡ []

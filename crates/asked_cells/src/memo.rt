@@ -1,12 +1,12 @@
 //! The shards of a batch as it is asked alone, with an index of what their entries say.
 
-ghost use Rattle.std.specs.Prelude.{◌≡◌, ◌<◌, ◌≤◌, ◌+◌, ◌++◌, ◌∷◌, [], ℕ, List, length, drop, get_or, min, IfOk, IfSome, IfNone, OnSome, OnOk};
+ghost use Rattle.std.specs.Prelude.{◌≡◌, ◌<◌, ◌≤◌, ◌+◌, ◌++◌, ◌∷◌, [], ℕ, List, length, drop, slice_index_or, min, IfOk, IfSome, IfNone, OnSome, OnOk};
 ghost use Rattle.std.specs.BTreeMap.{get};
 ghost use Rattle.std.specs.List.{AllByRecursion};
 ghost use Rattle.circuit_meaning.specs.Circuit.{Circuit, IsCircuit};
 ghost use Rattle.circuit_meaning.specs.Need.{IsEvaluable};
 ghost use Rattle.journal_meaning.specs.declared.Entry.{Entry as EntryRecord};
-ghost use Rattle.journal_meaning.specs.Answers.{is_fill_of, filled};
+ghost use Rattle.journal_meaning.specs.Answers.{is_fill_of, fill_count};
 ghost use Rattle.circuit_meaning.specs.Cells.{cell_at};
 ghost use Rattle.journal_meaning.specs.inner.Grown.{IsRightEntry};
 ghost use Rattle.journal_meaning.specs.inner.Index.{cells_said, IsCellIndex, IsFound};
@@ -156,7 +156,7 @@ fn is_fill(entry: &Entry, number: u32) -> bool
 /// What the query is charged after this entry, at most its budget.
 fn charged_once(entry: &Entry, query: Query, charge: u32) -> u32
     requires { charge ≤ query.budget }
-    ensures { result ≡ min (charge + filled (entry.now ∷ []) query.number) query.budget }
+    ensures { result ≡ min (charge + fill_count (entry.now ∷ []) query.number) query.budget }
 {
     if !is_fill(entry, query.number) {
         return charge;
@@ -169,9 +169,9 @@ fn charged_once(entry: &Entry, query: Query, charge: u32) -> u32
 }
 
 /// What the query is charged after these entries, at most its budget.
-fn charged(entries: &[Entry], query: Query, charge: u32) -> u32
+fn charge_after(entries: &[Entry], query: Query, charge: u32) -> u32
     requires { charge ≤ query.budget }
-    ensures { result ≡ min (charge + filled entries.now query.number) query.budget }
+    ensures { result ≡ min (charge + fill_count entries.now query.number) query.budget }
 {
     let mut total = charge;
     for entry in entries {
@@ -207,11 +207,11 @@ fn read_tail<B: BatchName>(
         → OnOk result (IsCellIndex c (cells_said (es ++ drop from shard.now.shard.journal))
         (get point_cmp cells.new.cells)) }
     ensures charge { OnOk result (charge.new ≡ min
-        (charge.old + filled (drop from shard.now.shard.journal) query.number) query.budget) }
+        (charge.old + fill_count (drop from shard.now.shard.journal) query.number) query.budget) }
 {
     let new = &shard.journal()[from..];
     cells.note_all(new)?;
-    *charge = charged(new, query, *charge);
+    *charge = charge_after(new, query, *charge);
     Ok(())
 }
 
@@ -225,7 +225,7 @@ fn read_new<B: BatchName>(
 ) -> Result<(), OutOfMemory>
     requires count { length read.now ≡ length shards.now }
     requires read { (i d : ℕ) (e : KeptShard) → i < length read.now
-        → get_or read.now i d ≤ length (get_or shards.now i e).shard.journal }
+        → slice_index_or read.now i d ≤ length (slice_index_or shards.now i e).shard.journal }
     requires charge { charge.old ≤ query.budget }
     ensures indexed { (c : Circuit) (es : List EntryRecord) → IsCircuit c
         → IsCellIndex c (cells_said es) (get point_cmp cells.old.cells)
@@ -233,7 +233,7 @@ fn read_new<B: BatchName>(
         → OnOk result (IsCellIndex c (cells_said (es ++ tails read.now shards.now))
         (get point_cmp cells.new.cells)) }
     ensures charge { OnOk result (charge.new ≡ min
-        (charge.old + filled (tails read.now shards.now) query.number) query.budget) }
+        (charge.old + fill_count (tails read.now shards.now) query.number) query.budget) }
 {
     for k in 0..read.len() {
         read_tail(cells, &shards[k], read[k], query, charge)?;

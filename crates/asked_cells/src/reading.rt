@@ -1,6 +1,6 @@
 //! The shards as asking begins: their claims are freed, and their entries are read.
 
-ghost use Rattle.std.specs.Prelude.{◌≡◌, ◌<◌, ℕ, length, get_or, IfOk, IfSome};
+ghost use Rattle.std.specs.Prelude.{◌≡◌, ◌<◌, ℕ, length, slice_index_or, IfOk, IfSome};
 ghost use Rattle.std.specs.BTreeMap.{get};
 ghost use Rattle.std.specs.List.{AllByRecursion};
 ghost use Rattle.circuit_meaning.specs.Circuit.{Circuit, IsCircuit};
@@ -26,7 +26,7 @@ use valid_intervals::{Cell, Point};
 pub fn free_all<B: BatchName>(shards: &mut Vec<Shard<B>>)
     ensures count { length shards.new.items ≡ length shards.old.items }
     ensures freed { (n : ℕ) (d : KeptShard) → n < length shards.old.items
-        → FreesAll (get_or shards.old.items n d) (get_or shards.new.items n d) }
+        → FreesAll (slice_index_or shards.old.items n d) (slice_index_or shards.new.items n d) }
 {
     for k in 0..shards.len() {
         shards[k].free_claims();
@@ -72,8 +72,9 @@ pub fn places_in<B: BatchName>(
     ensures count { IfOk result (λ places. length places.items ≡ length shards.now) }
     ensures each { IfOk result (λ places. (n : ℕ) (d : KeptShard) (e : PlacesRecord)
         → n < length shards.now
-        → ArePlaces (get_or shards.now n d).shard.journal (get_or places.items n e).last.items
-        (get_or places.items n e).before.items) }
+        → ArePlaces (slice_index_or shards.now n d).shard.journal (slice_index_or places.items n
+        e).last.items
+        (slice_index_or places.items n e).before.items) }
 {
     let mut places = Vec::new(alloc);
     for shard in shards {

@@ -2,7 +2,7 @@
 use Rattle.std.proofs.Common.{◌≡◌, ℕ, ◌≤◌, ◌<◌, ◌⊎◌, inl, inr, Option, Some, None, Result, Err, Ok, refl, subst, ap, option_map, ◌∙◌, sym, arith, List, length}
 use Rattle.owned_text.specs.Made.{Made}
 use Rattle.backsim_io.specs.Counts.{Grows, GrowsByPrefix}
-use Rattle.backsim_io.specs.Held.{Places}
+use Rattle.backsim_io.specs.FilesInMemory.{Places}
 use Rattle.backsim_io.specs.State.{FilesState, SourceState, Rises}
 use Rattle.circuit_files.specs.Files.{netlist_of, first_two, design_of_files}
 use Rattle.circuit_files.specs.Stops.{AnswersFirst}
@@ -17,7 +17,7 @@ use Rattle.backsim.specs.Broken.{Leaves, LeavesOpen, OnFileFault}
 use Rattle.backsim.specs.Cause.{counts_in, NoneRose, Explains}
 use Rattle.backsim.specs.Commands.{Command, command_of}
 use Rattle.backsim.specs.Refused.{IsRefused, RefusesFiles, EndsEarly}
-use Rattle.backsim.specs.Seen.{Seen, files_in, held_in, IsUntouched}
+use Rattle.backsim.specs.Seen.{Seen, files_in, bytes_in, IsUntouched}
 use Rattle.backsim.specs.Texts.{usage}
 use Rattle.backsim.specs.Serves.{ServesSession, ServesWorkload, Serves}
 use Rattle.backsim.specs.Session.{Given, AreGiven, IsServed}
@@ -97,9 +97,9 @@ pub record OfAccepted (command : Command) (before after : Seen) (status : Status
   pub unfinished : LeavesOpen (files_in after) status
 
 pub of-accepted : (command : Command) (before after : Seen) (status : Status) (design : Joined) (started : ℕ)
-    → ((first : List ℕ) → held_in before command.netlist ≡ Some first → AnswersFirst {A = Joined} 1 started (Ok design) (netlist_of first))
-    → ((first second : List ℕ) → held_in before command.netlist ≡ Some first → held_in before command.timing ≡ Some second → AnswersFirst {A = Joined} 2 started (Ok design) (first_two first second))
-    → ((first second third : List ℕ) → held_in before command.netlist ≡ Some first → held_in before command.timing ≡ Some second → held_in before command.stimulus ≡ Some third
+    → ((first : List ℕ) → bytes_in before command.netlist ≡ Some first → AnswersFirst {A = Joined} 1 started (Ok design) (netlist_of first))
+    → ((first second : List ℕ) → bytes_in before command.netlist ≡ Some first → bytes_in before command.timing ≡ Some second → AnswersFirst {A = Joined} 2 started (Ok design) (first_two first second))
+    → ((first second third : List ℕ) → bytes_in before command.netlist ≡ Some first → bytes_in before command.timing ≡ Some second → bytes_in before command.stimulus ≡ Some third
     → design_of_files first second third ≡ Ok design)
     → OfAccepted command before after status → ServesSession command before after status
 of-accepted command before after status design started first two all says = record {

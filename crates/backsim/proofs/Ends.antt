@@ -2,7 +2,7 @@
 use Rattle.std.proofs.Common.{◌≡◌, ◌≤◌, ◌<◌, ◌+◌, arith, ap, ℕ, lit≤, List, [], length, Option, Some, Result, Ok, Err, inl, inr, refl, sym, subst, ◌∙◌, append-nil}
 use Rattle.std.proofs.Math.Seq.{take-length}
 use Rattle.backsim_io.specs.Counts.{Grows, GrowsByPrefix, Stays}
-use Rattle.backsim_io.specs.Held.{SameMade, ConsumesUpTo}
+use Rattle.backsim_io.specs.FilesInMemory.{SameMade, ConsumesUpTo}
 use Rattle.backsim_io.specs.State.{FilesState}
 use Rattle.design.specs.Joined.{Joined}
 use Rattle.circuit_files.specs.Changes.{StopChanges}

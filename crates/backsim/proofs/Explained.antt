@@ -3,7 +3,7 @@ use Rattle.std.proofs.Common.{◌≡◌, ◌≤◌, ◌<◌, ◌+◌, ℕ, List,
 use Rattle.std.proofs.lemmas.List.Elements.{All-nil, All-cons, All-head}
 use Rattle.std.specs.Prelude.{All}
 use Rattle.backsim_io.specs.Counts.{Rose}
-use Rattle.backsim_io.specs.Held.{Places}
+use Rattle.backsim_io.specs.FilesInMemory.{Places}
 use Rattle.backsim_io.specs.State.{FilesState, SourceState}
 use Rattle.circuit_files.specs.Changes.{Opened, StopChanges}
 use Rattle.circuit_files.specs.declared.refusal.CircuitFile.{CircuitFile}

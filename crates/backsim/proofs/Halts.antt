@@ -4,7 +4,7 @@ use Rattle.std.proofs.lemmas.List.{take-append-drop}
 use Rattle.std.specs.Prelude.{◌≤◌, IsErrOf}
 use Rattle.owned_text.specs.Made.{Made}
 use Rattle.backsim_io.specs.Counts.{Grows, GrowsByPrefix, Stays}
-use Rattle.backsim_io.specs.Held.{SameMade}
+use Rattle.backsim_io.specs.FilesInMemory.{SameMade}
 use Rattle.circuit_files.specs.Files.{design_of_files}
 use Rattle.design.specs.Joined.{Joined, IsDesign}
 use Rattle.session_meaning.specs.Session.{Setup, IsSessionOf}

@@ -2,7 +2,7 @@
 use Rattle.std.specs.Prelude.{◌≡◌, ◌≤◌, ◌<◌, ◌⊎◌, ⊤, ℕ, List, ◌++◌, Some, Err}
 use Rattle.owned_text.specs.Made.{Made}
 use Rattle.backsim_io.specs.Counts.{Grows, GrowsByPrefix}
-use Rattle.backsim_io.specs.Held.{SameMade}
+use Rattle.backsim_io.specs.FilesInMemory.{SameMade}
 use Rattle.circuit_files.specs.Files.{design_of_files}
 use Rattle.circuit_files.specs.Texts.{refusal_text}
 use Rattle.circuit_files.specs.declared.refusal.FileRefusal.{FileRefusal}

@@ -2,7 +2,7 @@
 use Rattle.std.specs.Prelude.{◌≡◌, ℕ, List, Option}
 use Rattle.owned_text.specs.Made.{Made}
 use Rattle.backsim_io.specs.Counts.{Stays}
-use Rattle.backsim_io.specs.Held.{SameMade}
+use Rattle.backsim_io.specs.FilesInMemory.{SameMade}
 use Rattle.backsim_io.specs.State.{FilesState}
 use Rattle.session_loop.specs.Outside.{Outside}
 
@@ -17,8 +17,8 @@ abbrev pub files_in : Seen → FilesState
 files_in seen = seen.outside.outputs.files
 
 -- the bytes under a name, where they are told
-abbrev pub held_in : Seen → List ℕ → Option (List ℕ)
-held_in seen name = (files_in seen).held name
+abbrev pub bytes_in : Seen → List ℕ → Option (List ℕ)
+bytes_in seen name = (files_in seen).bytes name
 
 -- the rest of the script, where it is told
 abbrev pub left_in : Seen → Option (List ℕ)

@@ -8,7 +8,7 @@ use Rattle.design.specs.Joined.{Joined}
 use Rattle.backsim.specs.declared.status.Place.TheVariants.{Replies}
 use Rattle.backsim.specs.declared.status.Status.{Status}
 use Rattle.backsim.specs.declared.status.Status.TheVariants.{Ended, Words, Refused, WriteFault, OutOfMemory}
-use Rattle.backsim.specs.Seen.{Seen, files_in, held_in, created_in, IsUntouched}
+use Rattle.backsim.specs.Seen.{Seen, files_in, bytes_in, created_in, IsUntouched}
 use Rattle.backsim.specs.Cause.{counts_in, NoneRose, Explains}
 use Rattle.backsim.specs.Commands.{Command, command_of}
 use Rattle.backsim.specs.Texts.{usage}
@@ -32,12 +32,12 @@ pub record ServesSession (command : Command) (before after : Seen) (status : Sta
   pub refused : (given : Given) → AreGiven before command given → status ≡ Refused → IsRefused command given before after
   -- a file that is refused is, whatever the later files hold
   pub netlist_refused : (refusal : FileRefusal) (first : List ℕ)
-      → held_in before command.netlist ≡ Some first → netlist_of first ≡ Err refusal → RefusesFiles 1 refusal before after status
+      → bytes_in before command.netlist ≡ Some first → netlist_of first ≡ Err refusal → RefusesFiles 1 refusal before after status
   pub timing_refused : (refusal : FileRefusal) (first second : List ℕ)
-      → held_in before command.netlist ≡ Some first → held_in before command.timing ≡ Some second
+      → bytes_in before command.netlist ≡ Some first → bytes_in before command.timing ≡ Some second
       → first_two first second ≡ Err refusal → RefusesFiles 2 refusal before after status
   pub files_refused : (refusal : FileRefusal) (first second third : List ℕ)
-      → held_in before command.netlist ≡ Some first → held_in before command.timing ≡ Some second → held_in before command.stimulus ≡ Some third
+      → bytes_in before command.netlist ≡ Some first → bytes_in before command.timing ≡ Some second → bytes_in before command.stimulus ≡ Some third
       → design_of_files first second third ≡ Err refusal → RefusesFiles 3 refusal before after status
   pub script_refused : (given : Given) → AreGiven before command given → 16777216 < length given.script → EndsEarly status
   -- status 1 is that of other words

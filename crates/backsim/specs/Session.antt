@@ -7,7 +7,7 @@ use Rattle.session_meaning.specs.Session.{Setup}
 use Rattle.session_meaning.specs.Whole.{IsWhole}
 use Rattle.session_loop.specs.Halting.{WroteFiles}
 use Rattle.backsim.specs.Commands.{Command}
-use Rattle.backsim.specs.Seen.{Seen, held_in, left_in, created_in}
+use Rattle.backsim.specs.Seen.{Seen, bytes_in, left_in, created_in}
 
 -- the bytes of the three files and of the script
 pub record Given : Type 0 where
@@ -18,9 +18,9 @@ pub record Given : Type 0 where
 
 -- these are held under the three names, and left in the script
 pub record AreGiven (before : Seen) (command : Command) (given : Given) : Type 0 where
-  pub netlist : held_in before command.netlist ≡ Some given.netlist
-  pub timing : held_in before command.timing ≡ Some given.timing
-  pub stimulus : held_in before command.stimulus ≡ Some given.stimulus
+  pub netlist : bytes_in before command.netlist ≡ Some given.netlist
+  pub timing : bytes_in before command.timing ≡ Some given.timing
+  pub stimulus : bytes_in before command.stimulus ≡ Some given.stimulus
   pub script : left_in before ≡ Some given.script
 
 abbrev pub setup_of : Command → Joined → Setup

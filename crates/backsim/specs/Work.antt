@@ -2,7 +2,7 @@
 use Rattle.std.specs.Prelude.{◌≡◌, ◌⊎◌, ⊤, ℕ, Bool, List, [], ◌∷◌, length, filter, sum_by, codes}
 use Rattle.std.specs.Fmt.{decimal}
 use Rattle.backsim_io.specs.Counts.{Grows, GrowsByPrefix, Stays}
-use Rattle.backsim_io.specs.Held.{SameMade}
+use Rattle.backsim_io.specs.FilesInMemory.{SameMade}
 use Rattle.gate_values.specs.Gates.{same_value}
 use Rattle.gate_values.specs.declared.Value.TheVariants.{One}
 use Rattle.circuit_meaning.specs.declared.Run.{Run}

@@ -1,7 +1,7 @@
 //! One session, from the words to the status.
 
 ghost use Rattle.std.specs.Prelude.{◌≡◌, ◌<◌, ◌≤◌, ℕ, List, Some, None, map};
-ghost use Rattle.backsim_io.specs.Held.{ConsumesUpTo};
+ghost use Rattle.backsim_io.specs.FilesInMemory.{ConsumesUpTo};
 ghost use Rattle.command_words.specs.Words.{words_of};
 ghost use Rattle.backsim.specs.Commands.{command_of, OnNoSession};
 ghost use Rattle.backsim.specs.Serves.{Serves, ServesSession};

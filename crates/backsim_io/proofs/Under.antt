@@ -2,8 +2,8 @@
 use Rattle.std.proofs.Common.{◌≡◌, ℕ, zero, suc, ◌<◌, List, [], ◌∷◌, length, drop, get_or, arith, refl, Bool, cond, Some, Vec, Global}
 use Rattle.std.proofs.lemmas.Grind.{common_steps}
 use Rattle.std.specs.Str.{bytes_eq}
-use Rattle.backsim_io.specs.Held.{bytes_under}
-use Rattle.backsim_io.specs.inner.Held.{bytes_at}
+use Rattle.backsim_io.specs.FilesInMemory.{bytes_under}
+use Rattle.backsim_io.specs.inner.FilesInMemory.{bytes_at}
 
 -- the file at place i either has the name, or those after it are searched
 pub under_from : (files : List (List ℕ × Vec ℕ Global)) (name : List ℕ) (i : ℕ) (d : List ℕ × Vec ℕ Global) → i < length files → bytes_under (drop i files) name ≡ cond (bytes_eq (get_or files i d).0 name) (Some (get_or files i d).1.items) (bytes_under (drop (suc i) files) name)

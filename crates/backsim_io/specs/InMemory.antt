@@ -2,9 +2,9 @@
 use Rattle.std.specs.Prelude.{ℕ, ◌+◌, ◌≤◌, ◌≡◌, List, Some, drop, vec_len, vec_capacity}
 use Rattle.owned_text.specs.Made.{Made}
 use Rattle.backsim_io.specs.Calls.{CallsState}
-use Rattle.backsim_io.specs.Held.{bytes_under}
+use Rattle.backsim_io.specs.FilesInMemory.{bytes_under}
 use Rattle.backsim_io.specs.State.{SourceState, FilesState}
-use Rattle.backsim_io.specs.inner.Held.{bytes_at, files_of, HasRoomAt}
+use Rattle.backsim_io.specs.inner.FilesInMemory.{bytes_at, files_of, HasRoomAt}
 use Rattle.backsim_io.specs.declared.memory.MemSource.{MemSource}
 use Rattle.backsim_io.specs.declared.memory.MemSink.{MemSink}
 use Rattle.backsim_io.specs.declared.memory_files.MemFiles.{MemFiles}
@@ -38,9 +38,9 @@ SinkHasRoom sink more = vec_len sink.bytes + more ≤ vec_capacity sink.bytes
 
 abbrev pub files_state : MemFiles → FilesState
 files_state files = record {
-  held = bytes_under files.held.files.items;
-  left = Some (drop files.held.at (bytes_at files.held.files.items files.held.reading));
-  started = files.held.started;
+  bytes = bytes_under files.stored.files.items;
+  left = Some (drop files.stored.at (bytes_at files.stored.files.items files.stored.reading));
+  started = files.stored.started;
   created = files.slots.files;
   unfinished = files.slots.unfinished;
   file_faults = files.file_faults;

@@ -6,7 +6,7 @@ use Rattle.backsim_io.specs.Counts.{Rose}
 -- the state of files
 pub record FilesState : Type 0 where
   -- the bytes under a name, if they are known
-  pub held : List ℕ → Option (List ℕ)
+  pub bytes : List ℕ → Option (List ℕ)
   -- the rest of the file that is being read, if it is known
   pub left : Option (List ℕ)
   -- how many files were opened for reading
@@ -24,7 +24,7 @@ pub record FilesState : Type 0 where
 
 -- files of which none was opened or created, with what is known of their bytes
 abbrev pub fresh_files : (List ℕ → Option (List ℕ)) → Option (List ℕ) → FilesState
-fresh_files held left = record { held = held; left = left; started = 0; created = 0; unfinished = []; file_faults = 0; read_faults = 0; write_faults = 0 }
+fresh_files bytes left = record { bytes = bytes; left = left; started = 0; created = 0; unfinished = []; file_faults = 0; read_faults = 0; write_faults = 0 }
 
 -- the state of a source
 pub record SourceState : Type 0 where

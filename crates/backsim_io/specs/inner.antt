@@ -1,3 +1,3 @@
-pub mod Held
+pub mod FilesInMemory
 pub mod Slots
 pub mod SureFiles

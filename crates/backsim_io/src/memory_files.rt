@@ -6,14 +6,14 @@ ghost use Rattle.std.specs.Option.{option_copied};
 ghost use Rattle.std.specs.Bool.{OnTrue, OnFalse};
 ghost use Rattle.owned_text.specs.Made.{Made};
 ghost use Rattle.backsim_io.specs.Calls.{is_listed, after_call};
-ghost use Rattle.backsim_io.specs.Held.{Places, FileWrites, SameMade, CreatesIn, bytes_under, grown, without};
+ghost use Rattle.backsim_io.specs.FilesInMemory.{Places, FileWrites, SameMade, CreatesIn, bytes_under, files_with, list_without};
 ghost use Rattle.backsim_io.specs.State.{fresh_files, FileFault, ReadFault, WriteFault, Reads};
-ghost use Rattle.backsim_io.specs.inner.Held.{files_of, HasRoomAt};
+ghost use Rattle.backsim_io.specs.inner.FilesInMemory.{files_of, HasRoomAt};
 
 use crate::calls::Calls;
-use crate::faults::raised;
-use crate::held::HeldFiles;
+use crate::faults::one_more;
 use crate::slots::Slots;
+use crate::stored::StoredFiles;
 use crate::{Failed, Files};
 use owned_text::Text;
 use std::alloc::Global;
@@ -22,7 +22,7 @@ use std::alloc::Global;
 #[derive(Drop)]
 pub struct MemFiles {
     alloc: Global,
-    held: HeldFiles,
+    stored: StoredFiles,
     created: Vec<(Text, Vec<u8>)>,
     slots: Slots,
     calls: Calls,
@@ -39,15 +39,15 @@ impl MemFiles {
 
     /// Files with these names and bytes. If two names are equal, the first counts. A call fails if `failing` lists its number; the first
     /// call has number 0. `start_read` also fails for a missing name, and `create` and `write` fail if there is no memory.
-    pub fn new(alloc: Global, held: Vec<(Text, Vec<u8>)>, failing: Vec<u64>) -> MemFiles
-        ensures state { ⟦<MemFiles as Files>⟧.state result ≡ fresh_files (bytes_under held.items)
+    pub fn new(alloc: Global, stored: Vec<(Text, Vec<u8>)>, failing: Vec<u64>) -> MemFiles
+        ensures state { ⟦<MemFiles as Files>⟧.state result ≡ fresh_files (bytes_under stored.items)
             (Some []) }
         ensures made { ⟦<MemFiles as Files>⟧.made result [] }
         ensures calls { files_calls result ≡ record { failing = failing.items; next = 0 } }
     {
         MemFiles {
             alloc,
-            held: HeldFiles::new(held),
+            stored: StoredFiles::new(stored),
             created: Vec::new(alloc),
             slots: Slots::new(),
             calls: Calls::new(failing),
@@ -58,7 +58,7 @@ impl MemFiles {
     }
 
     /// The bytes of the created file at this place.
-    pub fn made(&self, slot: u32) -> Option<&[u8]>
+    pub fn made_file(&self, slot: u32) -> Option<&[u8]>
         ensures bytes { (files : List Made) → ⟦<MemFiles as Files>⟧.made self.now files
             → option_copied result ≡ option_map (λ file. file.bytes) (slice_get files slot) }
         ensures none { IsNone result ↔ ((⟦<MemFiles as Files>⟧.state self.now).created ≤ slot) }
@@ -86,7 +86,8 @@ fn create_empty(alloc: Global, created: &mut Vec<(Text, Vec<u8>)>, name: &str) -
 /// Appends bytes to the file at this place. Returns `false` if there is no memory for them.
 fn write_more(created: &mut Vec<(Text, Vec<u8>)>, place: usize, piece: &[u8]) -> bool
     requires { place < length created.old.items }
-    ensures grown { OnTrue result (files_of created.new.items ≡ grown (files_of created.old.items)
+    ensures grown { OnTrue result (files_of created.new.items
+        ≡ files_with (files_of created.old.items)
         place piece.now) }
     ensures none { OnFalse result (files_of created.new.items ≡ files_of created.old.items) }
     ensures count { length created.new.items ≡ length created.old.items }
@@ -111,23 +112,23 @@ impl Files for MemFiles {
         requires { (files_state self.old).started < 4 }
         ensures opens { OnOk result (files_state self.new ≡ record (files_state self.old) {
           started = (files_state self.old).started + 1;
-          left = (files_state self.old).held
+          left = (files_state self.old).bytes
               name.now;
         }) }
         ensures failed { OnErr result (FileFault (files_state self.old) (files_state self.new)) }
-        ensures missing { IsNone ((files_state self.old).held name.now) → IsErr result }
+        ensures missing { IsNone ((files_state self.old).bytes name.now) → IsErr result }
         ensures listed { IsTrue (is_listed (files_calls self.old)) → IsErr result }
         ensures others { IsErr result → IsTrue (is_listed (files_calls self.old)) ⊎
-            IsNone ((files_state self.old).held name.now) }
+            IsNone ((files_state self.old).bytes name.now) }
         ensures calls { files_calls self.new ≡ after_call (files_calls self.old) }
         ensures made { SameMade (files_made self.old) (files_made self.new) }
     {
-        let place = self.held.place_of(name);
+        let place = self.stored.place_of(name);
         if self.calls.fails() || place.is_none() {
-            self.file_faults = raised(self.file_faults);
+            self.file_faults = one_more(self.file_faults);
             return Err(Failed);
         }
-        self.held.start(place);
+        self.stored.start(place);
         Ok(())
     }
 
@@ -144,10 +145,10 @@ impl Files for MemFiles {
         ensures made { SameMade (files_made self.old) (files_made self.new) }
     {
         if self.calls.fails() {
-            self.read_faults = raised(self.read_faults);
+            self.read_faults = one_more(self.read_faults);
             return Err(Failed);
         }
-        Ok(self.held.next(into))
+        Ok(self.stored.next(into))
     }
 
     /// Fails if its number is listed, or else only if there is no memory.
@@ -168,7 +169,7 @@ impl Files for MemFiles {
     {
         let place = self.slots.files();
         if self.calls.fails() || !create_empty(self.alloc, &mut self.created, name) {
-            self.file_faults = raised(self.file_faults);
+            self.file_faults = one_more(self.file_faults);
             return Err(Failed);
         }
         self.slots.add();
@@ -191,7 +192,7 @@ impl Files for MemFiles {
     {
         let place = slot as usize;
         if self.calls.fails() || !write_more(&mut self.created, place, piece) {
-            self.write_faults = raised(self.write_faults);
+            self.write_faults = one_more(self.write_faults);
             return Err(Failed);
         }
         Ok(piece.len())
@@ -201,14 +202,14 @@ impl Files for MemFiles {
     fn finish(&mut self, slot: u32) -> Result<(), Failed>
         requires { Contains (files_state self.old).unfinished slot }
         ensures finishes { OnOk result (files_state self.new ≡ record (files_state self.old)
-            { unfinished = without (files_state self.old).unfinished slot }) }
+            { unfinished = list_without (files_state self.old).unfinished slot }) }
         ensures failed { OnErr result (FileFault (files_state self.old) (files_state self.new)) }
         ensures listed { IsErr result ↔ IsTrue (is_listed (files_calls self.old)) }
         ensures calls { files_calls self.new ≡ after_call (files_calls self.old) }
         ensures made { SameMade (files_made self.old) (files_made self.new) }
     {
         if self.calls.fails() {
-            self.file_faults = raised(self.file_faults);
+            self.file_faults = one_more(self.file_faults);
             return Err(Failed);
         }
         self.slots.remove(slot);

@@ -2,15 +2,15 @@
 ghost use Rattle.std.specs.Prelude.{◌≡◌, List, [], Some, map, take, drop, length, All, option_map, slice_get, vec_len, vec_capacity, IsNone, IfOk, ◌↔◌, ◌+◌, ◌<◌, ◌≤◌, true};
 ghost use Rattle.std.specs.Option.{option_copied};
 ghost use Rattle.owned_text.specs.Made.{Made};
-ghost use Rattle.backsim_io.specs.Held.{Places};
-ghost use Rattle.backsim_io.specs.inner.Held.{bytes_at};
+ghost use Rattle.backsim_io.specs.FilesInMemory.{Places};
+ghost use Rattle.backsim_io.specs.inner.FilesInMemory.{bytes_at};
 ghost use Rattle.backsim_io.specs.KeptBytes.{kept_more};
-ghost use Rattle.backsim_io.specs.inner.SureFiles.{KeptFile, IsBlank, kept_file, cut};
+ghost use Rattle.backsim_io.specs.inner.SureFiles.{KeptFile, IsBlank, kept_file, front_of};
 ghost use Rattle.backsim_io.specs.State.{fresh_files};
-ghost use Rattle.backsim_io.specs.SureFiles.{held_or_empty};
+ghost use Rattle.backsim_io.specs.SureFiles.{bytes_or_empty};
 
-use crate::held::HeldFiles;
 use crate::slots::Slots;
+use crate::stored::StoredFiles;
 use crate::{Failed, Files, SureSink};
 use owned_text::{OutOfMemory, Text};
 use std::alloc::Global;
@@ -74,7 +74,7 @@ impl SureFile {
 /// of its name. Other bytes are discarded.
 #[derive(Drop)]
 pub struct SureFiles {
-    held: HeldFiles,
+    stored: StoredFiles,
     room: usize,
     created: Vec<SureFile>,
     spare: Vec<SureFile>,
@@ -106,18 +106,18 @@ impl SureFiles {
     /// the room for four created files, and no later call allocates.
     pub fn new(
         alloc: Global,
-        held: Vec<(Text, Vec<u8>)>,
+        stored: Vec<(Text, Vec<u8>)>,
         room: usize,
     ) -> Result<SureFiles, OutOfMemory>
         ensures room { IfOk result (λ s. room_of s ≡ room) }
         ensures state { IfOk result (λ s. ⟦<SureFiles as Files>⟧.state s ≡ fresh_files
-            (held_or_empty held.items) (Some [])) }
+            (bytes_or_empty stored.items) (Some [])) }
         ensures made { IfOk result (λ s. ⟦<SureFiles as Files>⟧.made s []) }
     {
         let created = Vec::with_capacity(alloc, FILES)?;
         let spare = blank_files(alloc, room)?;
         Ok(SureFiles {
-            held: HeldFiles::new(held),
+            stored: StoredFiles::new(stored),
             room,
             created,
             spare,
@@ -126,7 +126,7 @@ impl SureFiles {
     }
 
     /// The kept bytes of the created file at this place.
-    pub fn made(&self, slot: u32) -> Option<&[u8]>
+    pub fn made_file(&self, slot: u32) -> Option<&[u8]>
         ensures bytes { (files : List Made) → ⟦<SureFiles as Files>⟧.made self.now files
             → option_copied result ≡ option_map (λ file. take (room_of self.now) file.bytes)
             (slice_get files slot) }
@@ -141,9 +141,9 @@ impl SureFiles {
 
 impl Files for SureFiles {
     ghost state = { λ s. record {
-      held = held_or_empty s.held.files.items;
-      left = Some (drop s.held.at (bytes_at s.held.files.items s.held.reading));
-      started = s.held.started;
+      bytes = bytes_or_empty s.stored.files.items;
+      left = Some (drop s.stored.at (bytes_at s.stored.files.items s.stored.reading));
+      started = s.stored.started;
       created = s.slots.files;
       unfinished = s.slots.unfinished;
       file_faults = 0;
@@ -153,18 +153,18 @@ impl Files for SureFiles {
 
     ghost tells_names = { true };
 
-    ghost made = { λ s files. map (cut s.room) files ≡ map kept_file s.created.items };
+    ghost made = { λ s files. map (front_of s.room) files ≡ map kept_file s.created.items };
 
     ghost places = { λ s. s.fit };
 
     fn start_read(&mut self, name: &str) -> Result<(), Failed> {
-        let place = self.held.place_of(name);
-        self.held.start(place);
+        let place = self.stored.place_of(name);
+        self.stored.start(place);
         Ok(())
     }
 
     fn read(&mut self, into: &mut [u8]) -> Result<usize, Failed> {
-        Ok(self.held.next(into))
+        Ok(self.stored.next(into))
     }
 
     fn create(&mut self, name: &str) -> Result<u32, Failed> {

@@ -160,7 +160,7 @@ fn journal(
     let written = files.write(journal, bytes);
     let whole = write_file(&mut files, journal, bytes);
     let finished = files.finish(journal);
-    let kept = files.made(0) == Some(bytes);
+    let kept = files.made_file(0) == Some(bytes);
     Some((written, [whole, finished], kept))
 }
 
@@ -185,7 +185,7 @@ fn sure_file(
         return None;
     };
     let written = files.write(journal, piece);
-    Some((is_empty, written, files.made(0) == Some(kept)))
+    Some((is_empty, written, files.made_file(0) == Some(kept)))
 }
 
 #[test]

@@ -5,7 +5,7 @@ use Rattle.valid_intervals.specs.declared.Point.{Point}
 use Rattle.circuit_meaning.specs.declared.Window.{Window}
 use Rattle.circuit_meaning.specs.Circuit.{Circuit}
 use Rattle.circuit_meaning.specs.Need.{IsNeeded}
-use Rattle.circuit_meaning.specs.Forced.{forced, IsFree}
+use Rattle.circuit_meaning.specs.Forced.{forced_circuit, IsFree}
 use Rattle.batch_meaning.specs.declared.Query.{Query}
 
 -- a site: a signal, and the value that it is forced to
@@ -32,7 +32,7 @@ window_of q = record { signal = q.signal; start = q.from; stop = q.to }
 -- the points that a query needs of this circuit; with a site, only those of signals that are free of it
 abbrev pub NeedOf : Circuit → Option Site → Query → Point → Type 0
 NeedOf c None q p = IsNeeded c (window_of q) p.signal p.time
-NeedOf c (Some site) q p = IsNeeded (forced c site.signal site.value) (window_of q) p.signal p.time × IsFree c site.signal p.signal
+NeedOf c (Some site) q p = IsNeeded (forced_circuit c site.signal site.value) (window_of q) p.signal p.time × IsFree c site.signal p.signal
 
 abbrev pub IsNeededBy : Batch → Query → Point → Type 0
 IsNeededBy b q p = NeedOf b.circuit b.site q p

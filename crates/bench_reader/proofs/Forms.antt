@@ -3,7 +3,7 @@ use Rattle.std.proofs.Common.{◌≡◌, ℕ, Bool, true, false, List, [], ◌�
 use Rattle.std.specs.Borrow.{Bor}
 use Rattle.std.proofs.lemmas.List.{map-append}
 use Rattle.text_rules.specs.Text.{is_name, line_tokens}
-use Rattle.bench_reader.specs.Lines.{is_the, with_front, listed, by_tokens, line_of}
+use Rattle.bench_reader.specs.Lines.{is_the, with_front, pin_list, by_tokens, line_of}
 use Rattle.bench_reader.specs.Views.{each_now}
 use Rattle.bench_reader.proofs.Places.{same_bytes, same_names}
 
@@ -35,11 +35,11 @@ behind-push front n None = refl
 behind-push front n (Some ns) = ap Some (append_assoc front (n ∷ []) ns)
 
 pub list_longer : (items new : List (Bor (List ℕ))) (x : Bor (List ℕ)) (ts us more : List (List ℕ)) (b : ℕ) (total : Option (List (List ℕ))) → new ≡ items ++ x ∷ []
-    → behind (each_now items) (listed ts) ≡ total → ts ≡ x.now ∷ us → is_name x.now ≡ true → us ≡ (b ∷ []) ∷ more → (b ≡ 41 → ⊥) → b ≡ 44 → behind (each_now new) (listed more) ≡ total
+    → behind (each_now items) (pin_list ts) ≡ total → ts ≡ x.now ∷ us → is_name x.now ≡ true → us ≡ (b ∷ []) ∷ more → (b ≡ 41 → ⊥) → b ≡ 44 → behind (each_now new) (pin_list more) ≡ total
 list_longer items new x ts us more b total new-is so_far is named us-is close comma =
-    let step : listed (x.now ∷ (b ∷ []) ∷ more) ≡ with_front x.now (listed more) = rw (named, is_no 41 b close, is_yes 44 b comma) refl in
-    let all : listed ts ≡ with_front x.now (listed more) = ap listed (is ∙ ap (λ (l : List (List ℕ)). x.now ∷ l) us-is) ∙ step in
-    ap (λ (f : List (List ℕ)). behind f (listed more)) (push-now items new x new-is) ∙ behind-push (each_now items) x.now (listed more) ∙ ap (behind (each_now items)) (sym all) ∙ so_far
+    let step : pin_list (x.now ∷ (b ∷ []) ∷ more) ≡ with_front x.now (pin_list more) = rw (named, is_no 41 b close, is_yes 44 b comma) refl in
+    let all : pin_list ts ≡ with_front x.now (pin_list more) = ap pin_list (is ∙ ap (λ (l : List (List ℕ)). x.now ∷ l) us-is) ∙ step in
+    ap (λ (f : List (List ℕ)). behind f (pin_list more)) (push-now items new x new-is) ∙ behind-push (each_now items) x.now (pin_list more) ∙ ap (behind (each_now items)) (sym all) ∙ so_far
 
 -- the form of a line is that of its tokens
 pub line_is : (line : List ℕ) → by_tokens (line_tokens line) ≡ line_of line

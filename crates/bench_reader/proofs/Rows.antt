@@ -15,7 +15,7 @@ use Rattle.bench_reader.specs.declared.netlist.Definition.TheVariants.{Missing, 
 use Rattle.bench_reader.specs.Lines.{Line}
 use Rattle.bench_reader.specs.Lines as line
 use Rattle.bench_reader.specs.Netlists.{names, names_in, pins_in, gates_in, defined_in, drives, is_among, place}
-use Rattle.bench_reader.specs.inner.Reading.{Tells, FirstNamed, padded, is_gate, is_defined, is_gate_at, is_defined_at}
+use Rattle.bench_reader.specs.inner.Reading.{Tells, FirstNamed, padded_rows, is_gate, is_defined, is_gate_at, is_defined_at}
 use Rattle.bench_reader.proofs.Places.{Distinct, Extends, all_extends, present_place, present_lt, absent_place, found_at, other_at, names_distinct, grown, among_all, same_bytes}
 use Rattle.bench_reader.proofs.Sound.{length-padded}
 
@@ -123,7 +123,7 @@ pub record Grows (before : List Line) (l : Line) (ks new_ks : List (List ℕ)) (
   pub told : (i : ℕ) → i < length ks → Tells before i (get_or rows i (Missing 0)) (get_or ks i [])
   pub rows_len : length rows ≡ length ks
   pub new_names : new_ks ≡ insert_all bytes_eq ks (names_in l)
-  pub new_rows_are : new_rows ≡ padded rows (length new_ks) number
+  pub new_rows_are : new_rows ≡ padded_rows rows (length new_ks) number
   pub number_is : length before + 1 ≡ number
 
 pub all_names : (before : List Line) (l : Line) (ks new_ks : List (List ℕ)) → ks ≡ names before → new_ks ≡ insert_all bytes_eq ks (names_in l) → new_ks ≡ names (before ++ l ∷ [])

@@ -10,9 +10,9 @@ use Rattle.bench_reader.specs.declared.netlist.Definition.{Definition}
 use Rattle.bench_reader.specs.declared.netlist.Definition.TheVariants.{Missing, Input, Gate}
 use Rattle.bench_reader.specs.Netlists.{exceeds}
 use Rattle.bench_reader.specs.inner.KeptNetlists.{IsKeptNetlist, FitsRows, pin_count}
-use Rattle.bench_reader.specs.inner.Reading.{padded}
+use Rattle.bench_reader.specs.inner.Reading.{padded_rows}
 
-pub length-padded : (rows : List Definition) (count line : ℕ) → length rows ≤ count → length (padded rows count line) ≡ count
+pub length-padded : (rows : List Definition) (count line : ℕ) → length rows ≤ count → length (padded_rows rows count line) ≡ count
 length-padded rows count line le = length-append rows (replicate (count - length rows) (Missing line)) ∙ ap (λ (n : ℕ). length rows + n) (length-replicate (count - length rows) (Missing line)) ∙ whole
   where
     whole : length rows + (count - length rows) ≡ count
@@ -26,7 +26,7 @@ fits_more few many le (Gate kind count start) h = record { within = omega (arith
 pub within : (names pins : ℕ) → exceeds names pins ≡ false → (names ≤ 1048576) × (pins ≤ 4194304)
 within names pins h = let parts = or_parts (ltb 1048576 names) (ltb 4194304 pins) h in (ltb-false 1048576 names parts.0, ltb-false 4194304 pins parts.1)
 
-pub total_grown : (rows : List Definition) (count line : ℕ) → sum_by pin_count (padded rows count line) ≡ sum_by pin_count rows
+pub total_grown : (rows : List Definition) (count line : ℕ) → sum_by pin_count (padded_rows rows count line) ≡ sum_by pin_count rows
 total_grown rows count line =
     let none : sum_by pin_count (replicate (count - length rows) (Missing line)) ≡ 0 = sum_by-replicate pin_count (count - length rows) (Missing line) ∙ mul-zero (count - length rows) in
     omega (arith, sum_by-append pin_count rows (replicate (count - length rows) (Missing line)), none)
@@ -34,7 +34,7 @@ total_grown rows count line =
     mul-zero : (n : ℕ) → n * 0 ≡ 0
     mul-zero n = omega arith
 
-pub kept_grown : (ks new_ks : List (List ℕ)) (rows new_rows : List Definition) (pins new_pins : List ℕ) (line : ℕ) → IsKeptNetlist ks rows pins → length ks ≤ length new_ks → new_rows ≡ padded rows (length new_ks) line → length pins ≤ length new_pins
+pub kept_grown : (ks new_ks : List (List ℕ)) (rows new_rows : List Definition) (pins new_pins : List ℕ) (line : ℕ) → IsKeptNetlist ks rows pins → length ks ≤ length new_ks → new_rows ≡ padded_rows rows (length new_ks) line → length pins ≤ length new_pins
     → exceeds (length new_ks) (length new_pins) ≡ false → IsKeptNetlist new_ks new_rows new_pins
 kept_grown ks new_ks rows new_rows pins new_pins line kept le is more calm =
     let small = within (length new_ks) (length new_pins) calm in

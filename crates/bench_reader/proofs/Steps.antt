@@ -16,7 +16,7 @@ use Rattle.bench_reader.specs.declared.fault.BenchCause.TheVariants.{UnknownKind
 use Rattle.bench_reader.specs.Lines.{Line}
 use Rattle.bench_reader.specs.Lines as line
 use Rattle.bench_reader.specs.Netlists.{names, pins_in, outputs_in, gates_in, defined_in, is_among, is_long, place, exceeds, is_crowded, miscounts, cause_of, cause_of_names}
-use Rattle.bench_reader.specs.inner.Reading.{Knows, HasRead, Numbered, padded, is_gate_at, is_defined_at}
+use Rattle.bench_reader.specs.inner.Reading.{Knows, HasRead, Numbered, padded_rows, is_gate_at, is_defined_at}
 use Rattle.bench_reader.proofs.Places.{same_bytes, is_among_new, all_extends, numbered_kept, numbered_all, numbered_more, number_step, among_all, present_place, place_new}
 use Rattle.bench_reader.proofs.Rows.{Grows, all_names, gate_at, defined_at, told_kept, told_grown, told_set, told_input, told_gate}
 
@@ -46,7 +46,7 @@ blank_gives before r l is read = subst (λ (x : Line). (cause_of before x ≡ No
 
 -- an INPUT line
 pub knows_input : (before : List Line) (ks new_ks : List (List ℕ)) (rows new_rows : List Definition) (pins outputs : List ℕ) (name : List ℕ) (number id : ℕ) → Knows before ks rows pins outputs → length rows ≡ length ks
-    → new_ks ≡ insert_key bytes_eq ks name → new_rows ≡ padded rows (length new_ks) number → length before + 1 ≡ number → id ≡ place new_ks name → is_among (flat_map gates_in before) name ≡ false
+    → new_ks ≡ insert_key bytes_eq ks name → new_rows ≡ padded_rows rows (length new_ks) number → length before + 1 ≡ number → id ≡ place new_ks name → is_among (flat_map gates_in before) name ≡ false
     → Knows (before ++ line.Input name ∷ []) new_ks (set new_rows id Input) pins outputs
 knows_input before ks new_ks rows new_rows pins outputs name number id k len names-are rows-are count id-is none =
     let l = line.Input name in
@@ -63,7 +63,7 @@ knows_input before ks new_ks rows new_rows pins outputs name number id k len nam
 
 -- an OUTPUT line
 pub knows_output : (before : List Line) (ks new_ks : List (List ℕ)) (rows new_rows : List Definition) (pins outputs new_outputs : List ℕ) (name : List ℕ) (number id : ℕ) → Knows before ks rows pins outputs → length rows ≡ length ks
-    → new_ks ≡ insert_key bytes_eq ks name → new_rows ≡ padded rows (length new_ks) number → length before + 1 ≡ number → id ≡ place new_ks name → new_outputs ≡ insert_key nat_eq outputs id
+    → new_ks ≡ insert_key bytes_eq ks name → new_rows ≡ padded_rows rows (length new_ks) number → length before + 1 ≡ number → id ≡ place new_ks name → new_outputs ≡ insert_key nat_eq outputs id
     → Knows (before ++ line.Output name ∷ []) new_ks new_rows pins new_outputs
 knows_output before ks new_ks rows new_rows pins outputs new_outputs name number id k len names-are rows-are count id-is outputs-are =
     let l = line.Output name in
@@ -88,7 +88,7 @@ all_among ks (x ∷ xs) =
 
 -- a gate line
 pub knows_gate : (before : List Line) (ks new_ks : List (List ℕ)) (rows new_rows : List Definition) (pins new_pins outputs : List ℕ) (name word : List ℕ) (listed : List (List ℕ)) (kind : Kind) (number id start count : ℕ) → Knows before ks rows pins outputs → length rows ≡ length ks
-    → new_ks ≡ insert_all bytes_eq ks (name ∷ listed) → new_rows ≡ padded rows (length new_ks) number → length before + 1 ≡ number → id ≡ place new_ks name → new_pins ≡ pins ++ map (place new_ks) listed
+    → new_ks ≡ insert_all bytes_eq ks (name ∷ listed) → new_rows ≡ padded_rows rows (length new_ks) number → length before + 1 ≡ number → id ≡ place new_ks name → new_pins ≡ pins ++ map (place new_ks) listed
     → is_among (flat_map defined_in before) name ≡ false → kind_of_word word ≡ Some kind → start ≡ length pins → count ≡ length listed
     → Knows (before ++ line.Gate name word listed ∷ []) new_ks (set new_rows id (Gate kind count start)) new_pins outputs
 knows_gate before ks new_ks rows new_rows pins new_pins outputs name word listed kind number id start count k len names-are rows-are line-is id-is pins-are none kind-is start-is count-is =

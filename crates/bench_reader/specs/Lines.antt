@@ -40,16 +40,16 @@ only_end [] n = Some (n ∷ [])
 only_end (t ∷ more) n = None
 
 -- one or more names divided by `,`, and then `)` as the last token
-abbrev pub listed : List (List ℕ) → Option (List (List ℕ))
-listed [] = None
-listed (n ∷ []) = None
-listed (n ∷ m ∷ more) = if is_name n then (if is_the closing m then only_end more n else (if is_the comma m then with_front n (listed more) else None)) else None
+abbrev pub pin_list : List (List ℕ) → Option (List (List ℕ))
+pin_list [] = None
+pin_list (n ∷ []) = None
+pin_list (n ∷ m ∷ more) = if is_name n then (if is_the closing m then only_end more n else (if is_the comma m then with_front n (pin_list more) else None)) else None
 
 -- LIST and `)`
 abbrev pub pins_of : List (List ℕ) → Option (List (List ℕ))
 pins_of [] = None
 pins_of (t ∷ []) = if is_the closing t then Some [] else None
-pins_of (t ∷ u ∷ more) = listed (t ∷ u ∷ more)
+pins_of (t ∷ u ∷ more) = pin_list (t ∷ u ∷ more)
 
 abbrev pub gate_of : List ℕ → List ℕ → Option (List (List ℕ)) → Line
 gate_of name kind None = Malformed

@@ -1,5 +1,5 @@
 -- What a netlist in the `.bench` form says, or its first fault.
-use Rattle.std.specs.Prelude.{◌≡◌, ℕ, ◌+◌, ◌<◌, ◌≤◌, IsTrue, Bool, false, not, ◌&&◌, ◌||◌, ◌==◌, nat_eq, nat_lt, List, [], ◌∷◌, ◌++◌, length, map, find, get_or, position, sum_by, Option, Some, None, Result, Ok, if◌then◌else◌}
+use Rattle.std.specs.Prelude.{◌≡◌, ℕ, ◌+◌, ◌<◌, ◌≤◌, IsTrue, Bool, false, not, ◌&&◌, ◌||◌, ◌==◌, nat_eq, nat_lt, List, [], ◌∷◌, ◌++◌, length, map, find, slice_index_or, position, sum_by, Option, Some, None, Result, Ok, if◌then◌else◌}
 use Rattle.std.specs.List.{All, list_all, list_any, flat_map, position_or_len}
 use Rattle.std.specs.Str.{bytes_eq}
 use Rattle.indexmap.specs.IndexSet.{insert_all}
@@ -146,7 +146,7 @@ pub record IsNetlist (n : Content) : Type 0 where
   pub fits : All (IsNetlistDriver (length n.names)) n.rows
   pub pins : sum_by (λ d. length (pins_of d)) n.rows ≤ 4194304
   pub outputs : All (λ o. o < length n.names) n.outputs
-  pub distinct : (id : ℕ) → id < length n.names → position (bytes_eq (get_or n.names id [])) n.names ≡ Some id
+  pub distinct : (id : ℕ) → id < length n.names → position (bytes_eq (slice_index_or n.names id [])) n.names ≡ Some id
 
 -- the line is a gate line of the name
 abbrev pub drives : List ℕ → Line → Bool

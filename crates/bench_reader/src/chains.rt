@@ -26,14 +26,14 @@ const HALF_WORD: u64 = 4_294_967_296;
 
 /// The hash with one more word.
 fn mixed(hash: u64, word: u64) -> u64
-    ensures { result ≡ chains.mixed hash word }
+    ensures { result ≡ chains.mixed_hash hash word }
 {
     (hash ^ word).wrapping_mul(MIXER)
 }
 
 #[inline(never)]
 fn by_bytes(name: &[u8]) -> u64
-    ensures { result ≡ fold chains.mixed 0 name.now }
+    ensures { result ≡ fold chains.mixed_hash 0 name.now }
 {
     let mut hash: u64 = 0;
     for byte in name {

@@ -69,7 +69,7 @@ fn port_form<'a>(word: &[u8], bytes: &'a [u8]) -> Form<'a>
 #[inline(always)]
 fn read_list<'a>(listed: &mut SmallVec<&'a [u8], 4>, bytes: &'a [u8]) -> Result<bool, AllocError>
     ensures { IfOk result (λ ended. names_if ended listed.new.items
-        ≡ form.listed (line_tokens bytes.entry.now)) }
+        ≡ form.pin_list (line_tokens bytes.entry.now)) }
 {
     listed.clear();
     let mut rest = bytes;

@@ -5,7 +5,7 @@ ghost use Rattle.std.specs.List.{list_any};
 ghost use Rattle.bench_reader.specs.Lines.{Input, Output, Gate, line_of};
 ghost use Rattle.bench_reader.specs.Netlists.{out_of_memory, bench_of};
 ghost use Rattle.bench_reader.specs.Netlists as netlists;
-ghost use Rattle.bench_reader.specs.inner.Reading.{IsRead, IsSoundReading, Takes, CountsPins, padded, first_missing, is_gate_at, is_defined_at};
+ghost use Rattle.bench_reader.specs.inner.Reading.{IsRead, IsSoundReading, Takes, CountsPins, padded_rows, first_missing, is_gate_at, is_defined_at};
 ghost use Rattle.bench_reader.specs.Views.{view, each_now};
 ghost use Rattle.bench_reader.specs.declared.fault.BenchCause.TheVariants.{OutOfMemory};
 ghost use Rattle.line_faults.specs.Faults.{Answers};
@@ -98,7 +98,8 @@ fn is_any_long(name: &[u8], pins: &[&[u8]]) -> bool
 /// Adds rows for new names, which this line is the first to name.
 fn add_rows(rows: &mut Vec<Definition>, names: &Names, line: u32) -> Result<(), BenchFault>
     requires { length rows.old.items ≤ length names.now }
-    ensures rows { OnOk result (rows.new.items ≡ padded rows.old.items (length names.now) line) }
+    ensures rows { OnOk result (rows.new.items ≡ padded_rows rows.old.items (length names.now)
+        line) }
     ensures memory { IfErr result (λ fault. fault ≡ out_of_memory) }
 {
     rows.resize(names.len(), Definition::Missing { line })?;

@@ -16,8 +16,8 @@ pub opened-later : (m n : ℕ) (first old new : FilesState) → Opened m first o
 opened-later m n first old new was then = then ∙ ap (λ (s : FilesState). record s { started = n; left = new.left }) was
 
 -- the files hold what they held
-pub held-same : (n : ℕ) (old new : FilesState) → Opened n old new → (name : List ℕ) → new.held name ≡ old.held name
-held-same n old new opened name = ap (λ (s : FilesState). s.held name) opened
+pub held-same : (n : ℕ) (old new : FilesState) → Opened n old new → (name : List ℕ) → new.bytes name ≡ old.bytes name
+held-same n old new opened name = ap (λ (s : FilesState). s.bytes name) opened
 
 pub missing-later : (n : ℕ) (first old new : FilesState) → Opened n first old → FileFault old new → OpenedThenMissing n first new
 missing-later n first old new was fault =

@@ -25,7 +25,7 @@ use Rattle.circuit_files.specs.declared.refusal.FileRefusal.TheVariants.{TooLong
 use Rattle.circuit_files.specs.declared.stop.FilesStop.{FilesStop}
 use Rattle.circuit_files.specs.declared.stop.FilesStop.TheVariants.{Refused, NotOpened, Unread, OutOfMemory}
 use Rattle.circuit_files.specs.Stops.{IsStopOf}
-use Rattle.circuit_files.specs.Files.{refused_netlist, refused_timing, refused_stimulus, refused_join, limited, netlist_of, delays_of, settings_of, design_of_files}
+use Rattle.circuit_files.specs.Files.{refused_netlist, refused_timing, refused_stimulus, refused_join, within_limit, netlist_of, delays_of, settings_of, design_of_files}
 use Rattle.circuit_files.specs.Stops.{IsAnswerOf}
 
 -- a stop answers with its refusal
@@ -44,10 +44,10 @@ is_longer : (told : Option (List ℕ)) (limit : ℕ) (bytes : List ℕ) → told
 is_longer told limit bytes is longer = subst (λ (o : Option (List ℕ)). IfSome o (λ xs. limit < length xs)) is longer
 
 -- a file within its limit, and a longer one
-pub text_fits : (file : CircuitFile) (told : Option (List ℕ)) (items bytes : List ℕ) → told ≡ Some bytes → IfSome told (λ xs. items ≡ xs) → length items ≤ 67108864 → limited file bytes ≡ Ok items
-text_fits file told items bytes is whole fits = subst (λ (l : List ℕ). limited file l ≡ Ok items) (held_is told items bytes is whole) (rw (le-leb (length items) 67108864 fits) refl)
+pub text_fits : (file : CircuitFile) (told : Option (List ℕ)) (items bytes : List ℕ) → told ≡ Some bytes → IfSome told (λ xs. items ≡ xs) → length items ≤ 67108864 → within_limit file bytes ≡ Ok items
+text_fits file told items bytes is whole fits = subst (λ (l : List ℕ). within_limit file l ≡ Ok items) (held_is told items bytes is whole) (rw (le-leb (length items) 67108864 fits) refl)
 
-pub text_long : (file : CircuitFile) (told : Option (List ℕ)) (bytes : List ℕ) → told ≡ Some bytes → IfSome told (λ xs. 67108864 < length xs) → limited file bytes ≡ Err (TooLong file)
+pub text_long : (file : CircuitFile) (told : Option (List ℕ)) (bytes : List ℕ) → told ≡ Some bytes → IfSome told (λ xs. 67108864 < length xs) → within_limit file bytes ≡ Err (TooLong file)
 text_long file told bytes is longer = rw (lt-leb (length bytes) 67108864 (is_longer told 67108864 bytes is longer)) refl
 
 -- what the first file that is refused makes of all three
@@ -101,52 +101,52 @@ unfolding design_of_files
 files_joined a b d content delays settings design e f h j = rw (e, f, h, j) refl
 
 -- the netlist: its text is not there, is refused, or is read
-pub netlist_stops : (a : List ℕ) (stop : FilesStop) → IsAnswerOf (Err stop) (limited Netlist a) → IsAnswerOf (Err stop) (netlist_of a)
+pub netlist_stops : (a : List ℕ) (stop : FilesStop) → IsAnswerOf (Err stop) (within_limit Netlist a) → IsAnswerOf (Err stop) (netlist_of a)
 unfolding netlist_of
 netlist_stops a (Refused refusal) says = rw says refl
 netlist_stops a (Unread file) says = tt
 netlist_stops a (NotOpened file) says = tt
 netlist_stops a OutOfMemory says = tt
 
-pub netlist_refused : (a items text : List ℕ) (fault : LineFault BenchCause) → limited Netlist a ≡ Ok items → text ≡ items → (fault ≡ netlists.out_of_memory) ⊎ (bench_of text ≡ Err fault) → (fault ≡ netlists.out_of_memory) ⊎ (netlist_of a ≡ Err (refused_netlist fault))
+pub netlist_refused : (a items text : List ℕ) (fault : LineFault BenchCause) → within_limit Netlist a ≡ Ok items → text ≡ items → (fault ≡ netlists.out_of_memory) ⊎ (bench_of text ≡ Err fault) → (fault ≡ netlists.out_of_memory) ⊎ (netlist_of a ≡ Err (refused_netlist fault))
 unfolding netlist_of
 netlist_refused a items text fault fits same (inl gone) = inl gone
 netlist_refused a items text fault fits same (inr e) = inr (rw (fits, sym same, e) refl)
 
-pub netlist_read : (a items text : List ℕ) (content : netlists.Content) → limited Netlist a ≡ Ok items → text ≡ items → bench_of text ≡ Ok content → netlist_of a ≡ Ok content
+pub netlist_read : (a items text : List ℕ) (content : netlists.Content) → within_limit Netlist a ≡ Ok items → text ≡ items → bench_of text ≡ Ok content → netlist_of a ≡ Ok content
 unfolding netlist_of
 netlist_read a items text content fits same e = rw (fits, sym same, e) refl
 
 -- the timing file
-pub timing_stops : (b : List ℕ) (stop : FilesStop) → IsAnswerOf (Err stop) (limited Timing b) → IsAnswerOf (Err stop) (delays_of b)
+pub timing_stops : (b : List ℕ) (stop : FilesStop) → IsAnswerOf (Err stop) (within_limit Timing b) → IsAnswerOf (Err stop) (delays_of b)
 unfolding delays_of
 timing_stops b (Refused refusal) says = rw says refl
 timing_stops b (Unread file) says = tt
 timing_stops b (NotOpened file) says = tt
 timing_stops b OutOfMemory says = tt
 
-pub timing_refused : (b items text : List ℕ) (fault : LineFault TimingCause) → limited Timing b ≡ Ok items → text ≡ items → (fault ≡ timing.out_of_memory) ⊎ (timing_of text ≡ Err fault) → (fault ≡ timing.out_of_memory) ⊎ (delays_of b ≡ Err (refused_timing fault))
+pub timing_refused : (b items text : List ℕ) (fault : LineFault TimingCause) → within_limit Timing b ≡ Ok items → text ≡ items → (fault ≡ timing.out_of_memory) ⊎ (timing_of text ≡ Err fault) → (fault ≡ timing.out_of_memory) ⊎ (delays_of b ≡ Err (refused_timing fault))
 unfolding delays_of
 timing_refused b items text fault fits same (inl gone) = inl gone
 timing_refused b items text fault fits same (inr e) = inr (rw (fits, sym same, e) refl)
 
-pub timing_read : (b items text : List ℕ) (delays : timings.Content) → limited Timing b ≡ Ok items → text ≡ items → timing_of text ≡ Ok delays → delays_of b ≡ Ok delays
+pub timing_read : (b items text : List ℕ) (delays : timings.Content) → within_limit Timing b ≡ Ok items → text ≡ items → timing_of text ≡ Ok delays → delays_of b ≡ Ok delays
 unfolding delays_of
 timing_read b items text delays fits same e = rw (fits, sym same, e) refl
 
 -- the stimulus file
-pub stimulus_stops : (d : List ℕ) (stop : FilesStop) → IsAnswerOf (Err stop) (limited Stimulus d) → IsAnswerOf (Err stop) (settings_of d)
+pub stimulus_stops : (d : List ℕ) (stop : FilesStop) → IsAnswerOf (Err stop) (within_limit Stimulus d) → IsAnswerOf (Err stop) (settings_of d)
 unfolding settings_of
 stimulus_stops d (Refused refusal) says = rw says refl
 stimulus_stops d (Unread file) says = tt
 stimulus_stops d (NotOpened file) says = tt
 stimulus_stops d OutOfMemory says = tt
 
-pub stimulus_refused : (d items text : List ℕ) (fault : LineFault StimulusCause) → limited Stimulus d ≡ Ok items → text ≡ items → (fault ≡ stimulus.out_of_memory) ⊎ (stimulus_of text ≡ Err fault) → (fault ≡ stimulus.out_of_memory) ⊎ (settings_of d ≡ Err (refused_stimulus fault))
+pub stimulus_refused : (d items text : List ℕ) (fault : LineFault StimulusCause) → within_limit Stimulus d ≡ Ok items → text ≡ items → (fault ≡ stimulus.out_of_memory) ⊎ (stimulus_of text ≡ Err fault) → (fault ≡ stimulus.out_of_memory) ⊎ (settings_of d ≡ Err (refused_stimulus fault))
 unfolding settings_of
 stimulus_refused d items text fault fits same (inl gone) = inl gone
 stimulus_refused d items text fault fits same (inr e) = inr (rw (fits, sym same, e) refl)
 
-pub stimulus_read : (d items text : List ℕ) (settings : stimuli.Content) → limited Stimulus d ≡ Ok items → text ≡ items → stimulus_of text ≡ Ok settings → settings_of d ≡ Ok settings
+pub stimulus_read : (d items text : List ℕ) (settings : stimuli.Content) → within_limit Stimulus d ≡ Ok items → text ≡ items → stimulus_of text ≡ Ok settings → settings_of d ≡ Ok settings
 unfolding settings_of
 stimulus_read d items text settings fits same e = rw (fits, sym same, e) refl

@@ -54,18 +54,18 @@ Ok a >>= next = next a
 Err refusal >>= next = Err refusal
 
 -- a file has at most 67,108,864 bytes
-abbrev pub limited : CircuitFile → List ℕ → Result (List ℕ) FileRefusal
-limited file bytes = if nat_le (length bytes) 67108864 then Ok bytes else Err (TooLong file)
+abbrev pub within_limit : CircuitFile → List ℕ → Result (List ℕ) FileRefusal
+within_limit file bytes = if nat_le (length bytes) 67108864 then Ok bytes else Err (TooLong file)
 
 -- the content of each file: its length is checked first, then its lines
 unfoldable pub netlist_of : List ℕ → Result netlists.Content FileRefusal
-netlist_of bytes = limited Netlist bytes >>= λ text. or_refusal refused_netlist (bench_of text)
+netlist_of bytes = within_limit Netlist bytes >>= λ text. or_refusal refused_netlist (bench_of text)
 
 unfoldable pub delays_of : List ℕ → Result timings.Content FileRefusal
-delays_of bytes = limited Timing bytes >>= λ text. or_refusal refused_timing (timing_of text)
+delays_of bytes = within_limit Timing bytes >>= λ text. or_refusal refused_timing (timing_of text)
 
 unfoldable pub settings_of : List ℕ → Result stimuli.Content FileRefusal
-settings_of bytes = limited Stimulus bytes >>= λ text. or_refusal refused_stimulus (stimulus_of text)
+settings_of bytes = within_limit Stimulus bytes >>= λ text. or_refusal refused_stimulus (stimulus_of text)
 
 -- the design of a netlist, a timing file and a stimulus file, read in this order and joined: the refusal of a file comes before all of the
 -- later files

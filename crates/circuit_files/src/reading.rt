@@ -1,9 +1,9 @@
 //! Reading the three files.
 
 ghost use Rattle.std.specs.Prelude.{◌≡◌, ◌≤◌, ◌+◌, List, ℕ, Some, IfErr, IfOk, vec_len};
-ghost use Rattle.backsim_io.specs.Held.{SameMade};
+ghost use Rattle.backsim_io.specs.FilesInMemory.{SameMade};
 ghost use Rattle.circuit_files.specs.Changes.{DesignChanges};
-ghost use Rattle.circuit_files.specs.Files.{netlist_of, first_two, design_of_files, limited};
+ghost use Rattle.circuit_files.specs.Files.{netlist_of, first_two, design_of_files, within_limit};
 ghost use Rattle.circuit_files.specs.Stops.{before, IsAnswerOf, AnswersFirst};
 ghost use Rattle.circuit_files.specs.inner.Reading.{AnswersText, IsAt, TextChanges};
 
@@ -29,15 +29,15 @@ pub fn read_design<F: Files>(
     requires { (F.state files.old).started ≡ 0 }
     // For all three files: their design, or the refusal. For the first, or the first two: their refusal, whatever the later files hold.
     ensures design { (first second third : List ℕ)
-        → (F.state files.old).held netlist.now ≡ Some first
-        → (F.state files.old).held timing.now ≡ Some second
-        → (F.state files.old).held stimulus.now ≡ Some third
+        → (F.state files.old).bytes netlist.now ≡ Some first
+        → (F.state files.old).bytes timing.now ≡ Some second
+        → (F.state files.old).bytes stimulus.now ≡ Some third
         → IsAnswerOf result (design_of_files first second third) }
-    ensures first { (first : List ℕ) → (F.state files.old).held netlist.now ≡ Some first
+    ensures first { (first : List ℕ) → (F.state files.old).bytes netlist.now ≡ Some first
         → AnswersFirst 1 (F.state files.new).started result (netlist_of first) }
     ensures second { (first second : List ℕ)
-        → (F.state files.old).held netlist.now ≡ Some first
-        → (F.state files.old).held timing.now ≡ Some second
+        → (F.state files.old).bytes netlist.now ≡ Some first
+        → (F.state files.old).bytes timing.now ≡ Some second
         → AnswersFirst 2 (F.state files.new).started result (first_two first second) }
     ensures state { DesignChanges (F.state files.old) (F.state files.new) result }
     ensures made { SameMade (F.made files.old) (F.made files.new) }
@@ -65,8 +65,8 @@ fn read_text<F: Files>(
     file: CircuitFile,
 ) -> Result<Vec<u8>, FilesStop>
     requires { (F.state files.old).started ≡ before file }
-    ensures text { (bytes : List ℕ) → (F.state files.old).held name.now ≡ Some bytes
-        → AnswersText (λ text. text.items) result (limited file bytes) }
+    ensures text { (bytes : List ℕ) → (F.state files.old).bytes name.now ≡ Some bytes
+        → AnswersText (λ text. text.items) result (within_limit file bytes) }
     ensures within { IfOk result (λ text. vec_len text ≤ 67108864) }
     ensures place { IfErr result (IsAt file) }
     ensures started { (F.state files.new).started ≤ before file + 1 }

@@ -27,7 +27,7 @@ pub enum FilesStop {
 }
 
 /// The refusal of a line of a file.
-fn refused(file: CircuitFile, line: u32, cause: u32) -> FilesStop
+fn refusal_at(file: CircuitFile, line: u32, cause: u32) -> FilesStop
     ensures quiet { IsQuiet result }
     ensures stop { result ≡ FilesStop.Refused (FileRefusal.Line file line cause) }
 {
@@ -40,7 +40,7 @@ impl From<BenchFault> for FilesStop {
     fn from(fault: BenchFault) -> FilesStop {
         match fault.cause {
             BenchCause::OutOfMemory => FilesStop::OutOfMemory,
-            cause => refused(CircuitFile::Netlist, fault.line, cause.number()),
+            cause => refusal_at(CircuitFile::Netlist, fault.line, cause.number()),
         }
     }
 }
@@ -51,7 +51,7 @@ impl From<TimingFault> for FilesStop {
     fn from(fault: TimingFault) -> FilesStop {
         match fault.cause {
             TimingCause::OutOfMemory => FilesStop::OutOfMemory,
-            cause => refused(CircuitFile::Timing, fault.line, cause.number() as u32),
+            cause => refusal_at(CircuitFile::Timing, fault.line, cause.number() as u32),
         }
     }
 }
@@ -62,7 +62,7 @@ impl From<StimulusFault> for FilesStop {
     fn from(fault: StimulusFault) -> FilesStop {
         match fault.cause {
             StimulusCause::OutOfMemory => FilesStop::OutOfMemory,
-            cause => refused(CircuitFile::Stimulus, fault.line, cause.number() as u32),
+            cause => refusal_at(CircuitFile::Stimulus, fault.line, cause.number() as u32),
         }
     }
 }
@@ -78,7 +78,7 @@ impl From<JoinFault> for FilesStop {
         };
         match fault.cause {
             JoinCause::OutOfMemory => FilesStop::OutOfMemory,
-            cause => refused(file, fault.line, cause.number() as u32 + 10),
+            cause => refusal_at(file, fault.line, cause.number() as u32 + 10),
         }
     }
 }

@@ -8,15 +8,15 @@ use Rattle.gate_values.specs.declared.Kind.TheVariants.{Dff}
 use Rattle.gate_values.specs.Gates.{gate_value, decides}
 use Rattle.gate_values.proofs.Looked.{cut_alike}
 use Rattle.circuit_meaning.specs.Circuit.{Setting, Pin, FlipFlop, Driver, Input, Gate, Flop, Circuit, driver, IsCircuit, IsDriver, read_by}
-use Rattle.circuit_meaning.specs.Forward.{value, value_from, seen, flop_value}
+use Rattle.circuit_meaning.specs.Forward.{value, value_from, seen_value, flop_value}
 use Rattle.flip_flops.specs.Edges.{shown_edge}
-use Rattle.circuit_meaning.specs.Cells.{span, span_from, gate_span, pin_span, looked, least_delay}
-use Rattle.valid_intervals.specs.Spans.{moved}
+use Rattle.circuit_meaning.specs.Cells.{span, span_from, gate_span, pin_span, looked_pins, least_delay}
+use Rattle.valid_intervals.specs.Spans.{moved_span}
 use Rattle.circuit_meaning.specs.Base.{base_from, base_answer}
 use Rattle.circuit_meaning.specs.Need.{children, children_from, IsInCone, Itself, Reads}
 use Rattle.valid_intervals.specs.declared.Point.{Point}
 use Rattle.circuit_meaning.specs.Laws.{Pins, look}
-use Rattle.circuit_meaning.specs.Forced.{IsAlike, IsFree, forced}
+use Rattle.circuit_meaning.specs.Forced.{IsAlike, IsFree, forced_circuit}
 use Rattle.circuit_meaning.proofs.Table.{at_all_times}
 use Rattle.circuit_meaning.proofs.Equations.{value_is, span_is, driver_fits, map_same, all_imply, all_cut}
 use Rattle.flip_flops.proofs.EdgeLemmas.{shown_edge-le}
@@ -29,12 +29,12 @@ pins_all P (p ∷ pins) h = (h.0, pins_all P pins h.1)
 
 module _ (c d : Circuit) (same_horizon : d.horizon ≡ c.horizon) (P : ℕ → Type 0) (t : ℕ)
     (before : (w : ℕ) → w < t → (s : ℕ) → P s → (value d s w ≡ value c s w) × (span d s w ≡ span c s w)) where
-  pin-alike : (p : Pin) → 1 ≤ p.delay → P p.signal → (seen (value d) t p ≡ seen (value c) t p) × (pin_span (span d) t p ≡ pin_span (span c) t p)
+  pin-alike : (p : Pin) → 1 ≤ p.delay → P p.signal → (seen_value (value d) t p ≡ seen_value (value c) t p) × (pin_span (span d) t p ≡ pin_span (span c) t p)
   pin-alike p pos h = elim (cases_lt t p.delay) [
     | inl l ↦ (seen-early (value d) t p l ∙ sym (seen-early (value c) t p l), pin_span-early (span d) t p l ∙ sym (pin_span-early (span c) t p l))
     | inr l ↦
         let k = before (t - p.delay) (omega arith) p.signal h in
-        (seen-late (value d) t p l ∙ k.0 ∙ sym (seen-late (value c) t p l), pin_span-late (span d) t p l ∙ ap (moved p.delay) k.1 ∙ sym (pin_span-late (span c) t p l))
+        (seen-late (value d) t p l ∙ k.0 ∙ sym (seen-late (value c) t p l), pin_span-late (span d) t p l ∙ ap (moved_span p.delay) k.1 ∙ sym (pin_span-late (span c) t p l))
   ]
 
   flop-alike : (f : FlipFlop) → 1 ≤ f.delay → P f.pin → (o : Option ℕ) → shown_edge f.clock f.delay t ≡ o → flop_value (value d) f o ≡ flop_value (value c) f o
@@ -52,17 +52,17 @@ module _ (c d : Circuit) (same_horizon : d.horizon ≡ c.horizon) (P : ℕ → T
   driver-alike (Flop f) n h ok k = record { value = flop-alike f ok.delay k.0 (shown_edge f.clock f.delay t) refl; span = rw same_horizon; look = refl; children = refl }
   driver-alike (Gate kind pins) n h ok k =
       let point : Pin → Point = λ p. record { signal = p.signal; time = t - p.delay } in
-      let R : Pin → Type 0 = λ p. (seen (value d) t p ≡ seen (value c) t p) × (pin_span (span d) t p ≡ pin_span (span c) t p) in
+      let R : Pin → Type 0 = λ p. (seen_value (value d) t p ≡ seen_value (value c) t p) × (pin_span (span d) t p ≡ pin_span (span c) t p) in
       let all : AllByRecursion R pins = all_imply (λ p. (1 ≤ p.delay) × P p.signal) R (λ p h. pin-alike p h.0 h.1) pins
       (both (λ p. 1 ≤ p.delay) (λ p. P p.signal) pins (recursion_from_All (λ p. 1 ≤ p.delay) pins ok.delay) (pins_all P pins k)) in
-      let see = all_imply R (λ p. seen (value d) t p ≡ seen (value c) t p) (λ p h. h.0) pins all in
-      let test : Pin → Bool = λ p. decides kind (seen (value c) t p) in
-      let cut : looked d t kind pins ≡ looked c t kind pins = cut_alike (decides kind) (seen (value c) t) (seen (value d) t) pins
-      (all_cut (λ p. seen (value c) t p ≡ seen (value d) t p) test pins (all_imply R (λ p. seen (value c) t p ≡ seen (value d) t p) (λ p h. sym h.0) pins all)) in
+      let see = all_imply R (λ p. seen_value (value d) t p ≡ seen_value (value c) t p) (λ p h. h.0) pins all in
+      let test : Pin → Bool = λ p. decides kind (seen_value (value c) t p) in
+      let cut : looked_pins d t kind pins ≡ looked_pins c t kind pins = cut_alike (decides kind) (seen_value (value c) t) (seen_value (value d) t) pins
+      (all_cut (λ p. seen_value (value c) t p ≡ seen_value (value d) t p) test pins (all_imply R (λ p. seen_value (value c) t p ≡ seen_value (value d) t p) (λ p h. sym h.0) pins all)) in
       let spans = all_cut (λ p. pin_span (span d) t p ≡ pin_span (span c) t p) test pins (all_imply R (λ p. pin_span (span d) t p ≡ pin_span (span c) t p) (λ p h. h.1) pins all) in
       record {
-        value = ap (gate_value kind) (map_same (seen (value d) t) (seen (value c) t) pins see);
-        span = ap (λ h. gate_span (h + 1) t (least_delay pins) (map (pin_span (span d) t) (looked d t kind pins))) same_horizon ∙ (ap (gate_span (c.horizon + 1) t (least_delay pins)) (ap (map (pin_span (span d) t)) cut ∙ map_same (pin_span (span d) t) (pin_span (span c) t) (looked c t kind pins) spans));
+        value = ap (gate_value kind) (map_same (seen_value (value d) t) (seen_value (value c) t) pins see);
+        span = ap (λ h. gate_span (h + 1) t (least_delay pins) (map (pin_span (span d) t) (looked_pins d t kind pins))) same_horizon ∙ (ap (gate_span (c.horizon + 1) t (least_delay pins)) (ap (map (pin_span (span d) t)) cut ∙ map_same (pin_span (span d) t) (pin_span (span c) t) (looked_pins c t kind pins) spans));
         look = ap Pins cut;
         children = ap (λ ps. map point (filter (λ p. nat_le p.delay t) ps)) cut;
       }
@@ -92,14 +92,14 @@ cone-step c x p u h (Reads {s} k r) = Reads (cone-step c x p s h k) r
 free-closed : (c : Circuit) (s x : ℕ) → IsFree c s x → AllByRecursion (IsFree c s) (read_by (driver c x))
 free-closed c s x free = recursion_from_All (IsFree c s) (read_by (driver c x)) (λ k d l h. free (cone-step c x (get_or (read_by (driver c x)) k d) s (Contains-get_or (read_by (driver c x)) k d l) h))
 
-held-drives : (c : Circuit) (s : ℕ) (w : Value) (x : ℕ) → IsFree c s x → driver (forced c s w) x ≡ driver c x
+held-drives : (c : Circuit) (s : ℕ) (w : Value) (x : ℕ) → IsFree c s x → driver (forced_circuit c s w) x ≡ driver c x
 held-drives c s w x free = elim (cases_eq x s) [
   | inl e ↦ absurd (free (subst (λ y. IsInCone c x y) e Itself))
   | inr n ↦ get_or-set_other c.drivers s x (Input (record { time = 0; value = w } ∷ [])) (Input []) n
 ]
 
 -- a circuit with a signal held is a circuit
-pub held-fits : (c : Circuit) (s : ℕ) (w : Value) → IsCircuit c → IsCircuit (forced c s w)
+pub held-fits : (c : Circuit) (s : ℕ) (w : Value) → IsCircuit c → IsCircuit (forced_circuit c s w)
 held-fits c s w ok =
     let settings : List Setting = record { time = 0; value = w } ∷ [] in
     let fits : IsDriver (length c.drivers) c.horizon (Input settings) = record {
@@ -109,5 +109,5 @@ held-fits c s w ok =
     subst (λ n. All (IsDriver n c.horizon) (set c.drivers s (Input settings))) (sym (length-set c.drivers s (Input settings)))
     (All-set (IsDriver (length c.drivers) c.horizon) c.drivers s (Input settings) fits ok)
 
-pub free-alike : (c : Circuit) (s : ℕ) (w : Value) → IsCircuit c → (x t : ℕ) → IsFree c s x → IsAlike c (forced c s w) x t
-free-alike c s w ok x t free = alike c (forced c s w) ok (held-fits c s w ok) refl (IsFree c s) (held-drives c s w) (free-closed c s) x t free
+pub free-alike : (c : Circuit) (s : ℕ) (w : Value) → IsCircuit c → (x t : ℕ) → IsFree c s x → IsAlike c (forced_circuit c s w) x t
+free-alike c s w ok x t free = alike c (forced_circuit c s w) ok (held-fits c s w ok) refl (IsFree c s) (held-drives c s w) (free-closed c s) x t free

@@ -6,7 +6,7 @@ use Rattle.gate_values.specs.Gates.{decides, up_to_first}
 use Rattle.circuit_meaning.specs.declared.Pin.{Pin}
 use Rattle.valid_intervals.specs.declared.Point.{Point}
 use Rattle.circuit_meaning.specs.Circuit.{Circuit, Gate, driver}
-use Rattle.circuit_meaning.specs.Forward.{seen, value}
+use Rattle.circuit_meaning.specs.Forward.{seen_value, value}
 use Rattle.circuit_meaning.specs.Need.{children, children_from}
 
 -- membership by recursion on the list
@@ -39,11 +39,11 @@ in_cut test d (x ∷ xs) (suc k) h =
     ]
 
 pub asked-child : (c : Circuit) (s t : ℕ) (kind : Kind) (pins : List Pin) → driver c s ≡ Gate kind pins → (k : ℕ) (d : Pin) → k < length pins
-    → list_any (λ p. decides kind (seen (value c) t p)) (take k pins) ≡ false → (get_or pins k d).delay ≤ t
+    → list_any (λ p. decides kind (seen_value (value c) t p)) (take k pins) ≡ false → (get_or pins k d).delay ≤ t
     → Contains (children c s t) (record { signal = (get_or pins k d).signal; time = t - (get_or pins k d).delay })
 unfolding children
 asked-child c s t kind pins e k d h none late =
     let p = get_or pins k d in
     let point : Pin → Point = λ p. record { signal = p.signal; time = t - p.delay } in
     subst (λ x. Contains (children_from c t x) (point p)) (sym e)
-    (contains (point p) _ (in_map point p _ (in_filter (λ p. nat_le p.delay t) p _ (le-leb p.delay t late) (in_cut (λ p. decides kind (seen (value c) t p)) d pins k h none))))
+    (contains (point p) _ (in_map point p _ (in_filter (λ p. nat_le p.delay t) p _ (le-leb p.delay t late) (in_cut (λ p. decides kind (seen_value (value c) t p)) d pins k h none))))

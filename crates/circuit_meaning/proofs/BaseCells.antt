@@ -11,8 +11,8 @@ use Rattle.flip_flops.specs.Edges.{shown_edge, flop_span}
 use Rattle.valid_intervals.specs.Spans.{from_to}
 use Rattle.valid_intervals.specs.declared.Cell.{Cell}
 use Rattle.circuit_meaning.specs.Circuit.{Pin, FlipFlop, Driver, Input, Gate, Flop, Circuit, driver, IsCircuit, IsDriver}
-use Rattle.circuit_meaning.specs.Forward.{value, value_from, seen, flop_value}
-use Rattle.circuit_meaning.specs.Cells.{span, span_from, pin_span, looked, least_delay, cell_at, point_at}
+use Rattle.circuit_meaning.specs.Forward.{value, value_from, seen_value, flop_value}
+use Rattle.circuit_meaning.specs.Cells.{span, span_from, pin_span, looked_pins, least_delay, cell_at, point_at}
 use Rattle.circuit_meaning.specs.Base.{cell_with, flop_base, base_from, base_answer}
 use Rattle.circuit_meaning.specs.Need.{HasChildren, IsEvaluable}
 use Rattle.circuit_meaning.proofs.Equations.{value_is, span_is, driver_fits, all_imply}
@@ -36,16 +36,16 @@ module _ (c : Circuit) (t : ℕ) where
   IsAnswer d o = MatchOption o (HasChildren t d) (λ x. (x ≡ given d) × (HasChildren t d → ⊥))
 
   -- before its least delay each pin of a gate sees x
-  early-unknown : (pins : List Pin) → t < least_delay pins → AllByRecursion (λ v. is_unknown v ≡ true) (map (seen (value c) t) pins)
+  early-unknown : (pins : List Pin) → t < least_delay pins → AllByRecursion (λ v. is_unknown v ≡ true) (map (seen_value (value c) t) pins)
   early-unknown pins h =
-      map_all (λ v. is_unknown v ≡ true) (seen (value c) t) pins
-      (all_imply (λ p. least_delay pins ≤ p.delay) (λ p. is_unknown (seen (value c) t p) ≡ true) (λ p m. rw (seen-early (value c) t p (omega arith)) refl) pins (least pins))
+      map_all (λ v. is_unknown v ≡ true) (seen_value (value c) t) pins
+      (all_imply (λ p. least_delay pins ≤ p.delay) (λ p. is_unknown (seen_value (value c) t p) ≡ true) (λ p m. rw (seen-early (value c) t p (omega arith)) refl) pins (least pins))
 
   gate-answer : (kind : Kind) (pins : List Pin) → 1 ≤ length pins → IsAnswer (Gate kind pins) (base_from (c.horizon + 1) t (Gate kind pins))
   gate-answer kind pins some = elim (cases_lt t (least_delay pins)) [
     | inl l ↦
-        let early : span_from c (span c) t (Gate kind pins) ≡ from_to 0 (min (least_delay pins) (c.horizon + 1)) = gate_span-early (c.horizon + 1) t (least_delay pins) (map (pin_span (span c) t) (looked c t kind pins)) l in
-        let x : gate_value kind (map (seen (value c) t) pins) ≡ X = gate_value-unknown kind (map (seen (value c) t) pins) (early-unknown pins l) (rw length-map some) in
+        let early : span_from c (span c) t (Gate kind pins) ≡ from_to 0 (min (least_delay pins) (c.horizon + 1)) = gate_span-early (c.horizon + 1) t (least_delay pins) (map (pin_span (span c) t) (looked_pins c t kind pins)) l in
+        let x : gate_value kind (map (seen_value (value c) t) pins) ≡ X = gate_value-unknown kind (map (seen_value (value c) t) pins) (early-unknown pins l) (rw length-map some) in
         answered (HasChildren t (Gate kind pins)) (given (Gate kind pins)) (base_from (c.horizon + 1) t (Gate kind pins)) (cell_with (from_to 0 (min (least_delay pins) (c.horizon + 1))) X)
         (rw (lt-ltb t (least_delay pins) l) refl) (cc (early, x)) (λ h. omega arith)
     | inr l ↦ unanswered (HasChildren t (Gate kind pins)) (given (Gate kind pins)) (base_from (c.horizon + 1) t (Gate kind pins)) (rw (le-ltb t (least_delay pins) l) refl) l

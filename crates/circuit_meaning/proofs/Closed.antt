@@ -8,10 +8,10 @@ use Rattle.gate_values.proofs.Unknown.{gate_value-not_z}
 use Rattle.flip_flops.specs.Edges.{shown_edge}
 use Rattle.circuit_meaning.specs.declared.Window.{Window}
 use Rattle.circuit_meaning.specs.Circuit.{FlipFlop, Driver, Input, Gate, Flop, Circuit, IsCircuit, IsDriver, driver, read_by}
-use Rattle.circuit_meaning.specs.Forward.{value, value_from, seen, flop_value}
+use Rattle.circuit_meaning.specs.Forward.{value, value_from, seen_value, flop_value}
 use Rattle.circuit_meaning.specs.Cells.{span}
 use Rattle.circuit_meaning.specs.Need.{children, HasChildren, IsEvaluable, IsRoot, First, Piece, Next, IsNeeded, Root, Child, IsClosedUnderChildren, IsPart}
-use Rattle.circuit_meaning.specs.Forced.{forced, IsFree}
+use Rattle.circuit_meaning.specs.Forced.{forced_circuit, IsFree}
 use Rattle.circuit_meaning.specs.Laws.{IsDriven}
 use Rattle.circuit_meaning.proofs.Equations.{value_is, driver_fits}
 use Rattle.circuit_meaning.proofs.Points.{children-read}
@@ -20,12 +20,12 @@ use Rattle.circuit_meaning.proofs.Alike.{free-alike, cone-step}
 pub need-closed : (c : Circuit) (q : Window) → IsClosedUnderChildren c (IsNeeded c q)
 need-closed c q s t needed p child e = Child needed child e
 
-pub held-need-closed : (c : Circuit) (s : ℕ) (w : Value) → IsCircuit c → (q : Window) → IsClosedUnderChildren c (λ u t. IsNeeded (forced c s w) q u t × IsFree c s u)
+pub held-need-closed : (c : Circuit) (s : ℕ) (w : Value) → IsCircuit c → (q : Window) → IsClosedUnderChildren c (λ u t. IsNeeded (forced_circuit c s w) q u t × IsFree c s u)
 held-need-closed c s w ok q x t needed p child e =
     let alike = free-alike c s w ok x t needed.1 in
     let read : Contains (read_by (driver c x)) p.signal = All-contains (λ p. Contains (read_by (driver c x)) p.signal) (children c x t) p (children-read c x t) child in
     let free : IsFree c s p.signal = λ i. needed.1 (cone-step c x p.signal s read i) in
-    let evaluable : IsEvaluable (forced c s w) p.signal p.time = subst (HasChildren p.time) (sym (free-alike c s w ok p.signal p.time free).driver) e in
+    let evaluable : IsEvaluable (forced_circuit c s w) p.signal p.time = subst (HasChildren p.time) (sym (free-alike c s w ok p.signal p.time free).driver) e in
     (Child needed.0 (rw alike.children child) evaluable, free)
 
 module _ (c : Circuit) (q part : Window) (is : IsPart c q part) where
@@ -50,7 +50,7 @@ module _ (c : Circuit) (t : ℕ) where
 
   driven-not_z : (n h : ℕ) (d : Driver) → IsDriver n h d → IsDriven d → value_from (value c) t d ≢ Z
   driven-not_z n h (Input settings) ok driven = absurd driven
-  driven-not_z n h (Gate kind pins) ok driven = gate_value-not_z kind (map (seen (value c) t) pins)
+  driven-not_z n h (Gate kind pins) ok driven = gate_value-not_z kind (map (seen_value (value c) t) pins)
   driven-not_z n h (Flop f) ok driven = flop-not_z f ok.initial (shown_edge f.clock f.delay t)
 
 pub value-not_z : (c : Circuit) → IsCircuit c → (s t : ℕ) → IsDriven (driver c s) → value c s t ≢ Z

@@ -7,9 +7,9 @@ use Rattle.gate_values.specs.declared.Kind.{Kind}
 use Rattle.gate_values.specs.Gates.{decides}
 use Rattle.circuit_meaning.specs.Circuit.{Pin, Driver, Input, Gate, Flop, Circuit, driver, IsCircuit, IsDriver}
 use Rattle.flip_flops.specs.declared.Clock.{Clock}
-use Rattle.circuit_meaning.specs.Forward.{value, seen}
+use Rattle.circuit_meaning.specs.Forward.{value, seen_value}
 use Rattle.flip_flops.specs.Edges.{shown_edge, flop_span}
-use Rattle.circuit_meaning.specs.Cells.{span, span_from, pin_span, looked, least_delay}
+use Rattle.circuit_meaning.specs.Cells.{span, span_from, pin_span, looked_pins, least_delay}
 use Rattle.valid_intervals.specs.Spans.{Span, IsIn, from_to}
 use Rattle.circuit_meaning.specs.Laws.{IsCovered}
 use Rattle.circuit_meaning.proofs.Table.{at_all_times}
@@ -33,14 +33,14 @@ module _ (c : Circuit) (t : ℕ) (within : t ≤ c.horizon) (before : (w : ℕ) 
 
   gate-covers : (kind : Kind) (pins : List Pin) → AllByRecursion (λ p. 1 ≤ p.delay) pins → Covers (c.horizon + 1) t (span_from c (span c) t (Gate kind pins))
   gate-covers kind pins pos = elim (cases_lt t (least_delay pins)) [
-    | inl l ↦ rw (gate_span-early (c.horizon + 1) t (least_delay pins) (map (pin_span (span c) t) (looked c t kind pins)) l) (record { inside = record { low = omega arith; high = omega arith }; within = omega arith })
+    | inl l ↦ rw (gate_span-early (c.horizon + 1) t (least_delay pins) (map (pin_span (span c) t) (looked_pins c t kind pins)) l) (record { inside = record { low = omega arith; high = omega arith }; within = omega arith })
     | inr l ↦
         let P : Pin → Type 0 = λ p. 1 ≤ p.delay in
-        let spans = map (pin_span (span c) t) (looked c t kind pins) in
+        let spans = map (pin_span (span c) t) (looked_pins c t kind pins) in
         let base = from_to (least_delay pins) (c.horizon + 1) in
         rw (gate_span-late (c.horizon + 1) t (least_delay pins) spans l) (record {
-          inside = in_meet base spans t (record { low = l; high = omega arith }) (map_all (λ x. IsIn x t) (pin_span (span c) t) (looked c t kind pins)
-              (all_imply P (λ p. IsIn (pin_span (span c) t p) t) pin-inside (looked c t kind pins) (all_cut P (λ p. decides kind (seen (value c) t p)) pins pos)));
+          inside = in_meet base spans t (record { low = l; high = omega arith }) (map_all (λ x. IsIn x t) (pin_span (span c) t) (looked_pins c t kind pins)
+              (all_imply P (λ p. IsIn (pin_span (span c) t p) t) pin-inside (looked_pins c t kind pins) (all_cut P (λ p. decides kind (seen_value (value c) t p)) pins pos)));
           within = meet-stop base spans;
         })
   ]

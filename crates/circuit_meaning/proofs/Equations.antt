@@ -8,11 +8,11 @@ use Rattle.gate_values.specs.declared.Value.TheVariants.{X}
 use Rattle.gate_values.specs.declared.Kind.TheVariants.{Dff}
 use Rattle.gate_values.specs.Gates.{gate_value, decides, up_to_first}
 use Rattle.circuit_meaning.specs.Circuit.{Pin, FlipFlop, Driver, Input, Gate, Flop, Circuit, driver, IsCircuit, IsDriver}
-use Rattle.circuit_meaning.specs.Forward.{rows_below, row_at, last_setting, seen, flop_value, value_from, entry, next_row, value}
+use Rattle.circuit_meaning.specs.Forward.{rows_below, row_at, last_setting, seen_value, flop_value, value_from, entry, next_row, value}
 use Rattle.flip_flops.specs.Edges.{shown_edge}
 use Rattle.flip_flops.proofs.EdgeLemmas.{shown_edge-le}
-use Rattle.circuit_meaning.specs.Cells.{pin_span, span_from, span_entry, next_spans, span, looked, next_setting, least_delay, gate_span}
-use Rattle.valid_intervals.specs.Spans.{Span, from_to, moved}
+use Rattle.circuit_meaning.specs.Cells.{pin_span, span_from, span_entry, next_spans, span, looked_pins, next_setting, least_delay, gate_span}
+use Rattle.valid_intervals.specs.Spans.{Span, from_to, moved_span}
 use Rattle.circuit_meaning.proofs.Table.{length-rows_below, get_or-rows_below}
 
 pub map_same : {A B : Type 0} (f g : A → B) (xs : List A) → AllByRecursion (λ a. f a ≡ g a) xs → map f xs ≡ map g xs
@@ -34,7 +34,7 @@ driver_fits c ok s = elim (either s (length c.drivers)) [
 ]
 
 -- a pin with a delay of at least one reads an earlier time
-seen_same : (b b' : ℕ → ℕ → Value) (t : ℕ) → ((s u : ℕ) → u < t → b s u ≡ b' s u) → (p : Pin) → 1 ≤ p.delay → seen b t p ≡ seen b' t p
+seen_same : (b b' : ℕ → ℕ → Value) (t : ℕ) → ((s u : ℕ) → u < t → b s u ≡ b' s u) → (p : Pin) → 1 ≤ p.delay → seen_value b t p ≡ seen_value b' t p
 seen_same b b' t same p pos = go (nat_lt t p.delay) refl
   where
     go : (x : Bool) → nat_lt t p.delay ≡ x → (if x then X else b p.signal (t - p.delay)) ≡ (if x then X else b' p.signal (t - p.delay))
@@ -48,7 +48,7 @@ flop_same b b' t same f pos (Some e) h = ap (λ v. gate_value Dff (v ∷ [])) (s
 value_from-same : (n h : ℕ) (b b' : ℕ → ℕ → Value) (t : ℕ) → ((s u : ℕ) → u < t → b s u ≡ b' s u) → (d : Driver) → IsDriver n h d → value_from b t d ≡ value_from b' t d
 value_from-same n h b b' t same (Input settings) ok = refl
 value_from-same n h b b' t same (Gate kind pins) ok =
-    ap (gate_value kind) (map_same (seen b t) (seen b' t) pins (all_imply (λ p. 1 ≤ p.delay) (λ p. seen b t p ≡ seen b' t p) (seen_same b b' t same) pins (recursion_from_All (λ p. 1 ≤ p.delay) pins ok.delay)))
+    ap (gate_value kind) (map_same (seen_value b t) (seen_value b' t) pins (all_imply (λ p. 1 ≤ p.delay) (λ p. seen_value b t p ≡ seen_value b' t p) (seen_same b b' t same) pins (recursion_from_All (λ p. 1 ≤ p.delay) pins ok.delay)))
 value_from-same n h b b' t same (Flop f) ok = flop_same b b' t same f ok.delay (shown_edge f.clock f.delay t) refl
 
 pub entry-value : (c : Circuit) (t s u : ℕ) → u < t → entry (rows_below (next_row c) t) s u ≡ value c s u
@@ -70,17 +70,17 @@ all_cut P test (x ∷ xs) h = (h.0, elim (test x) as (λ b. AllByRecursion P (co
 pin_span_same : (b b' : ℕ → ℕ → Span) (t : ℕ) → ((s u : ℕ) → u < t → b s u ≡ b' s u) → (p : Pin) → 1 ≤ p.delay → pin_span b t p ≡ pin_span b' t p
 pin_span_same b b' t same p pos = go (nat_lt t p.delay) refl
   where
-    go : (x : Bool) → nat_lt t p.delay ≡ x → (if x then from_to 0 p.delay else moved p.delay (b p.signal (t - p.delay))) ≡ (if x then from_to 0 p.delay else moved p.delay (b' p.signal (t - p.delay)))
+    go : (x : Bool) → nat_lt t p.delay ≡ x → (if x then from_to 0 p.delay else moved_span p.delay (b p.signal (t - p.delay))) ≡ (if x then from_to 0 p.delay else moved_span p.delay (b' p.signal (t - p.delay)))
     go true h = refl
-    go false h = ap (moved p.delay) (same p.signal (t - p.delay) (let k : p.delay ≤ t = ltb-false t p.delay h in omega arith))
+    go false h = ap (moved_span p.delay) (same p.signal (t - p.delay) (let k : p.delay ≤ t = ltb-false t p.delay h in omega arith))
 
 span_from-same : (c : Circuit) (n h : ℕ) (b b' : ℕ → ℕ → Span) (t : ℕ) → ((s u : ℕ) → u < t → b s u ≡ b' s u) → (d : Driver) → IsDriver n h d → span_from c b t d ≡ span_from c b' t d
 span_from-same c n h b b' t same (Input settings) ok = refl
 span_from-same c n h b b' t same (Gate kind pins) ok =
     let P : Pin → Type 0 = λ p. 1 ≤ p.delay in
-    ap (gate_span (c.horizon + 1) t (least_delay pins)) (map_same (pin_span b t) (pin_span b' t) (looked c t kind pins)
-    (all_imply P (λ p. pin_span b t p ≡ pin_span b' t p) (pin_span_same b b' t same) (looked c t kind pins)
-    (all_cut P (λ p. decides kind (seen (value c) t p)) pins (recursion_from_All P pins ok.delay))))
+    ap (gate_span (c.horizon + 1) t (least_delay pins)) (map_same (pin_span b t) (pin_span b' t) (looked_pins c t kind pins)
+    (all_imply P (λ p. pin_span b t p ≡ pin_span b' t p) (pin_span_same b b' t same) (looked_pins c t kind pins)
+    (all_cut P (λ p. decides kind (seen_value (value c) t p)) pins (recursion_from_All P pins ok.delay))))
 span_from-same c n h b b' t same (Flop f) ok = refl
 
 entry-span : (c : Circuit) (t s u : ℕ) → u < t → span_entry c (rows_below (next_spans c) t) s u ≡ span c s u

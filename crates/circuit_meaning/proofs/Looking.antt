@@ -11,8 +11,8 @@ use Rattle.valid_intervals.specs.declared.Point.{Point}
 use Rattle.flip_flops.specs.Edges.{shown_edge}
 use Rattle.circuit_meaning.specs.declared.Pin.{Pin}
 use Rattle.circuit_meaning.specs.Circuit.{Circuit, Driver, Input, Gate, Flop, driver, IsCircuit}
-use Rattle.circuit_meaning.specs.Forward.{value, value_from, flop_value, seen}
-use Rattle.circuit_meaning.specs.Cells.{looked}
+use Rattle.circuit_meaning.specs.Forward.{value, value_from, flop_value, seen_value}
+use Rattle.circuit_meaning.specs.Cells.{looked_pins}
 use Rattle.circuit_meaning.specs.Need.{HasChildren, IsEvaluable, children, children_from, flop_child}
 use Rattle.circuit_meaning.specs.Looks.{somes, kind_of, pin_point, flop_points, pin_points_at, pin_points, sees, looked_points}
 use Rattle.circuit_meaning.proofs.Equations.{value_is, map_same}
@@ -21,15 +21,15 @@ all_of : {A : Type 0} (P : A → Type 0) → ((a : A) → P a) → (xs : List A)
 all_of P h [] = tt
 all_of P h (x ∷ xs) = (h x, all_of P h xs)
 
-sees-source : (c : Circuit) (t : ℕ) (p : Pin) → sees c (pin_point t p) ≡ seen (value c) t p
+sees-source : (c : Circuit) (t : ℕ) (p : Pin) → sees c (pin_point t p) ≡ seen_value (value c) t p
 sees-source c t p = elim (nat_lt t p.delay) as (λ b. sees c (cond b None (Some (record { signal = p.signal; time = t - p.delay }))) ≡ cond b X (value c p.signal (t - p.delay))) [ true ↦ refl | false ↦ refl ]
 
 map-map : {A B C : Type 0} (f : B → C) (g : A → B) (xs : List A) → map f (map g xs) ≡ map (λ a. f (g a)) xs
 map-map f g [] = refl
 map-map f g (x ∷ xs) = ap (λ rest. f (g x) ∷ rest) (map-map f g xs)
 
-sees-sources : (c : Circuit) (t : ℕ) (pins : List Pin) → map (sees c) (map (pin_point t) pins) ≡ map (seen (value c) t) pins
-sees-sources c t pins = map-map (sees c) (pin_point t) pins ∙ map_same (λ p. sees c (pin_point t p)) (seen (value c) t) pins (all_of (λ p. sees c (pin_point t p) ≡ seen (value c) t p) (sees-source c t) pins)
+sees-sources : (c : Circuit) (t : ℕ) (pins : List Pin) → map (sees c) (map (pin_point t) pins) ≡ map (seen_value (value c) t) pins
+sees-sources c t pins = map-map (sees c) (pin_point t) pins ∙ map_same (λ p. sees c (pin_point t p)) (seen_value (value c) t) pins (all_of (λ p. sees c (pin_point t p) ≡ seen_value (value c) t p) (sees-source c t) pins)
 
 -- the value that a driver gives, of what its pins see
 seen-value : (c : Circuit) (t : ℕ) (d : Driver) → HasChildren t d → value_from (value c) t d ≡ gate_value (kind_of d) (map (sees c) (pin_points_at t d))
@@ -62,9 +62,9 @@ late-somes t (p ∷ pins) =
       | inr l ↦ rw (le-leb _ _ l, le-ltb _ _ l) (ap (λ rest. point p ∷ rest) (late-somes t pins))
     ]
 
-cut-sources : (c : Circuit) (t : ℕ) (kind : Kind) (pins : List Pin) → map (pin_point t) (looked c t kind pins) ≡ up_to_first (λ o. decides kind (sees c o)) (map (pin_point t) pins)
+cut-sources : (c : Circuit) (t : ℕ) (kind : Kind) (pins : List Pin) → map (pin_point t) (looked_pins c t kind pins) ≡ up_to_first (λ o. decides kind (sees c o)) (map (pin_point t) pins)
 cut-sources c t kind pins =
-    ap (map (pin_point t)) (cut_alike (decides kind) (λ p. sees c (pin_point t p)) (seen (value c) t) pins (all_of (λ p. sees c (pin_point t p) ≡ seen (value c) t p) (sees-source c t) (up_to_first (λ p. decides kind (sees c (pin_point t p))) pins)))
+    ap (map (pin_point t)) (cut_alike (decides kind) (λ p. sees c (pin_point t p)) (seen_value (value c) t) pins (all_of (λ p. sees c (pin_point t p) ≡ seen_value (value c) t p) (sees-source c t) (up_to_first (λ p. decides kind (sees c (pin_point t p))) pins)))
     ∙ map-up_to_first (λ o. decides kind (sees c o)) (pin_point t) pins
 
 flop-somes : (pin : ℕ) (o : Option ℕ) (test : Option Point → Bool) → flop_child pin o ≡ somes (up_to_first test (flop_points pin o))
@@ -80,7 +80,7 @@ flop-somes pin (Some e) test = go (test (Some here))
 
 sources-somes : (c : Circuit) (t : ℕ) (d : Driver) → children_from c t d ≡ somes (up_to_first (λ o. decides (kind_of d) (sees c o)) (pin_points_at t d))
 sources-somes c t (Input settings) = refl
-sources-somes c t (Gate kind pins) = late-somes t (looked c t kind pins) ∙ ap somes (cut-sources c t kind pins)
+sources-somes c t (Gate kind pins) = late-somes t (looked_pins c t kind pins) ∙ ap somes (cut-sources c t kind pins)
 sources-somes c t (Flop f) = flop-somes f.pin (shown_edge f.clock f.delay t) (λ o. decides Dff (sees c o))
 
 pub children-somes : (c : Circuit) (s t : ℕ) → children c s t ≡ somes (looked_points c s t)

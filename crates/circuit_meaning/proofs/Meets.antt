@@ -3,7 +3,7 @@ use Rattle.std.proofs.Common.{◌≡◌, ℕ, ◌+◌, ◌≤◌, min, List, [],
 use Rattle.circuit_meaning.specs.declared.Pin.{Pin}
 use Rattle.gate_values.specs.declared.Kind.{Kind}
 use Rattle.circuit_meaning.specs.Circuit.{Circuit, IsCircuit, Gate, driver}
-use Rattle.circuit_meaning.specs.Cells.{span, span_from, pin_span, looked, least_delay}
+use Rattle.circuit_meaning.specs.Cells.{span, span_from, pin_span, looked_pins, least_delay}
 use Rattle.valid_intervals.specs.Spans.{Span, from_to, meet}
 use Rattle.circuit_meaning.proofs.Equations.{span_is}
 use Rattle.circuit_meaning.proofs.Steady.{gate_span-late}
@@ -29,5 +29,5 @@ met-all m limit x xs = met m limit (cut limit x) xs ∙ ap (λ b. fold meet b xs
 
 -- the interval of an evaluable gate
 pub gate-span : (c : Circuit) → IsCircuit c → (s t : ℕ) (kind : Kind) (pins : List Pin) → driver c s ≡ Gate kind pins → least_delay pins ≤ t
-    → span c s t ≡ fold meet (from_to (least_delay pins) (c.horizon + 1)) (map (pin_span (span c) t) (looked c t kind pins))
-gate-span c ok s t kind pins e h = span_is c ok s t ∙ ap (span_from c (span c) t) e ∙ gate_span-late (c.horizon + 1) t (least_delay pins) (map (pin_span (span c) t) (looked c t kind pins)) h
+    → span c s t ≡ fold meet (from_to (least_delay pins) (c.horizon + 1)) (map (pin_span (span c) t) (looked_pins c t kind pins))
+gate-span c ok s t kind pins e h = span_is c ok s t ∙ ap (span_from c (span c) t) e ∙ gate_span-late (c.horizon + 1) t (least_delay pins) (map (pin_span (span c) t) (looked_pins c t kind pins)) h

@@ -4,7 +4,7 @@ use Rattle.std.proofs.lemmas.Bool.{cases_lt}
 use Rattle.std.proofs.lemmas.List.Elements.{All-from_recursion, All-contains}
 use Rattle.gate_values.specs.declared.Value.TheVariants.{Zero}
 use Rattle.gate_values.specs.declared.Kind.TheVariants.{Not}
-use Rattle.valid_intervals.specs.Spans.{from_to, meet, moved}
+use Rattle.valid_intervals.specs.Spans.{from_to, meet, moved_span}
 use Rattle.valid_intervals.specs.declared.Point.{Point}
 use Rattle.circuit_meaning.specs.declared.Window.{Window}
 use Rattle.circuit_meaning.specs.Circuit.{Setting, Pin, Input, Gate, Circuit, IsCircuit, IsDriver}
@@ -57,7 +57,7 @@ long-rest : (t : ℕ) → 1 ≤ t → span long 1 t ≡ from_to 1 200001
 unfolding least_delay
 long-rest t h =
     gate-span long long-fits 1 t Not (pin 0 1 ∷ []) refl h
-    ∙ ap (λ x. fold meet (from_to 1 200001) (x ∷ [])) (pin_span-late (span long) t (pin 0 1) h ∙ ap (moved 1) (long-input (t - 1)))
+    ∙ ap (λ x. fold meet (from_to 1 200001) (x ∷ [])) (pin_span-late (span long) t (pin 0 1) h ∙ ap (moved_span 1) (long-input (t - 1)))
 
 -- the roots of the whole window are its start, the end of the cell there, and the multiples of 65,536
 pub long-roots : (r : ℕ) → IsRoot long all_of_it r → (r ≡ 0) ⊎ ((r ≡ 1) ⊎ ((n : ℕ) × (1 ≤ n) × (n ≤ 3) × (r ≡ n * 65536)))

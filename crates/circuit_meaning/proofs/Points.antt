@@ -6,9 +6,9 @@ use Rattle.std.proofs.Math.ListN.{get_or-map, length-map}
 use Rattle.gate_values.specs.declared.Kind.{Kind}
 use Rattle.gate_values.specs.Gates.{decides}
 use Rattle.circuit_meaning.specs.Circuit.{Pin, FlipFlop, Driver, Input, Gate, Flop, Circuit, driver, read_by, IsCircuit, IsDriver}
-use Rattle.circuit_meaning.specs.Forward.{seen, value}
+use Rattle.circuit_meaning.specs.Forward.{seen_value, value}
 use Rattle.flip_flops.specs.Edges.{shown_edge}
-use Rattle.circuit_meaning.specs.Cells.{looked}
+use Rattle.circuit_meaning.specs.Cells.{looked_pins}
 use Rattle.circuit_meaning.specs.Need.{Window, flop_child, children_from, children, IsNeeded, Root, Child, IsInCone, Itself, Reads}
 use Rattle.valid_intervals.specs.declared.Point.{Point}
 use Rattle.circuit_meaning.proofs.Equations.{driver_fits, all_cut}
@@ -37,7 +37,7 @@ imply P Q f (x ∷ xs) h = (f x h.0, imply P Q f xs h.1)
 
 -- the children of a gate
 gate_points : (c : Circuit) (t : ℕ) (kind : Kind) (pins : List Pin) (P : Point → Type 0) → AllByRecursion (λ p. p.delay ≤ t → P (record { signal = p.signal; time = t - p.delay })) pins → AllByRecursion P (children_from c t (Gate kind pins))
-gate_points c t kind pins P h = all_points t P (looked c t kind pins) (all_cut (λ p. p.delay ≤ t → P (record { signal = p.signal; time = t - p.delay })) (λ p. decides kind (seen (value c) t p)) pins h)
+gate_points c t kind pins P h = all_points t P (looked_pins c t kind pins) (all_cut (λ p. p.delay ≤ t → P (record { signal = p.signal; time = t - p.delay })) (λ p. decides kind (seen_value (value c) t p)) pins h)
 
 flop_points : (f : FlipFlop) (t : ℕ) (P : Point → Type 0) → ((e : ℕ) → shown_edge f.clock f.delay t ≡ Some e → P (record { signal = f.pin; time = e })) → (o : Option ℕ) → shown_edge f.clock f.delay t ≡ o → AllByRecursion P (flop_child f.pin o)
 flop_points f t P h None e = tt

@@ -10,10 +10,10 @@ use Rattle.gate_values.specs.Gates.{gate_value, decides}
 use Rattle.gate_values.proofs.Looked.{gate_value-looked, cut_alike, map-up_to_first}
 use Rattle.circuit_meaning.specs.Circuit.{Pin, Driver, Input, Gate, Flop, Circuit, driver, IsCircuit, IsDriver}
 use Rattle.flip_flops.specs.declared.Clock.{Clock}
-use Rattle.circuit_meaning.specs.Forward.{value, value_from, seen, flop_value, input_value}
+use Rattle.circuit_meaning.specs.Forward.{value, value_from, seen_value, flop_value, input_value}
 use Rattle.flip_flops.specs.Edges.{shown_edge, flop_span}
-use Rattle.circuit_meaning.specs.Cells.{span, span_from, gate_span, pin_span, looked, least_delay}
-use Rattle.valid_intervals.specs.Spans.{Span, IsIn, from_to, meet, moved}
+use Rattle.circuit_meaning.specs.Cells.{span, span_from, gate_span, pin_span, looked_pins, least_delay}
+use Rattle.valid_intervals.specs.Spans.{Span, IsIn, from_to, meet, moved_span}
 use Rattle.circuit_meaning.specs.Laws.{Pins, Edge, look, IsSame}
 use Rattle.circuit_meaning.proofs.Table.{at_all_times}
 use Rattle.circuit_meaning.proofs.Equations.{value_is, span_is, driver_fits, map_same, all_imply, all_cut}
@@ -59,17 +59,17 @@ both P Q (x ∷ xs) h k = ((h.0, k.0), both P Q xs h.1 k.1)
 
 -- what a pin sees, before its delay and after
 module _ (v : ℕ → ℕ → Value) (t : ℕ) (p : Pin) where
-  pub seen-early : t < p.delay → seen v t p ≡ X
+  pub seen-early : t < p.delay → seen_value v t p ≡ X
   seen-early h = rw (lt-ltb t p.delay h)
 
-  pub seen-late : p.delay ≤ t → seen v t p ≡ v p.signal (t - p.delay)
+  pub seen-late : p.delay ≤ t → seen_value v t p ≡ v p.signal (t - p.delay)
   seen-late h = rw (le-ltb t p.delay h)
 
 module _ (b : ℕ → ℕ → Span) (t : ℕ) (p : Pin) where
   pub pin_span-early : t < p.delay → pin_span b t p ≡ from_to 0 p.delay
   pin_span-early h = rw (lt-ltb t p.delay h)
 
-  pub pin_span-late : p.delay ≤ t → pin_span b t p ≡ moved p.delay (b p.signal (t - p.delay))
+  pub pin_span-late : p.delay ≤ t → pin_span b t p ≡ moved_span p.delay (b p.signal (t - p.delay))
   pin_span-late h = rw (le-ltb t p.delay h)
 
 module _ (limit t m : ℕ) (xs : List Span) where
@@ -87,7 +87,7 @@ record Gives (c : Circuit) (d : Driver) (t u : ℕ) : Type 0 where
 
 module _ (c : Circuit) (t u : ℕ) (before : (w : ℕ) → w < t → (s x : ℕ) → IsIn (span c s w) x → IsSame c s w x) where
   -- a pin sees at each time of its interval what it sees at t
-  pin-steady : (p : Pin) → 1 ≤ p.delay → IsIn (pin_span (span c) t p) u → (seen (value c) u p ≡ seen (value c) t p) × (pin_span (span c) u p ≡ pin_span (span c) t p)
+  pin-steady : (p : Pin) → 1 ≤ p.delay → IsIn (pin_span (span c) t p) u → (seen_value (value c) u p ≡ seen_value (value c) t p) × (pin_span (span c) u p ≡ pin_span (span c) t p)
   pin-steady p pos h = elim (cases_lt t p.delay) [
     | inl l ↦
         let k = rw (pin_span-early (span c) t p l) at h in
@@ -97,49 +97,49 @@ module _ (c : Circuit) (t u : ℕ) (before : (w : ℕ) → w < t → (s x : ℕ)
         let k = rw (pin_span-late (span c) t p l) at h in
         let l' : p.delay ≤ u = omega arith in
         let same = before (t - p.delay) (omega arith) p.signal (u - p.delay) (record { low = omega arith; high = omega arith }) in
-        (seen-late (value c) u p l' ∙ same.value ∙ sym (seen-late (value c) t p l), pin_span-late (span c) u p l' ∙ ap (moved p.delay) same.span ∙ sym (pin_span-late (span c) t p l))
+        (seen-late (value c) u p l' ∙ same.value ∙ sym (seen-late (value c) t p l), pin_span-late (span c) u p l' ∙ ap (moved_span p.delay) same.span ∙ sym (pin_span-late (span c) t p l))
   ]
 
   module _ (kind : Kind) (pins : List Pin) where
     -- where the looked pins see the same, so does the gate
-    module _ (same : AllByRecursion (λ p. seen (value c) u p ≡ seen (value c) t p) (looked c t kind pins)) where
-      looked-steady : looked c u kind pins ≡ looked c t kind pins
-      looked-steady = cut_alike (decides kind) (seen (value c) t) (seen (value c) u) pins (all_imply (λ p. seen (value c) u p ≡ seen (value c) t p) (λ p. seen (value c) t p ≡ seen (value c) u p) (λ p e. sym e) (looked c t kind pins) same)
+    module _ (same : AllByRecursion (λ p. seen_value (value c) u p ≡ seen_value (value c) t p) (looked_pins c t kind pins)) where
+      looked-steady : looked_pins c u kind pins ≡ looked_pins c t kind pins
+      looked-steady = cut_alike (decides kind) (seen_value (value c) t) (seen_value (value c) u) pins (all_imply (λ p. seen_value (value c) u p ≡ seen_value (value c) t p) (λ p. seen_value (value c) t p ≡ seen_value (value c) u p) (λ p e. sym e) (looked_pins c t kind pins) same)
 
-      gate-looked : (w : ℕ) → gate_value kind (map (seen (value c) w) pins) ≡ gate_value kind (map (seen (value c) w) (looked c w kind pins))
-      gate-looked w = sym (gate_value-looked kind (map (seen (value c) w) pins)) ∙ ap (gate_value kind) (sym (map-up_to_first (decides kind) (seen (value c) w) pins))
+      gate-looked : (w : ℕ) → gate_value kind (map (seen_value (value c) w) pins) ≡ gate_value kind (map (seen_value (value c) w) (looked_pins c w kind pins))
+      gate-looked w = sym (gate_value-looked kind (map (seen_value (value c) w) pins)) ∙ ap (gate_value kind) (sym (map-up_to_first (decides kind) (seen_value (value c) w) pins))
 
-      gate-steady : gate_value kind (map (seen (value c) u) pins) ≡ gate_value kind (map (seen (value c) t) pins)
-      gate-steady = gate-looked u ∙ ap (gate_value kind) (ap (map (seen (value c) u)) looked-steady ∙ map_same (seen (value c) u) (seen (value c) t) (looked c t kind pins) same) ∙ sym (gate-looked t)
+      gate-steady : gate_value kind (map (seen_value (value c) u) pins) ≡ gate_value kind (map (seen_value (value c) t) pins)
+      gate-steady = gate-looked u ∙ ap (gate_value kind) (ap (map (seen_value (value c) u)) looked-steady ∙ map_same (seen_value (value c) u) (seen_value (value c) t) (looked_pins c t kind pins) same) ∙ sym (gate-looked t)
 
     gate-gives : AllByRecursion (λ p. 1 ≤ p.delay) pins → IsIn (span_from c (span c) t (Gate kind pins)) u → Gives c (Gate kind pins) t u
     gate-gives pos h = elim (cases_lt t (least_delay pins)) [
       | inl l ↦
-          let k = rw (gate_span-early (c.horizon + 1) t (least_delay pins) (map (pin_span (span c) t) (looked c t kind pins)) l) at h in
+          let k = rw (gate_span-early (c.horizon + 1) t (least_delay pins) (map (pin_span (span c) t) (looked_pins c t kind pins)) l) at h in
           let l' : u < least_delay pins = omega arith in
-          let same = all_imply (λ p. least_delay pins ≤ p.delay) (λ p. seen (value c) u p ≡ seen (value c) t p)
-          (λ p m. seen-early (value c) u p (omega arith) ∙ sym (seen-early (value c) t p (omega arith))) (looked c t kind pins)
-          (all_cut (λ p. least_delay pins ≤ p.delay) (λ p. decides kind (seen (value c) t p)) pins (least pins)) in
+          let same = all_imply (λ p. least_delay pins ≤ p.delay) (λ p. seen_value (value c) u p ≡ seen_value (value c) t p)
+          (λ p m. seen-early (value c) u p (omega arith) ∙ sym (seen-early (value c) t p (omega arith))) (looked_pins c t kind pins)
+          (all_cut (λ p. least_delay pins ≤ p.delay) (λ p. decides kind (seen_value (value c) t p)) pins (least pins)) in
           record {
             value = gate-steady same;
-            span = gate_span-early (c.horizon + 1) u (least_delay pins) (map (pin_span (span c) u) (looked c u kind pins)) l' ∙ sym (gate_span-early (c.horizon + 1) t (least_delay pins) (map (pin_span (span c) t) (looked c t kind pins)) l);
+            span = gate_span-early (c.horizon + 1) u (least_delay pins) (map (pin_span (span c) u) (looked_pins c u kind pins)) l' ∙ sym (gate_span-early (c.horizon + 1) t (least_delay pins) (map (pin_span (span c) t) (looked_pins c t kind pins)) l);
             look = ap Pins (looked-steady same);
           }
       | inr l ↦
-          let k = in_all (from_to (least_delay pins) (c.horizon + 1)) (map (pin_span (span c) t) (looked c t kind pins)) u (rw (gate_span-late (c.horizon + 1) t (least_delay pins) (map (pin_span (span c) t) (looked c t kind pins)) l) at h) in
+          let k = in_all (from_to (least_delay pins) (c.horizon + 1)) (map (pin_span (span c) t) (looked_pins c t kind pins)) u (rw (gate_span-late (c.horizon + 1) t (least_delay pins) (map (pin_span (span c) t) (looked_pins c t kind pins)) l) at h) in
           let l' : least_delay pins ≤ u = omega (arith, k.0) in
           let P : Pin → Type 0 = λ p. 1 ≤ p.delay in
           let Q : Pin → Type 0 = λ p. IsIn (pin_span (span c) t p) u in
-          let R : Pin → Type 0 = λ p. (seen (value c) u p ≡ seen (value c) t p) × (pin_span (span c) u p ≡ pin_span (span c) t p) in
-          let all = all_imply (λ p. P p × Q p) R (λ p h. pin-steady p h.0 h.1) (looked c t kind pins)
-          (both P Q (looked c t kind pins) (all_cut P (λ p. decides kind (seen (value c) t p)) pins pos) (all_map (λ x. IsIn x u) (pin_span (span c) t) (looked c t kind pins) k.1)) in
-          let same = all_imply R (λ p. seen (value c) u p ≡ seen (value c) t p) (λ p h. h.0) (looked c t kind pins) all in
-          let spans = all_imply R (λ p. pin_span (span c) u p ≡ pin_span (span c) t p) (λ p h. h.1) (looked c t kind pins) all in
+          let R : Pin → Type 0 = λ p. (seen_value (value c) u p ≡ seen_value (value c) t p) × (pin_span (span c) u p ≡ pin_span (span c) t p) in
+          let all = all_imply (λ p. P p × Q p) R (λ p h. pin-steady p h.0 h.1) (looked_pins c t kind pins)
+          (both P Q (looked_pins c t kind pins) (all_cut P (λ p. decides kind (seen_value (value c) t p)) pins pos) (all_map (λ x. IsIn x u) (pin_span (span c) t) (looked_pins c t kind pins) k.1)) in
+          let same = all_imply R (λ p. seen_value (value c) u p ≡ seen_value (value c) t p) (λ p h. h.0) (looked_pins c t kind pins) all in
+          let spans = all_imply R (λ p. pin_span (span c) u p ≡ pin_span (span c) t p) (λ p h. h.1) (looked_pins c t kind pins) all in
           record {
             value = gate-steady same;
-            span = gate_span-late (c.horizon + 1) u (least_delay pins) (map (pin_span (span c) u) (looked c u kind pins)) l'
-                ∙ ap (fold meet (from_to (least_delay pins) (c.horizon + 1))) (ap (map (pin_span (span c) u)) (looked-steady same) ∙ map_same (pin_span (span c) u) (pin_span (span c) t) (looked c t kind pins) spans)
-                ∙ sym (gate_span-late (c.horizon + 1) t (least_delay pins) (map (pin_span (span c) t) (looked c t kind pins)) l);
+            span = gate_span-late (c.horizon + 1) u (least_delay pins) (map (pin_span (span c) u) (looked_pins c u kind pins)) l'
+                ∙ ap (fold meet (from_to (least_delay pins) (c.horizon + 1))) (ap (map (pin_span (span c) u)) (looked-steady same) ∙ map_same (pin_span (span c) u) (pin_span (span c) t) (looked_pins c t kind pins) spans)
+                ∙ sym (gate_span-late (c.horizon + 1) t (least_delay pins) (map (pin_span (span c) t) (looked_pins c t kind pins)) l);
             look = ap Pins (looked-steady same);
           }
     ]

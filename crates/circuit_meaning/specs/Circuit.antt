@@ -1,5 +1,5 @@
 -- A circuit: what drives each signal, and its horizon.
-use Rattle.std.specs.Prelude.{◌≡◌, ℕ, ◌≤◌, ◌<◌, IsTrue, List, [], ◌∷◌, length, get_or, map, All, AllPairs, ◌≢◌, IfSome, sum_by}
+use Rattle.std.specs.Prelude.{◌≡◌, ℕ, ◌≤◌, ◌<◌, IsTrue, List, [], ◌∷◌, length, slice_index_or, map, All, AllPairs, ◌≢◌, IfSome, sum_by}
 use Rattle.gate_values.specs.declared.Kind.{Kind}
 use Rattle.gate_values.specs.Gates.{is_unary}
 pub use Rattle.circuit_meaning.specs.declared.Setting.{Setting}
@@ -21,7 +21,7 @@ pub record Circuit : Type 0 where
 
 -- the driver of a signal; a number that is no signal stands for an input without settings
 abbrev pub driver : Circuit → ℕ → Driver
-driver c s = get_or c.drivers s (Input [])
+driver c s = slice_index_or c.drivers s (Input [])
 
 -- the signals that a signal reads
 abbrev pub read_by : Driver → List ℕ

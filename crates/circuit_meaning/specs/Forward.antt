@@ -1,6 +1,6 @@
 -- Forward simulation: the value of every signal at every time. Each row of values is made from the earlier rows. Delays are transport
 -- delays: a pin sees its signal's value of exactly one delay ago, and every pulse passes.
-use Rattle.std.specs.Prelude.{ℕ, zero, suc, ◌+◌, ◌-◌, nat_lt, nat_le, if◌then◌else◌, not, ◌||◌, ◌==◌, List, [], ◌∷◌, ◌++◌, length, get_or, map, filter, Option, Some, None}
+use Rattle.std.specs.Prelude.{ℕ, zero, suc, ◌+◌, ◌-◌, nat_lt, nat_le, if◌then◌else◌, not, ◌||◌, ◌==◌, List, [], ◌∷◌, ◌++◌, length, slice_index_or, map, filter, Option, Some, None}
 use Rattle.std.specs.List.{range_with_len}
 use Rattle.gate_values.specs.declared.Value.{Value}
 use Rattle.gate_values.specs.declared.Value.TheVariants.{X}
@@ -38,8 +38,8 @@ input_value None = X
 input_value (Some s) = s.value
 
 -- what a pin of a gate sees at t; before s u is the value of the signal s at an earlier time u; before time 0 the pin sees x
-abbrev pub seen : (ℕ → ℕ → Value) → ℕ → Pin → Value
-seen before t p = if nat_lt t p.delay then X else before p.signal (t - p.delay)
+abbrev pub seen_value : (ℕ → ℕ → Value) → ℕ → Pin → Value
+seen_value before t p = if nat_lt t p.delay then X else before p.signal (t - p.delay)
 
 -- what a flip-flop shows: its pin at the edge, or its initial value
 abbrev pub flop_value : (ℕ → ℕ → Value) → FlipFlop → Option ℕ → Value
@@ -49,12 +49,12 @@ flop_value before f (Some e) = gate_value Dff (before f.pin e ∷ [])
 -- the value that a driver gives at t
 abbrev pub value_from : (ℕ → ℕ → Value) → ℕ → Driver → Value
 value_from before t (Input settings) = input_value (last_setting settings t)
-value_from before t (Gate kind pins) = gate_value kind (map (seen before t) pins)
+value_from before t (Gate kind pins) = gate_value kind (map (seen_value before t) pins)
 value_from before t (Flop f) = flop_value before f (shown_edge f.clock f.delay t)
 
 -- the entry of the signal s in the row of the time t; x if there is none
 abbrev pub entry : List (List Value) → ℕ → ℕ → Value
-entry rows s t = get_or (get_or rows t []) s X
+entry rows s t = slice_index_or (slice_index_or rows t []) s X
 
 -- the row that comes after these rows
 abbrev pub next_row : Circuit → List (List Value) → List Value
@@ -66,7 +66,7 @@ forward c = rows_below (next_row c) (c.horizon + 1)
 
 -- the value of the signal s at the time t
 unfoldable pub value : Circuit → ℕ → ℕ → Value
-value c s t = get_or (row_at (next_row c) t) s X
+value c s t = slice_index_or (row_at (next_row c) t) s X
 
 -- the times [a, b)
 abbrev pub window : ℕ → ℕ → List ℕ

@@ -6,7 +6,7 @@ use Rattle.circuit_meaning.specs.Circuit.{Pin, Driver, Input, Gate, Flop, Circui
 use Rattle.circuit_meaning.specs.Forward.{value, value_from, entry, forward, wave}
 use Rattle.circuit_meaning.specs.declared.Run.{Run}
 use Rattle.flip_flops.specs.Edges.{shown_edge}
-use Rattle.circuit_meaning.specs.Cells.{span, span_from, looked, cell_at, point_at}
+use Rattle.circuit_meaning.specs.Cells.{span, span_from, looked_pins, cell_at, point_at}
 use Rattle.circuit_meaning.specs.Base.{base_answer}
 use Rattle.valid_intervals.specs.declared.Cell.{Cell}
 use Rattle.gate_values.specs.declared.Value.{Value}
@@ -37,7 +37,7 @@ pub data Look : Type 0 where
 
 abbrev pub look : Circuit → ℕ → Driver → Look
 look c t (Input settings) = NoPin
-look c t (Gate kind pins) = Pins (looked c t kind pins)
+look c t (Gate kind pins) = Pins (looked_pins c t kind pins)
 look c t (Flop f) = Edge (shown_edge f.clock f.delay t)
 
 -- each time is in its own cell, and no cell ends later than just after the horizon

@@ -1,5 +1,5 @@
 -- What an evaluable point looks at, in one form for gates and flip-flops: each pin has a source, a value that it sees, and an interval.
-use Rattle.std.specs.Prelude.{◌≡◌, ℕ, ◌+◌, ◌-◌, nat_lt, if◌then◌else◌, List, [], ◌∷◌, get_or, map, fold, Option, Some, None}
+use Rattle.std.specs.Prelude.{◌≡◌, ℕ, ◌+◌, ◌-◌, nat_lt, if◌then◌else◌, List, [], ◌∷◌, slice_index_or, map, fold, Option, Some, None}
 use Rattle.std.specs.List.{range_with_len}
 use Rattle.gate_values.specs.declared.Value.{Value}
 use Rattle.gate_values.specs.declared.Value.TheVariants.{X}
@@ -60,7 +60,7 @@ no_pin = record { signal = 0; delay = 0 }
 -- the times around t at which pin k sees what it sees at t; for a flip-flop, the interval of its cell
 abbrev pub interval_at : Circuit → ℕ → ℕ → Driver → ℕ → Span
 interval_at c s t (Input settings) k = span c s t
-interval_at c s t (Gate kind pins) k = cut_at (c.horizon + 1) (pin_span (span c) t (get_or pins k no_pin))
+interval_at c s t (Gate kind pins) k = cut_at (c.horizon + 1) (pin_span (span c) t (slice_index_or pins k no_pin))
 interval_at c s t (Flop f) k = span c s t
 
 abbrev pub pin_interval : Circuit → ℕ → ℕ → ℕ → Span

@@ -4,7 +4,7 @@ pub use Rattle.valid_intervals.specs.declared.Point.{Point}
 pub use Rattle.circuit_meaning.specs.declared.Window.{Window}
 use Rattle.circuit_meaning.specs.Circuit.{Driver, Input, Gate, Flop, Circuit, driver, read_by}
 use Rattle.flip_flops.specs.Edges.{shown_edge}
-use Rattle.circuit_meaning.specs.Cells.{least_delay, looked, span}
+use Rattle.circuit_meaning.specs.Cells.{least_delay, looked_pins, span}
 
 -- Whether a signal's value at t comes from other points. Any other point has a base answer.
 abbrev pub HasChildren : ℕ → Driver → Type 0
@@ -22,7 +22,7 @@ flop_child pin (Some e) = record { signal = pin; time = e } ∷ []
 -- the points that the value at t comes from: those of the looked pins, each one delay earlier; for a flip-flop, its pin at the shown edge
 abbrev pub children_from : Circuit → ℕ → Driver → List Point
 children_from c t (Input settings) = []
-children_from c t (Gate kind pins) = map (λ p. record { signal = p.signal; time = t - p.delay }) (filter (λ p. nat_le p.delay t) (looked c t kind pins))
+children_from c t (Gate kind pins) = map (λ p. record { signal = p.signal; time = t - p.delay }) (filter (λ p. nat_le p.delay t) (looked_pins c t kind pins))
 children_from c t (Flop f) = flop_child f.pin (shown_edge f.clock f.delay t)
 
 -- the children of the point of the signal s at the time t

@@ -9,12 +9,12 @@ use Rattle.batch_meaning.specs.declared.Query.{Query}
 use Rattle.batch_meaning.specs.Batches.{Batch, window_of}
 use Rattle.strand_meaning.specs.declared.Next.TheVariants.{Ask, Fill}
 use Rattle.batch_meaning.specs.Lawful.{IsLawful, IsQueryOf}
-use Rattle.strand_meaning.specs.Strands.{Strand, IsStrand, next, heard, claimed, finished, rest}
+use Rattle.strand_meaning.specs.Strands.{Strand, IsStrand, next, after_answer, after_claim, after_fill, rest}
 use Rattle.strand_meaning.proofs.Stacks.{heard-keeps, claimed-keeps, finished-keeps, length-heard, length-rest, fill-top}
 use Rattle.strand_meaning.proofs.Started.{started-right, query-within}
 use Rattle.pin_walks.specs.declared.walk.PinWalk.{PinWalk}
 use Rattle.demand_points.specs.declared.parts.Parts.{Parts}
-use Rattle.demand_points.specs.inner.Bases.{shown}
+use Rattle.demand_points.specs.inner.Bases.{shown_frame}
 use Rattle.demand_points.specs.Demands.{IsLastHeard, IsRootCell, itself}
 use Rattle.demand_points.specs.inner.Demands.{demand_of, strand_of, TakesStepTo, IsDemand}
 use Rattle.demand_points.proofs.PartLemmas.{steps-on}
@@ -25,7 +25,7 @@ pub record Fits (s : Strand) : Type 0 where
   pub claims : length s.stack + s.filled ≤ s.charged
 
 stack-count : (c : Circuit) (s : Parts) → length (strand_of c s).stack ≡ length s.stack
-stack-count c s = length-map s.stack (shown c)
+stack-count c s = length-map s.stack (shown_frame c)
 
 pub fits-of : (b : Batch) (s : Parts) → IsDemand b s → Fits (strand_of b.circuit s)
 fits-of b s is = let n = stack-count b.circuit s in let k = is.claims in record { charge = is.charge; claims = omega arith }
@@ -46,26 +46,26 @@ demand-steps b old new f is steps keeps fits =
     }
 
 module _ (b : Batch) (d : Circuit) (e : d ≡ b.circuit) (old middle new : Parts) (is : IsDemand b old) (settled : TakesStepTo d itself old middle) where
-  pub heard-demand : TakesStepTo d heard middle new → IsDemand b new
+  pub heard-demand : TakesStepTo d after_answer middle new → IsDemand b new
   heard-demand h =
       let fits = fits-of b old is in
       let n = length-heard (strand_of b.circuit old).stack in
       let claims = fits.claims in
-      demand-steps b old new heard is (subst (λ x. TakesStepTo x heard old new) e (steps-on d heard old middle new settled h))
+      demand-steps b old new after_answer is (subst (λ x. TakesStepTo x after_answer old new) e (steps-on d after_answer old middle new settled h))
       (λ s. heard-keeps b (strand_of b.circuit old) s)
       (record { charge = fits.charge; claims = omega arith })
 
 pub claimed-demand : (b : Batch) (d : Circuit) → d ≡ b.circuit → (old new : Parts) → IsDemand b old → (p : Point) → next (strand_of b.circuit old) ≡ Ask p → old.charged < old.budget
-    → TakesStepTo d (λ x. claimed d x p) old new → IsDemand b new
+    → TakesStepTo d (λ x. after_claim d x p) old new → IsDemand b new
 claimed-demand b d e old new is p asks room h =
     let fits = fits-of b old is in
     let claims = fits.claims in
-    let f : Circuit → Strand → Strand = λ x s. claimed x s p in
+    let f : Circuit → Strand → Strand = λ x s. after_claim x s p in
     demand-steps b old new (f b.circuit) is (subst (λ x. TakesStepTo x (f x) old new) e h)
     (λ s. claimed-keeps b (strand_of b.circuit old) s p asks room)
     (record { charge = omega arith; claims = omega arith })
 
-pub finished-demand : (b : Batch) (d : Circuit) → d ≡ b.circuit → (old new : Parts) → IsDemand b old → (p : Point) → next (strand_of b.circuit old) ≡ Fill p → TakesStepTo d finished old new → IsDemand b new
+pub finished-demand : (b : Batch) (d : Circuit) → d ≡ b.circuit → (old new : Parts) → IsDemand b old → (p : Point) → next (strand_of b.circuit old) ≡ Fill p → TakesStepTo d after_fill old new → IsDemand b new
 finished-demand b d e old new is p h steps =
     let s = strand_of b.circuit old in
     let top = fill-top s p h in
@@ -73,7 +73,7 @@ finished-demand b d e old new is p h steps =
     let claims = fits.claims in
     let some = length-rest s.stack p top in
     let same = length-heard (rest s.stack) in
-    demand-steps b old new finished is (subst (λ x. TakesStepTo x finished old new) e steps)
+    demand-steps b old new after_fill is (subst (λ x. TakesStepTo x after_fill old new) e steps)
     (λ k. finished-keeps b s k p top)
     (record { charge = fits.charge; claims = omega arith })
 

@@ -16,12 +16,12 @@ use Rattle.batch_meaning.specs.Batches.{window_of}
 use Rattle.strand_meaning.specs.declared.Next.TheVariants.{Ask, Fill, Drop, Done}
 use Rattle.strand_meaning.specs.declared.Next as declared
 use Rattle.strand_meaning.specs.Strands as strands
-use Rattle.strand_meaning.specs.Strands.{Strand, ask_or, next, next_in, heard, claimed, dropped, finished, rest, asked_children}
+use Rattle.strand_meaning.specs.Strands.{Strand, ask_or, next, next_in, after_answer, after_claim, after_drop, after_fill, rest, asked_children}
 use Rattle.pin_walks.specs.declared.walk.PinWalk.{PinWalk}
 use Rattle.demand_points.specs.declared.parts.Parts.{Parts}
 use Rattle.demand_points.specs.inner.Stacks.{IsTop}
 use Rattle.pin_walks.specs.PinWalks.{cell_there, looked_at, next_point, IsPoint, IsPinWalk, IsLooking, LooksOn}
-use Rattle.demand_points.specs.inner.Bases.{left_after, IsReady, HearsBases, shown}
+use Rattle.demand_points.specs.inner.Bases.{left_after, IsReady, HearsBases, shown_frame}
 use Rattle.demand_points.specs.inner.Demands.{window_in, root_point, strand_of, IsReadyIn, IsReadyAt, IsRootReady, WaitsFor, AreWalks, IsRunning, IsRootKnown, TakesStepTo}
 use Rattle.demand_points.specs.Demands.{roots_left, IsAskedCell, itself}
 use Rattle.pin_walks.proofs.PinWalkLemmas.{looking-below, next-among}
@@ -74,7 +74,7 @@ pub top-below : (st : List PinWalk) (f : PinWalk) → IsTop st f → HasTop st f
 top-below [] f h = absurd h
 top-below (g ∷ gs) f h = record { below = gs; is = ap (λ x. x ∷ gs) (sym h) }
 
-shown-is : (c : Circuit) (f g : PinWalk) → g.point ≡ f.point → left_after c g.point g.looked ≡ left_after c f.point f.looked → shown c g ≡ shown c f
+shown-is : (c : Circuit) (f g : PinWalk) → g.point ≡ f.point → left_after c g.point g.looked ≡ left_after c f.point f.looked → shown_frame c g ≡ shown_frame c f
 shown-is c f g p l = let at : Point → List Point → strands.Frame = λ x y. record { point = x; left = y } in ap (λ x. at x (left_after c g.point g.looked)) p ∙ ap (at f.point) l
 
 -- what a strand asks for, by what it is made of
@@ -89,10 +89,10 @@ module _ (c : Circuit) (ok : IsCircuit c) (s : Parts) (r : IsRunning c s) where
   stop-within = let a = r.window in let b = r.within in omega arith
 
   -- the next step, by the stack
-  step-root : (st : List PinWalk) → st ≡ [] → next_in s.spent (roots_left c (window_in s) s.root) (map (shown c) st) ≡ (if s.spent then Done else ask_or Done (roots_left c (window_in s) s.root))
+  step-root : (st : List PinWalk) → st ≡ [] → next_in s.spent (roots_left c (window_in s) s.root) (map (shown_frame c) st) ≡ (if s.spent then Done else ask_or Done (roots_left c (window_in s) s.root))
   step-root st e = rw e refl
 
-  pub asked-in : (st : List PinWalk) (p : Point) → st ≡ s.stack → IsReadyIn c s st → next_in s.spent (roots_left c (window_in s) s.root) (map (shown c) st) ≡ Ask p → IsAsked c s st p
+  pub asked-in : (st : List PinWalk) (p : Point) → st ≡ s.stack → IsReadyIn c s st → next_in s.spent (roots_left c (window_in s) s.root) (map (shown_frame c) st) ≡ Ask p → IsAsked c s st p
   asked-in [] p same ready h = go s.spent refl h
     where
       root-asked : (b : Bool) → s.spent ≡ b → b ≡ false → ask_or Done (roots_left c (window_in s) s.root) ≡ Ask p → IsAsked c s [] p
@@ -159,12 +159,12 @@ module _ (c : Circuit) (ok : IsCircuit c) (s : Parts) (r : IsRunning c s) where
     number = refl;
     from = refl;
     to = refl;
-    strand = ap (λ x. stacked (x ∷ map (shown c) fs) (roots_left c (window_in s) s.root)) (shown-is c f g a.point a.left) ∙ ap (λ st. stacked (map (shown c) st) (roots_left c (window_in s) s.root)) (sym e);
+    strand = ap (λ x. stacked (x ∷ map (shown_frame c) fs) (roots_left c (window_in s) s.root)) (shown-is c f g a.point a.left) ∙ ap (λ st. stacked (map (shown_frame c) st) (roots_left c (window_in s) s.root)) (sym e);
   }
 
   -- the next step, by the parts
   abbrev step_by : Bool → List PinWalk → declared.Next
-  step_by b st = next_in b (roots_left c (window_in s) s.root) (map (shown c) st)
+  step_by b st = next_in b (roots_left c (window_in s) s.root) (map (shown_frame c) st)
 
   step-of : (b : Bool) (st : List PinWalk) → s.spent ≡ b → s.stack ≡ st → next (strand_of c s) ≡ step_by b st
   step-of b st h e = ap (λ x. step_by x s.stack) h ∙ ap (step_by b) e
@@ -227,14 +227,14 @@ module _ (c : Circuit) (ok : IsCircuit c) (s : Parts) (r : IsRunning c s) where
     number = refl;
     from = refl;
     to = refl;
-    strand = ap (λ t. stacked (map (shown c) s.stack) (roots_left c (window_in s) t)) (cell-end cell right) ∙ ap (stacked (map (shown c) s.stack)) (sym (root-base c ok (window_in s) stop-within s.root l base));
+    strand = ap (λ t. stacked (map (shown_frame c) s.stack) (roots_left c (window_in s) t)) (cell-end cell right) ∙ ap (stacked (map (shown_frame c) s.stack)) (sym (root-base c ok (window_in s) stop-within s.root l base));
   }
 
   -- what is heard of what was asked for
   abbrev heard_by : List strands.Frame → List Point → Strand
   heard_by st rs = record (strand_of c s) { roots = strands.roots_heard rs st; stack = strands.stack_heard st }
 
-  pub hears-root : (cell : Cell) (p : Point) → s.stack ≡ [] → IsAsked c s s.stack p → cell ≡ cell_at c p → TakesStepTo c heard s (record s { root = cell.span.stop; last = Some cell })
+  pub hears-root : (cell : Cell) (p : Point) → s.stack ≡ [] → IsAsked c s s.stack p → cell ≡ cell_at c p → TakesStepTo c after_answer s (record s { root = cell.span.stop; last = Some cell })
   hears-root cell p e a right =
       let w : WaitsFor c (root_point s) [] p = subst (λ st. WaitsFor c (root_point s) st p) e a.waits in
       let l : s.root < s.to = a.live (ap length e) in
@@ -246,25 +246,25 @@ module _ (c : Circuit) (ok : IsCircuit c) (s : Parts) (r : IsRunning c s) where
         number = refl;
         from = refl;
         to = refl;
-        strand = ap (λ st. stacked (map (shown c) st) (roots_left c (window_in s) cell.span.stop)) e
+        strand = ap (λ st. stacked (map (shown_frame c) st) (roots_left c (window_in s) cell.span.stop)) e
             ∙ ap (λ t. stacked [] (roots_left c (window_in s) t)) (cell-end cell here)
-            ∙ sym (ap (λ st. heard_by (map (shown c) st) w_roots) e ∙ ap (heard_by []) (root-ask c ok (window_in s) stop-within s.root l v));
+            ∙ sym (ap (λ st. heard_by (map (shown_frame c) st) w_roots) e ∙ ap (heard_by []) (root-ask c ok (window_in s) stop-within s.root l v));
       }
 
-  pub hears-top : (f g : PinWalk) (fs : List PinWalk) (p : Point) → s.stack ≡ f ∷ fs → IsAsked c s s.stack p → LooksOn c f g → TakesStepTo c heard s (record s { stack = g ∷ fs })
+  pub hears-top : (f g : PinWalk) (fs : List PinWalk) (p : Point) → s.stack ≡ f ∷ fs → IsAsked c s s.stack p → LooksOn c f g → TakesStepTo c after_answer s (record s { stack = g ∷ fs })
   hears-top f g fs p e a on =
       let w : WaitsFor c (root_point s) (f ∷ fs) p = subst (λ st. WaitsFor c (root_point s) st p) e a.waits in
       let w_roots = roots_left c (window_in s) s.root in
-      let below = map (shown c) fs in
+      let below = map (shown_frame c) fs in
       let at : Point → List Point → strands.Frame = λ x y. record { point = x; left = y } in
       let left : left_after c g.point g.looked ≡ rest (left_after c f.point f.looked) = looked-left c f w.0 g on ∙ sym (ap rest (left-ask c f w.0 p w.1 a.evaluable)) in
-      let top : shown c g ≡ at f.point (rest (left_after c f.point f.looked)) = ap (λ x. at x (left_after c g.point g.looked)) on.point ∙ ap (at f.point) left in
+      let top : shown_frame c g ≡ at f.point (rest (left_after c f.point f.looked)) = ap (λ x. at x (left_after c g.point g.looked)) on.point ∙ ap (at f.point) left in
       record {
         running = with_walk f g fs e on.walk on.point;
         number = refl;
         from = refl;
         to = refl;
-        strand = ap (λ x. stacked (x ∷ below) w_roots) top ∙ sym (ap (λ st. heard_by (map (shown c) st) w_roots) e);
+        strand = ap (λ x. stacked (x ∷ below) w_roots) top ∙ sym (ap (λ st. heard_by (map (shown_frame c) st) w_roots) e);
       }
 
   -- what the top is to hear
@@ -295,11 +295,11 @@ module _ (c : Circuit) (ok : IsCircuit c) (s : Parts) (r : IsRunning c s) where
   busy-when (x ∷ xs) f g = g (omega arith)
 
   -- a point is claimed
-  pub claims : (g : PinWalk) (p : Point) (n : ℕ) → IsAsked c s s.stack p → IsPinWalk c g → g.point ≡ p → g.looked ≡ 0 → n ≡ s.charged + 1 → TakesStepTo c (λ x. claimed c x p) s (record s { stack = g ∷ s.stack; charged = n })
+  pub claims : (g : PinWalk) (p : Point) (n : ℕ) → IsAsked c s s.stack p → IsPinWalk c g → g.point ≡ p → g.looked ≡ 0 → n ≡ s.charged + 1 → TakesStepTo c (λ x. after_claim c x p) s (record s { stack = g ∷ s.stack; charged = n })
   claims g p n a is same none count =
       let at : Point → List Point → strands.Frame = λ x y. record { point = x; left = y } in
       let with : List strands.Frame → ℕ → Strand = λ st k. record (strand_of c s) { stack = st; charged = k } in
-      let top : shown c g ≡ at p (asked_children c p) = ap (λ k. at g.point (left_after c g.point k)) none ∙ ap (λ x. at x (left_after c x 0)) same ∙ ap (at p) (left-all c p) in
+      let top : shown_frame c g ≡ at p (asked_children c p) = ap (λ k. at g.point (left_after c g.point k)) none ∙ ap (λ x. at x (left_after c x 0)) same ∙ ap (at p) (left-all c p) in
       record {
         running = record {
           signal = r.signal;
@@ -314,7 +314,7 @@ module _ (c : Circuit) (ok : IsCircuit c) (s : Parts) (r : IsRunning c s) where
         number = refl;
         from = refl;
         to = refl;
-        strand = ap (λ x. with (x ∷ map (shown c) s.stack) n) top ∙ ap (with (at p (asked_children c p) ∷ map (shown c) s.stack)) count;
+        strand = ap (λ x. with (x ∷ map (shown_frame c) s.stack) n) top ∙ ap (with (at p (asked_children c p) ∷ map (shown_frame c) s.stack)) count;
       }
 
   -- the top is gone
@@ -330,13 +330,13 @@ module _ (c : Circuit) (ok : IsCircuit c) (s : Parts) (r : IsRunning c s) where
     last = r.last;
   }
 
-  pub drops : (f : PinWalk) (fs : List PinWalk) → s.stack ≡ f ∷ fs → TakesStepTo c dropped s (record s { stack = fs })
+  pub drops : (f : PinWalk) (fs : List PinWalk) → s.stack ≡ f ∷ fs → TakesStepTo c after_drop s (record s { stack = fs })
   drops f fs e = record {
     running = without-top f fs s.filled e;
     number = refl;
     from = refl;
     to = refl;
-    strand = ap (λ st. stacked (rest (map (shown c) st)) (roots_left c (window_in s) s.root)) (sym e);
+    strand = ap (λ st. stacked (rest (map (shown_frame c) st)) (roots_left c (window_in s) s.root)) (sym e);
   }
 
   -- a fill is of the top, which has nothing left to hear
@@ -481,13 +481,13 @@ module _ (c : Circuit) (ok : IsCircuit c) (s : Parts) (r : IsRunning c s) (p : P
   pub popped-answer : (cell : Cell) → cell ≡ cell_at c p → IsAskedCell c (strand_of c popped) cell
   popped-answer cell h = (p, popped-asks, h)
 
-  pub popped-finishes : (t : Parts) → TakesStepTo c heard popped t → TakesStepTo c finished s t
+  pub popped-finishes : (t : Parts) → TakesStepTo c after_answer popped t → TakesStepTo c after_fill s t
   popped-finishes t h = record {
     running = h.running;
     number = h.number;
     from = h.from;
     to = h.to;
-    strand = h.strand ∙ ap (λ st. heard (record (strand_of c s) { stack = rest (map (shown c) st); filled = s.filled + 1 })) (sym e);
+    strand = h.strand ∙ ap (λ st. after_answer (record (strand_of c s) { stack = rest (map (shown_frame c) st); filled = s.filled + 1 })) (sym e);
   }
 
   pub filled-cell : (g : PinWalk) → HearsBases c f g → IsReady c g → g.looked ≡ length (looked_at c g.point)

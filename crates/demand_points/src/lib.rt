@@ -20,7 +20,7 @@
 //! let mut strand = Strand::<B>::start(alloc, 0, query, query.from, query.to, query.budget, 0);
 //! loop {
 //!     match strand.next_step(&design) {
-//!         Next::Ask(p) => strand.claimed(&design, p)?,
+//!         Next::Ask(p) => strand.take_claim(&design, p)?,
 //!         Next::Fill(p) => { let cell = strand.finish_top(&design); }
 //!         Next::Drop(_) => { strand.drop_top(); }
 //!         Next::Done => break,

@@ -2,7 +2,7 @@
 
 ghost use Rattle.std.specs.Prelude.{◌≡◌, ◌+◌, ◌<◌, ◌^◌, [], true, OnOk, OnErr, MatchOption};
 ghost use Rattle.circuit_meaning.specs.Cells.{cell_at};
-ghost use Rattle.strand_meaning.specs.Strands.{next, heard, claimed, finished};
+ghost use Rattle.strand_meaning.specs.Strands.{next, after_answer, after_claim, after_fill};
 ghost use Rattle.strand_meaning.specs.declared.Next.TheVariants.{Ask, Fill};
 ghost use Rattle.valid_intervals.specs.declared.Point.{Point};
 ghost use Rattle.demand_points.specs.inner.Demands.{strand_of, IsRunning, IsReadyAt, IsRootReady, IsRootKnown, IsUndone, StaysAtRoot, TakesStepTo};
@@ -143,7 +143,7 @@ impl Parts {
         requires ready { IsReadyAt design.now.circuit self.old }
         requires answer { IsAskedCell design.now.circuit (strand_of design.now.circuit self.old)
             cell.now }
-        ensures { TakesStepTo design.now.circuit heard self.old self.new }
+        ensures { TakesStepTo design.now.circuit after_answer self.old self.new }
     {
         design.facts();
         match self.stack.top() {
@@ -162,7 +162,7 @@ impl Parts {
         requires asks { next (strand_of design.now.circuit self.old) ≡ Ask p }
         requires room { self.old.charged < self.old.budget }
         ensures ok { OnOk result (TakesStepTo design.now.circuit
-            (λ s. claimed design.now.circuit s p) self.old self.new) }
+            (λ s. after_claim design.now.circuit s p) self.old self.new) }
         ensures err { OnErr result (self.new ≡ self.old) }
     {
         design.facts();
@@ -177,7 +177,7 @@ impl Parts {
         requires asks { next (strand_of design.now.circuit self.old) ≡ Ask p }
         requires room { self.old.charged < self.old.budget }
         ensures ok { OnOk result (TakesStepTo design.now.circuit
-            (λ s. claimed design.now.circuit s p) self.old self.new) }
+            (λ s. after_claim design.now.circuit s p) self.old self.new) }
         ensures err { OnErr result (self.new ≡ self.old) }
     {
         let root = self.root;
@@ -207,7 +207,7 @@ impl Parts {
         requires asks { next (strand_of design.now.circuit self.old) ≡ Ask p }
         requires room { self.old.charged < self.old.budget }
         ensures ok { OnOk result (TakesStepTo design.now.circuit
-            (λ s. claimed design.now.circuit s p) self.old self.new) }
+            (λ s. after_claim design.now.circuit s p) self.old self.new) }
         ensures err { OnErr result (self.new ≡ self.old) }
     {
         if settled {
@@ -238,7 +238,7 @@ impl Parts {
         requires room { self.old.filled + 1 < 2 ^ 32 }
         requires cell { (p : Point) → next (strand_of design.now.circuit self.old) ≡ Fill p
             → cell.now ≡ cell_at design.now.circuit p }
-        ensures { TakesStepTo design.now.circuit finished self.old self.new }
+        ensures { TakesStepTo design.now.circuit after_fill self.old self.new }
     {
         design.facts();
         let _ = self.stack.pop();

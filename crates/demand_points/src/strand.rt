@@ -7,7 +7,7 @@ ghost use Rattle.batch_meaning.specs.Batches.{window_of};
 ghost use Rattle.strand_meaning.specs.declared.Next.TheVariants.{Ask, Fill, Drop, Done};
 ghost use Rattle.batch_meaning.specs.Lawful.{IsLawful, IsQueryOf};
 ghost use Rattle.strand_meaning.specs.Strands as strands;
-ghost use Rattle.strand_meaning.specs.Strands.{next, started};
+ghost use Rattle.strand_meaning.specs.Strands.{next, started_strand};
 ghost use Rattle.demand_points.specs.Demands.{HasHeardBases, IsAskedCell, IsAsking, IsFilling, IsKnownStrand, IsRootCell, TakesStep, itself};
 ghost use Rattle.valid_intervals.specs.declared.Point.{Point};
 
@@ -73,7 +73,7 @@ impl<B: BatchName> Strand<B> {
         ensures number { result.number ≡ number }
         ensures from { result.from ≡ from }
         ensures to { result.to ≡ to }
-        ensures strand { result.strand ≡ started B.batch.circuit
+        ensures strand { result.strand ≡ started_strand B.batch.circuit
             (record {
               query = query;
               start = from;
@@ -143,7 +143,7 @@ impl<B: BatchName> Strand<B> {
     }
 
     /// How many claims count towards its budget.
-    pub fn charged(&self) -> u32
+    pub fn charge(&self) -> u32
         ensures charged { result ≡ self.now.strand.charged }
         ensures within { result ≤ self.now.strand.budget }
     {
@@ -151,14 +151,14 @@ impl<B: BatchName> Strand<B> {
     }
 
     /// How many points it holds claimed.
-    pub fn held(&self) -> usize
+    pub fn claims(&self) -> usize
         ensures { result ≡ length self.now.strand.stack }
     {
         self.parts.stack.len()
     }
 
     /// How many points it has filled.
-    pub fn filled(&self) -> u32
+    pub fn fills(&self) -> u32
         ensures { result ≡ self.now.strand.filled }
     {
         self.parts.filled
@@ -193,10 +193,10 @@ impl<B: BatchName> Strand<B> {
     }
 
     /// Hears the cell of the point that it asks for.
-    pub fn heard(&mut self, design: &Design, cell: Cell)
+    pub fn hear(&mut self, design: &Design, cell: Cell)
         requires design { design.now.circuit ≡ B.batch.circuit }
         requires answer { IsAskedCell B.batch.circuit self.old.strand cell }
-        ensures { TakesStep strands.heard self.old self.new }
+        ensures { TakesStep strands.after_answer self.old self.new }
     {
         self.parts.settle_unless(self.settled, design);
         self.settled = false;
@@ -204,11 +204,11 @@ impl<B: BatchName> Strand<B> {
     }
 
     /// Claims the point that it asks for, and is charged for it. Where memory runs out, it stays as it was.
-    pub fn claimed(&mut self, design: &Design, p: Point) -> Result<(), OutOfMemory>
+    pub fn take_claim(&mut self, design: &Design, p: Point) -> Result<(), OutOfMemory>
         requires design { design.now.circuit ≡ B.batch.circuit }
         requires asks { next self.old.strand ≡ Ask p }
         requires room { self.old.strand.charged < self.old.strand.budget }
-        ensures ok { OnOk result (TakesStep (λ s. strands.claimed B.batch.circuit s p) self.old
+        ensures ok { OnOk result (TakesStep (λ s. strands.after_claim B.batch.circuit s p) self.old
             self.new) }
         ensures err { OnErr result (self.new ≡ self.old) }
     {
@@ -241,7 +241,7 @@ impl<B: BatchName> Strand<B> {
         requires fills { IsFilling self.old.strand }
         ensures cell { (p : Point) → next self.old.strand ≡ Fill p
             → result ≡ cell_at B.batch.circuit p }
-        ensures steps { TakesStep strands.finished self.old self.new }
+        ensures steps { TakesStep strands.after_fill self.old self.new }
     {
         let cell = self.top_cell(design);
         self.finish_with(design, &cell);
@@ -254,7 +254,7 @@ impl<B: BatchName> Strand<B> {
         requires fills { IsFilling self.old.strand }
         requires cell { (p : Point) → next self.old.strand ≡ Fill p
             → cell.now ≡ cell_at B.batch.circuit p }
-        ensures { TakesStep strands.finished self.old self.new }
+        ensures { TakesStep strands.after_fill self.old self.new }
     {
         let _budget = self.parts.budget;
         self.settled = false;
@@ -265,7 +265,7 @@ impl<B: BatchName> Strand<B> {
     pub fn drop_top(&mut self) -> Point
         requires { (p : Point) × (next self.old.strand ≡ Drop p) }
         ensures point { next self.old.strand ≡ Drop result }
-        ensures steps { TakesStep strands.dropped self.old self.new }
+        ensures steps { TakesStep strands.after_drop self.old self.new }
     {
         self.settled = false;
         match self.parts.stack.pop() {

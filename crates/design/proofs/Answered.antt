@@ -17,8 +17,8 @@ use Rattle.circuit_meaning.specs.declared.FlipFlop.{FlipFlop}
 use Rattle.circuit_meaning.specs.declared.Setting.{Setting}
 use Rattle.circuit_meaning.specs.declared.Pin.{Pin}
 use Rattle.circuit_meaning.specs.Circuit.{Driver, Input, Gate, Flop, Circuit, driver, IsDriver, IsCircuit, read_by}
-use Rattle.circuit_meaning.specs.Forward.{value, value_from, seen, flop_value, input_value, last_setting}
-use Rattle.circuit_meaning.specs.Cells.{span, span_from, least_delay, input_start, next_setting, looked, pin_span, cell_at, point_at}
+use Rattle.circuit_meaning.specs.Forward.{value, value_from, seen_value, flop_value, input_value, last_setting}
+use Rattle.circuit_meaning.specs.Cells.{span, span_from, least_delay, input_start, next_setting, looked_pins, pin_span, cell_at, point_at}
 use Rattle.circuit_meaning.specs.Need.{IsEvaluable, HasChildren}
 use Rattle.circuit_meaning.proofs.Equations.{value_is, span_is, all_imply}
 use Rattle.circuit_meaning.proofs.Steady.{seen-early, map_all, gate_span-early}
@@ -79,12 +79,12 @@ module _ (c : Circuit) (ok : IsCircuit c) (s t limit : ℕ) (top : limit ≡ c.h
     pub gate-early : t < m → (cell : Cell) → cell ≡ record { span = from_to 0 (min m limit); value = X } → cell ≡ cell_at c (point_at s t)
     gate-early l cell e =
         let l' : t < least_delay pins = subst (λ n. t < n) src.fits.1 l in
-        let early : AllByRecursion (λ p. is_unknown (seen (value c) t p) ≡ true) pins =
-        all_imply (λ p. least_delay pins ≤ p.delay) (λ p. is_unknown (seen (value c) t p) ≡ true) (λ p h. ap is_unknown (seen-early (value c) t p (omega arith))) pins (least pins) in
+        let early : AllByRecursion (λ p. is_unknown (seen_value (value c) t p) ≡ true) pins =
+        all_imply (λ p. least_delay pins ≤ p.delay) (λ p. is_unknown (seen_value (value c) t p) ≡ true) (λ p h. ap is_unknown (seen-early (value c) t p (omega arith))) pins (least pins) in
         let shown : value c s t ≡ X = value_is c ok s t ∙ ap (value_from (value c) t) src.driver
-        ∙ gate_value-unknown kind (map (seen (value c) t) pins) (map_all (λ v. is_unknown v ≡ true) (seen (value c) t) pins early) (rw length-map src.sound.some) in
+        ∙ gate_value-unknown kind (map (seen_value (value c) t) pins) (map_all (λ v. is_unknown v ≡ true) (seen_value (value c) t) pins early) (rw length-map src.sound.some) in
         let there : span c s t ≡ from_to 0 (min m (c.horizon + 1)) = span_is c ok s t ∙ ap (span_from c (span c) t) src.driver
-        ∙ gate_span-early (c.horizon + 1) t (least_delay pins) (map (pin_span (span c) t) (looked c t kind pins)) l' ∙ ap (λ n. from_to 0 (min n (c.horizon + 1))) (sym src.fits.1) in
+        ∙ gate_span-early (c.horizon + 1) t (least_delay pins) (map (pin_span (span c) t) (looked_pins c t kind pins)) l' ∙ ap (λ n. from_to 0 (min n (c.horizon + 1))) (sym src.fits.1) in
         e ∙ cell-is (record { span = from_to 0 (min m limit); value = X }) (span c s t) (value c s t) (ap (λ n. from_to 0 (min m n)) top ∙ sym there) (sym shown)
 
     pub gate-rests : t < m → IsEvaluable c s t → ⊥

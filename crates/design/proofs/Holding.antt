@@ -9,7 +9,7 @@ use Rattle.std.proofs.lemmas.List.Sums.{sum_by-set}
 use Rattle.gate_values.specs.declared.Value.{Value}
 use Rattle.circuit_meaning.specs.declared.Setting.{Setting}
 use Rattle.circuit_meaning.specs.Circuit.{Input, Driver, Circuit, IsDriver, AreLimits, AreDriverLimits, pin_count, driver, read_by}
-use Rattle.circuit_meaning.specs.Forced.{forced}
+use Rattle.circuit_meaning.specs.Forced.{forced_circuit}
 use Rattle.circuit_meaning.proofs.Alike.{held-fits}
 use Rattle.circuit_meaning.proofs.Equations.{driver_fits}
 use Rattle.design.specs.declared.held.HeldSignal.{HeldSignal}
@@ -23,7 +23,7 @@ use Rattle.design.proofs.Walked.{nat_eq-true}
 use Rattle.design.proofs.Reading.{read-it}
 
 -- the limits of a circuit do not depend on a signal being held
-held-limits : (c : Circuit) (s : ℕ) (w : Value) → s < length c.drivers → AreLimits c → AreLimits (forced c s w)
+held-limits : (c : Circuit) (s : ℕ) (w : Value) → s < length c.drivers → AreLimits c → AreLimits (forced_circuit c s w)
 held-limits c s w l h =
     let d : Driver = Input (held_settings w) in
     record {
@@ -166,5 +166,5 @@ module _ (j : Joined) (readers : List (List ℕ)) (held : List HeldSignal) (ok :
       readers = ok.readers;
     }
 
-    pub circuit-more : held_circuit j.circuit (record { site = s; value = w } ∷ held) ≡ forced d.circuit s w
-    circuit-more = ap (λ (k : Joined). forced k.circuit s w) e
+    pub circuit-more : held_circuit j.circuit (record { site = s; value = w } ∷ held) ≡ forced_circuit d.circuit s w
+    circuit-more = ap (λ (k : Joined). forced_circuit k.circuit s w) e

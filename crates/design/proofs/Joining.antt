@@ -38,7 +38,7 @@ use Rattle.design.specs.Joined.{IsDesign}
 use Rattle.design.specs.inner.KeptDesigns.{KeptDesign, IsKeptDesign, joined_of, driver_of, flop_at, InTimeOrder, FitsRow}
 use Rattle.design.specs.KeptDesigns.{pins_with}
 use Rattle.design.specs.inner.KeptDesigns as kept
-use Rattle.design.specs.Join.{number, driver_at, is_dff, or_else, last_said, when, said_of, rows_say, delay_said, pin_said, initial_said, clock_said, clock_named, clock_of_row, flop_of, delay_of, pin_delay, pin_delays, joined_driver, joined_gate, circuit_from, settings_of, is_signal, setting_of, is_input, fault_of, cause_of_set, set_fault, unless, first_fault, scheduled}
+use Rattle.design.specs.Join.{number, driver_at, is_dff, or_else, last_said, when, said_of, rows_say, delay_said, pin_said, initial_said, clock_said, clock_named, clock_of_row, flop_of, delay_of, pin_delay, pin_delays, joined_driver, joined_gate, circuit_from, settings_of, is_signal, setting_of, is_input, fault_of, cause_of_set, set_fault, unless, first_fault, schedule_of}
 use Rattle.design.specs.inner.Said.{least_of, of_first, input_at, inputs_in, inputs_of, delays_of, delays_at, gate_delays, flops_of, flops_at, row_of, row_at, gate_row, HasSets, lists_in}
 use Rattle.design.specs.declared.fault.JoinFault.{JoinFault}
 use Rattle.design.specs.declared.fault.JoinFile.TheVariants as file
@@ -394,14 +394,14 @@ module _ (netlist : netlists.Content) (timing : timings.Content) (stimulus : sti
 
 -- the settings of all inputs, put in order
 pub ordered-are : (netlist : netlists.Content) (sets : List SetRow) (buckets : List (Vec Setting)) (lists : List (List Setting)) → HasSets netlist sets buckets
-    → lists ≡ map (λ (b : Vec Setting). scheduled b.items) buckets → lists ≡ map (settings_of netlist sets) (inputs_of netlist)
+    → lists ≡ map (λ (b : Vec Setting). schedule_of b.items) buckets → lists ≡ map (settings_of netlist sets) (inputs_of netlist)
 ordered-are netlist sets buckets lists has e =
     let all = inputs_of netlist in
-    let long = ap length e ∙ length-map buckets (λ (b : Vec Setting). scheduled b.items) ∙ has.long in
+    let long = ap length e ∙ length-map buckets (λ (b : Vec Setting). schedule_of b.items) ∙ has.long in
     ext_get_or [] lists (map (settings_of netlist sets) all) (long ∙ sym (length-map all (settings_of netlist sets)))
-    (λ k l. let m : k < length all = omega (arith, l, long) in ap (λ xs. get_or xs k []) e ∙ at buckets k ∙ ap scheduled (has.each k m) ∙ sym (get_or-map (settings_of netlist sets) all k 0 [] m))
+    (λ k l. let m : k < length all = omega (arith, l, long) in ap (λ xs. get_or xs k []) e ∙ at buckets k ∙ ap schedule_of (has.each k m) ∙ sym (get_or-map (settings_of netlist sets) all k 0 [] m))
   where
-    at : (buckets : List (Vec Setting)) (k : ℕ) → get_or (map (λ (b : Vec Setting). scheduled b.items) buckets) k [] ≡ scheduled (get_or (lists_in buckets) k [])
+    at : (buckets : List (Vec Setting)) (k : ℕ) → get_or (map (λ (b : Vec Setting). schedule_of b.items) buckets) k [] ≡ schedule_of (get_or (lists_in buckets) k [])
     at [] k = refl
     at (b ∷ buckets) zero = refl
     at (b ∷ buckets) (suc k) = at buckets k

@@ -11,7 +11,7 @@ use Rattle.std.proofs.Math.ListN.{get_or-map}
 use Rattle.bench_reader.specs.Netlists as netlists
 use Rattle.stimulus_file.specs.declared.NumberedSet.{NumberedSet}
 use Rattle.stimulus_file.specs.Stimulus.{SetRow}
-use Rattle.stimulus_file.specs.Named.{named, with_name}
+use Rattle.stimulus_file.specs.Named.{named_rows, with_name}
 use Rattle.design.specs.declared.fault.JoinCause.{JoinCause}
 use Rattle.design.specs.declared.fault.JoinCause.TheVariants.{UnknownName, NotInput, PastHorizon}
 use Rattle.design.specs.declared.fault.JoinFault.{JoinFault}
@@ -91,23 +91,23 @@ module _ (netlist : netlists.Content) (horizon : ℕ) (row : SetRow) where
       ∙ ap₂ (λ (a : Bool) (b : Bool). fault_of file.Stimulus row.line (unless a NotInput (unless b PastHorizon None))) known.1.2 late
 
 module _ (names : List (List ℕ)) (sets : List NumberedSet) (i : ℕ) (d : NumberedSet) (within : i < length sets) where
-  in-range : i < length (named names sets)
+  in-range : i < length (named_rows names sets)
   in-range = let long = length-map sets (with_name names) in omega (arith, long, within)
 
   -- a row at its place
-  at-place : with_name names (get_or sets i d) ≡ get_or (named names sets) i (with_name names (get_or sets i d))
-  at-place = sym (get_or-map (with_name names) sets i d) ∙ get_or_default (named names sets) i (with_name names d) (with_name names (get_or sets i d)) in-range
+  at-place : with_name names (get_or sets i d) ≡ get_or (named_rows names sets) i (with_name names (get_or sets i d))
+  at-place = sym (get_or-map (with_name names) sets i d) ∙ get_or_default (named_rows names sets) i (with_name names d) (with_name names (get_or sets i d)) in-range
 
-  pub named-refused : (fault : SetRow → Option JoinFault) (f : JoinFault) → first_fault fault (named names sets) ≡ first_fault fault (drop i (named names sets))
-      → (f ≡ out_of_memory) ⊎ (fault (with_name names (get_or sets i d)) ≡ Some f) → (f ≡ out_of_memory) ⊎ (first_fault fault (named names sets) ≡ Some f)
-  named-refused fault f e h = refused-at fault (named names sets) i (with_name names (get_or sets i d)) f in-range at-place e h
+  pub named-refused : (fault : SetRow → Option JoinFault) (f : JoinFault) → first_fault fault (named_rows names sets) ≡ first_fault fault (drop i (named_rows names sets))
+      → (f ≡ out_of_memory) ⊎ (fault (with_name names (get_or sets i d)) ≡ Some f) → (f ≡ out_of_memory) ⊎ (first_fault fault (named_rows names sets) ≡ Some f)
+  named-refused fault f e h = refused-at fault (named_rows names sets) i (with_name names (get_or sets i d)) f in-range at-place e h
 
-  pub named-passed : (fault : SetRow → Option JoinFault) → first_fault fault (named names sets) ≡ first_fault fault (drop i (named names sets))
-      → fault (with_name names (get_or sets i d)) ≡ None → first_fault fault (named names sets) ≡ first_fault fault (drop (i + 1) (named names sets))
-  named-passed fault e none = passed-at fault (named names sets) i (with_name names (get_or sets i d)) in-range at-place e none
+  pub named-passed : (fault : SetRow → Option JoinFault) → first_fault fault (named_rows names sets) ≡ first_fault fault (drop i (named_rows names sets))
+      → fault (with_name names (get_or sets i d)) ≡ None → first_fault fault (named_rows names sets) ≡ first_fault fault (drop (i + 1) (named_rows names sets))
+  named-passed fault e none = passed-at fault (named_rows names sets) i (with_name names (get_or sets i d)) in-range at-place e none
 
-  pub named-taken : take i (named names sets) ++ with_name names (get_or sets i d) ∷ [] ≡ take (i + 1) (named names sets)
-  named-taken = taken-at (named names sets) i (with_name names (get_or sets i d)) in-range at-place
+  pub named-taken : take i (named_rows names sets) ++ with_name names (get_or sets i d) ∷ [] ≡ take (i + 1) (named_rows names sets)
+  named-taken = taken-at (named_rows names sets) i (with_name names (get_or sets i d)) in-range at-place
 
 pub below-same : (a m n : ℕ) → m ≡ n → a < n → a < m
 below-same a m n e l = omega (arith, e, l)

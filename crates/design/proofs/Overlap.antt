@@ -14,8 +14,8 @@ use Rattle.flip_flops.specs.Edges.{shown_edge}
 use Rattle.circuit_meaning.specs.declared.FlipFlop.{FlipFlop}
 use Rattle.circuit_meaning.specs.declared.Pin.{Pin}
 use Rattle.circuit_meaning.specs.Circuit.{Circuit, IsCircuit}
-use Rattle.circuit_meaning.specs.Forward.{value, seen}
-use Rattle.circuit_meaning.specs.Cells.{span, least_delay, looked, pin_span}
+use Rattle.circuit_meaning.specs.Forward.{value, seen_value}
+use Rattle.circuit_meaning.specs.Cells.{span, least_delay, looked_pins, pin_span}
 use Rattle.circuit_meaning.specs.Need.{IsEvaluable, HasChildren}
 use Rattle.circuit_meaning.specs.Looks.{kind_of, pin_point, flop_points, pin_points_at, sees, looked_points, no_pin, interval_at, pin_interval, met_interval}
 use Rattle.circuit_meaning.proofs.Cover.{cell-covers}
@@ -42,13 +42,13 @@ module _ {A B : Type 0} (f : A → B) (d : A) where
       ap₂ (λ (y : B) (ys : List B). y ∷ ys) (ap f (let e : a + 0 ≡ a = omega arith in subst (λ m. g m ≡ x) e (h 0)))
       (by-place xs g (a + 1) n (omega arith) (λ k. let e : a + suc k ≡ a + 1 + k = omega arith in subst (λ m. g m ≡ get_or xs k d) e (h (suc k))))
 
-sees-source : (c : Circuit) (t : ℕ) (p : Pin) → sees c (pin_point t p) ≡ seen (value c) t p
+sees-source : (c : Circuit) (t : ℕ) (p : Pin) → sees c (pin_point t p) ≡ seen_value (value c) t p
 sees-source c t p = elim (nat_lt t p.delay) as (λ b. sees c (cond b None (Some (record { signal = p.signal; time = t - p.delay }))) ≡ cond b X (value c p.signal (t - p.delay))) [ true ↦ refl | false ↦ refl ]
 
-length-cut : (c : Circuit) (t : ℕ) (kind : Kind) (pins : List Pin) → length (up_to_first (λ o. decides kind (sees c o)) (map (pin_point t) pins)) ≡ length (looked c t kind pins)
+length-cut : (c : Circuit) (t : ℕ) (kind : Kind) (pins : List Pin) → length (up_to_first (λ o. decides kind (sees c o)) (map (pin_point t) pins)) ≡ length (looked_pins c t kind pins)
 length-cut c t kind pins =
     ap length (sym (map-up_to_first (λ o. decides kind (sees c o)) (pin_point t) pins)) ∙ length-map (up_to_first (λ p. decides kind (sees c (pin_point t p))) pins) (pin_point t)
-    ∙ ap length (sym (cut_alike (decides kind) (λ p. sees c (pin_point t p)) (seen (value c) t) pins (all_of (λ p. sees c (pin_point t p) ≡ seen (value c) t p) (sees-source c t) (up_to_first (λ p. decides kind (sees c (pin_point t p))) pins))))
+    ∙ ap length (sym (cut_alike (decides kind) (λ p. sees c (pin_point t p)) (seen_value (value c) t) pins (all_of (λ p. sees c (pin_point t p) ≡ seen_value (value c) t p) (sees-source c t) (up_to_first (λ p. decides kind (sees c (pin_point t p))) pins))))
 
 cut-le : {A : Type 0} (test : A → Bool) (xs : List A) → length (up_to_first test xs) ≤ length xs
 cut-le test [] = omega arith
@@ -78,24 +78,24 @@ module _ (c : Circuit) (ok : IsCircuit c) (s t limit : ℕ) (top : limit ≡ c.h
     gate-passed = passed
 
     -- the intervals of the looked pins
-    parts : map (pin_interval c s t) (range_with_len 0 (length (looked_points c s t))) ≡ map (cut_at (c.horizon + 1)) (map (pin_span (span c) t) (looked c t kind pins))
+    parts : map (pin_interval c s t) (range_with_len 0 (length (looked_points c s t))) ≡ map (cut_at (c.horizon + 1)) (map (pin_span (span c) t) (looked_pins c t kind pins))
     parts =
-        let cut = looked c t kind pins in
+        let cut = looked_pins c t kind pins in
         let n = length cut in
         let part : Pin → Span = λ p. cut_at (c.horizon + 1) (pin_span (span c) t p) in
         ap (λ d. map (interval_at c s t d) (range_with_len 0 (length (looked_points c s t)))) src.driver
         ∙ ap (λ l. map (λ k. part (get_or pins k no_pin)) (range_with_len 0 l)) (ap (λ d. length (up_to_first (λ o. decides (kind_of d) (sees c o)) (pin_points_at t d))) src.driver ∙ length-cut c t kind pins)
-        ∙ by-place part no_pin pins (λ k. get_or pins k no_pin) 0 n (cut-le (λ p. decides kind (seen (value c) t p)) pins) (λ k. ap (λ j. get_or pins j no_pin) (omega arith))
-        ∙ ap (map part) (sym (cut-take (λ p. decides kind (seen (value c) t p)) pins n (omega arith)))
+        ∙ by-place part no_pin pins (λ k. get_or pins k no_pin) 0 n (cut-le (λ p. decides kind (seen_value (value c) t p)) pins) (λ k. ap (λ j. get_or pins j no_pin) (omega arith))
+        ∙ ap (map part) (sym (cut-take (λ p. decides kind (seen_value (value c) t p)) pins n (omega arith)))
         ∙ ap (map part) (take_all n cut (omega arith))
         ∙ sym (map-map (cut_at (c.horizon + 1)) (pin_span (span c) t) cut)
 
-    some-part : 1 ≤ length (map (pin_span (span c) t) (looked c t kind pins))
-    some-part = rw (length-map (looked c t kind pins) (pin_span (span c) t)) (cut-some (λ p. decides kind (seen (value c) t p)) pins src.sound.some)
+    some-part : 1 ≤ length (map (pin_span (span c) t) (looked_pins c t kind pins))
+    some-part = rw (length-map (looked_pins c t kind pins) (pin_span (span c) t)) (cut-some (λ p. decides kind (seen_value (value c) t p)) pins src.sound.some)
 
     gate-meets : meet (met_interval c s t (length (looked_points c s t))) (from_to m limit) ≡ span c s t
     gate-meets =
-        let spans = map (pin_span (span c) t) (looked c t kind pins) in
+        let spans = map (pin_span (span c) t) (looked_pins c t kind pins) in
         ap₂ (λ (xs : List Span) (n : ℕ). meet (fold meet (from_to 0 2000002) xs) (from_to m n)) parts top
         ∙ met-parts m (c.horizon + 1) spans (omega (arith, top, small)) some-part
         ∙ ap (λ n. fold meet (from_to n (c.horizon + 1)) spans) src.fits.1

@@ -6,7 +6,7 @@ use Rattle.std.specs.Borrow.{Bor}
 use Rattle.std.proofs.lemmas.Bool.{cases_lt}
 use Rattle.std.proofs.lemmas.Option.{slice_get-get_or, slice_get-map, get_or_from_slice_get}
 use Rattle.valid_intervals.specs.declared.Point.{Point}
-use Rattle.valid_intervals.specs.Spans.{Span, from_to, moved, cut_at}
+use Rattle.valid_intervals.specs.Spans.{Span, from_to, moved_span, cut_at}
 use Rattle.flip_flops.specs.Edges.{shown_edge, flop_span}
 use Rattle.circuit_meaning.specs.declared.FlipFlop.{FlipFlop}
 use Rattle.circuit_meaning.specs.declared.Pin.{Pin}
@@ -91,8 +91,8 @@ module _ (c : Circuit) (ok : IsCircuit c) (s t k limit : ℕ) (top : limit ≡ c
 
     seen-span : later_of pin.delay (heard_of c s t k) ≡ pin_span (span c) t pin
     seen-span = elim (cases_lt t pin.delay) [
-      | inl l ↦ ap (later_of pin.delay) (unheard l) ∙ sym (ap (λ b. cond b (from_to 0 pin.delay) (moved pin.delay (span c pin.signal (t - pin.delay)))) (lt-ltb t pin.delay l))
-      | inr l ↦ ap (later_of pin.delay) (heard l) ∙ sym (ap (λ b. cond b (from_to 0 pin.delay) (moved pin.delay (span c pin.signal (t - pin.delay)))) (le-ltb t pin.delay l))
+      | inl l ↦ ap (later_of pin.delay) (unheard l) ∙ sym (ap (λ b. cond b (from_to 0 pin.delay) (moved_span pin.delay (span c pin.signal (t - pin.delay)))) (lt-ltb t pin.delay l))
+      | inr l ↦ ap (later_of pin.delay) (heard l) ∙ sym (ap (λ b. cond b (from_to 0 pin.delay) (moved_span pin.delay (span c pin.signal (t - pin.delay)))) (le-ltb t pin.delay l))
     ]
 
     pub gate-sees : (d : ℕ) → d ≡ get_or delays.now k 0 → (o : Option Span) → o ≡ heard_of c s t k → (a : Span) → a ≡ cut_at limit (later_of d o) → a ≡ pin_interval c s t k

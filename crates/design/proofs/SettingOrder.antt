@@ -6,7 +6,7 @@ use Rattle.std.proofs.lemmas.Bool.{cases_lt, lt-leb}
 use Rattle.circuit_meaning.specs.declared.Setting.{Setting}
 use Rattle.circuit_meaning.specs.Forward.{later, last_setting}
 use Rattle.circuit_meaning.specs.Cells.{next_setting}
-use Rattle.design.specs.Join.{placed, in_time_order, is_at_one_time, scheduled}
+use Rattle.design.specs.Join.{with_setting, in_time_order, is_at_one_time, schedule_of}
 use Rattle.design.specs.Laws.{OrderIsFree}
 
 -- the earlier of two settings that are swapped has passed where the later one has
@@ -40,10 +40,10 @@ module _ (A : Type 0) (step : Setting → A → A)
     (swaps : (s x : Setting) (a : A) → x.time < s.time → step x (step s a) ≡ step s (step x a))
     (doubles : (k x : Setting) (a : A) → x.time ≡ k.time → step k (step x a) ≡ step k a)
     (of : List Setting → A) (steps : (s : Setting) (xs : List Setting) → of (s ∷ xs) ≡ step s (of xs)) where
-  placed-same : (s : Setting) (xs : List Setting) → of (placed s xs) ≡ of (s ∷ xs)
+  placed-same : (s : Setting) (xs : List Setting) → of (with_setting s xs) ≡ of (s ∷ xs)
   placed-same s [] = refl
   placed-same s (x ∷ xs) = elim (cases_lt x.time s.time) [
-    | inl l ↦ rw (lt-leb s.time x.time l) (steps x (placed s xs) ∙ ap (step x) (placed-same s xs ∙ steps s xs) ∙ swaps s x (of xs) l ∙ sym (steps s (x ∷ xs) ∙ ap (step s) (steps x xs)))
+    | inl l ↦ rw (lt-leb s.time x.time l) (steps x (with_setting s xs) ∙ ap (step x) (placed-same s xs ∙ steps s xs) ∙ swaps s x (of xs) l ∙ sym (steps s (x ∷ xs) ∙ ap (step s) (steps x xs)))
     | inr l ↦ rw (le-leb s.time x.time l) refl
   ]
 
@@ -60,7 +60,7 @@ module _ (A : Type 0) (step : Setting → A → A)
       go true e same next = same ∙ steps k xs ∙ sym (steps k (x ∷ xs) ∙ ap (step k) (steps x xs) ∙ doubles k x (of xs) (eqb-true x.time k.time e))
       go false e same next = steps k (dedup_from is_at_one_time x xs) ∙ ap (step k) next ∙ sym (steps k (x ∷ xs))
 
-  scheduled-same : (xs : List Setting) → of (scheduled xs) ≡ of xs
+  scheduled-same : (xs : List Setting) → of (schedule_of xs) ≡ of xs
   scheduled-same xs = go (in_time_order xs) refl ∙ ordered-same xs
     where
       go : (ys : List Setting) → in_time_order xs ≡ ys → of (dedup is_at_one_time ys) ≡ of ys

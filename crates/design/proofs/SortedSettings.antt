@@ -10,7 +10,7 @@ use Rattle.std.proofs.lemmas.Bool.{cases_lt, lt-leb}
 use Rattle.std.proofs.lemmas.List.Elements.{recursion_from_All, All-from_recursion}
 use Rattle.circuit_meaning.specs.declared.Setting.{Setting}
 use Rattle.design.specs.inner.KeptDesigns.{InTimeOrder}
-use Rattle.design.specs.Join.{placed, in_time_order, is_at_one_time, scheduled}
+use Rattle.design.specs.Join.{with_setting, in_time_order, is_at_one_time, schedule_of}
 
 abbrev pub time_of : Setting → ℕ
 time_of s = s.time
@@ -81,9 +81,9 @@ rise-alike (x ∷ xs) (y ∷ ys) up vp e = go (λ h. rise-alike xs ys up.1 vp.1 
         ap₂ (λ (a : Setting) (more : List Setting). a ∷ more) first (again (λ z. tail first z (known (same z x))))
 
 module _ (P : Setting → Type 0) where
-  placed-all : (s : Setting) (xs : List Setting) → P s → AllByRecursion P xs → AllByRecursion P (placed s xs)
+  placed-all : (s : Setting) (xs : List Setting) → P s → AllByRecursion P xs → AllByRecursion P (with_setting s xs)
   placed-all s [] p h = (p, tt)
-  placed-all s (x ∷ xs) p h = elim (leb s.time x.time) as (λ b. AllByRecursion P (cond b (s ∷ x ∷ xs) (x ∷ placed s xs))) [
+  placed-all s (x ∷ xs) p h = elim (leb s.time x.time) as (λ b. AllByRecursion P (cond b (s ∷ x ∷ xs) (x ∷ with_setting s xs))) [
     | true ↦ (p, h)
     | false ↦ (h.0, placed-all s xs p h.1)
   ]
@@ -96,7 +96,7 @@ above : (s x : Setting) (xs : List Setting) → s.time ≤ x.time → AllByRecur
 above s x [] l h = tt
 above s x (y ∷ ys) l h = (let k = h.0 in omega (arith, k, l), above s x ys l h.1)
 
-placed-rises : (s : Setting) (xs : List Setting) → Rises xs → Rises (placed s xs)
+placed-rises : (s : Setting) (xs : List Setting) → Rises xs → Rises (with_setting s xs)
 placed-rises s [] up = (tt, tt)
 placed-rises s (x ∷ xs) up = elim (cases_lt x.time s.time) [
   | inl l ↦ rw (lt-leb s.time x.time l) (placed-all (λ y. x.time ≤ y.time) s xs (omega arith) up.0, placed-rises s xs up.1)
@@ -115,7 +115,7 @@ apart z s x l h = go (cases_lt z.time x.time) (cases_lt x.time z.time)
     go (inr m) (inl n) = absurd (let k = sym h ∙ same-high z x n in cc k)
     go (inr m) (inr n) = same-low z s (omega arith)
 
-placed-stable : (z s : Setting) (xs : List Setting) → filter (same z) (placed s xs) ≡ filter (same z) (s ∷ xs)
+placed-stable : (z s : Setting) (xs : List Setting) → filter (same z) (with_setting s xs) ≡ filter (same z) (s ∷ xs)
 placed-stable z s [] = refl
 placed-stable z s (x ∷ xs) = go (placed-stable z s xs) (cases_lt x.time s.time) (known (same z x))
   where
@@ -123,14 +123,14 @@ placed-stable z s (x ∷ xs) = go (placed-stable z s xs) (cases_lt x.time s.time
     known true = inl refl
     known false = inr refl
 
-    go : filter (same z) (placed s xs) ≡ filter (same z) (s ∷ xs) → (x.time < s.time) ⊎ (s.time ≤ x.time) → (same z x ≡ true) ⊎ (same z x ≡ false) → filter (same z) (placed s (x ∷ xs)) ≡ filter (same z) (s ∷ x ∷ xs)
-    go again (inr l) _ = ap (λ b. filter (same z) (cond b (s ∷ x ∷ xs) (x ∷ placed s xs))) (le-leb s.time x.time l)
+    go : filter (same z) (with_setting s xs) ≡ filter (same z) (s ∷ xs) → (x.time < s.time) ⊎ (s.time ≤ x.time) → (same z x ≡ true) ⊎ (same z x ≡ false) → filter (same z) (with_setting s (x ∷ xs)) ≡ filter (same z) (s ∷ x ∷ xs)
+    go again (inr l) _ = ap (λ b. filter (same z) (cond b (s ∷ x ∷ xs) (x ∷ with_setting s xs))) (le-leb s.time x.time l)
     go again (inl l) (inl p) =
         let q = apart z s x l p in
-        ap (λ b. filter (same z) (cond b (s ∷ x ∷ xs) (x ∷ placed s xs))) (lt-leb s.time x.time l) ∙ passes z x (placed s xs) p
+        ap (λ b. filter (same z) (cond b (s ∷ x ∷ xs) (x ∷ with_setting s xs))) (lt-leb s.time x.time l) ∙ passes z x (with_setting s xs) p
         ∙ ap (λ r. x ∷ r) (again ∙ fails z s xs q) ∙ sym (fails z s (x ∷ xs) q ∙ passes z x xs p)
     go again (inl l) (inr p) =
-        ap (λ b. filter (same z) (cond b (s ∷ x ∷ xs) (x ∷ placed s xs))) (lt-leb s.time x.time l) ∙ fails z x (placed s xs) p ∙ again
+        ap (λ b. filter (same z) (cond b (s ∷ x ∷ xs) (x ∷ with_setting s xs))) (lt-leb s.time x.time l) ∙ fails z x (with_setting s xs) p ∙ again
         ∙ ap (λ r. cond (same z s) (s ∷ r) r) (sym (fails z x xs p))
 
 in_order-stable : (z : Setting) (xs : List Setting) → filter (same z) (in_time_order xs) ≡ filter (same z) xs
@@ -177,11 +177,11 @@ order-from (x ∷ xs) up i zero e l m = absurd (omega arith)
 order-from (x ∷ xs) up zero (suc j) e l m = All-from_recursion (λ (y : Setting). x.time < y.time) xs up.0 j e (omega arith)
 order-from (x ∷ xs) up (suc i) (suc j) e l m = order-from xs up.1 i j e (omega arith) (omega arith)
 
-pub scheduled-order : (xs : List Setting) → InTimeOrder (scheduled xs)
-scheduled-order xs = order-from (scheduled xs) (climbs (in_time_order xs) (in_order-rises xs))
+pub scheduled-order : (xs : List Setting) → InTimeOrder (schedule_of xs)
+scheduled-order xs = order-from (schedule_of xs) (climbs (in_time_order xs) (in_order-rises xs))
 
 pub order-differs : (xs : List Setting) → InTimeOrder xs → AllPairs (λ a b. a.time ≢ b.time) xs
 order-differs xs h i j d l m = λ e. let k = h i j d l m in omega (arith, k, e)
 
-pub scheduled-all : (P : Setting → Type 0) (xs : List Setting) → AllByRecursion P xs → All P (scheduled xs)
+pub scheduled-all : (P : Setting → Type 0) (xs : List Setting) → AllByRecursion P xs → All P (schedule_of xs)
 scheduled-all P xs h = All-dedup is_at_one_time P (in_time_order xs) (All-from_recursion P (in_time_order xs) (in_order-all P xs h))

@@ -1,5 +1,5 @@
 -- The join of a netlist, a timing file and a stimulus file: a design, or the first row at fault.
-use Rattle.std.specs.Prelude.{◌≡◌, ℕ, Bool, true, false, not, ◌&&◌, nat_eq, nat_lt, nat_le, List, [], ◌∷◌, length, map, filter, get_or, Option, Some, None, is_some, unwrap_or, Result, Ok, Err, if◌then◌else◌, ◌⊎◌, position}
+use Rattle.std.specs.Prelude.{◌≡◌, ℕ, Bool, true, false, not, ◌&&◌, nat_eq, nat_lt, nat_le, List, [], ◌∷◌, length, map, filter, slice_index_or, Option, Some, None, is_some, unwrap_or, Result, Ok, Err, if◌then◌else◌, ◌⊎◌, position}
 use Rattle.std.specs.List.{range_with_len, dedup}
 use Rattle.std.specs.Str.{bytes_eq}
 use Rattle.gate_values.specs.declared.Value.{Value}
@@ -35,7 +35,7 @@ abbrev pub number : netlists.Content → List ℕ → Option ℕ
 number netlist name = position (bytes_eq name) netlist.names
 
 abbrev pub driver_at : netlists.Content → ℕ → NetlistDriver
-driver_at netlist s = get_or netlist.rows s Primary
+driver_at netlist s = slice_index_or netlist.rows s Primary
 
 abbrev pub is_dff : Kind → Bool
 is_dff Dff = true
@@ -153,20 +153,20 @@ pin_delays netlist timing s kind pins = map (pin_delay netlist timing s kind) (r
 -- a flip-flop has the clock of its row, or else the clock without a name; it shows x at first, unless a row states a value
 abbrev pub flop_of : netlists.Content → timings.Content → ℕ → List ℕ → FlipFlop
 flop_of netlist timing s pins = record {
-  pin = get_or pins 0 0;
+  pin = slice_index_or pins 0 0;
   delay = delay_of netlist timing s Dff;
   clock = or_else (rows_say netlist timing.rows s (clock_said timing)) timing.clock;
   initial = unwrap_or (rows_say netlist timing.rows s initial_said) X;
 }
 
 -- a setting is placed before the later ones and before those of its own time
-abbrev pub placed : Setting → List Setting → List Setting
-placed setting [] = setting ∷ []
-placed setting (next ∷ later) = if nat_le setting.time next.time then setting ∷ next ∷ later else next ∷ placed setting later
+abbrev pub with_setting : Setting → List Setting → List Setting
+with_setting setting [] = setting ∷ []
+with_setting setting (next ∷ later) = if nat_le setting.time next.time then setting ∷ next ∷ later else next ∷ with_setting setting later
 
 abbrev pub in_time_order : List Setting → List Setting
 in_time_order [] = []
-in_time_order (setting ∷ more) = placed setting (in_time_order more)
+in_time_order (setting ∷ more) = with_setting setting (in_time_order more)
 
 abbrev pub setting_of : SetRow → Setting
 setting_of row = record { time = row.time; value = row.value }
@@ -175,11 +175,11 @@ abbrev pub is_at_one_time : Setting → Setting → Bool
 is_at_one_time a b = nat_eq a.time b.time
 
 -- the settings in the order of time; of several at one time, which no accepted stimulus file has, the first counts
-abbrev pub scheduled : List Setting → List Setting
-scheduled settings = dedup is_at_one_time (in_time_order settings)
+abbrev pub schedule_of : List Setting → List Setting
+schedule_of settings = dedup is_at_one_time (in_time_order settings)
 
 abbrev pub settings_of : netlists.Content → List SetRow → ℕ → List Setting
-settings_of netlist sets s = scheduled (map setting_of (filter (λ row. is_signal s (number netlist row.name)) sets))
+settings_of netlist sets s = schedule_of (map setting_of (filter (λ row. is_signal s (number netlist row.name)) sets))
 
 abbrev pub joined_gate : netlists.Content → timings.Content → ℕ → Bool → Kind → List ℕ → circuits.Driver
 joined_gate netlist timing s true kind pins = circuits.Flop (flop_of netlist timing s pins)

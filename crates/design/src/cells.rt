@@ -161,6 +161,6 @@ pub fn later_span(delay: u32, heard: Option<Span>, time: u32, limit: u32) -> Spa
 {
     match heard {
         None => span_of(0, delay.min(limit)),
-        Some(span) => span.moved(delay, limit).unwrap(),
+        Some(span) => span.later_by(delay, limit).unwrap(),
     }
 }

@@ -4,7 +4,7 @@ ghost use Rattle.std.specs.Prelude.{◌≡◌, ◌+◌, ◌<◌, ◌≤◌, leng
 ghost use Rattle.circuit_meaning.specs.Circuit.{driver, read_by};
 ghost use Rattle.circuit_meaning.specs.Cells.{span};
 ghost use Rattle.circuit_meaning.specs.Need.{IsEvaluable};
-ghost use Rattle.circuit_meaning.specs.Forced.{forced};
+ghost use Rattle.circuit_meaning.specs.Forced.{forced_circuit};
 ghost use Rattle.circuit_meaning.specs.Looks.{kind_of, pin_points, looked_points, pin_interval, met_interval};
 ghost use Rattle.design.specs.Join.{AnswersDesign, design_of};
 ghost use Rattle.design.specs.Joined.{IsDesign};
@@ -108,7 +108,8 @@ impl Design {
     /// Only the list of the signals held before is copied. The two designs share the rest.
     pub fn hold(&self, alloc: Global, site: u32, value: Value) -> Result<Design, OutOfMemory>
         requires { site < length self.now.circuit.drivers }
-        ensures circuit { IfOk result (λ held. held.circuit ≡ forced self.now.circuit site value) }
+        ensures circuit { IfOk result (λ held. held.circuit ≡ forced_circuit self.now.circuit site
+            value) }
         ensures netlist { IfOk result (λ held. held.netlist ≡ self.now.netlist) }
     {
         Ok(Design {

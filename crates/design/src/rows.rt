@@ -1,6 +1,6 @@
 //! What is kept of a signal.
 
-ghost use Rattle.std.specs.Prelude.{◌≡◌, ◌<◌, length, get_or};
+ghost use Rattle.std.specs.Prelude.{◌≡◌, ◌<◌, length, slice_index_or};
 ghost use Rattle.bench_reader.specs.Netlists as netlists;
 ghost use Rattle.bench_reader.specs.Netlists.{pins_of};
 
@@ -39,7 +39,7 @@ pub enum SignalView<'a> {
 /// The signals that a signal reads.
 pub fn signals_of(netlist: &Netlist, signal: u32) -> &[u32]
     requires { signal < length netlist.now.names }
-    ensures { result.now ≡ pins_of (get_or netlist.now.rows signal netlists.Primary) }
+    ensures { result.now ≡ pins_of (slice_index_or netlist.now.rows signal netlists.Primary) }
 {
     match netlist.row(signal) {
         NetlistRow::Input => &[],

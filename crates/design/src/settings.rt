@@ -4,7 +4,7 @@ ghost use Rattle.std.specs.Prelude.{◌≡◌, ◌<◌, List, ℕ, [], All, IfOk
 ghost use Rattle.design.specs.declared.fault.JoinFile.TheVariants as file;
 ghost use Rattle.bench_reader.specs.Netlists as netlists;
 ghost use Rattle.stimulus_file.specs.Stimulus.{SetRow};
-ghost use Rattle.stimulus_file.specs.Named.{named, with_name, HavePlaces};
+ghost use Rattle.stimulus_file.specs.Named.{named_rows, with_name, HavePlaces};
 ghost use Rattle.design.specs.Join as join;
 ghost use Rattle.design.specs.inner.Said.{KnowsInputs, HasSets, TakesSet, TakesSets, inputs_of, input_of};
 
@@ -108,7 +108,7 @@ pub fn read(
     requires inputs { rows.now.inputs ≡ length (inputs_of netlist.now) }
     requires names { HavePlaces stimulus.names.now stimulus.sets.now }
     ensures { TakesSets netlist.now horizon
-        (named stimulus.entry.names.now stimulus.entry.sets.now) result }
+        (named_rows stimulus.entry.names.now stimulus.entry.sets.now) result }
 {
     let inputs = inputs_named(alloc, netlist, &rows.rows, stimulus.names)?;
     let mut settings = empty_lists(alloc, rows.inputs)?;
@@ -120,7 +120,7 @@ pub fn read(
 
 /// The settings in the order of time. Of several at one time the first counts.
 fn scheduled(mut settings: Vec<Setting>) -> Result<Vec<Setting>, AllocError>
-    ensures { IfOk result (λ list. list.items ≡ join.scheduled settings.items) }
+    ensures { IfOk result (λ list. list.items ≡ join.schedule_of settings.items) }
 {
     settings.sort_by_key(|setting| setting.time)?;
     settings.dedup_by_key(|setting| setting.time);
@@ -130,7 +130,7 @@ fn scheduled(mut settings: Vec<Setting>) -> Result<Vec<Setting>, AllocError>
 /// The settings of each input, in the order of time.
 pub fn in_order(alloc: Global, settings: Vec<Vec<Setting>>) -> Result<Vec<Vec<Setting>>, AllocError>
     ensures { IfOk result (λ lists. map (λ list. list.items) lists.items
-        ≡ map (λ list. join.scheduled list.items) settings.items) }
+        ≡ map (λ list. join.schedule_of list.items) settings.items) }
 {
     let mut lists = Vec::with_capacity(alloc, settings.len())?;
     for list in settings {

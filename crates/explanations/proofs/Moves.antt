@@ -14,8 +14,8 @@ use Rattle.valid_intervals.specs.Spans.{Span, IsIn, from_to, meet}
 use Rattle.flip_flops.specs.Edges.{shown_edge}
 use Rattle.circuit_meaning.specs.declared.Pin.{Pin}
 use Rattle.circuit_meaning.specs.Circuit.{Circuit, Driver, Input, Gate, Flop, driver, IsCircuit}
-use Rattle.circuit_meaning.specs.Forward.{value, seen}
-use Rattle.circuit_meaning.specs.Cells.{span, span_from, looked, pin_span, least_delay, cell_at, point_at}
+use Rattle.circuit_meaning.specs.Forward.{value, seen_value}
+use Rattle.circuit_meaning.specs.Cells.{span, span_from, looked_pins, pin_span, least_delay, cell_at, point_at}
 use Rattle.circuit_meaning.specs.Base.{base_answer}
 use Rattle.circuit_meaning.specs.Need.{HasChildren, IsEvaluable, children}
 use Rattle.circuit_meaning.specs.Looks.{kind_of, pin_point, flop_points, pin_points_at, somes, sees, looked_points}
@@ -68,16 +68,16 @@ all_of : {A : Type 0} (P : A → Type 0) → ((a : A) → P a) → (xs : List A)
 all_of P h [] = tt
 all_of P h (x ∷ xs) = (h x, all_of P h xs)
 
-sees-source : (c : Circuit) (t : ℕ) (p : Pin) → sees c (pin_point t p) ≡ seen (value c) t p
+sees-source : (c : Circuit) (t : ℕ) (p : Pin) → sees c (pin_point t p) ≡ seen_value (value c) t p
 sees-source c t p = elim (nat_lt t p.delay) as (λ b. sees c (cond b None (Some (record { signal = p.signal; time = t - p.delay }))) ≡ cond b X (value c p.signal (t - p.delay))) [ true ↦ refl | false ↦ refl ]
 
 -- what a driver looks at
 abbrev points : Circuit → ℕ → Driver → List (Option Point)
 points c t d = up_to_first (λ o. decides (kind_of d) (sees c o)) (pin_points_at t d)
 
-cut-sources : (c : Circuit) (t : ℕ) (kind : Kind) (pins : List Pin) → map (pin_point t) (looked c t kind pins) ≡ points c t (Gate kind pins)
+cut-sources : (c : Circuit) (t : ℕ) (kind : Kind) (pins : List Pin) → map (pin_point t) (looked_pins c t kind pins) ≡ points c t (Gate kind pins)
 cut-sources c t kind pins =
-    ap (map (pin_point t)) (cut_alike (decides kind) (λ p. sees c (pin_point t p)) (seen (value c) t) pins (all_of (λ p. sees c (pin_point t p) ≡ seen (value c) t p) (sees-source c t) (up_to_first (λ p. decides kind (sees c (pin_point t p))) pins)))
+    ap (map (pin_point t)) (cut_alike (decides kind) (λ p. sees c (pin_point t p)) (seen_value (value c) t) pins (all_of (λ p. sees c (pin_point t p) ≡ seen_value (value c) t p) (sees-source c t) (up_to_first (λ p. decides kind (sees c (pin_point t p))) pins)))
     ∙ map-up_to_first (λ o. decides kind (sees c o)) (pin_point t) pins
 
 same-pins : (a b : List Pin) → Pins a ≡ Pins b → a ≡ b
@@ -112,10 +112,10 @@ module _ (c : Circuit) (ok : IsCircuit c) (t u : ℕ) where
   moved-from : (d : Driver) → IsIn (span_from c (span c) t d) u → look c u d ≡ look c t d → HasChildren t d → (n : ℕ) → IfSome (get_or (points c t d) n None) (λ p. p.time ≤ c.horizon) → IsMoved c (get_or (points c t d) n None) (get_or (points c u d) n None)
   moved-from (Input settings) inside same h n low = absurd h
   moved-from (Gate kind pins) inside same h n low =
-      let L = looked c t kind pins in
+      let L = looked_pins c t kind pins in
       let k = in_all (from_to (least_delay pins) (c.horizon + 1)) (map (pin_span (span c) t) L) u (rw (gate_span-late (c.horizon + 1) t (least_delay pins) (map (pin_span (span c) t) L) h) at inside) in
       let pins-in = all_map (λ x. IsIn x u) (pin_span (span c) t) L k.1 in
-      let there : map (pin_point u) L ≡ points c u (Gate kind pins) = ap (map (pin_point u)) (sym (same-pins (looked c u kind pins) L same)) ∙ cut-sources c u kind pins in
+      let there : map (pin_point u) L ≡ points c u (Gate kind pins) = ap (map (pin_point u)) (sym (same-pins (looked_pins c u kind pins) L same)) ∙ cut-sources c u kind pins in
       subst (λ xs. IsMoved c (get_or (points c t (Gate kind pins)) n None) (get_or xs n None)) there
       (subst (λ xs. IsMoved c (get_or xs n None) (get_or (map (pin_point u) L) n None)) (cut-sources c t kind pins) (pins-moved L pins-in n))
   moved-from (Flop f) inside same h n low =

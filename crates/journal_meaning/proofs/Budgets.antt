@@ -14,7 +14,7 @@ use Rattle.valid_intervals.specs.Cells.{same_point}
 use Rattle.valid_intervals.specs.declared.SignalCell.{SignalCell}
 use Rattle.batch_meaning.specs.Batches.{Batch, IsNeededBy}
 use Rattle.journal_meaning.specs.Replay.{IsLegalBatch}
-use Rattle.journal_meaning.specs.Answers.{is_of, last_of, is_fill_of, filled, IsSpent, IsAnswer}
+use Rattle.journal_meaning.specs.Answers.{is_of, last_of, is_fill_of, fill_count, IsSpent, IsAnswer}
 use Rattle.journal_meaning.specs.Laws.{NoEviction, HasRoom, IsLegalFrom, IsRoomy, IsOwnQuery, NeedsMoreThan, NeedsAtMost}
 use Rattle.journal_meaning.specs.Sections.{of_batch}
 use Rattle.circuit_meaning.specs.Forward.{wave}
@@ -46,7 +46,7 @@ fill-each n P F f (Evicted s t ∷ es) h = fill-each n P F f es h.1
 fill-each n P F f (Dropped q p ∷ es) h = fill-each n P F f es h.1
 fill-each n P F f (Spent q p k ∷ es) h = fill-each n P F f es h.1
 
-length-fills : (n : ℕ) (es : List Entry) → length (fill_points n es) ≡ filled es n
+length-fills : (n : ℕ) (es : List Entry) → length (fill_points n es) ≡ fill_count es n
 length-fills n [] = refl
 length-fills n (Filled q p x ∷ es) = elim (nat_eq q n) as (λ b. length (cons_option (if b then Some p else None) (fill_points n es)) ≡ length (cond b (Filled q p x ∷ filter (is_fill_of n) es) (filter (is_fill_of n) es))) [
   | true ↦ ap suc (length-fills n es)
@@ -281,15 +281,15 @@ module _ (b : Batch) (ok : IsCircuit b.circuit) (opening : ℕ → List SignalCe
       let long : q.budget + 1 ≤ length points = let l = length-fills q.number es in let a = length-append spent.given_up fills in let u = spent.enough in let v = spent.budget in omega (arith, l, a, u, v) in
       let other : Each (λ p. spent.point ≢ p) spent.given_up =
       each-imply (λ p. last_of es q.number p ≡ Some (Dropped q.number p)) (λ p. spent.point ≢ p)
-      (λ p d e. spent≢dropped q.number q.number spent.point p spent.held (sym spent.last ∙ ap (λ z. last_of es q.number z) e ∙ d)) spent.given_up dropped in
+      (λ p d e. spent≢dropped q.number q.number spent.point p spent.claims (sym spent.last ∙ ap (λ z. last_of es q.number z) e ∙ d)) spent.given_up dropped in
       let differ : Differ points = (
-        each-append (λ p. spent.point ≢ p) spent.given_up fills other (ended-fills q.number spent.point es (Spent q.number spent.point spent.held) g.settled spent.last tt),
+        each-append (λ p. spent.point ≢ p) spent.given_up fills other (ended-fills q.number spent.point es (Spent q.number spent.point spent.claims) g.settled spent.last tt),
         differ-append spent.given_up fills (pairs_from spent.given_up spent.different)
             (each-imply (λ p. last_of es q.number p ≡ Some (Dropped q.number p)) (λ p. Each (λ r. p ≢ r) fills) (λ p d. ended-fills q.number p es (Dropped q.number p) g.settled d tt) spent.given_up dropped)
             (fills-differ q.number es g.settled),
       ) in
       let needed : Each (IsNeededBy b q) points = (
-        needs spent.point (last-each q.number spent.point Asked es (Spent q.number spent.point spent.held) g.asked spent.last),
+        needs spent.point (last-each q.number spent.point Asked es (Spent q.number spent.point spent.claims) g.asked spent.last),
         each-append (IsNeededBy b q) spent.given_up fills
             (each-imply (λ p. last_of es q.number p ≡ Some (Dropped q.number p)) (IsNeededBy b q) (λ p d. needs p (last-each q.number p Asked es (Dropped q.number p) g.asked d)) spent.given_up dropped)
             (fill-each q.number (IsNeededBy b q) Asked (λ r p x h e. needs p (subst (λ n. Needed b n p) e h)) es g.asked),

@@ -5,7 +5,7 @@ use Rattle.std.specs.List.{list_any}
 use Rattle.valid_intervals.specs.declared.Point.{Point}
 use Rattle.journal_meaning.specs.declared.Entry.{Entry}
 use Rattle.valid_intervals.specs.Cells.{same_point}
-use Rattle.journal_meaning.specs.Counts.{points_of, different, repeated, evaluations, distinct, again}
+use Rattle.journal_meaning.specs.Counts.{points_of, different, repeat_count, evaluations, distinct, again}
 use Rattle.journal_meaning.proofs.Same.{same_point-true, same_point-itself}
 
 -- the points that are none of the earlier ones
@@ -28,13 +28,13 @@ new-more p earlier (x ∷ ps) = rw (same_point-sym x p) (elim (same_point p x) a
   | false ↦ ap (λ l. cond (not (list_any (same_point x) earlier)) (x ∷ l) l) (new-more p earlier ps)
 ])
 
-add : (earlier ps : List Point) → length ps ≡ length (new earlier (different ps)) + repeated earlier ps
+add : (earlier ps : List Point) → length ps ≡ length (new earlier (different ps)) + repeat_count earlier ps
 add earlier [] = refl
 add earlier (p ∷ rest) =
     let others = new earlier (filter (λ x. not (same_point p x)) (different rest)) in
-    let h : length rest ≡ length others + repeated (p ∷ earlier) rest =
-    add (p ∷ earlier) rest ∙ ap (λ l. length l + repeated (p ∷ earlier) rest) (new-more p earlier (different rest)) in
-    elim (list_any (same_point p) earlier) as (λ b. suc (length rest) ≡ length (cond (not b) (p ∷ others) others) + ((if b then 1 else 0) + repeated (p ∷ earlier) rest)) [
+    let h : length rest ≡ length others + repeat_count (p ∷ earlier) rest =
+    add (p ∷ earlier) rest ∙ ap (λ l. length l + repeat_count (p ∷ earlier) rest) (new-more p earlier (different rest)) in
+    elim (list_any (same_point p) earlier) as (λ b. suc (length rest) ≡ length (cond (not b) (p ∷ others) others) + ((if b then 1 else 0) + repeat_count (p ∷ earlier) rest)) [
       | true ↦ omega (arith, h)
       | false ↦ omega (arith, h)
     ]

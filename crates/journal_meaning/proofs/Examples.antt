@@ -3,7 +3,7 @@ use Rattle.std.proofs.Common.{◌≡◌, ℕ, refl, arith, [], ◌∷◌, List, 
 use Rattle.gate_values.specs.declared.Value.{Value}
 use Rattle.gate_values.specs.declared.Value.TheVariants.{Zero, One, X}
 use Rattle.gate_values.specs.declared.Kind.TheVariants.{And, Nand, Not, Buff}
-use Rattle.circuit_meaning.specs.Forced.{forced}
+use Rattle.circuit_meaning.specs.Forced.{forced_circuit}
 use Rattle.valid_intervals.specs.declared.Point.{Point}
 use Rattle.circuit_meaning.specs.declared.Window.{Window}
 use Rattle.circuit_meaning.specs.declared.Setting.{Setting}
@@ -179,7 +179,7 @@ evicting-leaves = refl
 refused-spent : IsSpent refused query
 refused-spent = record {
   point = at 2 3;
-  held = 2;
+  claims = 2;
   last = refl;
   given_up = at 3 4 ∷ at 1 5 ∷ [];
   different = pairs_to (at 3 4 ∷ at 1 5 ∷ []) (((λ e. true≢false (ap (λ (p : Point). nat_eq p.signal 3) e)), tt), (tt, tt));
@@ -248,7 +248,7 @@ abbrev pub stuck_query : Query
 stuck_query = record { number = 1; signal = 1; from = 0; to = 11; budget = 50000 }
 
 abbrev pub stuck_chain : Circuit
-stuck_chain = forced chain 2 Zero
+stuck_chain = forced_circuit chain 2 Zero
 
 abbrev pub apart : Batch
 apart = record { circuit = stuck_chain; shards = 1; capacity = 65536; queries = stuck_query ∷ []; site = None }

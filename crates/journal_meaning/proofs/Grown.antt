@@ -18,10 +18,10 @@ use Rattle.journal_meaning.specs.Table.{after}
 use Rattle.batch_meaning.specs.Batches.{Batch}
 use Rattle.journal_meaning.specs.Allowed.{IsAllowed}
 use Rattle.journal_meaning.specs.Replay.{IsLegal}
-use Rattle.journal_meaning.specs.Answers.{IsCovered, ChildrenCovered, is_of, last_of, is_fill_of, filled, IsSpent}
+use Rattle.journal_meaning.specs.Answers.{IsCovered, ChildrenCovered, is_of, last_of, is_fill_of, fill_count, IsSpent}
 use Rattle.journal_meaning.specs.Sections.{of_batch}
 use Rattle.journal_meaning.specs.Grown.{IsSaid, IsFor, is_spent_of, refusals, GrowsBy, IsLonger, AreAdded}
-use Rattle.journal_meaning.specs.Counts.{count, is_booked, booked}
+use Rattle.journal_meaning.specs.Counts.{count, is_booked, booked_count}
 use Rattle.journal_meaning.specs.inner.Grown.{IsForOther, IsHome, AreHome}
 use Rattle.journal_meaning.proofs.Same.{same_point-true}
 use Rattle.journal_meaning.proofs.Lists.{Each, each-append, each-imply}
@@ -399,13 +399,13 @@ module _ (old added new : List Entry) (g : GrowsBy old added new) where
   covered-now c p (inl h) = inl h
   covered-now c p (inr h) = inr (said-now p h)
 
-  pub filled-more : (q : ℕ) → filled new q ≡ filled old q + filled added q
+  pub filled-more : (q : ℕ) → fill_count new q ≡ fill_count old q + fill_count added q
   filled-more q = g.counts (is_fill_of q)
 
   pub refusals-more : (q : ℕ) → refusals new q ≡ refusals old q + refusals added q
   refusals-more q = g.counts (is_spent_of q)
 
-  pub booked-more : booked new ≡ booked old + booked added
+  pub booked-more : booked_count new ≡ booked_count old + booked_count added
   booked-more = g.counts is_booked
 
   pub last-now : (q : ℕ) (p : Point) (e : Entry) → last_of added q p ≡ Some e → last_of new q p ≡ Some e
@@ -467,7 +467,7 @@ module _ (q : ℕ) (es : List Entry) (others : Each (IsForOther q) es) where
   pub others-last : (p : Point) → last_of es q p ≡ None
   others-last p = last-none es q p (each-imply (IsForOther q) (λ e. is_of q p e ≡ false) (other-none q p) es others)
 
-  pub others-filled : filled es q ≡ 0
+  pub others-filled : fill_count es q ≡ 0
   others-filled = count-none (is_fill_of q) es (each-imply (IsForOther q) (λ e. is_fill_of q e ≡ false) (other-fills q) es others)
 
   pub others-refusals : refusals es q ≡ 0
@@ -490,7 +490,7 @@ module _ (old added new : List Entry) (g : GrowsBy old added new) where
       let m = filled-more old added new g q.number in
       record {
         point = s.point;
-        held = s.held;
+        claims = s.claims;
         last = same s.point ∙ s.last;
         given_up = s.given_up;
         different = s.different;

@@ -13,7 +13,7 @@ use Rattle.valid_intervals.specs.declared.SignalCell.{SignalCell}
 use Rattle.batch_meaning.specs.Batches.{Batch}
 use Rattle.circuit_meaning.specs.Cells.{cell_at}
 use Rattle.journal_meaning.specs.Replay.{replay, IsLegal, IsLegalTrim}
-use Rattle.journal_meaning.specs.Sections.{Purpose, Asks, Trims, Forces, SectionEntries, IsLegalIn, own, list_of, cells_left, AreLegal, joined}
+use Rattle.journal_meaning.specs.Sections.{Purpose, Asks, Trims, Forces, SectionEntries, IsLegalIn, own_entries, list_of, cells_left, AreLegal, joined_entries}
 use Rattle.journal_meaning.specs.Laws.{OfCircuit}
 use Rattle.journal_meaning.proofs.Same.{same_stored-true, same_stored-itself}
 use Rattle.journal_meaning.proofs.Lists.{Each, Stands, Here, There, stands-front, stands-last, contains_from}
@@ -72,15 +72,15 @@ module _ (p : Point) (x : Cell) (c : covers p (cell_for p x) ≡ true) where
   walk_trim rest (Spent q r held ∷ es) s k l f = absurd l.0
 
   walk_section : (shard : ℕ) (rest : List Entry) (purpose : Purpose) (es : List Entry) (cells : List SignalCell) → Stands (cell_for p x) cells → IsLegalIn purpose shard cells es
-      → (Stands (cell_for p x) (replay (fresh cells) (own purpose es)).cells → Kept p x rest) → Kept p x (own purpose es ++ rest)
+      → (Stands (cell_for p x) (replay (fresh cells) (own_entries purpose es)).cells → Kept p x rest) → Kept p x (own_entries purpose es ++ rest)
   walk_section shard rest (Asks b) es cells st l f = walk b shard rest es (fresh cells) (record { stands = st; unclaimed = refl }) l.legal (λ k. f k.stands)
   walk_section shard rest Trims es cells st l f = walk_trim rest es (fresh cells) st l f
   walk_section shard rest (Forces b) es cells st l f = f st
 
-  walk_sections : (shard : ℕ) (sections : List SectionEntries) (cells : List SignalCell) → Stands (cell_for p x) cells → AreLegal shard cells sections → Kept p x (joined shard sections)
+  walk_sections : (shard : ℕ) (sections : List SectionEntries) (cells : List SignalCell) → Stands (cell_for p x) cells → AreLegal shard cells sections → Kept p x (joined_entries shard sections)
   walk_sections shard [] cells st l = tt
   walk_sections shard (section ∷ rest) cells st l =
-      walk_section shard (joined shard rest) section.purpose (list_of section shard) cells st l.0 (λ k. walk_sections shard rest (cells_left shard cells section) k l.1)
+      walk_section shard (joined_entries shard rest) section.purpose (list_of section shard) cells st l.0 (λ k. walk_sections shard rest (cells_left shard cells section) k l.1)
 
 -- up to a second evaluation the eviction is found
 module _ (p : Point) (x : Cell) where
@@ -128,15 +128,15 @@ module _ (c : Circuit) (ok : IsCircuit c) where
   finals_trim rest (Spent q r held ∷ es) s l g = absurd l.0
 
   finals_section : (shard : ℕ) (rest : List Entry) (purpose : Purpose) (es : List Entry) (cells : List SignalCell) → ((b : Batch) → purpose ≡ Asks b → b.circuit ≡ c)
-      → IsLegalIn purpose shard cells es → GoesOn (replay (fresh cells) (own purpose es)) rest → Finals c rest → Finals c (own purpose es ++ rest)
+      → IsLegalIn purpose shard cells es → GoesOn (replay (fresh cells) (own_entries purpose es)) rest → Finals c rest → Finals c (own_entries purpose es ++ rest)
   finals_section shard rest (Asks b) es cells same l f g = finals b (same b refl) shard rest es (fresh cells) l.legal f g
   finals_section shard rest Trims es cells same l f g = finals_trim rest es (fresh cells) l g
   finals_section shard rest (Forces b) es cells same l f g = g
 
-  finals_sections : (shard : ℕ) (sections : List SectionEntries) (cells : List SignalCell) → Each (OfCircuit c) sections → AreLegal shard cells sections → Finals c (joined shard sections)
+  finals_sections : (shard : ℕ) (sections : List SectionEntries) (cells : List SignalCell) → Each (OfCircuit c) sections → AreLegal shard cells sections → Finals c (joined_entries shard sections)
   finals_sections shard [] cells same l = tt
   finals_sections shard (section ∷ rest) cells same l =
-      finals_section shard (joined shard rest) section.purpose (list_of section shard) cells same.0 l.0
+      finals_section shard (joined_entries shard rest) section.purpose (list_of section shard) cells same.0 l.0
       (λ p x cov k. walk_sections p x cov shard rest (cells_left shard cells section) k l.1)
       (finals_sections shard rest (cells_left shard cells section) same.1 l.1)
 
@@ -147,7 +147,7 @@ module _ (c : Circuit) (ok : IsCircuit c) where
 
   pub again_after_eviction : (shard : ℕ) (sections : List SectionEntries) → All (OfCircuit c) sections → AreLegal shard [] sections
       → (q r : ℕ) (p : Point) (x y : Cell) (before between behind : List Entry)
-      → joined shard sections ≡ before ++ Filled q p x ∷ between ++ Filled r p y ∷ behind
+      → joined_entries shard sections ≡ before ++ Filled q p x ∷ between ++ Filled r p y ∷ behind
       → Contains between (Evicted p.signal y.span.start)
   again_after_eviction shard sections same l q r p x y before between behind e =
       let f : Finals c (before ++ Filled q p x ∷ between ++ Filled r p y ∷ behind) =

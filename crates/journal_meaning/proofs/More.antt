@@ -17,7 +17,7 @@ use Rattle.valid_intervals.specs.Cells.{is_stored, same_stored, cell_for, covers
 use Rattle.journal_meaning.specs.Table.{Needs, after}
 use Rattle.batch_meaning.specs.Batches.{Batch}
 use Rattle.journal_meaning.specs.Allowed.{IsAllowed, IsRight}
-use Rattle.journal_meaning.specs.Counts.{booked, is_booked}
+use Rattle.journal_meaning.specs.Counts.{booked_count, is_booked}
 use Rattle.journal_meaning.specs.Replay.{replay, IsLegal}
 use Rattle.journal_meaning.proofs.Same.{same_stored-true, same_stored-itself}
 use Rattle.journal_meaning.proofs.Lists.{Each, Differ, each-filter, differ-front, test-false}
@@ -135,11 +135,11 @@ right-answers c ok p x r h =
     ap₂ of signal (cell ∙ ap (λ s. cell_at c (record { signal = s; time = p.time })) signal)
 
 -- entries of claims and fills add up
-pub booked-append : (es fs : List Entry) → booked (es ++ fs) ≡ booked es + booked fs
+pub booked-append : (es fs : List Entry) → booked_count (es ++ fs) ≡ booked_count es + booked_count fs
 booked-append [] fs = omega arith
 booked-append (e ∷ es) fs =
     let k = booked-append es fs in
-    elim (is_booked e) as (λ t. length (cond t (e ∷ filter is_booked (es ++ fs)) (filter is_booked (es ++ fs))) ≡ length (cond t (e ∷ filter is_booked es) (filter is_booked es)) + booked fs) [
+    elim (is_booked e) as (λ t. length (cond t (e ∷ filter is_booked (es ++ fs)) (filter is_booked (es ++ fs))) ≡ length (cond t (e ∷ filter is_booked es) (filter is_booked es)) + booked_count fs) [
       | true ↦ omega (arith, k)
       | false ↦ k
     ]

@@ -6,7 +6,7 @@ use Rattle.valid_intervals.specs.declared.Point.{Point}
 use Rattle.valid_intervals.specs.Spans.{Span, IsIn}
 use Rattle.valid_intervals.specs.Cells.{covers, cell_for}
 use Rattle.circuit_meaning.specs.Circuit.{Circuit, Driver, Input, Gate, Flop, driver, IsCircuit}
-use Rattle.circuit_meaning.specs.Cells.{span, span_from, pin_span, looked, least_delay, cell_at}
+use Rattle.circuit_meaning.specs.Cells.{span, span_from, pin_span, looked_pins, least_delay, cell_at}
 use Rattle.circuit_meaning.specs.Laws.{look, Edge}
 use Rattle.circuit_meaning.specs.declared.Window.{Window}
 use Rattle.circuit_meaning.specs.Need.{HasChildren, IsEvaluable, IsRoot, First, Piece, Next, children}
@@ -49,7 +49,7 @@ module _ (c : Circuit) (ok : IsCircuit c) where
   sources-back t u (Input settings) inside same h = absurd h
   sources-back t u (Gate kind pins) inside same h = elim (cases_lt t (least_delay pins)) [
     | inl l ↦
-        let early = gate_span-early (c.horizon + 1) t (least_delay pins) (map (pin_span (span c) t) (looked c t kind pins)) l in
+        let early = gate_span-early (c.horizon + 1) t (least_delay pins) (map (pin_span (span c) t) (looked_pins c t kind pins)) l in
         let here = subst (λ (x : Span). IsIn x u) early inside in
         absurd (omega (arith, here.high))
     | inr l ↦ l

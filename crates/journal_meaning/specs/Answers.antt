@@ -38,7 +38,7 @@ is_of number p (Claimed q x) = nat_eq q number && same_point p x
 is_of number p (Filled q x cell) = nat_eq q number && same_point p x
 is_of number p (Evicted signal start) = false
 is_of number p (Dropped q x) = nat_eq q number && same_point p x
-is_of number p (Spent q x held) = nat_eq q number && same_point p x
+is_of number p (Spent q x claims) = nat_eq q number && same_point p x
 
 -- the last entry of this query at this point
 abbrev pub last_of : List Entry → ℕ → Point → Option Entry
@@ -49,20 +49,20 @@ abbrev pub is_fill_of : ℕ → Entry → Bool
 is_fill_of number (Filled q p x) = nat_eq q number
 is_fill_of number e = false
 
-abbrev pub filled : List Entry → ℕ → ℕ
-filled es q = length (filter (is_fill_of q) es)
+abbrev pub fill_count : List Entry → ℕ → ℕ
+fill_count es q = length (filter (is_fill_of q) es)
 
--- Why a query is refused: it was refused a point while it held a number of claims (`held`). Its evaluations and these claims are at least
+-- Why a query is refused: it was refused a point while it held a number of claims (`claims`). Its evaluations and these claims are at least
 -- its budget (`budget`). Later it gave up at least as many different points (`enough`).
 pub record IsSpent (es : List Entry) (q : Query) : Type 0 where
   pub point : Point
-  pub held : ℕ
-  pub last : last_of es q.number point ≡ Some (Spent q.number point held)
+  pub claims : ℕ
+  pub last : last_of es q.number point ≡ Some (Spent q.number point claims)
   pub given_up : List Point
   pub different : AllPairs (λ a b. a ≢ b) given_up
   pub dropped : All (λ p. last_of es q.number p ≡ Some (Dropped q.number p)) given_up
-  pub enough : held ≤ length given_up
-  pub budget : q.budget ≤ filled es q.number + held
+  pub enough : claims ≤ length given_up
+  pub budget : q.budget ≤ fill_count es q.number + claims
 
 -- the answer to a query, over the entries of its batch: its wave, or none if its budget was spent
 abbrev pub IsAnswer : Circuit → List Entry → Query → Option (List Run) → Type 0

@@ -10,13 +10,13 @@ use Rattle.valid_intervals.specs.Cells.{same_point}
 abbrev pub count : (Entry → Bool) → List Entry → ℕ
 count test es = length (filter test es)
 
-abbrev pub evaluated : Entry → Option Point
-evaluated (Filled q p x) = Some p
-evaluated e = None
+abbrev pub evaluated_point : Entry → Option Point
+evaluated_point (Filled q p x) = Some p
+evaluated_point e = None
 
 -- the points that entries say were evaluated
 abbrev pub points_of : List Entry → List Point
-points_of es = filter_map evaluated es
+points_of es = filter_map evaluated_point es
 
 -- the points, each once
 abbrev pub different : List Point → List Point
@@ -24,9 +24,9 @@ different [] = []
 different (p ∷ rest) = p ∷ filter (λ x. not (same_point p x)) (different rest)
 
 -- how many of the points occurred before, in the list or among these earlier ones
-abbrev pub repeated : List Point → List Point → ℕ
-repeated earlier [] = 0
-repeated earlier (p ∷ rest) = (if list_any (same_point p) earlier then 1 else 0) + repeated (p ∷ earlier) rest
+abbrev pub repeat_count : List Point → List Point → ℕ
+repeat_count earlier [] = 0
+repeat_count earlier (p ∷ rest) = (if list_any (same_point p) earlier then 1 else 0) + repeat_count (p ∷ earlier) rest
 
 abbrev pub evaluations : List Entry → ℕ
 evaluations es = length (points_of es)
@@ -35,7 +35,7 @@ abbrev pub distinct : List Entry → ℕ
 distinct es = length (different (points_of es))
 
 abbrev pub again : List Entry → ℕ
-again es = repeated [] (points_of es)
+again es = repeat_count [] (points_of es)
 
 -- whether the entry fills the point
 abbrev pub is_fill_at : Point → Entry → Bool
@@ -62,5 +62,5 @@ is_booked (Filled q p x) = true
 is_booked e = false
 
 -- how many entries begin a claim or fill a point
-abbrev pub booked : List Entry → ℕ
-booked es = length (filter is_booked es)
+abbrev pub booked_count : List Entry → ℕ
+booked_count es = length (filter is_booked es)

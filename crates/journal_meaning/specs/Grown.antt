@@ -1,5 +1,5 @@
 -- Journals that grow: what the entries of a batch say, count and name after more of them are recorded.
-use Rattle.std.specs.Prelude.{◌≡◌, ◌≢◌, ◌++◌, ◌+◌, ◌%◌, ◌<◌, ◌≤◌, ◌⊎◌, ℕ, Bool, nat_eq, false, List, [], length, get_or, Contains}
+use Rattle.std.specs.Prelude.{◌≡◌, ◌≢◌, ◌++◌, ◌+◌, ◌%◌, ◌<◌, ◌≤◌, ◌⊎◌, ℕ, Bool, nat_eq, false, List, [], length, slice_index_or, Contains}
 use Rattle.std.specs.Option.{option_or}
 use Rattle.valid_intervals.specs.declared.Point.{Point}
 use Rattle.journal_meaning.specs.declared.Entry.{Entry}
@@ -19,10 +19,10 @@ IsFor q (Claimed r p) = r ≡ q
 IsFor q (Filled r p x) = r ≡ q
 IsFor q (Evicted signal start) = Unit {0}
 IsFor q (Dropped r p) = r ≡ q
-IsFor q (Spent r p held) = r ≡ q
+IsFor q (Spent r p claims) = r ≡ q
 
 abbrev pub is_spent_of : ℕ → Entry → Bool
-is_spent_of number (Spent q p held) = nat_eq q number
+is_spent_of number (Spent q p claims) = nat_eq q number
 is_spent_of number e = false
 
 -- how often the query was refused
@@ -47,5 +47,5 @@ pub record IsLonger (old added new : List Entry) : Type 0 where
 -- The journals of all shards after entries were added in this order, each at the end of its shard's list.
 pub record AreAdded (old : List (List Entry)) (added : List Entry) (new : List (List Entry)) : Type 0 where
   pub shards : length new ≡ length old
-  pub lists : (k : ℕ) → IsLonger (get_or old k []) added (get_or new k [])
+  pub lists : (k : ℕ) → IsLonger (slice_index_or old k []) added (slice_index_or new k [])
   pub together : GrowsBy (of_batch old) added (of_batch new)

@@ -1,5 +1,5 @@
 -- Laws of the journal.
-use Rattle.std.specs.Prelude.{◌≡◌, ℕ, ◌+◌, ◌≤◌, ◌<◌, List, [], ◌∷◌, ◌++◌, length, All, AllPairs, Contains, ◌≢◌, ◌⊎◌, get_or, Option, Some}
+use Rattle.std.specs.Prelude.{◌≡◌, ℕ, ◌+◌, ◌≤◌, ◌<◌, List, [], ◌∷◌, ◌++◌, length, All, AllPairs, Contains, ◌≢◌, ◌⊎◌, slice_index_or, Option, Some}
 use Rattle.valid_intervals.specs.declared.Point.{Point}
 use Rattle.circuit_meaning.specs.Circuit.{Circuit, IsCircuit}
 use Rattle.valid_intervals.specs.declared.Cell.{Cell}
@@ -12,7 +12,7 @@ use Rattle.batch_meaning.specs.Batches.{Batch, IsNeededBy}
 use Rattle.circuit_meaning.specs.Cells.{cell_at}
 use Rattle.journal_meaning.specs.Allowed.{IsAt}
 use Rattle.journal_meaning.specs.Replay.{IsLegal, IsLegalBatch}
-use Rattle.journal_meaning.specs.Sections.{of_batch, SectionEntries, AreLegal, joined, Asks}
+use Rattle.journal_meaning.specs.Sections.{of_batch, SectionEntries, AreLegal, joined_entries, Asks}
 use Rattle.journal_meaning.specs.Counts.{evaluations, distinct, again, fills_at, evictions_of}
 use Rattle.journal_meaning.specs.Answers.{IsSpent, IsAnswer}
 use Rattle.journal_meaning.specs.States.{fresh}
@@ -31,7 +31,7 @@ OfCircuit c section = (b : Batch) → section.purpose ≡ Asks b → b.circuit �
 abbrev pub AgainAfterEviction : Type 0
 AgainAfterEviction = (c : Circuit) → IsCircuit c → (shard : ℕ) (sections : List SectionEntries) → All (OfCircuit c) sections → AreLegal shard [] sections
     → (q r : ℕ) (p : Point) (x y : Cell) (before between behind : List Entry)
-    → joined shard sections ≡ before ++ Filled q p x ∷ between ++ Filled r p y ∷ behind
+    → joined_entries shard sections ≡ before ++ Filled q p x ∷ between ++ Filled r p y ∷ behind
     → Contains between (Evicted p.signal y.span.start)
 
 -- in a shard of a batch a point is evaluated at most once more than its cell is evicted
@@ -56,7 +56,7 @@ HasRoom b shard = (points : List Point) → All (IsWanted b shard) points
 -- the journals of a batch, one for each shard, are legal from the cells that the shards held before
 pub record IsLegalFrom (b : Batch) (opening : ℕ → List SignalCell) (lists : List (List Entry)) : Type 0 where
   pub count : length lists ≡ b.shards
-  pub legal : (shard : ℕ) → shard < b.shards → IsLegalBatch b shard (opening shard) (get_or lists shard [])
+  pub legal : (shard : ℕ) → shard < b.shards → IsLegalBatch b shard (opening shard) (slice_index_or lists shard [])
 
 -- nothing was evicted, or the cells that the batch needs fit each shard
 abbrev pub IsRoomy : Batch → List (List Entry) → Type 0

@@ -12,7 +12,7 @@ Needs capacity s (Claimed q p) = (s.made ≡ false) × (is_covered s p ≡ false
 Needs capacity s (Filled q p x) = (holder s.claims p ≡ Some q) × (s.made ≡ true → is_stored (cell_for p x) s.cells ≡ false) × (is_stored (cell_for p x) s.cells ≡ false → length s.cells < capacity)
 Needs capacity s (Evicted signal start) = (s.made ≡ false) × (length s.cells ≡ capacity) × IsLeastRecent s.cells signal start
 Needs capacity s (Dropped q p) = (s.made ≡ false) × (holder s.claims p ≡ Some q)
-Needs capacity s (Spent q p held) = (s.made ≡ false) × (is_covered s p ≡ false) × (holder s.claims p ≡ None)
+Needs capacity s (Spent q p claims) = (s.made ≡ false) × (is_covered s p ≡ false) × (holder s.claims p ≡ None)
 
 -- what an entry changes
 abbrev pub after : State → Entry → State
@@ -21,4 +21,4 @@ after s (Claimed q p) = record s { claims = record { query = q; point = p } ∷ 
 after s (Filled q p x) = record { cells = to_front (cell_for p x) s.cells; claims = without_point s.claims p; made = false }
 after s (Evicted signal start) = record s { cells = all_but_last s.cells; made = true }
 after s (Dropped q p) = record s { claims = without_point s.claims p }
-after s (Spent q p held) = s
+after s (Spent q p claims) = s

@@ -49,8 +49,8 @@ pub enum Entry {
     Evicted { signal: u32, start: u32 },
     /// The claim ends without an evaluation.
     Dropped { q: u32, p: Point },
-    /// The query's budget was spent, so it was refused the point. It held `held` claims.
-    Spent { q: u32, p: Point, held: u32 },
+    /// The query's budget was spent, so it was refused the point. It had `claims` claims.
+    Spent { q: u32, p: Point, claims: u32 },
 }
 
 /// The number of evaluations is that of different points plus that of repeated ones.

@@ -28,7 +28,7 @@ entry_line (Claimed q p) = codes "claim" ++ (field q ++ (point p ++ line_feed))
 entry_line (Filled q p c) = codes "fill" ++ (field q ++ (point p ++ (cell c ++ line_feed)))
 entry_line (Evicted signal start) = codes "evict" ++ (field signal ++ (field start ++ line_feed))
 entry_line (Dropped q p) = codes "drop" ++ (field q ++ (point p ++ line_feed))
-entry_line (Spent q p held) = codes "spent" ++ (field q ++ (point p ++ (field held ++ line_feed)))
+entry_line (Spent q p claims) = codes "spent" ++ (field q ++ (point p ++ (field claims ++ line_feed)))
 
 -- for each shard, from this number on, a line with its number, and its entries
 abbrev pub shard_lines : ℕ → List (List Entry) → List ℕ

@@ -24,7 +24,7 @@ IsEntry (Claimed q p) = IsNumber q × IsPoint p
 IsEntry (Filled q p c) = IsNumber q × IsPoint p × IsCell c
 IsEntry (Evicted signal start) = IsNumber signal × IsNumber start
 IsEntry (Dropped q p) = IsNumber q × IsPoint p
-IsEntry (Spent q p held) = IsNumber q × IsPoint p × IsNumber held
+IsEntry (Spent q p claims) = IsNumber q × IsPoint p × IsNumber claims
 
 -- a held section has one shard, another one at most 64
 abbrev pub most_shards : SectionKind → ℕ

@@ -227,9 +227,9 @@ fn spent_of(text: &[u8]) -> Option<(Entry, &[u8])>
 {
     let (q, rest) = field_of(text)?;
     let (p, rest) = point_of(rest)?;
-    let (held, rest) = field_of(rest)?;
+    let (claims, rest) = field_of(rest)?;
     let rest = after(rest, b"\n")?;
-    Some((Entry::Spent { q, p, held }, rest))
+    Some((Entry::Spent { q, p, claims }, rest))
 }
 
 #[tactic(auto, unfolding(crate::specs::inner::Reading::point_at))]

@@ -74,8 +74,8 @@ fn write_entry(entry: &Entry, line: &mut [u8], end: usize) -> usize
             let end = write_query(*q, p, line, end);
             write_word(b"drop", line, end)
         }
-        Entry::Spent { q, p, held } => {
-            let end = write_field(*held, line, end);
+        Entry::Spent { q, p, claims } => {
+            let end = write_field(*claims, line, end);
             let end = write_query(*q, p, line, end);
             write_word(b"spent", line, end)
         }

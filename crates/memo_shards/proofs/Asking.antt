@@ -8,7 +8,7 @@ use Rattle.circuit_meaning.proofs.Roots.{needed-before}
 use Rattle.batch_meaning.specs.Batches.{Batch, IsNeededBy, OfQuery, window_of}
 use Rattle.batch_meaning.specs.Lawful.{IsLawful}
 use Rattle.strand_meaning.specs.declared.Next.TheVariants.{Ask, Done}
-use Rattle.strand_meaning.specs.Strands.{Frame, Strand, IsStrand, IsHeld, roots_from, next, next_in, ask_or}
+use Rattle.strand_meaning.specs.Strands.{Frame, Strand, IsStrand, IsOnStack, roots_from, next, next_in, ask_or}
 use Rattle.strand_meaning.proofs.Stacks.{asks-first, first-askable}
 use Rattle.strand_meaning.proofs.Started.{query-within}
 use Rattle.strand_meaning.proofs.Wanted.{asks-needed, held-within}
@@ -63,13 +63,13 @@ module _ (b : Batch) (s : Demand) (known : IsKnownStrand b s) where
   pub refused : (p : Point) → next_in false s.strand.roots s.strand.stack ≡ Ask p → IsAsked p
   refused p h = asked-by false p h h
 
-  held-some : (st : List Frame) (p : Point) → IsHeld st p → 0 < length st
+  held-some : (st : List Frame) (p : Point) → IsOnStack st p → 0 < length st
   held-some [] p h = absurd h
   held-some (f ∷ fs) p h = omega arith
 
-  pub holds : (p : Point) → IsHeld s.strand.stack p → IsAsked p
+  pub holds : (p : Point) → IsOnStack s.strand.stack p → IsAsked p
   holds p h =
       let live : 0 < s.to = let l = known.busy (held-some s.strand.stack p h) in omega (arith, l) in
       let lawful = known.lawful live in
       let is : IsStrand b s.strand = known.strand live in
-      record { lawful = lawful; needed = ((asks-needed b lawful s.strand is).held p h).needed; within = held-within b lawful s.strand is p h }
+      record { lawful = lawful; needed = ((asks-needed b lawful s.strand is).on_stack p h).needed; within = held-within b lawful s.strand is p h }

@@ -19,9 +19,9 @@ use Rattle.journal_meaning.proofs.Claims.{holder-ended}
 use Rattle.journal_meaning.proofs.Same.{same_stored-itself}
 use Rattle.journal_meaning.proofs.More.{right-answers}
 use Rattle.circuit_meaning.specs.Circuit.{Circuit, IsCircuit}
-use Rattle.strand_meaning.specs.Strands.{next, next_in, heard, finished, dropped}
+use Rattle.strand_meaning.specs.Strands.{next, next_in, after_answer, after_fill, after_drop}
 use Rattle.strand_meaning.specs.declared.Next.TheVariants.{Ask}
-use Rattle.plan_machine.specs.Shards.{Shard, IsShard, recorded, evicted, with_room, filled_shard}
+use Rattle.plan_machine.specs.Shards.{Shard, IsShard, shard_with_entry, shard_without_cell, with_room, filled_shard}
 use Rattle.plan_machine.proofs.Shards.{spent-shard, dropped-shard, filled-keeps, filled-claims}
 use Rattle.claim_waiters.specs.Claims.{WaitedClaim, Claims, IsInOrder, claim_at, holder_in, waiting_in, waiters_of, waiters_at, without_claim}
 use Rattle.claim_waiters.proofs.Tables as tables
@@ -61,11 +61,11 @@ last-none : (cells : List SignalCell) → last_cell cells ≡ None → all_but_l
 last-none [] h = refl
 last-none (x ∷ cells) h = let k : length (x ∷ cells) ≤ length (x ∷ cells) - 1 = get-within (x ∷ cells) (length (x ∷ cells) - 1) h in absurd (omega (arith, k))
 
-evicted-cells : (h : Shard) (o : Option SignalCell) → last_cell h.state.cells ≡ o → all_but_last h.state.cells ≡ (evicted o h).state.cells
+evicted-cells : (h : Shard) (o : Option SignalCell) → last_cell h.state.cells ≡ o → all_but_last h.state.cells ≡ (shard_without_cell o h).state.cells
 evicted-cells h None e = last-none h.state.cells e
 evicted-cells h (Some x) e = refl
 
-evicted-items : (h : Shard) (o : Option SignalCell) → after_eviction (option_map key_of o) h.journal ≡ (evicted o h).journal
+evicted-items : (h : Shard) (o : Option SignalCell) → after_eviction (option_map key_of o) h.journal ≡ (shard_without_cell o h).journal
 evicted-items h None = refl
 evicted-items h (Some x) = refl
 
@@ -76,13 +76,13 @@ module _ (capacity : ℕ) (x : SignalCell) (h : Shard) where
 
   pub put-cells : after_put (contents capacity h.state.cells) x ≡ contents capacity (to_front x (with_room capacity x h).state.cells)
   put-cells = ap (λ l. contents capacity (to_front x l))
-      (elim full as (λ t. cond t (all_but_last h.state.cells) h.state.cells ≡ (cond t (evicted (last_cell h.state.cells) h) h).state.cells) [
+      (elim full as (λ t. cond t (all_but_last h.state.cells) h.state.cells ≡ (cond t (shard_without_cell (last_cell h.state.cells) h) h).state.cells) [
         | true ↦ evicted-cells h (last_cell h.state.cells) refl
         | false ↦ refl
       ])
 
   pub put-items : after_eviction (cond (pushes_out x (contents capacity h.state.cells)) (last_key h.state.cells) None) h.journal ≡ (with_room capacity x h).journal
-  put-items = elim full as (λ t. after_eviction (cond t (last_key h.state.cells) None) h.journal ≡ (cond t (evicted (last_cell h.state.cells) h) h).journal) [
+  put-items = elim full as (λ t. after_eviction (cond t (last_key h.state.cells) None) h.journal ≡ (cond t (shard_without_cell (last_cell h.state.cells) h) h).journal) [
     | true ↦ evicted-items h (last_cell h.state.cells)
     | false ↦ refl
   ]
@@ -111,21 +111,21 @@ module _ (b : Batch) (opening : List SignalCell) (n : ℕ) (store : Contents) (c
 
   -- a strand is spent
   module _ (w : Demand) (known : demands.IsKnownStrand b w) (p : Point) (refuse : next_in false w.strand.roots w.strand.stack ≡ Ask p) (here : p.signal % b.shards ≡ n) (missed : stored_at h.state.cells p ≡ None) (free : holder h.state.claims p ≡ None) (held : ℕ) where
-    spent-is : IsShard b n opening (recorded (entry.Spent w.strand.query.number p held) h)
+    spent-is : IsShard b n opening (shard_with_entry (entry.Spent w.strand.query.number p held) h)
     spent-is = let a = refused b w known p refuse in spent-shard b n opening h is.shard w.strand.query.number p (here, a.within) held a.needed missed free
 
     pub spent-agrees : Agrees b opening n store claims (es ++ entry.Spent w.strand.query.number p held ∷ [])
-    spent-agrees = agrees-at b opening n is.lawful is.among (recorded (entry.Spent w.strand.query.number p held) h) spent-is store claims is.stored is.holders is.asks
+    spent-agrees = agrees-at b opening n is.lawful is.among (shard_with_entry (entry.Spent w.strand.query.number p held) h) spent-is store claims is.stored is.holders is.asks
 
-    pub spent-shown : shown_with b opening n store claims es is (es ++ entry.Spent w.strand.query.number p held ∷ []) claims ≡ with_shard (shown b opening n store claims es is) (recorded (entry.Spent w.strand.query.number p held) h)
-    spent-shown = ap (λ (k : Shard). record { number = n; shard = k; waiting = waits_in claims }) (shard-is b opening n (recorded (entry.Spent w.strand.query.number p held) h) spent-is)
+    pub spent-shown : shown_with b opening n store claims es is (es ++ entry.Spent w.strand.query.number p held ∷ []) claims ≡ with_shard (shown b opening n store claims es is) (shard_with_entry (entry.Spent w.strand.query.number p held) h)
+    spent-shown = ap (λ (k : Shard). record { number = n; shard = k; waiting = waits_in claims }) (shard-is b opening n (shard_with_entry (entry.Spent w.strand.query.number p held) h) spent-is)
 
   module _ (q : ℕ) (p : Point) (claim : holder h.state.claims p ≡ Some q) where
     known-query : OfQuery b q (λ y. Unit {0})
     known-query = let k = (ours b opening n store claims es is p q claim).1 in (k.0, k.1, k.2, tt)
 
     -- a claim is given up
-    dropped-is : IsShard b n opening (recorded (entry.Dropped q p) h)
+    dropped-is : IsShard b n opening (shard_with_entry (entry.Dropped q p) h)
     dropped-is = dropped-shard b n opening h is.shard q p (ours b opening n store claims es is p q claim).0 known-query claim
 
     module _ (order : IsInOrder claims) where
@@ -133,20 +133,20 @@ module _ (b : Batch) (opening : List SignalCell) (n : ℕ) (store : Contents) (c
       without-holders x = tables.holder-without claims p x order ∙ ap (cond (same_point p x) None) (is.holders x) ∙ sym (holder-ended h.state.claims p x)
 
       pub dropped-agrees : Agrees b opening n store (without_claim claims p) (es ++ entry.Dropped q p ∷ [])
-      dropped-agrees = agrees-at b opening n is.lawful is.among (recorded (entry.Dropped q p) h) dropped-is store (without_claim claims p) is.stored without-holders
+      dropped-agrees = agrees-at b opening n is.lawful is.among (shard_with_entry (entry.Dropped q p) h) dropped-is store (without_claim claims p) is.stored without-holders
           (tables.each-removed AsksThere (is_at (point_cmp p)) claims is.asks)
 
       pub leaves-none : (left : Claims Demand) → left ≡ without_claim claims p → IsInOrder left → (k : Shard) (l : Shard) → LeavesNone (record { number = n; shard = k; waiting = waits_in claims }) (record { number = n; shard = l; waiting = waits_in left }) p
       leaves-none left e ordered k l x =
           waits-at left ordered x ∙ ap (λ z. waiters_at z x) e ∙ tables.waiters-without claims p x order ∙ sym (ap (cond (same_point p x) []) (waits-at claims order x))
 
-      pub dropped-shown : (w s : Demand) → w.strand.query.number ≡ q → TakesStep dropped w s → (woken : List Demand) → waiters_of claims p ≡ Some woken → (left : Claims Demand) → left ≡ without_claim claims p → IsInOrder left
+      pub dropped-shown : (w s : Demand) → w.strand.query.number ≡ q → TakesStep after_drop w s → (woken : List Demand) → waiters_of claims p ≡ Some woken → (left : Claims Demand) → left ≡ without_claim claims p → IsInOrder left
           → (fs : List Entry) → fs ≡ es ++ entry.Dropped q p ∷ [] → DropsIt (shown b opening n store claims es is) (shown_with b opening n store claims es is fs left) p w s woken
       dropped-shown w s number steps woken e left rest ordered fs items = record {
         strand = steps;
         same = sym (waits-at claims order p ∙ waiters-are (claim_at claims p) woken e);
         number = refl;
-        shard = ap (shard_at opening) items ∙ shard-is b opening n (recorded (entry.Dropped q p) h) dropped-is ∙ ap (λ m. recorded (entry.Dropped m p) h) (sym number);
+        shard = ap (shard_at opening) items ∙ shard-is b opening n (shard_with_entry (entry.Dropped q p) h) dropped-is ∙ ap (λ m. shard_with_entry (entry.Dropped m p) h) (sym number);
         waiting = leaves-none left rest ordered h (shard_at opening fs);
       }
 
@@ -170,11 +170,11 @@ module _ (b : Batch) (opening : List SignalCell) (n : ℕ) (store : Contents) (c
       filled-items fs e = e ∙ ap (λ (z : Contents). after_eviction (cond (pushes_out x z) (last_key z.cells) None) es ++ entry.Filled q p (cell_at b.circuit p) ∷ []) is.stored
           ∙ ap (λ l. l ++ entry.Filled q p (cell_at b.circuit p) ∷ []) (put-items b.capacity x h)
 
-      pub filled-shown : (w s : Demand) → w.strand.query.number ≡ q → TakesStep finished w s → (waited woken : List Demand) → waiters_of claims p ≡ Some waited → AllZip (TakesStep heard) waited woken → (left : Claims Demand) → left ≡ without_claim claims p → IsInOrder left
+      pub filled-shown : (w s : Demand) → w.strand.query.number ≡ q → TakesStep after_fill w s → (waited woken : List Demand) → waiters_of claims p ≡ Some waited → AllZip (TakesStep after_answer) waited woken → (left : Claims Demand) → left ≡ without_claim claims p → IsInOrder left
           → (fs : List Entry) → fs ≡ k.journal → FillsIt b (shown b opening n store claims es is) (shown_with b opening n store claims es is fs left) p w s woken
       filled-shown w s number steps waited woken e hears left rest ordered fs items = record {
         strand = steps;
-        hears = subst (λ l. AllZip (TakesStep heard) l woken) (sym (waits-at claims order p ∙ waiters-are (claim_at claims p) waited e)) hears;
+        hears = subst (λ l. AllZip (TakesStep after_answer) l woken) (sym (waits-at claims order p ∙ waiters-are (claim_at claims p) waited e)) hears;
         number = refl;
         shard = ap (shard_at opening) items ∙ shard-is b opening n k filled-is ∙ ap (λ m. filled_shard b.capacity m p (cell_at b.circuit p) h) (sym number);
         waiting = leaves-none left rest ordered h (shard_at opening fs);

@@ -18,9 +18,9 @@ use Rattle.journal_meaning.proofs.Claims.{holder-claimed}
 use Rattle.journal_meaning.proofs.Named.{Ours, claim_ours}
 use Rattle.journal_meaning.proofs.More.{right-answers}
 use Rattle.batch_meaning.specs.Lawful.{IsLawful}
-use Rattle.strand_meaning.specs.Strands.{next, heard, claimed}
+use Rattle.strand_meaning.specs.Strands.{next, after_answer, after_claim}
 use Rattle.strand_meaning.specs.declared.Next.TheVariants.{Ask}
-use Rattle.plan_machine.specs.Shards.{Shard, IsShard, recorded}
+use Rattle.plan_machine.specs.Shards.{Shard, IsShard, shard_with_entry}
 use Rattle.plan_machine.proofs.Shards.{found, told-keeps, claimed-shard}
 use Rattle.claim_waiters.specs.Claims.{WaitedClaim, Claims, IsInOrder, claim_at, holder_in, with_claim, with_waiter, waiters_at}
 use Rattle.claim_waiters.proofs.Tables as tables
@@ -124,7 +124,7 @@ module _ (b : Batch) (opening : List SignalCell) (n : ℕ) where
       pub at : stored_at now.state.cells p ≡ Some found
       pub same : found.cell ≡ cell
       pub answer : cell ≡ cell_at b.circuit p
-      pub shard : IsShard b n opening (recorded (entry.Told q p cell) now)
+      pub shard : IsShard b n opening (shard_with_entry (entry.Told q p cell) now)
 
     pub told : (w : Demand) → demands.IsKnownStrand b w → (p : Point) → next w.strand ≡ Ask p → p.signal % b.shards ≡ n → (cell : Cell) → option_map (λ (x : SignalCell). x.cell) (stored_at store.cells p) ≡ Some cell → IsTold p w.strand.query.number cell
     told w known p asks here cell h = of (stored_at store.cells p) refl h
@@ -142,45 +142,45 @@ module _ (b : Batch) (opening : List SignalCell) (n : ℕ) where
               at = at;
               same = same;
               answer = sym same ∙ ap (λ (z : SignalCell). z.cell) right;
-              shard = subst (λ c. IsShard b n opening (recorded (entry.Told w.strand.query.number p c) now)) same
+              shard = subst (λ c. IsShard b n opening (shard_with_entry (entry.Told w.strand.query.number p c) now)) same
                   (told-keeps b n opening now is.shard w.strand.query.number p (here, a.within) a.lawful.circuit x a.needed at);
             }
 
     pub told-agrees : (p : Point) (q : ℕ) (cell : Cell) → IsTold p q cell → (left : Contents) → left ≡ with_cells store (to_front (cell_for p cell) store.cells) → Agrees b opening n left claims (es ++ entry.Told q p cell ∷ [])
     told-agrees p q cell t left e =
-        agrees-at is.lawful is.among (recorded (entry.Told q p cell) now) t.shard left claims
+        agrees-at is.lawful is.among (shard_with_entry (entry.Told q p cell) now) t.shard left claims
         (e ∙ ap (λ (z : Contents). with_cells z (to_front (cell_for p cell) z.cells)) is.stored) is.holders is.asks
 
-    pub told-shown : (w s : Demand) (p : Point) (cell : Cell) → IsTold p w.strand.query.number cell → TakesStep heard w s → (fs : List Entry) → fs ≡ es ++ entry.Told w.strand.query.number p cell ∷ [] → Tells shown (shown_with fs claims) p w s
+    pub told-shown : (w s : Demand) (p : Point) (cell : Cell) → IsTold p w.strand.query.number cell → TakesStep after_answer w s → (fs : List Entry) → fs ≡ es ++ entry.Told w.strand.query.number p cell ∷ [] → Tells shown (shown_with fs claims) p w s
     told-shown w s p cell t steps fs e = record {
       cell = t.found;
       stored = t.at;
       strand = steps;
-      shard = ap (λ l. shown_with l claims) e ∙ ap (λ (k : Shard). record shown { shard = k }) (shard-is (recorded (entry.Told w.strand.query.number p cell) now) t.shard)
-          ∙ ap (λ x. record shown { shard = recorded (entry.Told w.strand.query.number p x) now }) (sym t.same);
+      shard = ap (λ l. shown_with l claims) e ∙ ap (λ (k : Shard). record shown { shard = k }) (shard-is (shard_with_entry (entry.Told w.strand.query.number p cell) now) t.shard)
+          ∙ ap (λ x. record shown { shard = shard_with_entry (entry.Told w.strand.query.number p x) now }) (sym t.same);
     }
 
     -- a claim
     module _ (w : Demand) (known : demands.IsKnownStrand b w) (p : Point) (asks : next w.strand ≡ Ask p) (here : p.signal % b.shards ≡ n) (missed : stored_at now.state.cells p ≡ None) (free : holder now.state.claims p ≡ None) where
-      pub claimed-is : IsShard b n opening (recorded (entry.Claimed w.strand.query.number p) now)
+      pub claimed-is : IsShard b n opening (shard_with_entry (entry.Claimed w.strand.query.number p) now)
       claimed-is = let a = asked b w known p asks in claimed-shard b n opening now is.shard w.strand.query.number p (here, a.within) a.needed missed free
 
       pub claimed-agrees : Agrees b opening n store (with_claim claims w.strand.query.number p) (es ++ entry.Claimed w.strand.query.number p ∷ [])
       claimed-agrees =
           let q = w.strand.query.number in
           let none = unclaimed p free in
-          agrees-at is.lawful is.among (recorded (entry.Claimed q p) now) claimed-is store (with_claim claims q p) is.stored
+          agrees-at is.lawful is.among (shard_with_entry (entry.Claimed q p) now) claimed-is store (with_claim claims q p) is.stored
           (λ x. tables.holder-claimed claims q p x none ∙ ap (cond (same_point p x) (Some q)) (is.holders x) ∙ sym (holder-claimed now.state.claims q p x))
           (tables.each-inserted AsksThere claims p (record { q = q; waiters = [] }) tt none is.asks)
 
-      pub claimed-shown : w.strand.charged < w.strand.budget → (s : Demand) → TakesStep (λ x. claimed b.circuit x p) w s → (fs : List Entry) → fs ≡ es ++ entry.Claimed w.strand.query.number p ∷ []
+      pub claimed-shown : w.strand.charged < w.strand.budget → (s : Demand) → TakesStep (λ x. after_claim b.circuit x p) w s → (fs : List Entry) → fs ≡ es ++ entry.Claimed w.strand.query.number p ∷ []
           → ClaimsIt b shown (shown_with fs (with_claim claims w.strand.query.number p)) p w s
       claimed-shown within s steps fs e = record {
         unfound = record { missed = missed; unclaimed = free };
         within = within;
         strand = steps;
         shard = ap (λ l. shown_with l (with_claim claims w.strand.query.number p)) e
-            ∙ ap₂ (λ (k : Shard) l. record { number = n; shard = k; waiting = l }) (shard-is (recorded (entry.Claimed w.strand.query.number p) now) claimed-is) (waits-claimed claims p w.strand.query.number (unclaimed p free));
+            ∙ ap₂ (λ (k : Shard) l. record { number = n; shard = k; waiting = l }) (shard-is (shard_with_entry (entry.Claimed w.strand.query.number p) now) claimed-is) (waits-claimed claims p w.strand.query.number (unclaimed p free));
       }
 
     -- one more waits

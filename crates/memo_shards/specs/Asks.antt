@@ -7,8 +7,8 @@ use Rattle.valid_intervals.specs.Cells.{same_point, stored_at}
 use Rattle.journal_meaning.specs.declared.Entry.TheVariants as entry
 use Rattle.journal_meaning.specs.States.{holder}
 use Rattle.batch_meaning.specs.Batches.{Batch, shard_number}
-use Rattle.strand_meaning.specs.Strands.{heard, claimed, given_up}
-use Rattle.plan_machine.specs.Shards.{recorded}
+use Rattle.strand_meaning.specs.Strands.{after_answer, after_claim, given_up}
+use Rattle.plan_machine.specs.Shards.{shard_with_entry}
 use Rattle.demand_points.specs.Demands.{Demand, TakesStep}
 use Rattle.memo_shards.specs.KeptShards.{KeptShard, waiting_at}
 
@@ -25,15 +25,15 @@ pub record IsUnfound (m : KeptShard) (p : Point) : Type 0 where
 pub record Tells (old new : KeptShard) (p : Point) (w s : Demand) : Type 0 where
   pub cell : SignalCell
   pub stored : stored_at old.shard.state.cells p ≡ Some cell
-  pub strand : TakesStep heard w s
-  pub shard : new ≡ record old { shard = recorded (entry.Told w.strand.query.number p cell.cell) old.shard }
+  pub strand : TakesStep after_answer w s
+  pub shard : new ≡ record old { shard = shard_with_entry (entry.Told w.strand.query.number p cell.cell) old.shard }
 
 -- the strand claims the point
 pub record ClaimsIt (b : Batch) (old new : KeptShard) (p : Point) (w s : Demand) : Type 0 where
   pub unfound : IsUnfound old p
   pub within : w.strand.charged < w.strand.budget
-  pub strand : TakesStep (λ x. claimed b.circuit x p) w s
-  pub shard : new ≡ record old { shard = recorded (entry.Claimed w.strand.query.number p) old.shard }
+  pub strand : TakesStep (λ x. after_claim b.circuit x p) w s
+  pub shard : new ≡ record old { shard = shard_with_entry (entry.Claimed w.strand.query.number p) old.shard }
 
 -- the strand waits, after those that wait already
 pub record WaitsThere (old new : KeptShard) (p : Point) (w : Demand) : Type 0 where

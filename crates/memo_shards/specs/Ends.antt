@@ -10,8 +10,8 @@ use Rattle.journal_meaning.specs.States as states
 use Rattle.journal_meaning.specs.States.{holder}
 use Rattle.batch_meaning.specs.Batches.{Batch}
 use Rattle.circuit_meaning.specs.Cells.{cell_at}
-use Rattle.strand_meaning.specs.Strands.{heard, finished, dropped}
-use Rattle.plan_machine.specs.Shards.{Shard, recorded, filled_shard}
+use Rattle.strand_meaning.specs.Strands.{after_answer, after_fill, after_drop}
+use Rattle.plan_machine.specs.Shards.{Shard, shard_with_entry, filled_shard}
 use Rattle.demand_points.specs.Demands.{Demand, TakesStep}
 use Rattle.memo_shards.specs.KeptShards.{KeptShard, waiting_at}
 
@@ -25,24 +25,24 @@ LeavesNone old new p = (x : Point) → waiting_at new.waiting x ≡ (if same_poi
 
 -- the point is filled: the strand has finished it, and those that waited come out and have heard its cell
 pub record FillsIt (b : Batch) (old new : KeptShard) (p : Point) (w s : Demand) (woken : List Demand) : Type 0 where
-  pub strand : TakesStep finished w s
-  pub hears : AllZip (TakesStep heard) (waiting_at old.waiting p) woken
+  pub strand : TakesStep after_fill w s
+  pub hears : AllZip (TakesStep after_answer) (waiting_at old.waiting p) woken
   pub number : new.number ≡ old.number
   pub shard : new.shard ≡ filled_shard b.capacity w.strand.query.number p (cell_at b.circuit p) old.shard
   pub waiting : LeavesNone old new p
 
 -- the claim is given up, and those that waited come out as they were
 pub record DropsIt (old new : KeptShard) (p : Point) (w s : Demand) (woken : List Demand) : Type 0 where
-  pub strand : TakesStep dropped w s
+  pub strand : TakesStep after_drop w s
   pub same : woken ≡ waiting_at old.waiting p
   pub number : new.number ≡ old.number
-  pub shard : new.shard ≡ recorded (entry.Dropped w.strand.query.number p) old.shard
+  pub shard : new.shard ≡ shard_with_entry (entry.Dropped w.strand.query.number p) old.shard
   pub waiting : LeavesNone old new p
 
 -- several entries
 abbrev pub recorded_all : List Entry → Shard → Shard
 recorded_all [] h = h
-recorded_all (e ∷ es) h = recorded_all es (recorded e h)
+recorded_all (e ∷ es) h = recorded_all es (shard_with_entry e h)
 
 -- Every claim is given up, by signal and then by time, and nobody waits.
 pub record FreesAll (old new : KeptShard) : Type 0 where

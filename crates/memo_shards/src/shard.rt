@@ -12,7 +12,7 @@ ghost use Rattle.journal_meaning.specs.declared.Entry.TheVariants as entry;
 ghost use Rattle.strand_meaning.specs.Strands.{next, next as next_of, next_in};
 ghost use Rattle.strand_meaning.specs.declared.Next.TheVariants.{Ask, Fill, Drop};
 ghost use Rattle.valid_intervals.specs.Cells.{stored_at};
-ghost use Rattle.plan_machine.specs.Shards.{recorded};
+ghost use Rattle.plan_machine.specs.Shards.{shard_with_entry};
 ghost use Rattle.memo_shards.specs.KeptShards.{shard_at, IsKnownShard};
 ghost use Rattle.memo_shards.specs.Asks.{IsHere, IsUnfound, OfPark};
 ghost use Rattle.memo_shards.specs.inner.Asks.{OfTell, OfClaim};
@@ -57,9 +57,9 @@ impl<B: BatchName> Model for Shard<B> {
 
     ghost Value = { KeptShard };
 
-    ghost use Rattle.memo_shards.specs.inner.View.{kept, IsMemo};
+    ghost use Rattle.memo_shards.specs.inner.View.{kept_shard, IsMemo};
 
-    ghost view = { λ s. kept (B.opening s.number) s };
+    ghost view = { λ s. kept_shard (B.opening s.number) s };
 
     ghost invariant = { λ s. IsMemo B.batch (B.opening s.number) s };
 }
@@ -136,7 +136,7 @@ impl<B: BatchName> Shard<B> {
         match self.store.find(p) {
             Some(cell) => {
                 self.journal.push_reserved(told(q, p, &cell));
-                strand.heard(design, cell);
+                strand.hear(design, cell);
                 Ok(true)
             }
             None => Ok(false),
@@ -161,7 +161,7 @@ impl<B: BatchName> Shard<B> {
         let q = strand.query().number;
         make_room(&mut self.journal, self.claims.len(), 3)?;
         self.claims.claim(q, p)?;
-        match strand.claimed(design, p) {
+        match strand.take_claim(design, p) {
             Ok(()) => {
                 self.journal.push_reserved(Entry::Claimed { q, p });
                 Ok(())
@@ -192,7 +192,7 @@ impl<B: BatchName> Shard<B> {
         if self.claims.holder(p).is_some() {
             return Ok(Step::Taken);
         }
-        if strand.charged() < strand.task().budget {
+        if strand.charge() < strand.task().budget {
             self.claim(strand, design, p)?;
             return Ok(Step::Holds);
         }
@@ -209,7 +209,8 @@ impl<B: BatchName> Shard<B> {
     ) -> Result<Step<B>, OutOfMemory>
         requires design { design.now.circuit ≡ B.batch.circuit }
         requires fills { next strand.old.strand ≡ Fill p }
-        requires held { holder self.old.shard.state.claims p ≡ Some strand.old.strand.query.number }
+        requires claimed { holder self.old.shard.state.claims p
+            ≡ Some strand.old.strand.query.number }
         ensures { OfStep B.batch self.old self.new (Fill p) strand.old strand.new result }
     {
         self.claims.facts();
@@ -226,7 +227,8 @@ impl<B: BatchName> Shard<B> {
     // Gives up the claimed point on top of the stack of a spent strand.
     fn drop_top(&mut self, strand: &mut Strand<B>, p: Point) -> Step<B>
         requires drops { next strand.old.strand ≡ Drop p }
-        requires held { holder self.old.shard.state.claims p ≡ Some strand.old.strand.query.number }
+        requires claimed { holder self.old.shard.state.claims p
+            ≡ Some strand.old.strand.query.number }
         ensures { OfStep B.batch self.old self.new (Drop p) strand.old strand.new (Ok result) }
     {
         self.claims.facts();
@@ -281,17 +283,17 @@ impl<B: BatchName> Shard<B> {
         requires here { IsHere B.batch self.old p }
         requires unfound { IsUnfound self.old p }
         ensures ok { OnOk result (self.new ≡ with_shard self.old
-            (recorded (entry.Spent strand.now.strand.query.number p
+            (shard_with_entry (entry.Spent strand.now.strand.query.number p
             (length strand.now.strand.stack)) self.old.shard)) }
         ensures err { OnErr result (self.new ≡ self.old) }
     {
         strand.facts();
         let q = strand.query().number;
         // at most the budget, so that the number of what it holds fits
-        let _charged = strand.charged();
-        let held = strand.held() as u32;
+        let _charged = strand.charge();
+        let claims = strand.claims() as u32;
         make_room(&mut self.journal, self.claims.len(), 1)?;
-        self.journal.push_reserved(Entry::Spent { q, p, held });
+        self.journal.push_reserved(Entry::Spent { q, p, claims });
         Ok(())
     }
 

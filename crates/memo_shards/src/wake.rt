@@ -3,7 +3,7 @@
 ghost use Rattle.std.specs.Prelude.{◌≡◌};
 ghost use Rattle.std.specs.List.{AllByRecursion, AllZip};
 ghost use Rattle.demand_points.specs.Demands.{IsAskedCell, TakesStep};
-ghost use Rattle.strand_meaning.specs.Strands.{heard};
+ghost use Rattle.strand_meaning.specs.Strands.{after_answer};
 
 use demand_points::{BatchName, Strand};
 use design::Design;
@@ -14,9 +14,9 @@ pub fn hear_all<B: BatchName>(list: &mut Vec<Strand<B>>, design: &Design, cell: 
     requires design { design.now.circuit ≡ B.batch.circuit }
     requires answer { AllByRecursion (λ s. IsAskedCell B.batch.circuit s.strand cell.now)
         list.old.items }
-    ensures { AllZip (TakesStep heard) list.old.items list.new.items }
+    ensures { AllZip (TakesStep after_answer) list.old.items list.new.items }
 {
     for s in list.as_mut_slice().iter_mut() {
-        s.heard(design, *cell);
+        s.hear(design, *cell);
     }
 }

@@ -1,5 +1,5 @@
 -- A walk over the pins of a point: how many of them were looked at, and what these come to.
-use Rattle.std.specs.Prelude.{◌≡◌, ◌≤◌, ◌<◌, ◌+◌, List, length, map, take, get_or, nat_eq, Option, None, option_map, IfSome}
+use Rattle.std.specs.Prelude.{◌≡◌, ◌≤◌, ◌<◌, ◌+◌, List, length, map, take, slice_index_or, nat_eq, Option, None, option_map, IfSome}
 use Rattle.gate_values.specs.declared.Kind.{Kind}
 use Rattle.gate_values.specs.Gates.{gate_value}
 use Rattle.valid_intervals.specs.declared.Cell.{Cell}
@@ -22,7 +22,7 @@ looked_at c p = looked_points c p.signal p.time
 
 -- the source of the pin that comes next
 abbrev pub next_point : Circuit → PinWalk → Option Point
-next_point c w = get_or (looked_at c w.point) w.looked None
+next_point c w = slice_index_or (looked_at c w.point) w.looked None
 
 pub record IsPoint (c : Circuit) (p : Point) : Type 0 where
   pub signal : p.signal < length c.drivers

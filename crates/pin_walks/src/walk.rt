@@ -1,6 +1,6 @@
 //! A point whose pins are being looked at, one after another.
 
-ghost use Rattle.std.specs.Prelude.{◌≡◌, ◌<◌, length, get_or, nat_eq, None, IfSome};
+ghost use Rattle.std.specs.Prelude.{◌≡◌, ◌<◌, length, slice_index_or, nat_eq, None, IfSome};
 ghost use Rattle.valid_intervals.specs.Spans as spans;
 ghost use Rattle.valid_intervals.specs.Spans.{from_to};
 ghost use Rattle.circuit_meaning.specs.Circuit.{Circuit, driver, read_by};
@@ -72,7 +72,7 @@ fn source_of(design: &Design, point: Point, pins: &[u32], pin: u32) -> Option<Po
     requires evaluable { IsEvaluable design.now.circuit point.signal point.time }
     requires pins { pins.now ≡ read_by (driver design.now.circuit point.signal) }
     requires pin { pin < length pins.now }
-    ensures source { result ≡ get_or (all_points design.now.circuit point) pin None }
+    ensures source { result ≡ slice_index_or (all_points design.now.circuit point) pin None }
     ensures point { IfSome result (IsPoint design.now.circuit) }
 {
     design.facts();

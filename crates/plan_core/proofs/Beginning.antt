@@ -8,7 +8,7 @@ use Rattle.valid_intervals.specs.declared.SignalCell.{SignalCell}
 use Rattle.journal_meaning.specs.States.{holder}
 use Rattle.batch_meaning.specs.Batches.{Batch}
 use Rattle.batch_meaning.specs.Lawful.{IsLawful}
-use Rattle.strand_meaning.specs.Strands.{Strand, started, IsHeld, IsStrand}
+use Rattle.strand_meaning.specs.Strands.{Strand, started_strand, IsOnStack, IsStrand}
 use Rattle.batch_meaning.specs.Pieces.{Start}
 use Rattle.plan_machine.specs.Shards.{Shard, IsShard}
 use Rattle.plan_machine.specs.Plans.{Plan, no_shard, claim_of}
@@ -169,11 +169,11 @@ module _ (b : Batch) (lawful : IsLawful b) (opening : ℕ → List SignalCell) (
     at-strand : (i : ℕ) (s : Strand) → slice_get (plan_at places shards).strands i ≡ Some s → (d : Demand) × ((slice_get strands i ≡ Some d) × (s ≡ d.strand))
     at-strand i s at = map-back (λ (d : Demand). d.strand) strands i s (ap (λ xs. slice_get xs i) (sym strands-are) ∙ at)
 
-    none : (i : ℕ) (s : Strand) (p : Point) → slice_get (plan_at places shards).strands i ≡ Some s → IsHeld s.stack p → ⊥
+    none : (i : ℕ) (s : Strand) (p : Point) → slice_get (plan_at places shards).strands i ≡ Some s → IsOnStack s.stack p → ⊥
     none i s p at h =
         let d = at-strand i s at in
         let empty : s.stack ≡ [] = ap (λ (z : Strand). z.stack) d.1.1 ∙ (new i d.0 d.1.0).empty in
-        let k : IsHeld [] p = subst (λ st. IsHeld st p) empty h in k
+        let k : IsOnStack [] p = subst (λ st. IsOnStack st p) empty h in k
 
     sound : IsSound b opening (plan_at places shards)
     sound = record {
@@ -185,7 +185,7 @@ module _ (b : Batch) (lawful : IsLawful b) (opening : ℕ → List SignalCell) (
           subst (λ (h : Shard). IsShard b n (opening n) h) (sym (shard-is n low)) (subst (λ j. IsShard b j (opening j) m.0.shard) number k);
       strands = λ i s at. let d = at-strand i s at in subst (IsStrand b) (sym d.1.1) (new i d.0 d.1.0).strand;
       linked = record {
-        held = λ i s p at h. absurd (none i s p at h);
+        on_stack = λ i s p at h. absurd (none i s p at h);
         holder = λ p q claim.
             let hs = shards_of (waited_shards shards) in
             let count : length hs ≡ b.shards = length-map (waited_shards shards) (λ (z : WaitedShard). z.shard) ∙ memos-len in
@@ -239,7 +239,7 @@ module _ (b : Batch) (lawful : IsLawful b) (opening : ℕ → List SignalCell) (
         by (Some q) e = let k = sound.linked.holder p q e in absurd (none k.0 k.1.0 p k.1.1.0 k.1.1.1)
 
     -- each strand may run alone
-    pub begins-alone : (n : ℕ) (a : Start) (s : Demand) → slice_get strands n ≡ Some s → s.strand ≡ started b.circuit a → BeginsAlone b opening n a (plan_at places shards)
+    pub begins-alone : (n : ℕ) (a : Start) (s : Demand) → slice_get strands n ≡ Some s → s.strand ≡ started_strand b.circuit a → BeginsAlone b opening n a (plan_at places shards)
     begins-alone n a s at is = record {
       sound = sound;
       free = unclaimed;

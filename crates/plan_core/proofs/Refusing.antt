@@ -11,15 +11,15 @@ use Rattle.strand_meaning.specs.declared.Next.TheVariants.{Ask, Fill, Drop, Done
 use Rattle.strand_meaning.specs.Strands.{Strand, next, next_in, given_up}
 use Rattle.strand_meaning.proofs.Stacks.{asks-unspent}
 use Rattle.plan_machine.specs.declared.Turned.TheVariants as comes
-use Rattle.plan_machine.specs.Shards.{Shard, IsShard, recorded}
+use Rattle.plan_machine.specs.Shards.{Shard, IsShard, shard_with_entry}
 use Rattle.valid_intervals.specs.Cells.{stored_at}
 use Rattle.plan_machine.specs.Plans.{Plan, home, shard_of, claim_of, with_strand}
 use Rattle.plan_machine.specs.inner.KeptPlans as kept
 use Rattle.plan_machine.specs.inner.KeptPlans.{WaitedShard, IsKeptPlan}
 use Rattle.plan_machine.specs.Steps as steps
-use Rattle.plan_machine.specs.Steps.{Step, claim_step, ask_step, next_step, step_at, turned_by, turned}
-use Rattle.plan_machine.specs.Turns.{stepped, turn_at, turn}
-use Rattle.plan_machine.specs.Alone.{refused}
+use Rattle.plan_machine.specs.Steps.{Step, claim_step, ask_step, next_step, step_at, turned_by, turn_outcome}
+use Rattle.plan_machine.specs.Turns.{plan_after, turn_at, turn}
+use Rattle.plan_machine.specs.Alone.{plan_refusing}
 use Rattle.plan_machine.proofs.Alone.{shard-sound}
 use Rattle.plan_machine.proofs.Kept.{kept-put}
 use Rattle.plan_machine.proofs.Links.{set-here}
@@ -55,7 +55,7 @@ module _ (b : Batch) (plan : Plan) (n : ℕ) where
   module _ (s : Strand) (at : slice_get plan.strands n ≡ Some s) where
     made : s.waits ≡ false → (p : Point) → next s ≡ Ask p → stored_at (shard_of plan p).state.cells p ≡ None → claim_of plan p ≡ None → step_at plan (Some s) ≡ steps.Spend → WasRefused b plan n
     made calm p asks missed free is =
-        let turn_is : turn b plan n ≡ with_strand plan n (given_up s) = ap (turn_at b plan n) at ∙ ap (stepped b plan n s) is in
+        let turn_is : turn b plan n ≡ with_strand plan n (given_up s) = ap (turn_at b plan n) at ∙ ap (plan_after b plan n s) is in
         record {
           point = p;
           asked = record { strand = s; at = at; awake = calm; asks = asks };
@@ -91,7 +91,7 @@ module _ (b : Batch) (plan : Plan) (n : ℕ) where
     by-step : step_at plan (Some s) ≡ steps.Spend → WasRefused b plan n
     by-step is = by-waits s.waits refl is is
 
-  pub was-refused : turned plan n ≡ comes.Spent → WasRefused b plan n
+  pub was-refused : turn_outcome plan n ≡ comes.Spent → WasRefused b plan n
   was-refused h = by (slice_get plan.strands n) refl (is-spend (step_at plan (slice_get plan.strands n)) h)
     where
       by : (o : Option Strand) → slice_get plan.strands n ≡ o → step_at plan o ≡ steps.Spend → WasRefused b plan n
@@ -128,14 +128,14 @@ module _ (b : Batch) (opening : ℕ → List SignalCell) (places : List (Option 
     unclaimed = ap (λ (z : Shard). holder z.state.claims p) (sym there) ∙ r.unclaimed;
   }
 
-  pub refused-seen : (h : KeptShard) → IsKnownShard b opening h → h ≡ ends.with_shard h0 (recorded (entry.Spent s0.strand.query.number p (length s0.strand.stack)) h0.shard)
-      → (s : Strand) × ((slice_get old.strands n ≡ Some s) × IsSeen b opening places (slice_set shards slot h) (refused old s (Ask p)))
+  pub refused-seen : (h : KeptShard) → IsKnownShard b opening h → h ≡ ends.with_shard h0 (shard_with_entry (entry.Spent s0.strand.query.number p (length s0.strand.stack)) h0.shard)
+      → (s : Strand) × ((slice_get old.strands n ≡ Some s) × IsSeen b opening places (slice_set shards slot h) (plan_refusing old s (Ask p)))
   refused-seen h known is =
       let e = entry.Spent s0.strand.query.number p (length s0.strand.stack) in
       let calm = awake b opening places shards parts n s0 at in
       let here_0 = here b opening places shards parts n s0 at in
       let number : h.number ≡ h0.number = ap (λ (z : KeptShard). z.number) is in
-      let shard : h.shard ≡ recorded e h0.shard = ap (λ (z : KeptShard). z.shard) is in
+      let shard : h.shard ≡ shard_with_entry e h0.shard = ap (λ (z : KeptShard). z.shard) is in
       let parked : (waited_shard h).parked ≡ (kept.waited_shard_at (waited_shards shards) p).parked = ap (λ (z : KeptShard). map parked_of z.waiting) is ∙ ap (λ (z : WaitedShard). z.parked) (sym (home-is b opening places shards parts n s0 at p slot slot-is h0 index)) in
       let hs = slice_set (waited_shards shards) (p.signal % length (waited_shards shards)) (waited_shard h) in
       let now_0 = kept-put (seats places) (waited_shards shards) old.strands parts.kept n s0.strand here_0 p s0.strand (waited_shard h) calm parked in
@@ -143,14 +143,14 @@ module _ (b : Batch) (opening : ℕ → List SignalCell) (places : List (Option 
       subst (λ xs. IsKeptPlan (seats places) hs xs) (set-same old.strands n s0.strand at-plan) (subst (λ z. IsKeptPlan z hs (slice_set old.strands n s0.strand)) (set-same (seats places) n (Some s0.strand) here_0) now_0) in
       let many : length old.shards ≡ b.shards = parts.sound.count in
       let home_is : h.number ≡ home old p = number ∙ number-is b opening places shards parts n s0 at p slot slot-is h0 index ∙ slot-is ∙ ap (λ m. p.signal % m) (shards-count b opening places shards parts ∙ sym many) in
-      let right : IsShard b (home old p) (opening (home old p)) (recorded e (shard_of old p)) =
-      subst (λ z. IsShard b (home old p) (opening (home old p)) z) (shard ∙ ap (recorded e) (sym there)) (subst (λ k. IsShard b k (opening k) h.shard) home_is known.shard) in
-      let sound = shard-sound b parts.lawful opening old parts.sound p (recorded e (shard_of old p)) right refl n s0.strand at-plan calm in (
+      let right : IsShard b (home old p) (opening (home old p)) (shard_with_entry e (shard_of old p)) =
+      subst (λ z. IsShard b (home old p) (opening (home old p)) z) (shard ∙ ap (shard_with_entry e) (sym there)) (subst (λ k. IsShard b k (opening k) h.shard) home_is known.shard) in
+      let sound = shard-sound b parts.lawful opening old parts.sound p (shard_with_entry e (shard_of old p)) right refl n s0.strand at-plan calm in (
         s0.strand,
         (
           at-plan,
-          seen-as b opening places shards parts n s0 at p slot slot-is h0 index places h (λ ys. ys) (recorded e) parts.numbers number now shard
-              (refused old s0.strand (Ask p)) sound refl,
+          seen-as b opening places shards parts n s0 at p slot slot-is h0 index places h (λ ys. ys) (shard_with_entry e) parts.numbers number now shard
+              (plan_refusing old s0.strand (Ask p)) sound refl,
         ),
       )
 
@@ -160,7 +160,7 @@ module _ (b : Batch) (opening : ℕ → List SignalCell) (places : List (Option 
       rest-seen b opening places shards parts places (slice_set shards slot h) parts.numbers (subst AreInOrder (sym shards_is) parts.order) refl (ap waited_shards shards_is)
 
   -- whatever came of it
-  pub refused-end : (h : KeptShard) → IsKnownShard b opening h → (came : Result Unit OutOfMemory) → OnOk came (h ≡ ends.with_shard h0 (recorded (entry.Spent s0.strand.query.number p (length s0.strand.stack)) h0.shard)) → OnErr came (h ≡ h0)
+  pub refused-end : (h : KeptShard) → IsKnownShard b opening h → (came : Result Unit OutOfMemory) → OnOk came (h ≡ ends.with_shard h0 (shard_with_entry (entry.Spent s0.strand.query.number p (length s0.strand.stack)) h0.shard)) → OnErr came (h ≡ h0)
       → OfRefusal b opening old n p places (slice_set shards slot h) came
   refused-end h known (Ok u) ok err = refused-seen h known ok
   refused-end h known (Err e) ok err = refused-not h err

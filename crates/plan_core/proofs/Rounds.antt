@@ -10,10 +10,10 @@ use Rattle.batch_meaning.specs.Pieces.{Start}
 use Rattle.plan_machine.specs.Plans.{Plan}
 use Rattle.plan_machine.specs.declared.Turned.{Turned}
 use Rattle.plan_machine.specs.declared.Turned.TheVariants as comes
-use Rattle.plan_machine.specs.Steps.{turned, is_turn}
+use Rattle.plan_machine.specs.Steps.{turn_outcome, is_turn}
 use Rattle.plan_machine.specs.Turns.{turn}
 use Rattle.plan_machine.specs.Bounds.{turns_left, all_left}
-use Rattle.plan_machine.specs.Alone.{refused, RunsAlone, RanAlone}
+use Rattle.plan_machine.specs.Alone.{plan_refusing, RunsAlone, RanAlone}
 use Rattle.plan_machine.proofs.Measure.{turn-less}
 use Rattle.plan_machine.proofs.Ready.{ready-moves}
 use Rattle.plan_machine.proofs.Journals.{turn-tasks}
@@ -32,14 +32,14 @@ moved comes.Filled h = refl
 moved comes.Dropped h = refl
 moved comes.NotReady h = absurd (h refl)
 
-module _ (b : Batch) (plan new : Plan) (n : ℕ) (t : Turned) (is : t ≡ turned plan n) (turns : new ≡ turn b plan n) where
+module _ (b : Batch) (plan new : Plan) (n : ℕ) (t : Turned) (is : t ≡ turn_outcome plan n) (turns : new ≡ turn b plan n) where
   pub round-count : length new.strands ≡ length plan.strands
   round-count = ap (λ (z : Plan). length z.strands) turns ∙ (turn-tasks b plan n).count
 
   pub round-less : t ≢ comes.NotReady → all_left b new < all_left b plan
   round-less h =
       let k = turn-less b plan n in
-      let one : is_turn (turned plan n) ≡ 1 = moved (turned plan n) (λ e. h (is ∙ e)) in
+      let one : is_turn (turn_outcome plan n) ≡ 1 = moved (turn_outcome plan n) (λ e. h (is ∙ e)) in
       let same : all_left b new ≡ all_left b (turn b plan n) = ap (all_left b) turns in
       omega arith
 
@@ -61,7 +61,7 @@ module _ (b : Batch) (plan new : Plan) (n : ℕ) (t : Turned) (is : t ≡ turned
 
     pub round-refused : t ≡ comes.Spent → (end : Plan) (p : Point)
         → ((s : Strand) (x : Point) → slice_get new.strands n ≡ Some s → next_in false s.roots s.stack ≡ Ask x → p ≡ x)
-        → ((s : Strand) (x : Point) → slice_get new.strands n ≡ Some s → next_in false s.roots s.stack ≡ Ask x → end ≡ refused new s (Ask x))
+        → ((s : Strand) (x : Point) → slice_get new.strands n ≡ Some s → next_in false s.roots s.stack ≡ Ask x → end ≡ plan_refusing new s (Ask x))
         → RunsAlone b opening n a old end (Some p)
     round-refused h end p tells records =
         let k = (turns-alone b lawful opening n a old plan spent r).refusal (sym is ∙ h) in
@@ -69,8 +69,8 @@ module _ (b : Batch) (plan new : Plan) (n : ℕ) (t : Turned) (is : t ≡ turned
         let s = k.1 in
         let at : slice_get new.strands n ≡ Some (given_up s) = ap (λ (z : Plan). slice_get z.strands n) turns ∙ k.3.now in
         let point : p ≡ x = tells (given_up s) x at k.3.still in
-        let plan_is : end ≡ refused new (given_up s) (Ask x) = records (given_up s) x at k.3.still in
-        let same : end ≡ refused (turn b plan n) s (Ask x) = plan_is ∙ ap (λ z. refused z s (Ask x)) turns in
+        let plan_is : end ≡ plan_refusing new (given_up s) (Ask x) = records (given_up s) x at k.3.still in
+        let same : end ≡ plan_refusing (turn b plan n) s (Ask x) = plan_is ∙ ap (λ z. plan_refusing z s (Ask x)) turns in
         subst (λ y. RunsAlone b opening n a old end (Some y)) (sym point) (subst (λ z. RunsAlone b opening n a old z (Some x)) (sym same) k.4)
 
 pub left-same : (b : Batch) (plan new : Plan) → new.strands ≡ plan.strands → all_left b new ≡ all_left b plan
@@ -84,9 +84,9 @@ refused-tells plan n p r s x at asks =
     let both : next_in false s.roots s.stack ≡ Ask p = ap (λ (z : Strand). next_in false z.roots z.stack) (sym same) ∙ r.asks in
     cc (both, asks)
 
-pub refused-records : (plan : Plan) (n : ℕ) (p : Point) → IsRefusedAt plan n p → (end : Plan) (o : Strand) → slice_get plan.strands n ≡ Some o → end ≡ refused plan o (Ask p)
-    → (s : Strand) (x : Point) → slice_get plan.strands n ≡ Some s → next_in false s.roots s.stack ≡ Ask x → end ≡ refused plan s (Ask x)
+pub refused-records : (plan : Plan) (n : ℕ) (p : Point) → IsRefusedAt plan n p → (end : Plan) (o : Strand) → slice_get plan.strands n ≡ Some o → end ≡ plan_refusing plan o (Ask p)
+    → (s : Strand) (x : Point) → slice_get plan.strands n ≡ Some s → next_in false s.roots s.stack ≡ Ask x → end ≡ plan_refusing plan s (Ask x)
 refused-records plan n p r end o there is s x at asks =
     let same : o ≡ s = cc (there, at) in
     let point : p ≡ x = refused-tells plan n p r s x at asks in
-    is ∙ ap (λ z. refused plan z (Ask p)) same ∙ ap (λ z. refused plan s (Ask z)) point
+    is ∙ ap (λ z. plan_refusing plan z (Ask p)) same ∙ ap (λ z. plan_refusing plan s (Ask z)) point

@@ -8,12 +8,12 @@ use Rattle.journal_meaning.specs.declared.Entry.TheVariants as entry
 use Rattle.journal_meaning.specs.States.{holder}
 use Rattle.batch_meaning.specs.Batches.{Batch, shard_number}
 use Rattle.strand_meaning.specs.declared.Next.TheVariants.{Ask, Fill, Drop, Done}
-use Rattle.strand_meaning.specs.Strands.{Strand, next, heard, claimed, waiting, given_up, finished, dropped, IsHeld}
+use Rattle.strand_meaning.specs.Strands.{Strand, next, after_answer, after_claim, waiting, given_up, after_fill, after_drop, IsOnStack}
 use Rattle.plan_machine.specs.declared.Turned.{Turned}
 use Rattle.plan_machine.specs.declared.Turned.TheVariants as comes
-use Rattle.plan_machine.specs.Shards.{Shard, recorded, filled_shard}
+use Rattle.plan_machine.specs.Shards.{Shard, shard_with_entry, filled_shard}
 use Rattle.valid_intervals.specs.Cells.{stored_at}
-use Rattle.plan_machine.specs.Plans.{Plan, shard_of, claim_of, with_strand, with_shard, with_woken, woken, itself}
+use Rattle.plan_machine.specs.Plans.{Plan, shard_of, claim_of, with_strand, with_shard, with_woken, woken_strand, itself}
 use Rattle.plan_machine.specs.Steps.{turned_by}
 use Rattle.plan_machine.specs.inner.Parts.{NumberedStrand, IsAmong, put_back}
 use Rattle.plan_machine.specs.inner.KeptPlans as kept
@@ -60,10 +60,10 @@ module _ (b : Batch) (opening : ℕ → List SignalCell) (places : List (Option 
   quiet = awake b opening places shards parts n s0 at
 
   -- its claim is the shard's
-  holds : (p : Point) → slot ≡ p.signal % length shards → IsHeld s0.strand.stack p → holder h0.shard.state.claims p ≡ Some s0.strand.query.number
+  holds : (p : Point) → slot ≡ p.signal % length shards → IsOnStack s0.strand.stack p → holder h0.shard.state.claims p ≡ Some s0.strand.query.number
   holds p slot-is h =
       ap (λ (z : Shard). holder z.state.claims p) (sym (shard-here b opening places shards parts n s0 at p slot slot-is h0 index))
-      ∙ parts.sound.linked.held n s0.strand p at-plan h
+      ∙ parts.sound.linked.on_stack n s0.strand p at-plan h
 
   pub may-step : (m : Next) → next s0.strand ≡ m → (m ≡ Done → ⊥) → slot ≡ (step_point m).signal % length shards → MayStep b h0 m s0
   may-step (Ask p) e left slot-is = ap (λ m. p.signal % m) (sym (shards-count b opening places shards parts)) ∙ sym slot-is ∙ sym (number-is b opening places shards parts n s0 at p slot slot-is h0 index)
@@ -88,7 +88,7 @@ module _ (b : Batch) (opening : ℕ → List SignalCell) (places : List (Option 
     told asks s h f =
         let q = s0.strand.query.number in
         let is = told-turn b old n s0.strand at-plan quiet p f.cell asks (ap (λ (z : Shard). stored_at z.state.cells p) there ∙ f.stored) in (
-          put-seen b opening places shards parts n s0 at p slot slot-is h0 index s h heard (recorded (entry.Told q p f.cell.cell)) f.strand quiet
+          put-seen b opening places shards parts n s0 at p slot slot-is h0 index s h after_answer (shard_with_entry (entry.Told q p f.cell.cell)) f.strand quiet
               (ap (λ (z : KeptShard). z.number) f.shard) (ap (λ (z : KeptShard). z.waiting) f.shard) (ap (λ (z : KeptShard). z.shard) f.shard) is.turn,
           sym (ap turned_by is.step),
         )
@@ -97,7 +97,7 @@ module _ (b : Batch) (opening : ℕ → List SignalCell) (places : List (Option 
     claims asks s h f =
         let q = s0.strand.query.number in
         let is = claimed-turn b old n s0.strand at-plan quiet p asks (none f.unfound.missed) (claim None f.unfound.unclaimed) f.within in (
-          put-seen b opening places shards parts n s0 at p slot slot-is h0 index s h (λ x. claimed b.circuit x p) (recorded (entry.Claimed q p)) f.strand quiet
+          put-seen b opening places shards parts n s0 at p slot slot-is h0 index s h (λ x. after_claim b.circuit x p) (shard_with_entry (entry.Claimed q p)) f.strand quiet
               (ap (λ (z : KeptShard). z.number) f.shard) (ap (λ (z : KeptShard). z.waiting) f.shard) (ap (λ (z : KeptShard). z.shard) f.shard) is.turn,
           sym (ap turned_by is.step),
         )
@@ -189,8 +189,8 @@ module _ (b : Batch) (opening : ℕ → List SignalCell) (places : List (Option 
           (none-here h0 h p leaves)
           (λ x ne. none-other h0 h p leaves x ne ∙ ap (λ (m : WaitedShard). kept.waiting_at m.parked x) (sym home_0))
           (homes b opening places shards parts n s0 at p slot slot-is h0 index h known number) in
-          seen b opening places shards parts n s0 at p slot slot-is h0 index after h (λ ys. slice_set (map (woken f p) ys) n t) g numbered number
-          (subst (λ z. IsKeptPlan z hs (slice_set (map (woken f p) old.strands) n t)) (sym shape) now) shard turns
+          seen b opening places shards parts n s0 at p slot slot-is h0 index after h (λ ys. slice_set (map (woken_strand f p) ys) n t) g numbered number
+          (subst (λ z. IsKeptPlan z hs (slice_set (map (woken_strand f p) old.strands) n t)) (sym shape) now) shard turns
 
     -- what puts those that were woken back into their places makes the turn
     pub record Woke (back : Option Demand) (h : KeptShard) (list : List Demand) (t : Turned) : Type 0 where
@@ -199,17 +199,17 @@ module _ (b : Batch) (opening : ℕ → List SignalCell) (places : List (Option 
       pub turn : (after : List (Option Demand)) → seats after ≡ put_back itself (seats (slice_set places n back)) (map numbered_strand list) → AreNumbered after → OfTurn b opening old n after (slice_set shards slot h) (Ok t)
 
     -- a fill
-    filled-out : (s : Demand) (h : KeptShard) (list : List Demand) → FillsIt b h0 h p s0 s list → map numbered_strand list ≡ map (changed heard) (map numbered_strand (waiting_at h0.waiting p))
-    filled-out s h list f = zip-seen heard (waiting_at h0.waiting p) list f.hears
+    filled-out : (s : Demand) (h : KeptShard) (list : List Demand) → FillsIt b h0 h p s0 s list → map numbered_strand list ≡ map (changed after_answer) (map numbered_strand (waiting_at h0.waiting p))
+    filled-out s h list f = zip-seen after_answer (waiting_at h0.waiting p) list f.hears
 
     filled : next s0.strand ≡ Fill p → (s : Demand) (h : KeptShard) (list : List Demand) → IsKnownShard b opening h → FillsIt b h0 h p s0 s list → Woke (Some s) h list comes.Filled
     filled fills s h list known f =
         let is = filled-turn b old n s0.strand at-plan quiet p fills in
         record {
-          numbers = low-numbers heard (λ o w. w) heard-fits list (filled-out s h list f) (Some s);
-          numbered = stays-numbered places parts.numbers n s0 at finished s f.strand;
+          numbers = low-numbers after_answer (λ o w. w) heard-fits list (filled-out s h list f) (Some s);
+          numbered = stays-numbered places parts.numbers n s0 at after_fill s f.strand;
           turn = λ after seats_are numbered. (
-            ended heard (λ o w. w) heard-fits list (filled-out s h list f) s h finished (filled_shard b.capacity s0.strand.query.number p (cell_at b.circuit p)) f.strand quiet known f.number f.waiting f.shard is.turn after seats_are numbered,
+            ended after_answer (λ o w. w) heard-fits list (filled-out s h list f) s h after_fill (filled_shard b.capacity s0.strand.query.number p (cell_at b.circuit p)) f.strand quiet known f.number f.waiting f.shard is.turn after seats_are numbered,
             sym (ap turned_by is.step),
           );
         }
@@ -226,9 +226,9 @@ module _ (b : Batch) (opening : ℕ → List SignalCell) (places : List (Option 
         let is = dropped-turn b old n s0.strand at-plan quiet p drop in
         record {
           numbers = low-numbers itself (λ o w. w) itself-fits list (dropped-out s h list f) (Some s);
-          numbered = stays-numbered places parts.numbers n s0 at dropped s f.strand;
+          numbered = stays-numbered places parts.numbers n s0 at after_drop s f.strand;
           turn = λ after seats_are numbered. (
-            ended itself (λ o w. w) itself-fits list (dropped-out s h list f) s h dropped (recorded (entry.Dropped s0.strand.query.number p)) f.strand quiet known f.number f.waiting f.shard is.turn after seats_are numbered,
+            ended itself (λ o w. w) itself-fits list (dropped-out s h list f) s h after_drop (shard_with_entry (entry.Dropped s0.strand.query.number p)) f.strand quiet known f.number f.waiting f.shard is.turn after seats_are numbered,
             sym (ap turned_by is.step),
           );
         }
@@ -286,12 +286,12 @@ module _ (b : Batch) (opening : ℕ → List SignalCell) (places : List (Option 
   turn-stands = (s0, (there-is, (may-step b opening places shards parts n s0 who.1.0 slot h0 index (next s0.strand) refl (λ e. p-is.0 (sym who.1.1 ∙ e)) home-is, point)))
 
   module _ (h : KeptShard) (known : IsKnownShard b opening h) (back : Option Demand) where
-    pub turn-goes : (t : Turned) (woken : Option (Vec Demand)) → ((s : Demand) → o ≡ Some s → OfPlaceStep b h0 h s (Ok (t, woken)) back) → woken ≡ None → OfTurn b opening (plan_at places shards) n (slice_set places n back) (slice_set shards slot h) (Ok t)
-    turn-goes t woken f e = goes b opening places shards parts n s0 who.1.0 slot h0 index home-is h known t back (subst (λ w. OfPlaceStep b h0 h s0 (Ok (t, w)) back) e (f s0 there-is))
+    pub turn-goes : (t : Turned) (woken_strand : Option (Vec Demand)) → ((s : Demand) → o ≡ Some s → OfPlaceStep b h0 h s (Ok (t, woken_strand)) back) → woken_strand ≡ None → OfTurn b opening (plan_at places shards) n (slice_set places n back) (slice_set shards slot h) (Ok t)
+    turn-goes t woken_strand f e = goes b opening places shards parts n s0 who.1.0 slot h0 index home-is h known t back (subst (λ w. OfPlaceStep b h0 h s0 (Ok (t, w)) back) e (f s0 there-is))
 
-    pub turn-wakes : (t : Turned) (woken : Option (Vec Demand)) → ((s : Demand) → o ≡ Some s → OfPlaceStep b h0 h s (Ok (t, woken)) back) → (list : Vec Demand) → woken ≡ Some list
+    pub turn-wakes : (t : Turned) (woken_strand : Option (Vec Demand)) → ((s : Demand) → o ≡ Some s → OfPlaceStep b h0 h s (Ok (t, woken_strand)) back) → (list : Vec Demand) → woken_strand ≡ Some list
         → Woke b opening places shards parts n s0 who.1.0 slot h0 index (step_point (next s0.strand)) home-is back h list.items t
-    turn-wakes t woken f list e = wakes b opening places shards parts n s0 who.1.0 slot h0 index home-is h known t back list (subst (λ w. OfPlaceStep b h0 h s0 (Ok (t, w)) back) e (f s0 there-is))
+    turn-wakes t woken_strand f list e = wakes b opening places shards parts n s0 who.1.0 slot h0 index home-is h known t back list (subst (λ w. OfPlaceStep b h0 h s0 (Ok (t, w)) back) e (f s0 there-is))
 
     pub turn-fails : (error : OutOfMemory) → ((s : Demand) → o ≡ Some s → OfPlaceStep b h0 h s (Err error) back) → OfTurn b opening (plan_at places shards) n (slice_set places n back) (slice_set shards slot h) (Err error)
     turn-fails error f = fails b opening places shards parts n s0 who.1.0 slot h0 index home-is h known error back (f s0 there-is)

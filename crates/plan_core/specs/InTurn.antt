@@ -6,13 +6,13 @@ use Rattle.journal_meaning.specs.declared.Entry.{Entry}
 use Rattle.journal_meaning.specs.Answers.{ChildrenCovered}
 use Rattle.batch_meaning.specs.Batches.{Batch}
 use Rattle.batch_meaning.specs.Pieces.{Start}
-use Rattle.strand_meaning.specs.Strands.{Strand, started}
+use Rattle.strand_meaning.specs.Strands.{Strand, started_strand}
 use Rattle.plan_machine.specs.Plans.{Plan, claim_of}
 use Rattle.plan_machine.specs.Journals.{entries}
 
 -- each strand is as it was started
 abbrev pub AreStarted : Circuit → List Strand → Type 0
-AreStarted c strands = (n : ℕ) (s : Strand) → slice_get strands n ≡ Some s → (a : Start) × (s ≡ started c a)
+AreStarted c strands = (n : ℕ) (s : Strand) → slice_get strands n ≡ Some s → (a : Start) × (s ≡ started_strand c a)
 
 -- no turn was made: nothing is recorded, no point is claimed, and each strand is as it was started
 pub record IsUnbegun (b : Batch) (plan : Plan) : Type 0 where

@@ -6,7 +6,7 @@ use Rattle.batch_meaning.specs.Batches.{Batch}
 use Rattle.batch_meaning.specs.Pieces.{Start}
 use Rattle.plan_machine.specs.declared.Turned.TheVariants as comes
 use Rattle.plan_machine.specs.Plans.{Plan}
-use Rattle.plan_machine.specs.Steps.{turned}
+use Rattle.plan_machine.specs.Steps.{turn_outcome}
 use Rattle.plan_machine.specs.Turns.{turn}
 use Rattle.plan_machine.specs.Alone.{RunsAlone}
 use Rattle.plan_core.specs.declared.alone.Alone.{Alone}
@@ -23,4 +23,4 @@ pub record StopsAlone (b : Batch) (opening : ℕ → List SignalCell) (n : ℕ) 
   pub before : Plan
   pub refused_at : Option Point
   pub runs : RunsAlone b opening n a old before refused_at
-  pub last : (new ≡ before) ⊎ ((turned before n ≡ comes.Spent) × (new ≡ turn b before n))
+  pub last : (new ≡ before) ⊎ ((turn_outcome before n ≡ comes.Spent) × (new ≡ turn b before n))

@@ -6,7 +6,7 @@ ghost use Rattle.strand_meaning.specs.declared.Next.TheVariants.{Ask};
 ghost use Rattle.batch_meaning.specs.Pieces.{Start};
 ghost use Rattle.strand_meaning.specs.Strands.{Strand as MachineStrand, next, next_in};
 ghost use Rattle.journal_meaning.specs.declared.Entry.TheVariants as entry;
-ghost use Rattle.plan_machine.specs.Shards.{recorded};
+ghost use Rattle.plan_machine.specs.Shards.{shard_with_entry};
 ghost use Rattle.memo_shards.specs.KeptShards.{IsKnownShard};
 ghost use Rattle.memo_shards.specs.Asks.{IsHere, IsUnfound};
 ghost use Rattle.memo_shards.specs.Ends.{with_shard};
@@ -57,7 +57,8 @@ fn spend<B: BatchName>(
     requires here { IsHere B.batch shard.old p }
     requires unfound { IsUnfound shard.old p }
     ensures ok { OnOk result (shard.new ≡ with_shard shard.old
-        (recorded (entry.Spent strand.now.strand.query.number p (length strand.now.strand.stack))
+        (shard_with_entry (entry.Spent strand.now.strand.query.number p (length
+        strand.now.strand.stack))
         shard.old.shard)) }
     ensures err { OnErr result (shard.new ≡ shard.old) }
     ensures known { IsKnownShard B.batch B.opening shard.new }

@@ -3,15 +3,15 @@
 ghost use Rattle.std.specs.Prelude.{◌≡◌, ◌<◌, ℕ, All, Contains, true, false, length, slice_get, IfOk, OnOk, OnErr, Some, None};
 ghost use Rattle.batch_meaning.specs.Lawful.{IsLawful};
 ghost use Rattle.batch_meaning.specs.Pieces.{Start};
-ghost use Rattle.strand_meaning.specs.Strands.{started, Strand as MachineStrand};
+ghost use Rattle.strand_meaning.specs.Strands.{started_strand, Strand as MachineStrand};
 ghost use Rattle.plan_machine.specs.Plans.{Plan as PlanRecord};
 ghost use Rattle.plan_machine.specs.Laws.{BeginsAlone};
-ghost use Rattle.plan_machine.specs.Alone.{refused, RunsAlone, RanAlone};
+ghost use Rattle.plan_machine.specs.Alone.{plan_refusing, RunsAlone, RanAlone};
 ghost use Rattle.plan_core.specs.inner.Refusals.{IsRefusedAt, AsksFor};
 ghost use Rattle.plan_core.specs.Refusals.{point_of, StopsAlone};
 ghost use Rattle.strand_meaning.specs.declared.Next.TheVariants.{Ask};
 ghost use Rattle.valid_intervals.specs.declared.Point.{Point as PointRecord};
-ghost use Rattle.plan_machine.specs.Steps.{turned};
+ghost use Rattle.plan_machine.specs.Steps.{turn_outcome};
 ghost use Rattle.plan_machine.specs.Turns.{turn};
 ghost use Rattle.plan_machine.specs.Bounds.{all_left};
 ghost use Rattle.plan_machine.specs.Journals.{entries};
@@ -67,7 +67,7 @@ impl<B: BatchName> Plan<B> {
         requires shards { AreFree B.batch shards.items }
         ensures ok { IfOk result (λ plan. plan ≡ plan_of_new strands.items shards.items) }
         ensures alone { (n : ℕ) (a : Start) (s : Demand) → slice_get strands.items n ≡ Some s
-            → s.strand ≡ started B.batch.circuit a
+            → s.strand ≡ started_strand B.batch.circuit a
             → IfOk result (BeginsAlone B.batch B.opening n a) }
     {
         know_all(&shards);
@@ -87,7 +87,7 @@ impl<B: BatchName> Plan<B> {
     pub fn turn(&mut self, design: &Design, number: u32) -> Result<Turned, OutOfMemory>
         requires design { design.now.circuit ≡ B.batch.circuit }
         requires number { number < length self.old.strands }
-        ensures comes { IfOk result (λ t. t ≡ turned self.old number) }
+        ensures comes { IfOk result (λ t. t ≡ turn_outcome self.old number) }
         ensures ok { OnOk result (self.new ≡ turn B.batch self.old number) }
         ensures count { length self.new.strands ≡ length self.old.strands }
         ensures err { OnErr result (self.new ≡ self.old) }
@@ -108,7 +108,7 @@ impl<B: BatchName> Plan<B> {
         requires { IsRefusedAt self.old number p }
         ensures ok { OnOk result ((s : MachineStrand) ×
             ((slice_get self.old.strands number ≡ Some s) ×
-            (self.new ≡ refused self.old s (Ask p)))) }
+            (self.new ≡ plan_refusing self.old s (Ask p)))) }
         ensures err { OnErr result (self.new ≡ self.old) }
     {
         refuse(&self.places, &mut self.shards, number as usize, p)

@@ -13,7 +13,7 @@ use Rattle.batch_meaning.specs.declared.Query.{Query}
 use Rattle.journal_meaning.specs.States.{holder}
 use Rattle.batch_meaning.specs.Batches.{Batch}
 use Rattle.circuit_meaning.specs.Cells.{cell_at}
-use Rattle.journal_meaning.specs.Answers.{IsCovered, last_of, filled}
+use Rattle.journal_meaning.specs.Answers.{IsCovered, last_of, fill_count}
 use Rattle.journal_meaning.specs.Grown.{IsSaid, IsFor, refusals, AreAdded}
 use Rattle.journal_meaning.proofs.Claims.{own-covers}
 use Rattle.journal_meaning.proofs.Lists.{Each, Differ, each-left, pairs_from, pairs_to}
@@ -21,19 +21,19 @@ use Rattle.journal_meaning.proofs.Grown.{added-more, covered-now, last-now}
 use Rattle.batch_meaning.specs.Lawful.{IsLawful}
 use Rattle.strand_meaning.specs.declared.Next.{Next}
 use Rattle.strand_meaning.specs.declared.Next.TheVariants.{Ask, Fill, Drop, Done}
-use Rattle.strand_meaning.specs.Strands.{Frame, Strand, ask_or, next_in, next, rest, heard, claimed, given_up, dropped, finished, IsHeld, IsStrand, left_in, IsFirst, IsChain}
+use Rattle.strand_meaning.specs.Strands.{Frame, Strand, ask_or, next_in, next, rest, after_answer, after_claim, given_up, after_drop, after_fill, IsOnStack, IsStrand, left_in, IsFirst, IsChain}
 use Rattle.batch_meaning.specs.Pieces.{Start}
 use Rattle.strand_meaning.proofs.Stacks.{IsTop, asks-first, asks-unspent, fill-top, fill-heard, drop-top, top-held, earlier}
 use Rattle.strand_meaning.proofs.Wanted.{held-within}
-use Rattle.plan_machine.specs.Shards.{Shard, recorded, IsShard}
-use Rattle.plan_machine.specs.Plans.{Plan, home, shard_of, claim_of, with_shard, woken, itself}
+use Rattle.plan_machine.specs.Shards.{Shard, shard_with_entry, IsShard}
+use Rattle.plan_machine.specs.Plans.{Plan, home, shard_of, claim_of, with_shard, woken_strand, itself}
 use Rattle.plan_machine.specs.Steps as steps
 use Rattle.plan_machine.specs.declared.Turned.TheVariants as comes
-use Rattle.plan_machine.specs.Steps.{Step, claim_step, ask_step, next_step, step_at, turned_by, turned}
-use Rattle.plan_machine.specs.Turns.{stepped, turn_at, turn}
+use Rattle.plan_machine.specs.Steps.{Step, claim_step, ask_step, next_step, step_at, turned_by, turn_outcome}
+use Rattle.plan_machine.specs.Turns.{plan_after, turn_at, turn}
 use Rattle.plan_machine.specs.Sound.{IsSound, HasEnded}
 use Rattle.plan_machine.specs.Journals.{journals, entries, evictions_for, entries_of}
-use Rattle.plan_machine.specs.Alone.{refused, roots_of, AreFed, IsUnspent, points_on, drops, IsUnderWay, IsGivingUp, IsAtPoint, IsAlone, RunsAlone, IsServedAlone, IsRefusedAlone, IsOutcome, RanAlone, TurnsAlone}
+use Rattle.plan_machine.specs.Alone.{plan_refusing, roots_of, AreFed, IsUnspent, points_on, drops, IsUnderWay, IsGivingUp, IsAtPoint, IsAlone, RunsAlone, IsServedAlone, IsRefusedAlone, IsOutcome, RanAlone, TurnsAlone}
 use Rattle.plan_machine.proofs.Links.{set-here, set-other}
 use Rattle.plan_machine.proofs.Shards.{found, spent-shard}
 use Rattle.plan_machine.proofs.Steps.{claims-same, shards-after, home-shard, here-of, asked-wanted, some-shard, told-sound, claimed-sound, spent-sound, filled-sound, dropped-sound}
@@ -51,11 +51,11 @@ says-cell p x h =
     and_from _ _ (and_from _ _ (eq-eqb p.signal p.signal refl) l.1) k.1
 
 -- where no strand waits, none comes out
-woken-rests : (f : Strand → Strand) (p : Point) (xs : List Strand) → ((j : ℕ) (r : Strand) → slice_get xs j ≡ Some r → r.waits ≡ false) → map (woken f p) xs ≡ xs
+woken-rests : (f : Strand → Strand) (p : Point) (xs : List Strand) → ((j : ℕ) (r : Strand) → slice_get xs j ≡ Some r → r.waits ≡ false) → map (woken_strand f p) xs ≡ xs
 woken-rests f p [] h = refl
 woken-rests f p (x ∷ xs) h =
-    let a : woken f p x ≡ x = woken-itself f p x (h 0 x refl) in
-    let k : map (woken f p) xs ≡ xs = woken-rests f p xs (λ j r e. h (suc j) r e) in
+    let a : woken_strand f p x ≡ x = woken-itself f p x (h 0 x refl) in
+    let k : map (woken_strand f p) xs ≡ xs = woken-rests f p xs (λ j r e. h (suc j) r e) in
     cc (a, k)
 
 -- what a strand that has no budget left does
@@ -91,7 +91,7 @@ module _ (b : Batch) (lawful : IsLawful b) (opening : ℕ → List SignalCell) (
         shards = shards-after b lawful opening plan sound i s at ready p h is;
         strands = sound.strands;
         linked = record {
-          held = λ j r x e k. eq x ∙ links.held j r x e k;
+          on_stack = λ j r x e k. eq x ∙ links.on_stack j r x e k;
           holder = λ x q k. links.holder x q (sym (eq x) ∙ k);
           once = links.once;
           waiting = λ j r e w. let k = links.waiting j r e w in (k.0, (k.1.0, (k.1.1.0, eq k.0 ∙ k.1.1.1)));
@@ -115,12 +115,12 @@ module _ (b : Batch) (lawful : IsLawful b) (opening : ℕ → List SignalCell) (
               | inl same ↦
                   let at : slice_get plan.strands o.0 ≡ Some s = subst (λ j. slice_get plan.strands j ≡ Some s) (sym same) alone.at in
                   let r : o.1.0 ≡ s = cc (at, o.1.1.0) in
-                  let held : IsHeld s.stack p = subst (λ (z : Strand). IsHeld z.stack p) r o.1.1.1 in
+                  let held : IsOnStack s.stack p = subst (λ (z : Strand). IsOnStack z.stack p) r o.1.1.1 in
                   let before : p.time < p.time = earlier b.circuit lawful.circuit s.roots s.stack p p (alone.sound.strands n s alone.at).chain (asks-first s p e) held in
                   absurd (omega arith)
               | inr ne ↦
                   let empty = (alone.idle o.0 o.1.0 ne o.1.1.0).0 in
-                  let held : IsHeld [] p = subst (λ st. IsHeld st p) empty o.1.1.1 in
+                  let held : IsOnStack [] p = subst (λ st. IsOnStack st p) empty o.1.1.1 in
                   absurd held
             ]
 
@@ -139,7 +139,7 @@ module _ (b : Batch) (lawful : IsLawful b) (opening : ℕ → List SignalCell) (
                   subst (λ (z : Strand). z.stack ≡ []) r empty
               | inr ne ↦ (alone.idle o.0 o.1.0 ne o.1.1.0).0
             ] in
-            let held : IsHeld [] p = subst (λ st. IsHeld st p) none o.1.1.1 in
+            let held : IsOnStack [] p = subst (λ st. IsOnStack st p) none o.1.1.1 in
             absurd held
 
     none-waits : (j : ℕ) (r : Strand) → slice_get plan.strands j ≡ Some r → r.waits ≡ false
@@ -162,7 +162,7 @@ module _ (b : Batch) (lawful : IsLawful b) (opening : ℕ → List SignalCell) (
       journals = added-more (journals old) added (journals plan) more (journals new) alone.journals grows;
     }
 
-    grows : (t : Step) → AreAdded (journals plan) (entries_of b plan s t) (journals (stepped b plan n s t))
+    grows : (t : Step) → AreAdded (journals plan) (entries_of b plan s t) (journals (plan_after b plan n s t))
     grows t = step-added b lawful opening plan alone.sound n s t
 
     own : (t : Step) → s.query ≡ a.query → Each (IsFor a.query.number) (entries_of b plan s t)
@@ -170,7 +170,7 @@ module _ (b : Batch) (lawful : IsLawful b) (opening : ℕ → List SignalCell) (
 
     -- under way
     module _ (u : IsUnderWay b.circuit a added s) where
-      told-on : (p : Point) (x : SignalCell) → next s ≡ Ask p → stored_at (shard_of plan p).state.cells p ≡ Some x → RunsAlone b opening n a old (stepped b plan n s (steps.Tell p x)) None
+      told-on : (p : Point) (x : SignalCell) → next s ≡ Ask p → stored_at (shard_of plan p).state.cells p ≡ Some x → RunsAlone b opening n a old (plan_after b plan n s (steps.Tell p x)) None
       told-on p x e f =
           let t = steps.Tell p x in
           let more = entries_of b plan s t in
@@ -179,23 +179,23 @@ module _ (b : Batch) (lawful : IsLawful b) (opening : ℕ → List SignalCell) (
           let said : IsSaid (added ++ more) p = (entry, Contains-append_right added more entry (0, omega arith, refl), says-cell p x covering) in
           record {
             added = added ++ more;
-            strand = heard s;
-            alone = alone-after (stepped b plan n s t) (heard s) more (told-sound b lawful opening plan alone.sound n s alone.at alone.awake p x e f) refl alone.awake (grows t);
+            strand = after_answer s;
+            alone = alone-after (plan_after b plan n s t) (after_answer s) more (told-sound b lawful opening plan alone.sound n s alone.at alone.awake p x e f) refl alone.awake (grows t);
             is_at = goes-heard b.circuit a (added ++ more) s (goes-more b.circuit a added s u more (own t u.query) (tt, tt) (tt, tt)) p (asks-first s p e) said;
           }
 
-      claimed-on : (p : Point) → next s ≡ Ask p → stored_at (shard_of plan p).state.cells p ≡ None → s.charged < s.budget → RunsAlone b opening n a old (stepped b plan n s (steps.Claim p)) None
+      claimed-on : (p : Point) → next s ≡ Ask p → stored_at (shard_of plan p).state.cells p ≡ None → s.charged < s.budget → RunsAlone b opening n a old (plan_after b plan n s (steps.Claim p)) None
       claimed-on p e f room =
           let t = steps.Claim p in
           let more = entries_of b plan s t in
           record {
             added = added ++ more;
-            strand = claimed b.circuit s p;
-            alone = alone-after (stepped b plan n s t) (claimed b.circuit s p) more (claimed-sound b lawful opening plan alone.sound n s alone.at alone.awake p e f (unclaimed p e) room) refl alone.awake (grows t);
+            strand = after_claim b.circuit s p;
+            alone = alone-after (plan_after b plan n s t) (after_claim b.circuit s p) more (claimed-sound b lawful opening plan alone.sound n s alone.at alone.awake p e f (unclaimed p e) room) refl alone.awake (grows t);
             is_at = goes-claimed b.circuit a (added ++ more) s (goes-more b.circuit a added s u more (own t u.query) (tt, tt) (tt, tt)) p;
           }
 
-      filled-on : (p : Point) → next s ≡ Fill p → RunsAlone b opening n a old (stepped b plan n s (steps.Finish p)) None
+      filled-on : (p : Point) → next s ≡ Fill p → RunsAlone b opening n a old (plan_after b plan n s (steps.Finish p)) None
       filled-on p e =
           let t = steps.Finish p in
           let x = cell_at b.circuit p in
@@ -215,9 +215,9 @@ module _ (b : Batch) (lawful : IsLawful b) (opening : ℕ → List SignalCell) (
           let said : IsSaid (added ++ more) p = (entry, Contains-append_right added more entry known, own-covers b.circuit lawful.circuit p within) in
           record {
             added = added ++ more;
-            strand = finished s;
-            alone = alone-after (stepped b plan n s t) (finished s) more (filled-sound b lawful opening plan alone.sound n s alone.at alone.awake p e)
-                (ap (λ xs. slice_set xs n (finished s)) (woken-rests heard p plan.strands none-waits)) alone.awake (grows t);
+            strand = after_fill s;
+            alone = alone-after (plan_after b plan n s t) (after_fill s) more (filled-sound b lawful opening plan alone.sound n s alone.at alone.awake p e)
+                (ap (λ xs. slice_set xs n (after_fill s)) (woken-rests after_answer p plan.strands none-waits)) alone.awake (grows t);
             is_at = goes-heard b.circuit a (added ++ more) under popped p (chain-first s.stack is.chain top) said;
           }
         where
@@ -226,14 +226,14 @@ module _ (b : Batch) (lawful : IsLawful b) (opening : ℕ → List SignalCell) (
           chain-first (f ∷ fs) chain top = subst (IsFirst (left_in s.roots fs)) top chain.0
 
       -- its budget is spent
-      spent-on : (p : Point) → next s ≡ Ask p → stored_at (shard_of plan p).state.cells p ≡ None → s.budget ≤ s.charged → RunsAlone b opening n a old (refused (stepped b plan n s steps.Spend) s (Ask p)) (Some p)
+      spent-on : (p : Point) → next s ≡ Ask p → stored_at (shard_of plan p).state.cells p ≡ None → s.budget ≤ s.charged → RunsAlone b opening n a old (plan_refusing (plan_after b plan n s steps.Spend) s (Ask p)) (Some p)
       spent-on p e f full =
           let held = length s.stack in
           let entry = Spent s.query.number p held in
-          let mid = stepped b plan n s steps.Spend in
+          let mid = plan_after b plan n s steps.Spend in
           let sound : IsSound b opening mid = spent-sound b lawful opening plan alone.sound n s alone.at alone.awake in
           let at : slice_get mid.strands n ≡ Some (given_up s) = set-here plan.strands n s (given_up s) alone.at in
-          let h = recorded entry (shard_of plan p) in
+          let h = shard_with_entry entry (shard_of plan p) in
           let wanted = asked-wanted b lawful opening plan alone.sound n s alone.at alone.awake p e in
           let here = here-of b lawful opening plan alone.sound n s alone.at alone.awake p wanted in
           let shard : IsShard b (home plan p) (opening (home plan p)) h =
@@ -251,17 +251,17 @@ module _ (b : Batch) (lawful : IsLawful b) (opening : ℕ → List SignalCell) (
           }
 
     -- giving up
-    dropped-on : (p : Point) → IsGivingUp b.circuit a p added s → (x : Point) → next s ≡ Drop x → RunsAlone b opening n a old (stepped b plan n s (steps.GiveBack x)) (Some p)
+    dropped-on : (p : Point) → IsGivingUp b.circuit a p added s → (x : Point) → next s ≡ Drop x → RunsAlone b opening n a old (plan_after b plan n s (steps.GiveBack x)) (Some p)
     dropped-on p g x e =
         let t = steps.GiveBack x in
         let more = entries_of b plan s t in
         let number : a.query.number ≡ s.query.number = ap (λ (q : Query). q.number) (sym g.query) in
         record {
           added = added ++ more;
-          strand = dropped s;
-          alone = alone-after (stepped b plan n s t) (dropped s) more (dropped-sound b lawful opening plan alone.sound n s alone.at alone.awake x e)
-              (ap (λ xs. slice_set xs n (dropped s)) (woken-rests itself x plan.strands none-waits)) alone.awake (grows t);
-          is_at = subst (λ q. IsGivingUp b.circuit a p (added ++ Dropped q x ∷ []) (dropped s)) number (goes-dropped b.circuit a p added s x (drop-top s x e) g);
+          strand = after_drop s;
+          alone = alone-after (plan_after b plan n s t) (after_drop s) more (dropped-sound b lawful opening plan alone.sound n s alone.at alone.awake x e)
+              (ap (λ xs. slice_set xs n (after_drop s)) (woken-rests itself x plan.strands none-waits)) alone.awake (grows t);
+          is_at = subst (λ q. IsGivingUp b.circuit a p (added ++ Dropped q x ∷ []) (after_drop s)) number (goes-dropped b.circuit a p added s x (drop-top s x e) g);
         }
 
   -- what is left when it has ended
@@ -314,7 +314,7 @@ module _ (b : Batch) (lawful : IsLawful b) (opening : ℕ → List SignalCell) (
           budget =
               let k = g.account in
               let l = refused-filled q g.before p held g.gone in
-              let m : filled added q ≡ filled all q = ap (λ l. filled l q) same in
+              let m : fill_count added q ≡ fill_count all q = ap (λ l. fill_count l q) same in
               let none : length s.stack ≡ 0 = ap length ended.empty in
               omega arith;
           refusals = ap (λ l. refusals l q) same ∙ refused-once q g.before p held g.gone g.going;
@@ -345,13 +345,13 @@ module _ (b : Batch) (lawful : IsLawful b) (opening : ℕ → List SignalCell) (
   -- what a step comes to
   record Comes (plan : Plan) (s : Strand) (spent : Option Point) (t : Step) : Type 0 where
     never : turned_by t ≢ comes.Waits
-    on : turned_by t ≢ comes.Spent → RunsAlone b opening n a old (stepped b plan n s t) spent
-    refusal : turned_by t ≡ comes.Spent → (p : Point) × (spent ≡ None) × (next s ≡ Ask p) × RunsAlone b opening n a old (refused (stepped b plan n s t) s (Ask p)) (Some p)
+    on : turned_by t ≢ comes.Spent → RunsAlone b opening n a old (plan_after b plan n s t) spent
+    refusal : turned_by t ≡ comes.Spent → (p : Point) × (spent ≡ None) × (next s ≡ Ask p) × RunsAlone b opening n a old (plan_refusing (plan_after b plan n s t) s (Ask p)) (Some p)
     ended : turned_by t ≡ comes.NotReady → next s ≡ Done
 
   -- a step that goes on
-  goes : (plan : Plan) (s : Strand) (spent : Option Point) (t : Step) → turned_by t ≢ comes.Waits → turned_by t ≢ comes.Spent → turned_by t ≢ comes.NotReady → RunsAlone b opening n a old (stepped b plan n s t) spent → Comes plan s spent t
-  goes plan s spent t waits refused rests on = record { never = waits; on = λ _. on; refusal = λ e. absurd (refused e); ended = λ e. absurd (rests e) }
+  goes : (plan : Plan) (s : Strand) (spent : Option Point) (t : Step) → turned_by t ≢ comes.Waits → turned_by t ≢ comes.Spent → turned_by t ≢ comes.NotReady → RunsAlone b opening n a old (plan_after b plan n s t) spent → Comes plan s spent t
+  goes plan s spent t waits plan_refusing rests on = record { never = waits; on = λ _. on; refusal = λ e. absurd (plan_refusing e); ended = λ e. absurd (rests e) }
 
   module _ (plan : Plan) (added : List Entry) (s : Strand) (alone : IsAlone b opening n old added s plan) where
     rests : (spent : Option Point) → IsAtPoint b.circuit a added s spent → next s ≡ Done → Comes plan s spent steps.Rest
@@ -403,16 +403,16 @@ module _ (b : Batch) (lawful : IsLawful b) (opening : ℕ → List SignalCell) (
   turns-alone plan spent r =
       let s = r.strand in
       let k : Comes plan s spent (step_at plan (Some s)) = comes-to plan r.added s r.alone spent r.is_at in
-      let turned_is : turned plan n ≡ turned_by (step_at plan (Some s)) = ap (λ o. turned_by (step_at plan o)) r.alone.at in
-      let turn_is : turn b plan n ≡ stepped b plan n s (step_at plan (Some s)) = ap (turn_at b plan n) r.alone.at in
+      let turned_is : turn_outcome plan n ≡ turned_by (step_at plan (Some s)) = ap (λ o. turned_by (step_at plan o)) r.alone.at in
+      let turn_is : turn b plan n ≡ plan_after b plan n s (step_at plan (Some s)) = ap (turn_at b plan n) r.alone.at in
       record {
         never = λ e. k.never (sym turned_is ∙ e);
         on = λ e. subst (λ z. RunsAlone b opening n a old z spent) (sym turn_is) (k.on (λ h. e (turned_is ∙ h)));
         refusal = λ e.
             let m = k.refusal (sym turned_is ∙ e) in
             let spend : step_at plan (Some s) ≡ steps.Spend = is-spend (step_at plan (Some s)) (sym turned_is ∙ e) in
-            let now : slice_get (turn b plan n).strands n ≡ Some (given_up s) = ap (λ z. slice_get z.strands n) (turn_is ∙ ap (stepped b plan n s) spend) ∙ set-here plan.strands n s (given_up s) r.alone.at in
+            let now : slice_get (turn b plan n).strands n ≡ Some (given_up s) = ap (λ z. slice_get z.strands n) (turn_is ∙ ap (plan_after b plan n s) spend) ∙ set-here plan.strands n s (given_up s) r.alone.at in
             let still : next_in false s.roots s.stack ≡ Ask m.0 = subst (λ w. next_in w s.roots s.stack ≡ Ask m.0) (asks-unspent s m.0 m.2) m.2 in
-            (m.0, s, m.1, record { at = r.alone.at; asks = m.2; now = now; still = still }, subst (λ z. RunsAlone b opening n a old (refused z s (Ask m.0)) (Some m.0)) (sym turn_is) m.3);
+            (m.0, s, m.1, record { at = r.alone.at; asks = m.2; now = now; still = still }, subst (λ z. RunsAlone b opening n a old (plan_refusing z s (Ask m.0)) (Some m.0)) (sym turn_is) m.3);
         ended = λ e. ran-alone plan r.added s r.alone (has-ended s (k.ended (sym turned_is ∙ e))) spent r.is_at;
       }

@@ -8,18 +8,18 @@ use Rattle.journal_meaning.proofs.Grown.{added-none}
 use Rattle.batch_meaning.specs.Lawful.{IsLawful}
 use Rattle.strand_meaning.specs.declared.Next.{Next}
 use Rattle.strand_meaning.specs.declared.Next.TheVariants.{Ask, Fill, Drop, Done}
-use Rattle.strand_meaning.specs.Strands.{Frame, Strand, started, next, IsHeld}
+use Rattle.strand_meaning.specs.Strands.{Frame, Strand, started_strand, next, IsOnStack}
 use Rattle.batch_meaning.specs.Pieces.{Start}
 use Rattle.plan_machine.specs.Plans.{Plan, claim_of}
 use Rattle.plan_machine.specs.Steps as steps
 use Rattle.plan_machine.specs.declared.Turned.{Turned}
 use Rattle.plan_machine.specs.declared.Turned.TheVariants as comes
-use Rattle.plan_machine.specs.Steps.{Step, step_at, turned_by, turned, is_turn}
-use Rattle.plan_machine.specs.Turns.{stepped, turn_at, turn}
+use Rattle.plan_machine.specs.Steps.{Step, step_at, turned_by, turn_outcome, is_turn}
+use Rattle.plan_machine.specs.Turns.{plan_after, turn_at, turn}
 use Rattle.plan_machine.specs.Bounds.{all_left}
 use Rattle.plan_machine.specs.Sound.{IsSound}
 use Rattle.plan_machine.specs.Journals.{journals}
-use Rattle.plan_machine.specs.Alone.{refused, alone_step, alone_at, alone_turn, run_alone, RunsAlone, RanAlone, TurnsAlone}
+use Rattle.plan_machine.specs.Alone.{plan_refusing, alone_step, alone_at, alone_turn, run_alone, RunsAlone, RanAlone, TurnsAlone}
 use Rattle.plan_machine.proofs.Measure.{turn-less}
 use Rattle.plan_machine.proofs.Ready.{ready-moves}
 use Rattle.plan_machine.proofs.Underway.{goes-start}
@@ -33,8 +33,8 @@ module _ (b : Batch) (opening : ℕ → List SignalCell) (plan : Plan) (sound : 
       by : (st : List Frame) → r.stack ≡ st → r.stack ≡ []
       by [] e = e
       by (f ∷ fs) e =
-          let held : IsHeld r.stack f.point = subst (λ st. IsHeld st f.point) (sym e) (inl refl) in
-          let claim = sound.linked.held j r f.point at held in
+          let held : IsOnStack r.stack f.point = subst (λ st. IsOnStack st f.point) (sym e) (inl refl) in
+          let claim = sound.linked.on_stack j r f.point at held in
           let none = free f.point in
           absurd (cc (claim, none))
 
@@ -49,10 +49,10 @@ module _ (b : Batch) (opening : ℕ → List SignalCell) (plan : Plan) (sound : 
   ]
 
 module _ (b : Batch) (lawful : IsLawful b) (opening : ℕ → List SignalCell) (n : ℕ) (a : Start) (old : Plan) where
-  pub alone-start : IsSound b opening old → ((p : Point) → claim_of old p ≡ None) → slice_get old.strands n ≡ Some (started b.circuit a) → RunsAlone b opening n a old old None
+  pub alone-start : IsSound b opening old → ((p : Point) → claim_of old p ≡ None) → slice_get old.strands n ≡ Some (started_strand b.circuit a) → RunsAlone b opening n a old old None
   alone-start sound free at = record {
     added = [];
-    strand = started b.circuit a;
+    strand = started_strand b.circuit a;
     alone = record {
       sound = sound;
       at = at;
@@ -64,14 +64,14 @@ module _ (b : Batch) (lawful : IsLawful b) (opening : ℕ → List SignalCell) (
     is_at = goes-start b.circuit a;
   }
 
-  refused-left : (plan : Plan) (s : Strand) (m : Next) → all_left b (refused plan s m) ≡ all_left b plan
+  refused-left : (plan : Plan) (s : Strand) (m : Next) → all_left b (plan_refusing plan s m) ≡ all_left b plan
   refused-left plan s (Ask p) = refl
   refused-left plan s (Fill p) = refl
   refused-left plan s (Drop p) = refl
   refused-left plan s Done = refl
 
   -- a turn that is not Spent is a turn alone
-  not_spent : (plan : Plan) (s : Strand) (t : Step) → turned_by t ≢ comes.Spent → alone_step b plan n s t ≡ stepped b plan n s t
+  not_spent : (plan : Plan) (s : Strand) (t : Step) → turned_by t ≢ comes.Spent → alone_step b plan n s t ≡ plan_after b plan n s t
   not_spent plan s (steps.Tell p x) h = refl
   not_spent plan s (steps.Claim p) h = refl
   not_spent plan s steps.Wait h = refl
@@ -80,27 +80,27 @@ module _ (b : Batch) (lawful : IsLawful b) (opening : ℕ → List SignalCell) (
   not_spent plan s (steps.GiveBack p) h = refl
   not_spent plan s steps.Rest h = refl
 
-  is_spent : (plan : Plan) (s : Strand) (t : Step) (p : Point) → turned_by t ≡ comes.Spent → next s ≡ Ask p → alone_step b plan n s t ≡ refused (stepped b plan n s t) s (Ask p)
+  is_spent : (plan : Plan) (s : Strand) (t : Step) (p : Point) → turned_by t ≡ comes.Spent → next s ≡ Ask p → alone_step b plan n s t ≡ plan_refusing (plan_after b plan n s t) s (Ask p)
   is_spent plan s (steps.Tell p x) r h e = absurd (cc h)
   is_spent plan s (steps.Claim p) r h e = absurd (cc h)
   is_spent plan s steps.Wait r h e = absurd (cc h)
-  is_spent plan s steps.Spend r h e = ap (refused (stepped b plan n s steps.Spend) s) e
+  is_spent plan s steps.Spend r h e = ap (plan_refusing (plan_after b plan n s steps.Spend) s) e
   is_spent plan s (steps.Finish p) r h e = absurd (cc h)
   is_spent plan s (steps.GiveBack p) r h e = absurd (cc h)
   is_spent plan s steps.Rest r h e = absurd (cc h)
 
   -- the turn, by what it came to
-  on-turn : (plan : Plan) (spent : Option Point) → RunsAlone b opening n a old plan spent → turned plan n ≢ comes.Spent → alone_turn b plan n ≡ turn b plan n
+  on-turn : (plan : Plan) (spent : Option Point) → RunsAlone b opening n a old plan spent → turn_outcome plan n ≢ comes.Spent → alone_turn b plan n ≡ turn b plan n
   on-turn plan spent r h =
       let s = r.strand in
       let t = step_at plan (Some s) in
       let at = r.alone.at in
       ap (alone_at b plan n) at ∙ not_spent plan s t (λ e. h (ap (λ o. turned_by (step_at plan o)) at ∙ e)) ∙ sym (ap (turn_at b plan n) at)
 
-  spent-turn : (plan : Plan) (s : Strand) (p : Point) → slice_get plan.strands n ≡ Some s → next s ≡ Ask p → turned plan n ≡ comes.Spent → alone_turn b plan n ≡ refused (turn b plan n) s (Ask p)
+  spent-turn : (plan : Plan) (s : Strand) (p : Point) → slice_get plan.strands n ≡ Some s → next s ≡ Ask p → turn_outcome plan n ≡ comes.Spent → alone_turn b plan n ≡ plan_refusing (turn b plan n) s (Ask p)
   spent-turn plan s p at e h =
       let t = step_at plan (Some s) in
-      ap (alone_at b plan n) at ∙ is_spent plan s t p (sym (ap (λ o. turned_by (step_at plan o)) at) ∙ h) e ∙ ap (λ z. refused z s (Ask p)) (sym (ap (turn_at b plan n) at))
+      ap (alone_at b plan n) at ∙ is_spent plan s t p (sym (ap (λ o. turned_by (step_at plan o)) at) ∙ h) e ∙ ap (λ z. plan_refusing z s (Ask p)) (sym (ap (turn_at b plan n) at))
 
   -- after a turn alone it has ended, or less is left
   record Goes (plan : Plan) : Type 0 where
@@ -125,29 +125,29 @@ module _ (b : Batch) (lawful : IsLawful b) (opening : ℕ → List SignalCell) (
   moved comes.NotReady h = absurd (h refl)
 
   went : (plan : Plan) (spent : Option Point) → RunsAlone b opening n a old plan spent → Went plan spent
-  went plan spent r = by (turned plan n) refl
+  went plan spent r = by (turn_outcome plan n) refl
     where
       k : TurnsAlone b opening n a old plan spent
       k = turns-alone b lawful opening n a old plan spent r
 
-      goes-on : turned plan n ≢ comes.Spent → turned plan n ≢ comes.NotReady → Went plan spent
+      goes-on : turn_outcome plan n ≢ comes.Spent → turn_outcome plan n ≢ comes.NotReady → Went plan spent
       goes-on ns nr =
           let e = on-turn plan spent r ns in
           let l = turn-less b plan n in
-          let m = moved (turned plan n) nr in
+          let m = moved (turn_outcome plan n) nr in
           let c : all_left b (alone_turn b plan n) ≡ all_left b (turn b plan n) = ap (all_left b) e in
           On (record { spent = spent; runs = subst (λ z. RunsAlone b opening n a old z spent) (sym e) (k.on ns); less = omega arith })
 
-      refuses : turned plan n ≡ comes.Spent → Went plan spent
+      refuses : turn_outcome plan n ≡ comes.Spent → Went plan spent
       refuses h =
           let m = k.refusal h in
           let e = spent-turn plan m.1 m.0 m.3.at m.3.asks h in
           let l = turn-less b plan n in
-          let one : is_turn (turned plan n) ≡ 1 = ap is_turn h in
+          let one : is_turn (turn_outcome plan n) ≡ 1 = ap is_turn h in
           let c : all_left b (alone_turn b plan n) ≡ all_left b (turn b plan n) = ap (all_left b) e ∙ refused-left (turn b plan n) m.1 (Ask m.0) in
           On (record { spent = Some m.0; runs = subst (λ z. RunsAlone b opening n a old z (Some m.0)) (sym e) m.4; less = omega arith })
 
-      by : (t : Turned) → turned plan n ≡ t → Went plan spent
+      by : (t : Turned) → turn_outcome plan n ≡ t → Went plan spent
       by comes.Told h = goes-on (λ e. cc (h, e)) (λ e. cc (h, e))
       by comes.Claimed h = goes-on (λ e. cc (h, e)) (λ e. cc (h, e))
       by comes.Waits h = absurd (k.never h)

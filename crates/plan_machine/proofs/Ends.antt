@@ -6,10 +6,10 @@ use Rattle.batch_meaning.specs.Batches.{Batch}
 use Rattle.journal_meaning.proofs.Claims.{cases_point}
 use Rattle.strand_meaning.specs.declared.Next.{Next}
 use Rattle.strand_meaning.specs.declared.Next.TheVariants.{Ask, Fill, Drop, Done}
-use Rattle.strand_meaning.specs.Strands.{Strand, next, heard, awake, dropped, finished}
-use Rattle.plan_machine.specs.Plans.{Plan, asks, woken, itself}
+use Rattle.strand_meaning.specs.Strands.{Strand, next, after_answer, awake, after_drop, after_fill}
+use Rattle.plan_machine.specs.Plans.{Plan, asks, woken_strand, itself}
 use Rattle.plan_machine.specs.Steps.{Finish, GiveBack, step_at}
-use Rattle.plan_machine.specs.Turns.{stepped, turn_at, turn}
+use Rattle.plan_machine.specs.Turns.{plan_after, turn_at, turn}
 use Rattle.plan_machine.specs.Sound.{LetsOut, ClaimEnds}
 use Rattle.plan_machine.proofs.Links.{map-get, set-other}
 
@@ -23,10 +23,10 @@ asks-is p (Drop x) h = absurd (cc h)
 asks-is p Done h = absurd (cc h)
 
 module _ (f : Strand → Strand) (p : Point) (r : Strand) where
-  comes-out : r.waits ≡ true → next r ≡ Ask p → woken f p r ≡ awake (f r)
+  comes-out : r.waits ≡ true → next r ≡ Ask p → woken_strand f p r ≡ awake (f r)
   comes-out w n = let k = and_from r.waits (asks p (next r)) w (asks-itself p (next r) n) in ap (λ t. cond t (awake (f r)) r) k
 
-  stays : (r.waits ≡ true → next r ≢ Ask p) → woken f p r ≡ r
+  stays : (r.waits ≡ true → next r ≢ Ask p) → woken_strand f p r ≡ r
   stays h = elim (cases_Bool (r.waits && asks p (next r))) [
     | inl t ↦ let k = and_parts r.waits (asks p (next r)) t in absurd (h k.0 (asks-is p (next r) k.1))
     | inr t ↦ ap (λ z. cond z (awake (f r)) r) t
@@ -34,22 +34,22 @@ module _ (f : Strand → Strand) (p : Point) (r : Strand) where
 
 module _ (b : Batch) (plan : Plan) (i : ℕ) (p : Point) where
   -- where the strands after the turn are these
-  lets-out : (f : Strand → Strand) → ((j : ℕ) → j ≢ i → slice_get (turn b plan i).strands j ≡ slice_get (map (woken f p) plan.strands) j) → LetsOut b plan i p f
+  lets-out : (f : Strand → Strand) → ((j : ℕ) → j ≢ i → slice_get (turn b plan i).strands j ≡ slice_get (map (woken_strand f p) plan.strands) j) → LetsOut b plan i p f
   lets-out f same = record {
-    woken = λ j r ne at w n. same j ne ∙ map-get (woken f p) plan.strands j r at ∙ ap Some (comes-out f p r w n);
-    others = λ j r ne at h. same j ne ∙ map-get (woken f p) plan.strands j r at ∙ ap Some (stays f p r h);
+    woken = λ j r ne at w n. same j ne ∙ map-get (woken_strand f p) plan.strands j r at ∙ ap Some (comes-out f p r w n);
+    others = λ j r ne at h. same j ne ∙ map-get (woken_strand f p) plan.strands j r at ∙ ap Some (stays f p r h);
   }
 
-  filled-at : (o : Option Strand) → step_at plan o ≡ Finish p → (j : ℕ) → j ≢ i → slice_get (turn_at b plan i o).strands j ≡ slice_get (map (woken heard p) plan.strands) j
+  filled-at : (o : Option Strand) → step_at plan o ≡ Finish p → (j : ℕ) → j ≢ i → slice_get (turn_at b plan i o).strands j ≡ slice_get (map (woken_strand after_answer p) plan.strands) j
   filled-at None e j ne = absurd (cc e)
-  filled-at (Some s) e j ne = ap (λ t. slice_get (stepped b plan i s t).strands j) e ∙ set-other (map (woken heard p) plan.strands) i j (finished s) ne
+  filled-at (Some s) e j ne = ap (λ t. slice_get (plan_after b plan i s t).strands j) e ∙ set-other (map (woken_strand after_answer p) plan.strands) i j (after_fill s) ne
 
-  dropped-at : (o : Option Strand) → step_at plan o ≡ GiveBack p → (j : ℕ) → j ≢ i → slice_get (turn_at b plan i o).strands j ≡ slice_get (map (woken itself p) plan.strands) j
+  dropped-at : (o : Option Strand) → step_at plan o ≡ GiveBack p → (j : ℕ) → j ≢ i → slice_get (turn_at b plan i o).strands j ≡ slice_get (map (woken_strand itself p) plan.strands) j
   dropped-at None e j ne = absurd (cc e)
-  dropped-at (Some s) e j ne = ap (λ t. slice_get (stepped b plan i s t).strands j) e ∙ set-other (map (woken itself p) plan.strands) i j (dropped s) ne
+  dropped-at (Some s) e j ne = ap (λ t. slice_get (plan_after b plan i s t).strands j) e ∙ set-other (map (woken_strand itself p) plan.strands) i j (after_drop s) ne
 
   pub claim-ends : ClaimEnds b plan i p
   claim-ends = record {
-    filled = λ e. lets-out heard (filled-at (slice_get plan.strands i) e);
+    filled = λ e. lets-out after_answer (filled-at (slice_get plan.strands i) e);
     dropped = λ e. lets-out itself (dropped-at (slice_get plan.strands i) e);
   }

@@ -27,7 +27,7 @@ use Rattle.plan_machine.specs.declared.Turned.{Turned}
 use Rattle.plan_machine.specs.declared.Turned.TheVariants.{Claimed, Waits, Spent, Filled, Dropped, NotReady}
 use Rattle.plan_machine.specs.Shards.{Shard, IsShard}
 use Rattle.plan_machine.specs.Plans.{Plan, no_shard, new_plan, ready}
-use Rattle.plan_machine.specs.Steps.{turned}
+use Rattle.plan_machine.specs.Steps.{turn_outcome}
 use Rattle.plan_machine.specs.Turns.{turn, run, turns}
 use Rattle.plan_machine.specs.Bounds.{bound}
 use Rattle.plan_machine.specs.Alone.{run_alone}
@@ -68,7 +68,7 @@ shard p = get_or p.shards 0 no_shard
 -- what the turns of a schedule come to
 abbrev all_turned : Batch → Plan → List ℕ → List Turned
 all_turned b p [] = []
-all_turned b p (i ∷ is) = turned p i ∷ all_turned b (turn b p i) is
+all_turned b p (i ∷ is) = turn_outcome p i ∷ all_turned b (turn b p i) is
 
 -- Two queries for two points of one cell: y, which is 1, is a buffer of a.
 abbrev buffer : Circuit
@@ -102,7 +102,7 @@ alike-ready : ready alike_end ≡ []
 unfolding asked_children roots_from children value span row_at rows_below last_setting next_setting least_delay
 alike-ready = refl
 
-alike-ended : turned alike_end 0 ≡ NotReady
+alike-ended : turn_outcome alike_end 0 ≡ NotReady
 unfolding asked_children roots_from children value span row_at rows_below last_setting next_setting least_delay
 alike-ended = refl
 

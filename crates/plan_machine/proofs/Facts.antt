@@ -10,18 +10,18 @@ use Rattle.batch_meaning.specs.Batches.{Batch}
 use Rattle.valid_intervals.specs.Cells.{stored_at}
 use Rattle.plan_machine.specs.Plans.{Plan, shard_of, claim_of}
 use Rattle.plan_machine.specs.Steps.{Step, Tell, Claim, Wait, Spend, Finish, GiveBack, Rest, claim_step, ask_step, next_step, step_at, step}
-use Rattle.plan_machine.specs.Turns.{stepped, turn_at, turn}
+use Rattle.plan_machine.specs.Turns.{plan_after, turn_at, turn}
 
 -- the turn of strand i, which is s
 pub record IsTurn (b : Batch) (plan : Plan) (i : ℕ) (s : Strand) (t : Step) : Type 0 where
   pub step : step plan i ≡ t
-  pub turn : turn b plan i ≡ stepped b plan i s t
+  pub turn : turn b plan i ≡ plan_after b plan i s t
 
 module _ (b : Batch) (plan : Plan) (i : ℕ) (s : Strand) (at : slice_get plan.strands i ≡ Some s) where
   is-turn : (t : Step) → step_at plan (Some s) ≡ t → IsTurn b plan i s t
   is-turn t e = record {
     step = ap (step_at plan) at ∙ e;
-    turn = ap (turn_at b plan i) at ∙ ap (stepped b plan i s) e;
+    turn = ap (turn_at b plan i) at ∙ ap (plan_after b plan i s) e;
   }
 
   module _ (ready : s.waits ≡ false) where

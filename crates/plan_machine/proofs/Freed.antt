@@ -20,10 +20,10 @@ use Rattle.journal_meaning.proofs.Lists.{Each, each-imply}
 use Rattle.journal_meaning.proofs.Grown.{added-each, added-more, count-none, refusals-more, legal-home}
 use Rattle.batch_meaning.specs.Lawful.{IsLawful}
 use Rattle.circuit_meaning.specs.Circuit.{Circuit}
-use Rattle.plan_machine.specs.Shards.{Shard, IsShard, recorded}
+use Rattle.plan_machine.specs.Shards.{Shard, IsShard, shard_with_entry}
 use Rattle.plan_machine.specs.Plans.{no_shard}
 use Rattle.plan_machine.specs.Sound.{IsFresh}
-use Rattle.plan_machine.specs.Settle.{journals_of, entries_in, IsSettled, AreAllSettled, AreSettled, IsOrder, drop_of, freed, AreFreed, AreShards, AreAnswered, IsAnswered}
+use Rattle.plan_machine.specs.Settle.{journals_of, entries_in, IsSettled, AreAllSettled, AreSettled, IsOrder, drop_of, shard_without, AreFreed, AreShards, AreAnswered, IsAnswered}
 use Rattle.plan_machine.specs.inner.Settle.{IsDrop}
 use Rattle.plan_machine.specs.Settling.{settle}
 use Rattle.plan_machine.proofs.Shards.{dropped-shard}
@@ -37,12 +37,12 @@ module _ (b : Batch) (n : ℕ) (opening : List SignalCell) where
   claims-ours h is = subst (λ s. Each (λ c. Ours b n c.query c.point) s.claims) (sym is.state) (claims_ours b n h.journal (states.fresh opening) tt is.legal)
 
   -- what is left to be dropped
-  order-rest : (h : Shard) (c : Claim) (order : List Claim) → IsOrder h.state.claims (c ∷ order) → IsOrder (recorded (drop_of c) h).state.claims order
+  order-rest : (h : Shard) (c : Claim) (order : List Claim) → IsOrder h.state.claims (c ∷ order) → IsOrder (shard_with_entry (drop_of c) h).state.claims order
   order-rest h c order o =
       let first : All (λ d. c.point ≢ d.point) order = λ k d l. o.different 0 (suc k) d (omega arith) (omega arith) in
       let apart : Each (λ d. c.point ≢ d.point) order = recursion_from_All (λ (d : Claim). c.point ≢ d.point) order first in
       record {
-        held = still order apart o.held.1;
+        claimed = still order apart o.claimed.1;
         different = λ i j d l m. o.different (suc i) (suc j) d (omega arith) (omega arith);
         all = λ p q h. elim (cases_point p c.point) [
           | inl e ↦ let none : holder (without_point claims c.point) p ≡ None = ap (holder (without_point claims c.point)) e.1 ∙ holder-without claims c.point in absurd (cc (none, h))
@@ -68,7 +68,7 @@ module _ (b : Batch) (n : ℕ) (opening : List SignalCell) where
     journal : new.journal ≡ h.journal ++ map drop_of order
     home : Each (IsHome b.shards n) (map drop_of order)
 
-  frees : (order : List Claim) (h : Shard) → IsShard b n opening h → IsOrder h.state.claims order → IsFree order h (freed order h)
+  frees : (order : List Claim) (h : Shard) → IsShard b n opening h → IsOrder h.state.claims order → IsFree order h (shard_without order h)
   frees [] h is o = record {
     shard = is;
     claims = none_ours b n h.state.claims (claims-ours h is) (λ p at. by p (holder h.state.claims p) refl);
@@ -80,9 +80,9 @@ module _ (b : Batch) (n : ℕ) (opening : List SignalCell) where
       by p None e = e
       by p (Some q) e = let k = o.all p q e in absurd (contains-none k.0 [] refl k.1)
   frees (c ∷ order) h is o =
-      let ours = holder-each (Ours b n) h.state.claims c.point c.query (claims-ours h is) o.held.0 in
-      let next = recorded (drop_of c) h in
-      let here : IsShard b n opening next = dropped-shard b n opening h is c.query c.point ours.0 (ours.1.0, ours.1.1, ours.1.2, tt) o.held.0 in
+      let ours = holder-each (Ours b n) h.state.claims c.point c.query (claims-ours h is) o.claimed.0 in
+      let next = shard_with_entry (drop_of c) h in
+      let here : IsShard b n opening next = dropped-shard b n opening h is c.query c.point ours.0 (ours.1.0, ours.1.1, ours.1.2, tt) o.claimed.0 in
       let more = frees order next here (order-rest h c order o) in
       record {
         shard = more.shard;

@@ -9,13 +9,13 @@ use Rattle.valid_intervals.specs.Cells.{same_point}
 use Rattle.circuit_meaning.specs.Circuit.{Circuit, IsCircuit}
 use Rattle.journal_meaning.specs.declared.Entry.{Entry}
 use Rattle.journal_meaning.specs.declared.Entry.TheVariants.{Filled, Dropped, Spent}
-use Rattle.journal_meaning.specs.Answers.{is_of, last_of, is_fill_of, filled}
+use Rattle.journal_meaning.specs.Answers.{is_of, last_of, is_fill_of, fill_count}
 use Rattle.journal_meaning.specs.Grown.{IsFor, is_spent_of, refusals}
 use Rattle.journal_meaning.proofs.Same.{same_point-itself}
 use Rattle.journal_meaning.proofs.Claims.{cases_point}
 use Rattle.journal_meaning.proofs.Lists.{Each, Differ, each-append, each-left, pairs_to}
 use Rattle.journal_meaning.proofs.Grown.{last-append, last-none, count-append, count-none}
-use Rattle.strand_meaning.specs.Strands.{Frame, Strand, asked_children, rest, given_up, dropped, IsHeld, left_in, IsFirst, IsChain}
+use Rattle.strand_meaning.specs.Strands.{Frame, Strand, asked_children, rest, given_up, after_drop, IsOnStack, left_in, IsFirst, IsChain}
 use Rattle.batch_meaning.specs.Pieces.{Start}
 use Rattle.strand_meaning.proofs.Stacks.{IsTop, length-rest, earlier}
 use Rattle.plan_machine.specs.Alone.{AreFed, IsUnspent, points_on, drops, IsUnderWay, IsGivingUp}
@@ -27,7 +27,7 @@ differ-left (x ∷ xs) ys d = (each-left (λ y. x ≢ y) xs ys d.0, differ-left 
 
 -- the points on a stack are different from each other, and from what is asked for
 module _ (c : Circuit) (ok : IsCircuit c) where
-  later : (st : List Frame) (p : Point) → ((x : Point) → IsHeld st x → p.time < x.time) → Each (λ y. p ≢ y) (points_on st)
+  later : (st : List Frame) (p : Point) → ((x : Point) → IsOnStack st x → p.time < x.time) → Each (λ y. p ≢ y) (points_on st)
   later [] p h = tt
   later (f ∷ fs) p h =
       ((λ e. let k = h f.point (inl refl) in let t : p.time ≡ f.point.time = ap (λ (x : Point). x.time) e in absurd (omega arith)), later fs p (λ x k. h x (inr k)))
@@ -92,7 +92,7 @@ module _ (q : ℕ) where
     pub gone-last : (x : Point) → Contains gone x → last_of all q x ≡ Some (Dropped q x)
     gone-last x h = tail x ∙ ap (λ o. option_or (option_or o (one x (Spent q p held))) (last_of before q x)) (dropped-last gone x h)
 
-    pub refused-filled : filled all q ≡ filled before q
+    pub refused-filled : fill_count all q ≡ fill_count before q
     refused-filled =
         let k = count-append (is_fill_of q) before (Spent q p held ∷ drops q gone) in
         let l = none-filled q (Spent q p held ∷ drops q gone) (tt, drops-each IsNoFill (λ x. tt) gone) in
@@ -136,7 +136,7 @@ starts-giving_up c ok a added s p u chain first full = record {
 }
 
 -- it drops its top
-pub goes-dropped : (c : Circuit) (a : Start) (p : Point) (added : List Entry) (s : Strand) (x : Point) → IsTop s.stack x → IsGivingUp c a p added s → IsGivingUp c a p (added ++ Dropped a.query.number x ∷ []) (dropped s)
+pub goes-dropped : (c : Circuit) (a : Start) (p : Point) (added : List Entry) (s : Strand) (x : Point) → IsTop s.stack x → IsGivingUp c a p added s → IsGivingUp c a p (added ++ Dropped a.query.number x ∷ []) (after_drop s)
 goes-dropped c a p added s x top g =
     let q = a.query.number in
     let held : length (g.gone ++ x ∷ []) + length (rest s.stack) ≡ length g.gone + length s.stack = let k = length-append g.gone (x ∷ []) in let l = length-rest s.stack x top in omega arith in

@@ -16,12 +16,12 @@ use Rattle.journal_meaning.specs.inner.Grown.{IsHome, AreHome}
 use Rattle.journal_meaning.proofs.Lists.{Each, each-append}
 use Rattle.journal_meaning.proofs.Grown.{added-one, added-none, added-more, legal-home}
 use Rattle.batch_meaning.specs.Lawful.{IsLawful}
-use Rattle.strand_meaning.specs.Strands.{Strand, heard, awake}
-use Rattle.plan_machine.specs.Shards.{Shard, recorded, evicted, with_room, filled_shard}
-use Rattle.plan_machine.specs.Plans.{Plan, no_shard, home, shard_of, woken, itself}
+use Rattle.strand_meaning.specs.Strands.{Strand, after_answer, awake}
+use Rattle.plan_machine.specs.Shards.{Shard, shard_with_entry, shard_without_cell, with_room, filled_shard}
+use Rattle.plan_machine.specs.Plans.{Plan, no_shard, home, shard_of, woken_strand, itself}
 use Rattle.plan_machine.specs.Steps as steps
 use Rattle.plan_machine.specs.Steps.{Step, step_at}
-use Rattle.plan_machine.specs.Turns.{stepped, turn_at, turn, run}
+use Rattle.plan_machine.specs.Turns.{plan_after, turn_at, turn, run}
 use Rattle.plan_machine.specs.Sound.{IsSound}
 use Rattle.plan_machine.specs.Journals.{journals, eviction, evictions_for, entries_of, added_at, added_by, TurnAdds, SameTask, SameTasks}
 use Rattle.plan_machine.proofs.Links.{IsChange, one-change, all-change}
@@ -36,11 +36,11 @@ journal-at shards k = get_or-map (λ (h : Shard). h.journal) shards k no_shard
 pub room-journal : (capacity : ℕ) (x : SignalCell) (h : Shard) → (with_room capacity x h).journal ≡ h.journal ++ evictions_for capacity x h
 room-journal capacity x h = by (not (is_stored x h.state.cells) && nat_eq (length h.state.cells) capacity)
   where
-    evicts : (o : Option SignalCell) → (evicted o h).journal ≡ h.journal ++ eviction o
+    evicts : (o : Option SignalCell) → (shard_without_cell o h).journal ≡ h.journal ++ eviction o
     evicts None = sym (append-nil h.journal)
     evicts (Some y) = refl
 
-    by : (t : Bool) → (cond t (evicted (last_cell h.state.cells) h) h).journal ≡ h.journal ++ cond t (eviction (last_cell h.state.cells)) []
+    by : (t : Bool) → (cond t (shard_without_cell (last_cell h.state.cells) h) h).journal ≡ h.journal ++ cond t (eviction (last_cell h.state.cells)) []
     by true = evicts (last_cell h.state.cells)
     by false = sym (append-nil h.journal)
 
@@ -105,20 +105,20 @@ module _ (b : Batch) (lawful : IsLawful b) (opening : ℕ → List SignalCell) (
       subst (AreAdded lists more) (sym new) (added-one lists journals-home (home plan p) low more homes)
 
   module _ (i : ℕ) (s : Strand) where
-    told-added : (p : Point) (x : SignalCell) → AreAdded (journals plan) (entries_of b plan s (steps.Tell p x)) (journals (stepped b plan i s (steps.Tell p x)))
-    told-added p x = shard-added p (recorded (Told s.query.number p x.cell) (shard_of plan p)) (Told s.query.number p x.cell ∷ []) refl (refl, tt)
+    told-added : (p : Point) (x : SignalCell) → AreAdded (journals plan) (entries_of b plan s (steps.Tell p x)) (journals (plan_after b plan i s (steps.Tell p x)))
+    told-added p x = shard-added p (shard_with_entry (Told s.query.number p x.cell) (shard_of plan p)) (Told s.query.number p x.cell ∷ []) refl (refl, tt)
 
-    claimed-added : (p : Point) → AreAdded (journals plan) (entries_of b plan s (steps.Claim p)) (journals (stepped b plan i s (steps.Claim p)))
-    claimed-added p = shard-added p (recorded (Claimed s.query.number p) (shard_of plan p)) (Claimed s.query.number p ∷ []) refl (refl, tt)
+    claimed-added : (p : Point) → AreAdded (journals plan) (entries_of b plan s (steps.Claim p)) (journals (plan_after b plan i s (steps.Claim p)))
+    claimed-added p = shard-added p (shard_with_entry (Claimed s.query.number p) (shard_of plan p)) (Claimed s.query.number p ∷ []) refl (refl, tt)
 
-    filled-added : (p : Point) → AreAdded (journals plan) (entries_of b plan s (steps.Finish p)) (journals (stepped b plan i s (steps.Finish p)))
+    filled-added : (p : Point) → AreAdded (journals plan) (entries_of b plan s (steps.Finish p)) (journals (plan_after b plan i s (steps.Finish p)))
     filled-added p = shard-added p (filled_shard b.capacity s.query.number p (cell_at b.circuit p) (shard_of plan p)) (entries_of b plan s (steps.Finish p)) (filled-journal b plan s p)
         (filled-entries (IsHome b.shards (p.signal % b.shards)) (λ _ _. tt) b plan s p refl)
 
-    dropped-added : (p : Point) → AreAdded (journals plan) (entries_of b plan s (steps.GiveBack p)) (journals (stepped b plan i s (steps.GiveBack p)))
-    dropped-added p = shard-added p (recorded (Dropped s.query.number p) (shard_of plan p)) (Dropped s.query.number p ∷ []) refl (refl, tt)
+    dropped-added : (p : Point) → AreAdded (journals plan) (entries_of b plan s (steps.GiveBack p)) (journals (plan_after b plan i s (steps.GiveBack p)))
+    dropped-added p = shard-added p (shard_with_entry (Dropped s.query.number p) (shard_of plan p)) (Dropped s.query.number p ∷ []) refl (refl, tt)
 
-    pub step-added : (t : Step) → AreAdded (journals plan) (entries_of b plan s t) (journals (stepped b plan i s t))
+    pub step-added : (t : Step) → AreAdded (journals plan) (entries_of b plan s t) (journals (plan_after b plan i s t))
     step-added (steps.Tell p x) = told-added p x
     step-added (steps.Claim p) = claimed-added p
     step-added steps.Wait = added-none (journals plan)
@@ -184,18 +184,18 @@ module _ (plan : Plan) (i : ℕ) (s : Strand) (at : slice_get plan.strands i ≡
   one-task : (shards : List Shard) (t : Strand) → SameTask s t → SameTasks plan (record { strands = slice_set plan.strands i t; shards = shards })
   one-task shards t one = changed-tasks shards (slice_set plan.strands i t) t (λ o. o) (length-set plan.strands i t) (one-change plan.strands i s t at) one same-task
 
-  all-tasks : (shards : List Shard) (t : Strand) (f : Strand → Strand) (p : Point) → SameTask s t → ((o : Strand) → SameTask o (f o)) → SameTasks plan (record { strands = slice_set (map (woken f p) plan.strands) i t; shards = shards })
+  all-tasks : (shards : List Shard) (t : Strand) (f : Strand → Strand) (p : Point) → SameTask s t → ((o : Strand) → SameTask o (f o)) → SameTasks plan (record { strands = slice_set (map (woken_strand f p) plan.strands) i t; shards = shards })
   all-tasks shards t f p one all =
       let out = λ (o : Strand). let k = all o in let z : SameTask o (awake (f o)) = record { query = k.query; budget = k.budget } in z in
-      changed-tasks shards (slice_set (map (woken f p) plan.strands) i t) t (woken f p) (length-set (map (woken f p) plan.strands) i t ∙ length-map plan.strands (woken f p)) (all-change (woken f p) plan.strands i s t at) one
+      changed-tasks shards (slice_set (map (woken_strand f p) plan.strands) i t) t (woken_strand f p) (length-set (map (woken_strand f p) plan.strands) i t ∙ length-map plan.strands (woken_strand f p)) (all-change (woken_strand f p) plan.strands i s t at) one
       (λ o. woken-cases f p o (SameTask o) (out o) (same-task o))
 
-  step-tasks : (b : Batch) (t : Step) → SameTasks plan (stepped b plan i s t)
+  step-tasks : (b : Batch) (t : Step) → SameTasks plan (plan_after b plan i s t)
   step-tasks b (steps.Tell p x) = one-task _ _ (record { query = refl; budget = refl })
   step-tasks b (steps.Claim p) = one-task _ _ (record { query = refl; budget = refl })
   step-tasks b steps.Wait = one-task _ _ (record { query = refl; budget = refl })
   step-tasks b steps.Spend = one-task _ _ (record { query = refl; budget = refl })
-  step-tasks b (steps.Finish p) = all-tasks _ _ heard p (record { query = refl; budget = refl }) (λ o. record { query = refl; budget = refl })
+  step-tasks b (steps.Finish p) = all-tasks _ _ after_answer p (record { query = refl; budget = refl }) (λ o. record { query = refl; budget = refl })
   step-tasks b (steps.GiveBack p) = all-tasks _ _ itself p (record { query = refl; budget = refl }) (λ o. record { query = refl; budget = refl })
   step-tasks b steps.Rest = same-tasks plan
 

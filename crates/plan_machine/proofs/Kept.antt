@@ -10,7 +10,7 @@ use Rattle.strand_meaning.specs.declared.Next.TheVariants.{Ask}
 use Rattle.valid_intervals.specs.Cells.{same_point}
 use Rattle.strand_meaning.specs.Strands.{Strand, next, waiting, awake}
 use Rattle.plan_machine.specs.Shards.{Shard}
-use Rattle.plan_machine.specs.Plans.{Plan, no_shard, shard_of, woken, with_shard}
+use Rattle.plan_machine.specs.Plans.{Plan, no_shard, shard_of, woken_strand, with_shard}
 use Rattle.plan_machine.specs.inner.Parts.{NumberedStrand, IsAmong, AreParts, put_back, with_waiters, strands_from}
 use Rattle.plan_machine.specs.inner.KeptPlans.{Parked, WaitedShard, no_waited_shard, waiting_at, waited_shard_at, waiters, all_waiters, shards_of, plan_of, IsKeptPlan}
 use Rattle.journal_meaning.proofs.Claims.{cases_point}
@@ -171,7 +171,7 @@ module _ (places : List (Option Strand)) (memos : List WaitedShard) (xs : List S
   pub kept-wake : (f : Strand → Strand) → ((o : Strand) → o.waits ≡ false → (f o).waits ≡ false) → ((o : Strand) → o.waits ≡ false → awake (f (waiting o)) ≡ f o) → (t : Strand) (m : WaitedShard) → t.waits ≡ false
       → waiting_at m.parked p ≡ [] → ((x : Point) → (p ≡ x → ⊥) → waiting_at m.parked x ≡ waiting_at (waited_shard_at memos p).parked x)
       → AllByRecursion (λ (k : Parked). k.point.signal % length memos ≡ p.signal % length memos) m.parked
-      → IsKeptPlan (slice_set (put_back f places (waiters memos p)) i (Some t)) (slice_set memos (p.signal % length memos) m) (slice_set (map (woken f p) xs) i t)
+      → IsKeptPlan (slice_set (put_back f places (waiters memos p)) i (Some t)) (slice_set memos (p.signal % length memos) m) (slice_set (map (woken_strand f p) xs) i t)
   unfolding next_memos
   kept-wake f quiet fits t m calm here other home =
       let back = put_back f places (waiters memos p) in
@@ -185,8 +185,8 @@ module _ (places : List (Option Strand)) (memos : List WaitedShard) (xs : List S
       ] in
       record {
         some = rw (length-set memos (p.signal % length memos) m) kept.some;
-        parts = same-parts (slice_set back i (Some t)) (waiters (slice_set memos (p.signal % length memos) m)) (with_waiters (waiters memos) p []) (slice_set (map (woken f p) xs) i t)
+        parts = same-parts (slice_set back i (Some t)) (waiters (slice_set memos (p.signal % length memos) m)) (with_waiters (waiters memos) p []) (slice_set (map (woken_strand f p) xs) i t)
             (waiters-after memos p m kept.some [] here other)
-            (put-parts back (with_waiters (waiters memos) p []) (map (woken f p) xs) woke i s there t calm);
+            (put-parts back (with_waiters (waiters memos) p []) (map (woken_strand f p) xs) woke i s there t calm);
         homes = homes-after memos p m kept.some kept.homes home;
       }

@@ -3,7 +3,7 @@ use Rattle.std.proofs.Common.{◌≡◌, ℕ, zero, suc, ◌⊎◌, true, List, 
 use Rattle.std.proofs.lemmas.Bool.{cases_eq}
 use Rattle.valid_intervals.specs.declared.Point.{Point}
 use Rattle.strand_meaning.specs.declared.Next.TheVariants.{Ask}
-use Rattle.strand_meaning.specs.Strands.{Strand, next, IsHeld}
+use Rattle.strand_meaning.specs.Strands.{Strand, next, IsOnStack}
 use Rattle.plan_machine.specs.Sound.{AreLinked}
 
 -- the strands ys are xs, where strand i, which was s, is now b, and f was done to each other strand
@@ -59,33 +59,33 @@ Waits claim s = (p : Point) × ((q : ℕ) × ((next s ≡ Ask p) × (claim p ≡
 pub record IsLinking (old new : Point → Option ℕ) (xs : List Strand) (i : ℕ) (s b : Strand) (f : Strand → Strand) : Type 0 where
   pub query : b.query ≡ s.query
   pub queries : (o : Strand) → (f o).query ≡ o.query
-  pub same : (o : Strand) (x : Point) → IsHeld (f o).stack x → IsHeld o.stack x
-  pub still : (o : Strand) (x : Point) → IsHeld o.stack x → IsHeld (f o).stack x
-  pub own : (x : Point) → IsHeld b.stack x → new x ≡ Some s.query.number
-  pub alone : (x : Point) (j : ℕ) (o : Strand) → IsHeld b.stack x → slice_get xs j ≡ Some o → IsHeld o.stack x → j ≡ i
-  pub others : (x : Point) (j : ℕ) (o : Strand) → (j ≡ i → ⊥) → slice_get xs j ≡ Some o → IsHeld o.stack x → new x ≡ old x
-  pub from : (x : Point) (q : ℕ) → new x ≡ Some q → IsHeld b.stack x ⊎ ((old x ≡ Some q) × (IsHeld s.stack x → IsHeld b.stack x))
+  pub same : (o : Strand) (x : Point) → IsOnStack (f o).stack x → IsOnStack o.stack x
+  pub still : (o : Strand) (x : Point) → IsOnStack o.stack x → IsOnStack (f o).stack x
+  pub own : (x : Point) → IsOnStack b.stack x → new x ≡ Some s.query.number
+  pub alone : (x : Point) (j : ℕ) (o : Strand) → IsOnStack b.stack x → slice_get xs j ≡ Some o → IsOnStack o.stack x → j ≡ i
+  pub others : (x : Point) (j : ℕ) (o : Strand) → (j ≡ i → ⊥) → slice_get xs j ≡ Some o → IsOnStack o.stack x → new x ≡ old x
+  pub from : (x : Point) (q : ℕ) → new x ≡ Some q → IsOnStack b.stack x ⊎ ((old x ≡ Some q) × (IsOnStack s.stack x → IsOnStack b.stack x))
   pub waits : b.waits ≡ true → Waits new b
   pub wait : (j : ℕ) (o : Strand) → (j ≡ i → ⊥) → slice_get xs j ≡ Some o → (f o).waits ≡ true → Waits new (f o)
 
 module _ (old new : Point → Option ℕ) (xs ys : List Strand) (i : ℕ) (s b : Strand) (f : Strand → Strand)
     (links : AreLinked old xs) (change : IsChange xs ys i s b f) (l : IsLinking old new xs i s b f) where
-  held-after : (j : ℕ) (r : Strand) (p : Point) → slice_get ys j ≡ Some r → IsHeld r.stack p → new p ≡ Some r.query.number
+  held-after : (j : ℕ) (r : Strand) (p : Point) → slice_get ys j ≡ Some r → IsOnStack r.stack p → new p ≡ Some r.query.number
   held-after j r p at h = elim (cases_eq j i) [
     | inl e ↦
         let now : slice_get ys j ≡ Some b = subst (λ k. slice_get ys k ≡ Some b) (sym e) change.now in
         let same : b ≡ r = cc in
-        let k : IsHeld b.stack p = subst (λ (z : Strand). IsHeld z.stack p) (sym same) h in
+        let k : IsOnStack b.stack p = subst (λ (z : Strand). IsOnStack z.stack p) (sym same) h in
         let q : b.query ≡ r.query = ap (λ (z : Strand). z.query) same in
         l.own p k ∙ ap (λ z. Some z.number) (sym l.query ∙ q)
     | inr ne ↦
         let o = change.back j r ne at in
-        let k : IsHeld o.0.stack p = l.same o.0 p (subst (λ (z : Strand). IsHeld z.stack p) o.1.1 h) in
+        let k : IsOnStack o.0.stack p = l.same o.0 p (subst (λ (z : Strand). IsOnStack z.stack p) o.1.1 h) in
         let q : r.query ≡ o.0.query = ap (λ (z : Strand). z.query) o.1.1 ∙ l.queries o.0 in
-        l.others p j o.0 ne o.1.0 k ∙ links.held j o.0 p o.1.0 k ∙ ap (λ z. Some z.number) (sym q)
+        l.others p j o.0 ne o.1.0 k ∙ links.on_stack j o.0 p o.1.0 k ∙ ap (λ z. Some z.number) (sym q)
   ]
 
-  holder-after : (p : Point) (q : ℕ) → new p ≡ Some q → (j : ℕ) × ((r : Strand) × ((slice_get ys j ≡ Some r) × IsHeld r.stack p))
+  holder-after : (p : Point) (q : ℕ) → new p ≡ Some q → (j : ℕ) × ((r : Strand) × ((slice_get ys j ≡ Some r) × IsOnStack r.stack p))
   holder-after p q h = elim (l.from p q h) [
     | inl k ↦ (i, (b, (change.now, k)))
     | inr k ↦
@@ -95,26 +95,26 @@ module _ (old new : Point → Option ℕ) (xs ys : List Strand) (i : ℕ) (s b :
               let was : slice_get xs o.0 ≡ Some s = subst (λ j. slice_get xs j ≡ Some s) (sym e) change.was in
               let at : slice_get xs o.0 ≡ Some o.1.0 = o.1.1.0 in
               let same : o.1.0 ≡ s = cc (was, at) in
-              (i, (b, (change.now, k.1 (subst (λ (z : Strand). IsHeld z.stack p) same o.1.1.1))))
+              (i, (b, (change.now, k.1 (subst (λ (z : Strand). IsOnStack z.stack p) same o.1.1.1))))
           | inr ne ↦ (o.0, (f o.1.0, (change.forth o.0 o.1.0 ne o.1.1.0, l.still o.1.0 p o.1.1.1)))
         ]
   ]
 
-  alone-after : (j : ℕ) (r : Strand) (p : Point) → IsHeld b.stack p → slice_get ys j ≡ Some r → IsHeld r.stack p → j ≡ i
+  alone-after : (j : ℕ) (r : Strand) (p : Point) → IsOnStack b.stack p → slice_get ys j ≡ Some r → IsOnStack r.stack p → j ≡ i
   alone-after j r p hb at h = elim (cases_eq j i) [
     | inl e ↦ e
     | inr ne ↦
         let o = change.back j r ne at in
-        l.alone p j o.0 hb o.1.0 (l.same o.0 p (subst (λ (z : Strand). IsHeld z.stack p) o.1.1 h))
+        l.alone p j o.0 hb o.1.0 (l.same o.0 p (subst (λ (z : Strand). IsOnStack z.stack p) o.1.1 h))
   ]
 
-  is-now : (j : ℕ) (r : Strand) (p : Point) → j ≡ i → slice_get ys j ≡ Some r → IsHeld r.stack p → IsHeld b.stack p
+  is-now : (j : ℕ) (r : Strand) (p : Point) → j ≡ i → slice_get ys j ≡ Some r → IsOnStack r.stack p → IsOnStack b.stack p
   is-now j r p e at h =
       let now : slice_get ys j ≡ Some b = subst (λ k. slice_get ys k ≡ Some b) (sym e) change.now in
       let same : r ≡ b = cc in
-      subst (λ (z : Strand). IsHeld z.stack p) same h
+      subst (λ (z : Strand). IsOnStack z.stack p) same h
 
-  once-after : (j k : ℕ) (r t : Strand) (p : Point) → slice_get ys j ≡ Some r → slice_get ys k ≡ Some t → IsHeld r.stack p → IsHeld t.stack p → j ≡ k
+  once-after : (j k : ℕ) (r t : Strand) (p : Point) → slice_get ys j ≡ Some r → slice_get ys k ≡ Some t → IsOnStack r.stack p → IsOnStack t.stack p → j ≡ k
   once-after j k r t p ar at hr ht = elim (cases_eq j i) [
     | inl e ↦ e ∙ sym (alone-after k t p (is-now j r p e ar hr) at ht)
     | inr ne ↦ elim (cases_eq k i) [
@@ -122,7 +122,7 @@ module _ (old new : Point → Option ℕ) (xs ys : List Strand) (i : ℕ) (s b :
       | inr nk ↦
           let o = change.back j r ne ar in
           let w = change.back k t nk at in
-          links.once j k o.0 w.0 p o.1.0 w.1.0 (l.same o.0 p (subst (λ (z : Strand). IsHeld z.stack p) o.1.1 hr)) (l.same w.0 p (subst (λ (z : Strand). IsHeld z.stack p) w.1.1 ht))
+          links.once j k o.0 w.0 p o.1.0 w.1.0 (l.same o.0 p (subst (λ (z : Strand). IsOnStack z.stack p) o.1.1 hr)) (l.same w.0 p (subst (λ (z : Strand). IsOnStack z.stack p) w.1.1 ht))
     ]
   ]
 
@@ -138,4 +138,4 @@ module _ (old new : Point → Option ℕ) (xs ys : List Strand) (i : ℕ) (s b :
   ]
 
   pub linked-after : AreLinked new ys
-  linked-after = record { held = held-after; holder = holder-after; once = once-after; waiting = waiting-after }
+  linked-after = record { on_stack = held-after; holder = holder-after; once = once-after; waiting = waiting-after }

@@ -7,7 +7,7 @@ use Rattle.valid_intervals.specs.declared.Point.{Point}
 use Rattle.circuit_meaning.specs.declared.Window.{Window}
 use Rattle.circuit_meaning.specs.Circuit.{Circuit}
 use Rattle.circuit_meaning.specs.Cells.{span}
-use Rattle.strand_meaning.specs.Strands.{Strand, IsHeld, started, is_evaluable, roots_from, IsStrand}
+use Rattle.strand_meaning.specs.Strands.{Strand, IsOnStack, started_strand, is_evaluable, roots_from, IsStrand}
 use Rattle.batch_meaning.specs.Pieces.{Start, piece, IsStart}
 use Rattle.valid_intervals.specs.declared.SignalCell.{SignalCell}
 use Rattle.journal_meaning.specs.States.{holder}
@@ -36,23 +36,23 @@ record IsNewStrand (b : Batch) (s : Strand) : Type 0 where
   empty : s.stack ≡ []
   quiet : s.waits ≡ false
 
-new-strands : (b : Batch) (starts : List Start) → AllByRecursion (IsStart b) starts → (i : ℕ) (s : Strand) → slice_get (map (started b.circuit) starts) i ≡ Some s → IsNewStrand b s
+new-strands : (b : Batch) (starts : List Start) → AllByRecursion (IsStart b) starts → (i : ℕ) (s : Strand) → slice_get (map (started_strand b.circuit) starts) i ≡ Some s → IsNewStrand b s
 new-strands b [] h i s at = absurd (cc at)
 new-strands b (a ∷ starts) h zero s at =
-    let same : started b.circuit a ≡ s = cc at in
+    let same : started_strand b.circuit a ≡ s = cc at in
     subst (IsNewStrand b) same (record { strand = started-right b a h.0; empty = refl; quiet = refl })
 new-strands b (a ∷ starts) h (suc i) s at = new-strands b starts h.1 i s at
 
 pub new-sound : (b : Batch) → IsLawful b → (opening : ℕ → List SignalCell) (starts : List Start) (shards : List Shard) → AllByRecursion (IsStart b) starts → IsFresh b opening shards → IsSound b opening (new_plan b starts shards)
 new-sound b lawful opening starts shards all fresh =
     let new = new-strands b starts all in
-    let none = λ (i : ℕ) (s : Strand) (p : Point) (at : slice_get (map (started b.circuit) starts) i ≡ Some s) (h : IsHeld s.stack p). let k : IsHeld [] p = subst (λ st. IsHeld st p) (new i s at).empty h in k in
+    let none = λ (i : ℕ) (s : Strand) (p : Point) (at : slice_get (map (started_strand b.circuit) starts) i ≡ Some s) (h : IsOnStack s.stack p). let k : IsOnStack [] p = subst (λ st. IsOnStack st p) (new i s at).empty h in k in
     record {
       count = fresh.count;
       shards = fresh.right;
       strands = λ i s at. (new i s at).strand;
       linked = record {
-        held = λ i s p at h. absurd (none i s p at h);
+        on_stack = λ i s p at h. absurd (none i s p at h);
         holder = λ p q claim.
             let n : p.signal % length shards < b.shards = let k = fresh.count in omega (arith, lawful.some_shard) in
             let e : claim_of (new_plan b starts shards) p ≡ None = ap (λ ks. holder ks p) (fresh.free (p.signal % length shards) n) in
@@ -64,19 +64,19 @@ new-sound b lawful opening starts shards all fresh =
 
 -- at first at most so many turns are left
 module _ (b : Batch) (n : ℕ) where
-  start-left : (a : Start) → turns_left b n (started b.circuit a) ≤ a.budget * claim_cost b n + (a.stop - a.start) + 2
+  start-left : (a : Start) → turns_left b n (started_strand b.circuit a) ≤ a.budget * claim_cost b n + (a.stop - a.start) + 2
   start-left a =
       let k = roots-length b.circuit (piece a) (a.stop - a.start) a.start in
       let l = filter-length (is_evaluable b.circuit) (roots_from b.circuit (piece a) (a.stop - a.start) a.start) in
       let m : (a.budget - a.charged) * claim_cost b n ≤ a.budget * claim_cost b n = mul-le-mul_right (claim_cost b n) (omega arith) in
       omega arith
 
-  starts-left : (starts : List Start) → sum_by (turns_left b n) (map (started b.circuit) starts) ≤ sum_by (λ a. a.budget) starts * claim_cost b n + sum_by (λ a. a.stop - a.start) starts + 2 * length starts
+  starts-left : (starts : List Start) → sum_by (turns_left b n) (map (started_strand b.circuit) starts) ≤ sum_by (λ a. a.budget) starts * claim_cost b n + sum_by (λ a. a.stop - a.start) starts + 2 * length starts
   starts-left [] = omega arith
   starts-left (a ∷ starts) =
       let k = start-left a in
       let l = starts-left starts in
-      let u = sum_by-cons (turns_left b n) (started b.circuit a) (map (started b.circuit) starts) in
+      let u = sum_by-cons (turns_left b n) (started_strand b.circuit a) (map (started_strand b.circuit) starts) in
       let v = sum_by-cons (λ (x : Start). x.budget) a starts in
       let w = sum_by-cons (λ (x : Start). x.stop - x.start) a starts in
       let m : (a.budget + sum_by (λ (x : Start). x.budget) starts) * claim_cost b n ≡ a.budget * claim_cost b n + sum_by (λ (x : Start). x.budget) starts * claim_cost b n = add-mul a.budget (sum_by (λ (x : Start). x.budget) starts) (claim_cost b n) in
@@ -89,6 +89,6 @@ pub turns-bounded : (b : Batch) (starts : List Start) (shards : List Shard) (sch
 turns-bounded b starts shards schedule =
     let k = turns-few b (new_plan b starts shards) schedule in
     let l = starts-left b (length starts) starts in
-    let m : length (map (started b.circuit) starts) ≡ length starts = length-map starts (started b.circuit) in
-    let e : all_left b (new_plan b starts shards) ≡ sum_by (turns_left b (length starts)) (map (started b.circuit) starts) = ap (λ n. sum_by (turns_left b n) (map (started b.circuit) starts)) m in
+    let m : length (map (started_strand b.circuit) starts) ≡ length starts = length-map starts (started_strand b.circuit) in
+    let e : all_left b (new_plan b starts shards) ≡ sum_by (turns_left b (length starts)) (map (started_strand b.circuit) starts) = ap (λ n. sum_by (turns_left b n) (map (started_strand b.circuit) starts)) m in
     omega arith

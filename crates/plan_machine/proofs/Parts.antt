@@ -6,8 +6,8 @@ use Rattle.std.proofs.lemmas.Option.{slice_get_within}
 use Rattle.std.proofs.lemmas.Bool.Decides.{eqb_tells}
 use Rattle.valid_intervals.specs.declared.Point.{Point}
 use Rattle.strand_meaning.specs.declared.Next.TheVariants.{Ask}
-use Rattle.strand_meaning.specs.Strands.{Strand, next, waiting, awake, heard}
-use Rattle.plan_machine.specs.Plans.{asks, woken}
+use Rattle.strand_meaning.specs.Strands.{Strand, next, waiting, awake, after_answer}
+use Rattle.plan_machine.specs.Plans.{asks, woken_strand}
 use Rattle.plan_machine.specs.inner.Parts.{NumberedStrand, IsAmong, AreParts, put_back, with_waiters, waiter_at, placed_at, strands_from}
 use Rattle.journal_meaning.proofs.Claims.{cases_point}
 use Rattle.plan_machine.proofs.Links.{set-here, set-other, map-get}
@@ -174,13 +174,13 @@ module _ (f : Strand → Strand) where
   put-length places (w ∷ ws) = put-length (slice_set places w.number (Some (f w.strand))) ws ∙ length-set places w.number (Some (f w.strand))
 
 -- a strand that waits at the point comes out, another does not
-woken-there : (f : Strand → Strand) (p : Point) (o : Strand) → next o ≡ Ask p → woken f p (waiting o) ≡ awake (f (waiting o))
+woken-there : (f : Strand → Strand) (p : Point) (o : Strand) → next o ≡ Ask p → woken_strand f p (waiting o) ≡ awake (f (waiting o))
 woken-there f p o e = elim (cases_point p p) [
   | inl k ↦ let t : asks p (next o) ≡ true = ap (asks p) e ∙ k.0 in ap (λ b. cond b (awake (f (waiting o))) (waiting o)) t
   | inr k ↦ absurd (k.1 refl)
 ]
 
-woken-elsewhere : (f : Strand → Strand) (p x : Point) (o : Strand) → next o ≡ Ask x → (x ≡ p → ⊥) → woken f p (waiting o) ≡ waiting o
+woken-elsewhere : (f : Strand → Strand) (p x : Point) (o : Strand) → next o ≡ Ask x → (x ≡ p → ⊥) → woken_strand f p (waiting o) ≡ waiting o
 woken-elsewhere f p x o e ne = elim (cases_point x p) [
   | inl k ↦ absurd (ne k.1)
   | inr k ↦ let t : asks p (next o) ≡ false = ap (asks p) e ∙ k.0 in ap (λ b. cond b (awake (f (waiting o))) (waiting o)) t
@@ -191,19 +191,19 @@ module _ (places : List (Option Strand)) (waiters : Point → List NumberedStran
   low : (w : NumberedStrand) → IsAmong w (waiters p) → w.number < length places
   low w h = slice_get_within places w.number None (parts.waiter p w h).0
 
-  ready-after : (j : ℕ) (r : Strand) → slice_get (put_back f places (waiters p)) j ≡ Some (Some r) → (slice_get (map (woken f p) xs) j ≡ Some r) × (r.waits ≡ false)
+  ready-after : (j : ℕ) (r : Strand) → slice_get (put_back f places (waiters p)) j ≡ Some (Some r) → (slice_get (map (woken_strand f p) xs) j ≡ Some r) × (r.waits ≡ false)
   ready-after j r e = elim (put-get f places (waiters p) low j) [
     | inl k ↦
         let w = parts.waiter p k.waiter k.among in
         let now = k.now in
         let same : f k.waiter.strand ≡ r = cc (now, e) in
-        let there : woken f p (waiting k.waiter.strand) ≡ r = woken-there f p k.waiter.strand w.2 ∙ fits k.waiter.strand w.3 ∙ same in (
-          subst (λ z. slice_get (map (woken f p) xs) z ≡ Some r) k.number (map-get (woken f p) xs k.waiter.number (waiting k.waiter.strand) w.1 ∙ ap Some there),
+        let there : woken_strand f p (waiting k.waiter.strand) ≡ r = woken-there f p k.waiter.strand w.2 ∙ fits k.waiter.strand w.3 ∙ same in (
+          subst (λ z. slice_get (map (woken_strand f p) xs) z ≡ Some r) k.number (map-get (woken_strand f p) xs k.waiter.number (waiting k.waiter.strand) w.1 ∙ ap Some there),
           subst (λ (z : Strand). z.waits ≡ false) same (quiet k.waiter.strand w.3),
         )
     | inr k ↦
         let o = parts.ready j r (sym k.now ∙ e) in
-        (map-get (woken f p) xs j r o.0 ∙ ap Some (woken-itself f p r o.1), o.1)
+        (map-get (woken_strand f p) xs j r o.0 ∙ ap Some (woken-itself f p r o.1), o.1)
   ]
 
   gap-after : (j : ℕ) → slice_get (put_back f places (waiters p)) j ≡ Some None → (x : Point) × ((w : NumberedStrand) × (IsAmong w (with_waiters waiters p [] x) × (w.number ≡ j)))
@@ -226,7 +226,7 @@ module _ (places : List (Option Strand)) (waiters : Point → List NumberedStran
   ]
 
   Parked : Point → NumberedStrand → Type 0
-  Parked x v = (slice_get (put_back f places (waiters p)) v.number ≡ Some None) × (slice_get (map (woken f p) xs) v.number ≡ Some (waiting v.strand)) × (next v.strand ≡ Ask x) × (v.strand.waits ≡ false)
+  Parked x v = (slice_get (put_back f places (waiters p)) v.number ≡ Some None) × (slice_get (map (woken_strand f p) xs) v.number ≡ Some (waiting v.strand)) × (next v.strand ≡ Ask x) × (v.strand.waits ≡ false)
 
   waiter-after : (x : Point) (v : NumberedStrand) → (p ≡ x → ⊥) → IsAmong v (waiters x) → Parked x v
   unfolding Parked
@@ -243,13 +243,13 @@ module _ (places : List (Option Strand)) (waiters : Point → List NumberedStran
             absurd (ne (cc one))
         | inr m ↦ m.now ∙ k.0
       ] in
-      (still, map-get (woken f p) xs v.number (waiting v.strand) k.1 ∙ ap Some (woken-elsewhere f p x v.strand k.2 (λ e. ne (sym e))), k.2, k.3)
+      (still, map-get (woken_strand f p) xs v.number (waiting v.strand) k.1 ∙ ap Some (woken-elsewhere f p x v.strand k.2 (λ e. ne (sym e))), k.2, k.3)
 
   -- those that waited at p are put back, after f
-  pub wake-parts : AreParts (put_back f places (waiters p)) (with_waiters waiters p []) (map (woken f p) xs)
+  pub wake-parts : AreParts (put_back f places (waiters p)) (with_waiters waiters p []) (map (woken_strand f p) xs)
   unfolding Parked
   wake-parts = record {
-    length = put-length f places (waiters p) ∙ parts.length ∙ sym (length-map xs (woken f p));
+    length = put-length f places (waiters p) ∙ parts.length ∙ sym (length-map xs (woken_strand f p));
     ready = ready-after;
     gap = gap-after;
     waiter = λ x v. elim (cases_point p x) [
@@ -258,8 +258,8 @@ module _ (places : List (Option Strand)) (waiters : Point → List NumberedStran
     ];
   }
 
-pub heard-fits : (o : Strand) → o.waits ≡ false → awake (heard (waiting o)) ≡ heard o
-heard-fits o w = ap (λ t. record (heard o) { waits = t }) (sym w)
+pub heard-fits : (o : Strand) → o.waits ≡ false → awake (after_answer (waiting o)) ≡ after_answer o
+heard-fits o w = ap (λ t. record (after_answer o) { waits = t }) (sym w)
 
 -- the strands that parts stand for
 strands-get : (ws : List NumberedStrand) (blank : Strand) (n : ℕ) (os : List (Option Strand)) (i : ℕ) (o : Option Strand) → slice_get os i ≡ Some o → slice_get (strands_from ws blank n os) i ≡ Some (placed_at ws blank (n + i) o)

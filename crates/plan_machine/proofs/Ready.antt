@@ -5,7 +5,7 @@ use Rattle.valid_intervals.specs.declared.Point.{Point}
 use Rattle.circuit_meaning.proofs.Table.{at_all_times}
 use Rattle.strand_meaning.specs.declared.Next.{Next}
 use Rattle.strand_meaning.specs.declared.Next.TheVariants.{Ask, Fill, Drop, Done}
-use Rattle.strand_meaning.specs.Strands.{Frame, Strand, ask_or, next_in, next, IsHeld}
+use Rattle.strand_meaning.specs.Strands.{Frame, Strand, ask_or, next_in, next, IsOnStack}
 use Rattle.valid_intervals.specs.declared.SignalCell.{SignalCell}
 use Rattle.batch_meaning.specs.Batches.{Batch}
 use Rattle.batch_meaning.specs.Lawful.{IsLawful}
@@ -13,7 +13,7 @@ use Rattle.plan_machine.specs.Plans.{Plan, shard_of, claim_of, is_done, is_ready
 use Rattle.plan_machine.specs.declared.Turned.TheVariants.{Told, NotReady}
 use Rattle.valid_intervals.specs.Cells.{stored_at}
 use Rattle.plan_machine.specs.Steps.{Step, Tell, Claim, Wait, Spend, Finish, GiveBack, Rest, claim_step, ask_step, next_step, step_at, turned_by}
-use Rattle.plan_machine.specs.Turns.{stepped, turn_at}
+use Rattle.plan_machine.specs.Turns.{plan_after, turn_at}
 use Rattle.plan_machine.specs.Sound.{IsSound, HasEnded, AreEnded, MovesIfReady}
 use Rattle.strand_meaning.proofs.Stacks.{asks-first, earlier}
 
@@ -36,8 +36,8 @@ pub has-ended : (s : Strand) → next s ≡ Done → HasEnded s
 has-ended s h = let e = ended_in s.spent s.roots s.stack h in record { done = h; empty = e.empty; cause = e.cause }
 
 -- a strand that holds a claim hasn't ended
-held-goes : (s : Strand) (p : Point) → IsHeld s.stack p → next s ≡ Done → ⊥
-held-goes s p h e = subst (λ st. IsHeld st p) (has-ended s e).empty h
+held-goes : (s : Strand) (p : Point) → IsOnStack s.stack p → next s ≡ Done → ⊥
+held-goes s p h e = subst (λ st. IsOnStack st p) (has-ended s e).empty h
 
 done-is : (n : Next) → is_done n ≡ true → n ≡ Done
 done-is (Ask p) h = absurd (cc h)
@@ -152,7 +152,7 @@ strand-rests plan s r =
       ]
     ]
 
-rest-idle : (b : Batch) (plan : Plan) (i : ℕ) (s : Strand) (t : Step) → turned_by t ≡ NotReady → stepped b plan i s t ≡ plan
+rest-idle : (b : Batch) (plan : Plan) (i : ℕ) (s : Strand) (t : Step) → turned_by t ≡ NotReady → plan_after b plan i s t ≡ plan
 rest-idle b plan i s (Tell p x) e = absurd (told≢not e)
 rest-idle b plan i s (Claim p) e = absurd (cc e)
 rest-idle b plan i s Wait e = absurd (cc e)

@@ -11,7 +11,7 @@ use Rattle.journal_meaning.specs.Allowed.{IsRight}
 use Rattle.journal_meaning.proofs.Fills.{one-fill-per_eviction}
 use Rattle.journal_meaning.proofs.More.{right-within}
 use Rattle.batch_meaning.specs.Lawful.{IsLawful}
-use Rattle.strand_meaning.specs.Strands.{Frame, IsHeld, IsChain}
+use Rattle.strand_meaning.specs.Strands.{Frame, IsOnStack, IsChain}
 use Rattle.strand_meaning.proofs.Stacks.{top-once}
 use Rattle.strand_meaning.proofs.Wanted.{asks-needed}
 use Rattle.plan_machine.specs.Plans.{Plan, no_shard}
@@ -19,7 +19,7 @@ use Rattle.plan_machine.specs.Sound.{IsSound, IsSafe}
 
 -- the points of a stack are different, since their times fall
 module _ (c : Circuit) (ok : IsCircuit c) (roots : List Point) where
-  others : (f : Frame) (all fs : List Frame) → IsChain c roots (f ∷ all) → ((x : Point) → IsHeld fs x → IsHeld all x) → AllByRecursion (λ g. f.point ≢ g.point) fs
+  others : (f : Frame) (all fs : List Frame) → IsChain c roots (f ∷ all) → ((x : Point) → IsOnStack fs x → IsOnStack all x) → AllByRecursion (λ g. f.point ≢ g.point) fs
   others f all [] chain within = tt
   others f all (g ∷ fs) chain within = (
     (λ e. let k = top-once c ok roots (f ∷ all) f.point g.point chain refl (within g.point (inl refl)) in let t = ap (λ (p : Point). p.time) e in absurd (omega (arith, k, t))),
@@ -37,10 +37,10 @@ sound-safe b lawful opening plan sound = record {
       let s = o.1.0 in
       let at = o.1.1.0 in
       let h = o.1.1.1 in
-      let number : s.query.number ≡ q = let k = sound.linked.held o.0 s p at h in cc (k, claim) in
-      let needed = ((asks-needed b lawful s (sound.strands o.0 s at)).held p h).needed in (
+      let number : s.query.number ≡ q = let k = sound.linked.on_stack o.0 s p at h in cc (k, claim) in
+      let needed = ((asks-needed b lawful s (sound.strands o.0 s at)).on_stack p h).needed in (
         subst (λ n. OfQuery b n (λ y. IsNeededBy b y p)) number needed,
-        record { number = o.0; strand = s; at = at; query = number; held = h; alone = λ j r ar hr. sound.linked.once j o.0 r s p ar at hr h },
+        record { number = o.0; strand = s; at = at; query = number; on_stack = h; alone = λ j r ar hr. sound.linked.once j o.0 r s p ar at hr h },
       );
   stacks = λ i s at. different b.circuit lawful.circuit s.roots s.stack (sound.strands i s at).chain;
   cells = λ n low x known t inside.

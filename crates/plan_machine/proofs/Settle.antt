@@ -16,7 +16,7 @@ use Rattle.batch_meaning.specs.declared.Query.{Query}
 use Rattle.journal_meaning.specs.States.{fresh, holder}
 use Rattle.journal_meaning.specs.Replay.{replay}
 use Rattle.batch_meaning.specs.Batches.{Batch, Site, IsNeededBy, NeedOf, window_of}
-use Rattle.journal_meaning.specs.Answers.{IsCovered, last_of, filled, IsClosed, IsSpent}
+use Rattle.journal_meaning.specs.Answers.{IsCovered, last_of, fill_count, IsClosed, IsSpent}
 use Rattle.journal_meaning.specs.Grown.{IsFor, refusals, GrowsBy}
 use Rattle.journal_meaning.specs.inner.Grown.{IsForOther, IsRightEntry, AreTimesCovered}
 use Rattle.journal_meaning.proofs.Named.{claims_ours, none_ours}
@@ -225,10 +225,10 @@ module _ (b : Batch) (opening : ℕ → List SignalCell) (q : Query) (start : Li
         let l = o.refusals in
         omega arith
 
-    pub asked-spent : a.budget ≡ q.budget → a.charged ≤ filled (entries_in old) q.number → IsSpent (entries_in new) q
+    pub asked-spent : a.budget ≡ q.budget → a.charged ≤ fill_count (entries_in old) q.number → IsSpent (entries_in new) q
     asked-spent budget low = record {
       point = p;
-      held = length r.given_up;
+      claims = length r.given_up;
       last = subst (λ n. last_of (entries_in new) n p ≡ Some (Spent n p (length r.given_up))) number r.last;
       given_up = r.given_up;
       different = r.different;
@@ -236,12 +236,12 @@ module _ (b : Batch) (opening : ℕ → List SignalCell) (q : Query) (start : Li
       enough = omega arith;
       budget =
           let m = r.budget in
-          let n : filled k.added a.query.number ≡ filled k.added q.number = ap (filled k.added) number in
+          let n : fill_count k.added a.query.number ≡ fill_count k.added q.number = ap (fill_count k.added) number in
           let l = filled-more (entries_in old) k.added (entries_in new) grown q.number in
           omega arith;
     }
 
-    pub asked-refused : a.budget ≡ q.budget → a.charged ≤ filled (entries_in old) q.number → IsSettled b.circuit q start (entries_in new) true
+    pub asked-refused : a.budget ≡ q.budget → a.charged ≤ fill_count (entries_in old) q.number → IsSettled b.circuit q start (entries_in new) true
     asked-refused budget low = (asked-spent budget low, refused-once)
 
 -- a query that was not refused is closed, once what it had evaluated is visited and its window is covered

@@ -11,7 +11,7 @@ use Rattle.circuit_meaning.specs.Circuit.{IsCircuit}
 use Rattle.journal_meaning.specs.declared.Entry.{Entry}
 use Rattle.journal_meaning.specs.declared.Entry.TheVariants.{Told, Claimed, Filled, Evicted, Dropped, Spent}
 use Rattle.journal_meaning.specs.States.{fresh, holder, without_point, IsLeastRecent}
-use Rattle.journal_meaning.specs.Counts.{booked}
+use Rattle.journal_meaning.specs.Counts.{booked_count}
 use Rattle.journal_meaning.specs.Table.{Needs, after}
 use Rattle.batch_meaning.specs.Batches.{Batch, IsNeededBy, OfQuery}
 use Rattle.journal_meaning.specs.Allowed.{IsAt, IsAllowed, IsRight}
@@ -20,7 +20,7 @@ use Rattle.journal_meaning.specs.Replay.{replay, IsLegal}
 use Rattle.journal_meaning.proofs.Lists.{Stands, Here, There, each-stands, stands-any, front-snoc, snoc_cases}
 use Rattle.journal_meaning.proofs.Same.{same_stored-itself}
 use Rattle.journal_meaning.proofs.More.{replay-more, legal-more, booked-append, still-right, still-fits, right-answers}
-use Rattle.plan_machine.specs.Shards.{Shard, recorded, evicted, with_room, filled_shard, IsShard}
+use Rattle.plan_machine.specs.Shards.{Shard, shard_with_entry, shard_without_cell, with_room, filled_shard, IsShard}
 
 -- what a search finds
 pub found : {X : Type 0} (test : X → Bool) (xs : List X) (x : X) → find test xs ≡ Some x → (test x ≡ true) × Stands x xs
@@ -75,17 +75,17 @@ any-take test (suc n) [] h = refl
 any-take test (suc n) (x ∷ cells) h = let k = or_parts (test x) (list_any test cells) h in rw k.0 (any-take test n cells k.1)
 
 -- a fill is one more entry of a claim or fill
-booked-evicted : (o : Option SignalCell) (h : Shard) → booked (evicted o h).journal ≡ booked h.journal
+booked-evicted : (o : Option SignalCell) (h : Shard) → booked_count (shard_without_cell o h).journal ≡ booked_count h.journal
 booked-evicted None h = refl
 booked-evicted (Some x) h = let k = booked-append h.journal (Evicted x.signal x.cell.span.start ∷ []) in omega (arith, k)
 
-booked-room : (capacity : ℕ) (x : SignalCell) (h : Shard) → booked (with_room capacity x h).journal ≡ booked h.journal
-booked-room capacity x h = elim (not (is_stored x h.state.cells) && nat_eq (length h.state.cells) capacity) as (λ t. booked (cond t (evicted (last_cell h.state.cells) h) h).journal ≡ booked h.journal) [
+booked-room : (capacity : ℕ) (x : SignalCell) (h : Shard) → booked_count (with_room capacity x h).journal ≡ booked_count h.journal
+booked-room capacity x h = elim (not (is_stored x h.state.cells) && nat_eq (length h.state.cells) capacity) as (λ t. booked_count (cond t (shard_without_cell (last_cell h.state.cells) h) h).journal ≡ booked_count h.journal) [
   | true ↦ booked-evicted (last_cell h.state.cells) h
   | false ↦ refl
 ]
 
-pub booked-filled : (capacity q : ℕ) (p : Point) (cell : Cell) (h : Shard) → booked (filled_shard capacity q p cell h).journal ≡ booked h.journal + 1
+pub booked-filled : (capacity q : ℕ) (p : Point) (cell : Cell) (h : Shard) → booked_count (filled_shard capacity q p cell h).journal ≡ booked_count h.journal + 1
 booked-filled capacity q p cell h =
     let k = booked-append (with_room capacity (cell_for p cell) h).journal (Filled q p cell ∷ []) in
     let l = booked-room capacity (cell_for p cell) h in
@@ -102,7 +102,7 @@ module _ (b : Batch) (n : ℕ) (opening : List SignalCell) where
   keeps : (h : Shard) → IsShard b n opening h → Keeps h
   keeps h is = record { legal = is.legal; state = is.state; right = is.right; fits = is.fits }
 
-  recorded-keeps : (h : Shard) (e : Entry) → Keeps h → Needs b.capacity h.state e → IsAllowed b n e → Keeps (recorded e h)
+  recorded-keeps : (h : Shard) (e : Entry) → Keeps h → Needs b.capacity h.state e → IsAllowed b n e → Keeps (shard_with_entry e h)
   recorded-keeps h e is needs allowed = record {
     legal = legal-more b n (fresh opening) h.journal e is.legal (subst (λ s. Needs b.capacity s e) is.state needs) allowed;
     state = ap (λ s. after s e) is.state ∙ sym (replay-more (fresh opening) h.journal e);
@@ -114,27 +114,27 @@ module _ (b : Batch) (n : ℕ) (opening : List SignalCell) where
   whole h is made = record { legal = is.legal; state = is.state; right = is.right; fits = is.fits; made = made }
 
   module _ (h : Shard) (is : IsShard b n opening h) (q : ℕ) (p : Point) (here : IsAt b n p) where
-    pub told-keeps : IsCircuit b.circuit → (x : SignalCell) → OfQuery b q (λ y. IsNeededBy b y p) → stored_at h.state.cells p ≡ Some x → IsShard b n opening (recorded (Told q p x.cell) h)
+    pub told-keeps : IsCircuit b.circuit → (x : SignalCell) → OfQuery b q (λ y. IsNeededBy b y p) → stored_at h.state.cells p ≡ Some x → IsShard b n opening (shard_with_entry (Told q p x.cell) h)
     told-keeps ok x wanted e =
         let f = found (covers p) h.state.cells x e in
         let a = right-answers b.circuit ok p x (each-stands (IsRight b.circuit) x h.state.cells is.right f.1) f.0 in
         let own : cell_for p x.cell ≡ x = ap (λ (z : SignalCell). cell_for p z.cell) a ∙ sym a in
-        whole (recorded (Told q p x.cell) h)
+        whole (shard_with_entry (Told q p x.cell) h)
         (recorded-keeps h (Told q p x.cell) (keeps h is)
         (is.made, subst (λ z. is_stored z h.state.cells ≡ true) (sym own) (stands-any (same_stored x) x h.state.cells (same_stored-itself x) f.1), subst (λ z. covers p z ≡ true) (sym own) f.0)
         (here, wanted, ap (λ (z : SignalCell). z.cell) a))
         is.made
 
-    pub claimed-shard : OfQuery b q (λ y. IsNeededBy b y p) → stored_at h.state.cells p ≡ None → holder h.state.claims p ≡ None → IsShard b n opening (recorded (Claimed q p) h)
+    pub claimed-shard : OfQuery b q (λ y. IsNeededBy b y p) → stored_at h.state.cells p ≡ None → holder h.state.claims p ≡ None → IsShard b n opening (shard_with_entry (Claimed q p) h)
     claimed-shard wanted none free =
-        whole (recorded (Claimed q p) h) (recorded-keeps h (Claimed q p) (keeps h is) (is.made, not-found (covers p) h.state.cells none, free) (here, wanted)) is.made
+        whole (shard_with_entry (Claimed q p) h) (recorded-keeps h (Claimed q p) (keeps h is) (is.made, not-found (covers p) h.state.cells none, free) (here, wanted)) is.made
 
-    pub spent-shard : (held : ℕ) → OfQuery b q (λ y. IsNeededBy b y p) → stored_at h.state.cells p ≡ None → holder h.state.claims p ≡ None → IsShard b n opening (recorded (Spent q p held) h)
+    pub spent-shard : (held : ℕ) → OfQuery b q (λ y. IsNeededBy b y p) → stored_at h.state.cells p ≡ None → holder h.state.claims p ≡ None → IsShard b n opening (shard_with_entry (Spent q p held) h)
     spent-shard held wanted none free =
-        whole (recorded (Spent q p held) h) (recorded-keeps h (Spent q p held) (keeps h is) (is.made, not-found (covers p) h.state.cells none, free) (here, wanted)) is.made
+        whole (shard_with_entry (Spent q p held) h) (recorded-keeps h (Spent q p held) (keeps h is) (is.made, not-found (covers p) h.state.cells none, free) (here, wanted)) is.made
 
-    pub dropped-shard : OfQuery b q (λ y. Unit {0}) → holder h.state.claims p ≡ Some q → IsShard b n opening (recorded (Dropped q p) h)
-    dropped-shard known claim = whole (recorded (Dropped q p) h) (recorded-keeps h (Dropped q p) (keeps h is) (is.made, claim) (here, known)) is.made
+    pub dropped-shard : OfQuery b q (λ y. Unit {0}) → holder h.state.claims p ≡ Some q → IsShard b n opening (shard_with_entry (Dropped q p) h)
+    dropped-shard known claim = whole (shard_with_entry (Dropped q p) h) (recorded-keeps h (Dropped q p) (keeps h is) (is.made, claim) (here, known)) is.made
 
   -- a shard in which a place was made, where one was needed
   record HasPlace (x : SignalCell) (h k : Shard) : Type 0 where
@@ -144,7 +144,7 @@ module _ (b : Batch) (n : ℕ) (opening : List SignalCell) where
     room : is_stored x k.state.cells ≡ false → length k.state.cells < b.capacity
 
   module _ (some : 1 ≤ b.capacity) (x : SignalCell) (h : Shard) (is : IsShard b n opening h) where
-    evicted-place : (o : Option SignalCell) → last_cell h.state.cells ≡ o → length h.state.cells ≡ b.capacity → is_stored x h.state.cells ≡ false → HasPlace x h (evicted o h)
+    evicted-place : (o : Option SignalCell) → last_cell h.state.cells ≡ o → length h.state.cells ≡ b.capacity → is_stored x h.state.cells ≡ false → HasPlace x h (shard_without_cell o h)
     evicted-place None e full new = absurd (last-some h.state.cells (omega (arith, some, full)) e)
     evicted-place (Some y) e full new = record {
       keeps = recorded-keeps h (Evicted y.signal y.cell.span.start) (keeps h is) (is.made, full, last-is h.state.cells y e) tt;
@@ -174,7 +174,7 @@ module _ (b : Batch) (n : ℕ) (opening : List SignalCell) where
         let k = with_room b.capacity x h in
         let r : HasPlace x h k = place-made some x h is in
         let e = Filled q p (cell_at b.circuit p) in
-        whole (recorded e k) (recorded-keeps k e r.keeps (ap (λ z. holder z p) r.claims ∙ claim, r.fresh, r.room) (here, known, refl)) refl
+        whole (shard_with_entry e k) (recorded-keeps k e r.keeps (ap (λ z. holder z p) r.claims ∙ claim, r.fresh, r.room) (here, known, refl)) refl
 
     pub filled-claims : (filled_shard b.capacity q p (cell_at b.circuit p) h).state.claims ≡ without_point h.state.claims p
     filled-claims = let r = place-made some x h is in ap (λ z. without_point z p) r.claims

@@ -7,11 +7,11 @@ use Rattle.circuit_meaning.specs.Circuit.{Circuit, Driver, Input, Gate, Flop, dr
 use Rattle.circuit_meaning.specs.Need.{HasChildren, children}
 use Rattle.journal_meaning.specs.declared.Entry.{Entry}
 use Rattle.journal_meaning.specs.declared.Entry.TheVariants.{Told, Claimed, Filled, Evicted, Dropped, Spent}
-use Rattle.journal_meaning.specs.Answers.{IsCovered, is_fill_of, filled}
+use Rattle.journal_meaning.specs.Answers.{IsCovered, is_fill_of, fill_count}
 use Rattle.journal_meaning.specs.Grown.{IsSaid, IsFor, is_spent_of, refusals}
 use Rattle.journal_meaning.proofs.Lists.{Each, each-append, each-imply}
 use Rattle.journal_meaning.proofs.Grown.{grows-append, said-kept, count-append, count-none}
-use Rattle.strand_meaning.specs.Strands.{Frame, Strand, started, has_children, is_evaluable, asked_children, rest, roots_heard, stack_heard, heard, claimed, left_in, IsFirst}
+use Rattle.strand_meaning.specs.Strands.{Frame, Strand, started_strand, has_children, is_evaluable, asked_children, rest, roots_heard, stack_heard, after_answer, after_claim, left_in, IsFirst}
 use Rattle.batch_meaning.specs.Pieces.{Start}
 use Rattle.strand_meaning.proofs.Stacks.{IsTop, HasHeard, rest_all, length-rest, length-heard}
 use Rattle.plan_machine.specs.Alone.{IsDue, IsFrameDue, AreFed, IsUnspent, IsUnderWay, roots_of}
@@ -85,7 +85,7 @@ no-fill q (Evicted signal start) h = refl
 no-fill q (Dropped r p) h = refl
 no-fill q (Spent r p held) h = refl
 
-pub none-filled : (q : ℕ) (es : List Entry) → Each IsNoFill es → filled es q ≡ 0
+pub none-filled : (q : ℕ) (es : List Entry) → Each IsNoFill es → fill_count es q ≡ 0
 none-filled q es h = count-none (is_fill_of q) es (each-imply IsNoFill (λ e. is_fill_of q e ≡ false) (no-fill q) es h)
 
 unspent-refusals : (q : ℕ) (e : Entry) → IsUnspent e → is_spent_of q e ≡ false
@@ -119,28 +119,28 @@ module _ (c : Circuit) (a : Start) (added : List Entry) (s : Strand) (u : IsUnde
         let m = count-append (is_fill_of a.query.number) added more in
         omega arith;
     frames = each-imply (IsFrameDue c added) (IsFrameDue c (added ++ more)) (frame-more c added more) s.stack u.frames;
-    roots = All-weaker (IsDue added s.roots) (IsDue (added ++ more) s.roots) (λ x d. due-more added more s.roots x d) (started c a).roots u.roots;
+    roots = All-weaker (IsDue added s.roots) (IsDue (added ++ more) s.roots) (λ x d. due-more added more s.roots x d) (started_strand c a).roots u.roots;
     fed = fed-more c added more u.fed (λ q p x h. absurd (each-contains IsNoFill more (Filled q p x) none h));
     own = each-append (IsFor a.query.number) added more u.own own;
     going = each-append IsUnspent added more u.going going;
   }
 
   -- it hears what it asked for
-  pub goes-heard : (p : Point) → IsFirst (left_in s.roots s.stack) p → IsSaid added p → IsUnderWay c a added (heard s)
+  pub goes-heard : (p : Point) → IsFirst (left_in s.roots s.stack) p → IsSaid added p → IsUnderWay c a added (after_answer s)
   goes-heard p first said = record {
     query = u.query;
     budget = u.budget;
     unspent = u.unspent;
     charge = let k = u.charge in let l = length-heard s.stack in omega arith;
     frames = frames-heard c added s.roots s.stack p first said u.frames;
-    roots = All-weaker (IsDue added s.roots) (IsDue added (roots_heard s.roots s.stack)) (λ x d. root-heard c added s.roots s.stack p x first said d) (started c a).roots u.roots;
+    roots = All-weaker (IsDue added s.roots) (IsDue added (roots_heard s.roots s.stack)) (λ x d. root-heard c added s.roots s.stack p x first said d) (started_strand c a).roots u.roots;
     fed = u.fed;
     own = u.own;
     going = u.going;
   }
 
   -- it claims a point
-  pub goes-claimed : (p : Point) → IsUnderWay c a added (claimed c s p)
+  pub goes-claimed : (p : Point) → IsUnderWay c a added (after_claim c s p)
   goes-claimed p = record {
     query = u.query;
     budget = u.budget;
@@ -169,11 +169,11 @@ module _ (c : Circuit) (a : Start) (added : List Entry) (s : Strand) (u : IsUnde
             let l = none-filled q evictions no_fill in
             let m = count-append (is_fill_of q) added more in
             let n = count-append (is_fill_of q) evictions (e ∷ []) in
-            let one : filled (e ∷ []) q ≡ 1 = rw (eq-eqb q q refl) refl in
+            let one : fill_count (e ∷ []) q ≡ 1 = rw (eq-eqb q q refl) refl in
             let r = length-rest s.stack p top in
             omega arith;
         frames = rest_all (IsFrameDue c (added ++ more)) s.stack (each-imply (IsFrameDue c added) (IsFrameDue c (added ++ more)) (frame-more c added more) s.stack u.frames);
-        roots = All-weaker (IsDue added s.roots) (IsDue (added ++ more) s.roots) (λ x d. due-more added more s.roots x d) (started c a).roots u.roots;
+        roots = All-weaker (IsDue added s.roots) (IsDue (added ++ more) s.roots) (λ x d. due-more added more s.roots x d) (started_strand c a).roots u.roots;
         fed = fed-more c added more u.fed (λ r y z h. elim (Contains-append_cases evictions (e ∷ []) (Filled r y z) h) [
           | inl k ↦ absurd (each-contains IsNoFill evictions (Filled r y z) no_fill k)
           | inr k ↦
@@ -186,14 +186,14 @@ module _ (c : Circuit) (a : Start) (added : List Entry) (s : Strand) (u : IsUnde
       }
 
 -- where it starts
-pub goes-start : (c : Circuit) (a : Start) → IsUnderWay c a [] (started c a)
+pub goes-start : (c : Circuit) (a : Start) → IsUnderWay c a [] (started_strand c a)
 goes-start c a = record {
   query = refl;
   budget = refl;
   unspent = refl;
   charge = omega arith;
   frames = tt;
-  roots = All-weaker (Contains (started c a).roots) (IsDue [] (started c a).roots) (λ x h. inl h) (started c a).roots (All-contains_itself (started c a).roots);
+  roots = All-weaker (Contains (started_strand c a).roots) (IsDue [] (started_strand c a).roots) (λ x h. inl h) (started_strand c a).roots (All-contains_itself (started_strand c a).roots);
   fed = λ q p x h. absurd (contains-none (Filled q p x) [] refl h);
   own = tt;
   going = tt;
@@ -226,4 +226,4 @@ module _ (c : Circuit) (es : List Entry) where
 
 -- where it has heard all its roots, these are covered
 pub roots-covered : (c : Circuit) (a : Start) (added : List Entry) (s : Strand) → IsUnderWay c a added s → s.roots ≡ [] → All (IsCovered c added) (roots_of c a)
-roots-covered c a added s u none = covered-all c added (roots_of c a) (All-weaker (IsDue added s.roots) (IsSaid added) (λ x d. due-none added s.roots x none d) (started c a).roots u.roots)
+roots-covered c a added s u none = covered-all c added (roots_of c a) (All-weaker (IsDue added s.roots) (IsSaid added) (λ x d. due-none added s.roots x none d) (started_strand c a).roots u.roots)

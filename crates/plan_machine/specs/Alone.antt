@@ -9,30 +9,30 @@ use Rattle.circuit_meaning.specs.Need.{children}
 use Rattle.journal_meaning.specs.declared.Entry.{Entry}
 use Rattle.journal_meaning.specs.declared.Entry.TheVariants.{Told, Claimed, Filled, Evicted, Dropped, Spent}
 use Rattle.batch_meaning.specs.Batches.{Batch}
-use Rattle.journal_meaning.specs.Answers.{IsCovered, last_of, filled}
+use Rattle.journal_meaning.specs.Answers.{IsCovered, last_of, fill_count}
 use Rattle.journal_meaning.specs.Grown.{IsSaid, IsFor, refusals, AreAdded}
 use Rattle.strand_meaning.specs.declared.Next.{Next}
 use Rattle.strand_meaning.specs.declared.Next.TheVariants.{Ask}
-use Rattle.strand_meaning.specs.Strands.{Frame, Strand, started, roots_from, asked_children, next_in, next, given_up}
+use Rattle.strand_meaning.specs.Strands.{Frame, Strand, started_strand, roots_from, asked_children, next_in, next, given_up}
 use Rattle.batch_meaning.specs.Pieces.{Start, piece}
-use Rattle.plan_machine.specs.Shards.{recorded}
+use Rattle.plan_machine.specs.Shards.{shard_with_entry}
 use Rattle.plan_machine.specs.Plans.{Plan, shard_of, claim_of, with_shard}
 use Rattle.plan_machine.specs.Steps as steps
-use Rattle.plan_machine.specs.Steps.{Step, step_at, turned}
+use Rattle.plan_machine.specs.Steps.{Step, step_at, turn_outcome}
 use Rattle.plan_machine.specs.declared.Turned.TheVariants as comes
-use Rattle.plan_machine.specs.Turns.{stepped, turn}
+use Rattle.plan_machine.specs.Turns.{plan_after, turn}
 use Rattle.plan_machine.specs.Sound.{IsSound, HasEnded}
 use Rattle.plan_machine.specs.Journals.{journals, entries}
 
 -- The strand s was refused the point that it asked for. The refusal is recorded, with the number of its claims.
-abbrev pub refused : Plan → Strand → Next → Plan
-refused plan s (Ask p) = with_shard plan p (recorded (Spent s.query.number p (length s.stack)) (shard_of plan p))
-refused plan s n = plan
+abbrev pub plan_refusing : Plan → Strand → Next → Plan
+plan_refusing plan s (Ask p) = with_shard plan p (shard_with_entry (Spent s.query.number p (length s.stack)) (shard_of plan p))
+plan_refusing plan s n = plan
 
 -- a turn of a strand that runs alone; if its budget is spent, the refusal is recorded
 abbrev pub alone_step : Batch → Plan → ℕ → Strand → Step → Plan
-alone_step b plan i s steps.Spend = refused (stepped b plan i s steps.Spend) s (next s)
-alone_step b plan i s t = stepped b plan i s t
+alone_step b plan i s steps.Spend = plan_refusing (plan_after b plan i s steps.Spend) s (next s)
+alone_step b plan i s t = plan_after b plan i s t
 
 abbrev pub alone_at : Batch → Plan → ℕ → Option Strand → Plan
 alone_at b plan i None = plan
@@ -69,7 +69,7 @@ IsUnspent (Claimed q p) = Unit {0}
 IsUnspent (Filled q p x) = Unit {0}
 IsUnspent (Evicted signal start) = Unit {0}
 IsUnspent (Dropped q p) = ⊥
-IsUnspent (Spent q p held) = ⊥
+IsUnspent (Spent q p claims) = ⊥
 
 abbrev pub points_on : List Frame → List Point
 points_on st = map (λ f. f.point) st
@@ -80,9 +80,9 @@ pub record IsUnderWay (c : Circuit) (a : Start) (added : List Entry) (s : Strand
   pub query : s.query ≡ a.query
   pub budget : s.budget ≡ a.budget
   pub unspent : s.spent ≡ false
-  pub charge : s.charged ≡ a.charged + filled added a.query.number + length s.stack
+  pub charge : s.charged ≡ a.charged + fill_count added a.query.number + length s.stack
   pub frames : AllByRecursion (IsFrameDue c added) s.stack
-  pub roots : All (IsDue added s.roots) (started c a).roots
+  pub roots : All (IsDue added s.roots) (started_strand c a).roots
   pub fed : AreFed c added
   pub own : AllByRecursion (IsFor a.query.number) added
   pub going : AllByRecursion IsUnspent added
@@ -100,7 +100,7 @@ pub record IsGivingUp (c : Circuit) (a : Start) (p : Point) (added : List Entry)
   pub gone : List Point
   pub added_is : added ≡ before ++ Spent a.query.number p (length gone + length s.stack) ∷ drops a.query.number gone
   pub different : AllPairs (λ x y. x ≢ y) (p ∷ gone ++ points_on s.stack)
-  pub account : a.charged + filled before a.query.number + (length gone + length s.stack) ≡ a.budget
+  pub account : a.charged + fill_count before a.query.number + (length gone + length s.stack) ≡ a.budget
   pub fed : AreFed c before
   pub own : AllByRecursion (IsFor a.query.number) before
   pub going : AllByRecursion IsUnspent before
@@ -130,7 +130,7 @@ pub record RunsAlone (b : Batch) (opening : ℕ → List SignalCell) (n : ℕ) (
 -- The strand was not refused: each of its roots is covered, and its charge has room for its fills.
 pub record IsServedAlone (c : Circuit) (a : Start) (added new : List Entry) : Type 0 where
   pub roots : All (IsCovered c new) (roots_of c a)
-  pub charge : a.charged + filled added a.query.number ≤ a.budget
+  pub charge : a.charged + fill_count added a.query.number ≤ a.budget
   pub refusals : refusals added a.query.number ≡ 0
 
 -- The strand was refused the point: the last entry of its query there says so. It gave up this many different points, and the last entry at
@@ -140,7 +140,7 @@ pub record IsRefusedAlone (a : Start) (p : Point) (added new : List Entry) : Typ
   pub last : last_of new a.query.number p ≡ Some (Spent a.query.number p (length given_up))
   pub different : AllPairs (λ x y. x ≢ y) given_up
   pub dropped : All (λ x. last_of new a.query.number x ≡ Some (Dropped a.query.number x)) given_up
-  pub budget : a.charged + filled added a.query.number + length given_up ≡ a.budget
+  pub budget : a.charged + fill_count added a.query.number + length given_up ≡ a.budget
   pub refusals : refusals added a.query.number ≡ 1
 
 abbrev pub IsOutcome : Circuit → Start → List Entry → List Entry → Option Point → Type 0
@@ -178,7 +178,7 @@ pub record IsRefusal (n : ℕ) (p : Point) (s : Strand) (plan new : Plan) : Type
 -- A turn of strand n alone never waits, and the strand goes on. If the turn is Spent, the refusal is recorded. If it is NotReady, the
 -- strand has ended.
 pub record TurnsAlone (b : Batch) (opening : ℕ → List SignalCell) (n : ℕ) (a : Start) (old plan : Plan) (spent : Option Point) : Type 0 where
-  pub never : turned plan n ≢ comes.Waits
-  pub on : turned plan n ≢ comes.Spent → RunsAlone b opening n a old (turn b plan n) spent
-  pub refusal : turned plan n ≡ comes.Spent → (p : Point) × (s : Strand) × (spent ≡ None) × IsRefusal n p s plan (turn b plan n) × RunsAlone b opening n a old (refused (turn b plan n) s (Ask p)) (Some p)
-  pub ended : turned plan n ≡ comes.NotReady → RanAlone b opening n a old plan spent
+  pub never : turn_outcome plan n ≢ comes.Waits
+  pub on : turn_outcome plan n ≢ comes.Spent → RunsAlone b opening n a old (turn b plan n) spent
+  pub refusal : turn_outcome plan n ≡ comes.Spent → (p : Point) × (s : Strand) × (spent ≡ None) × IsRefusal n p s plan (turn b plan n) × RunsAlone b opening n a old (plan_refusing (turn b plan n) s (Ask p)) (Some p)
+  pub ended : turn_outcome plan n ≡ comes.NotReady → RanAlone b opening n a old plan spent

@@ -8,7 +8,7 @@ use Rattle.batch_meaning.specs.Batches.{Batch}
 use Rattle.journal_meaning.specs.Grown.{AreAdded}
 use Rattle.batch_meaning.specs.Lawful.{IsLawful}
 use Rattle.strand_meaning.specs.declared.Next.TheVariants.{Done}
-use Rattle.strand_meaning.specs.Strands.{Strand, started, next}
+use Rattle.strand_meaning.specs.Strands.{Strand, started_strand, next}
 use Rattle.batch_meaning.specs.Pieces.{Start, IsStart}
 use Rattle.plan_machine.specs.Shards.{Shard}
 use Rattle.plan_machine.specs.Plans.{Plan, claim_of, new_plan, is_ready}
@@ -72,7 +72,7 @@ TasksStay = (b : Batch) (plan : Plan) (schedule : List ℕ) → SameTasks plan (
 pub record BeginsAlone (b : Batch) (opening : ℕ → List SignalCell) (n : ℕ) (a : Start) (plan : Plan) : Type 0 where
   pub sound : IsSound b opening plan
   pub free : (p : Point) → claim_of plan p ≡ None
-  pub at : slice_get plan.strands n ≡ Some (started b.circuit a)
+  pub at : slice_get plan.strands n ≡ Some (started_strand b.circuit a)
 
 abbrev pub AloneBegins : Type 0
 AloneBegins = (b : Batch) → IsLawful b → (opening : ℕ → List SignalCell) (n : ℕ) (a : Start) (plan : Plan) → BeginsAlone b opening n a plan → RunsAlone b opening n a plan plan None

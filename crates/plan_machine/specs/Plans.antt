@@ -1,12 +1,12 @@
 -- A plan: the strands of a batch and the shards that they ask.
-use Rattle.std.specs.Prelude.{ℕ, ◌+◌, not, ◌&&◌, Bool, true, false, if◌then◌else◌, List, [], ◌∷◌, length, map, get_or, slice_set, Option}
+use Rattle.std.specs.Prelude.{ℕ, ◌+◌, not, ◌&&◌, Bool, true, false, if◌then◌else◌, List, [], ◌∷◌, length, map, slice_index_or, slice_set, Option}
 use Rattle.valid_intervals.specs.declared.Point.{Point}
 use Rattle.valid_intervals.specs.Cells.{same_point}
 use Rattle.journal_meaning.specs.States.{fresh, holder}
 use Rattle.batch_meaning.specs.Batches.{Batch, shard_number}
 use Rattle.strand_meaning.specs.declared.Next.{Next}
 use Rattle.strand_meaning.specs.declared.Next.TheVariants.{Ask, Done}
-use Rattle.strand_meaning.specs.Strands.{Strand, started, next, awake}
+use Rattle.strand_meaning.specs.Strands.{Strand, started_strand, next, awake}
 use Rattle.batch_meaning.specs.Pieces.{Start}
 use Rattle.plan_machine.specs.Shards.{Shard}
 
@@ -17,7 +17,7 @@ pub record Plan : Type 0 where
 
 -- a plan whose strands have made no turn
 abbrev pub new_plan : Batch → List Start → List Shard → Plan
-new_plan b starts shards = record { strands = map (started b.circuit) starts; shards = shards }
+new_plan b starts shards = record { strands = map (started_strand b.circuit) starts; shards = shards }
 
 -- the shard for a number that no shard has
 abbrev pub no_shard : Shard
@@ -28,7 +28,7 @@ abbrev pub home : Plan → Point → ℕ
 home plan p = shard_number p.signal (length plan.shards)
 
 abbrev pub shard_of : Plan → Point → Shard
-shard_of plan p = get_or plan.shards (home plan p) no_shard
+shard_of plan p = slice_index_or plan.shards (home plan p) no_shard
 
 -- the query that has claimed the point
 abbrev pub claim_of : Plan → Point → Option ℕ
@@ -62,12 +62,12 @@ asks p (Ask x) = same_point x p
 asks p n = false
 
 -- f is applied to a strand that waits at the point, and the strand is woken
-abbrev pub woken : (Strand → Strand) → Point → Strand → Strand
-woken f p s = if s.waits && asks p (next s) then awake (f s) else s
+abbrev pub woken_strand : (Strand → Strand) → Point → Strand → Strand
+woken_strand f p s = if s.waits && asks p (next s) then awake (f s) else s
 
 abbrev pub itself : Strand → Strand
 itself s = s
 
 -- the same for all strands that wait there
 abbrev pub with_woken : Plan → (Strand → Strand) → Point → Plan
-with_woken plan f p = record plan { strands = map (woken f p) plan.strands }
+with_woken plan f p = record plan { strands = map (woken_strand f p) plan.strands }

@@ -1,5 +1,5 @@
 -- Settling a batch: one strand after another asks for what is missing, each alone over the shards.
-use Rattle.std.specs.Prelude.{◌≡◌, ◌≢◌, ℕ, ◌+◌, ◌≤◌, ◌<◌, min, Bool, true, false, length, get_or, AllPairs, List, [], ◌∷◌, map, Contains, Option, Some, None}
+use Rattle.std.specs.Prelude.{◌≡◌, ◌≢◌, ℕ, ◌+◌, ◌≤◌, ◌<◌, min, Bool, true, false, length, slice_index_or, AllPairs, List, [], ◌∷◌, map, Contains, Option, Some, None}
 use Rattle.std.specs.List.{AllByRecursion}
 use Rattle.valid_intervals.specs.declared.Point.{Point}
 use Rattle.valid_intervals.specs.declared.SignalCell.{SignalCell}
@@ -10,13 +10,13 @@ use Rattle.journal_meaning.specs.declared.Entry.{Entry}
 use Rattle.journal_meaning.specs.declared.Entry.TheVariants.{Dropped}
 use Rattle.batch_meaning.specs.declared.Query.{Query}
 use Rattle.batch_meaning.specs.Batches.{Batch}
-use Rattle.journal_meaning.specs.Answers.{filled, IsClosed, IsSpent, IsAnswer}
+use Rattle.journal_meaning.specs.Answers.{fill_count, IsClosed, IsSpent, IsAnswer}
 use Rattle.journal_meaning.specs.Sections.{of_batch}
 use Rattle.journal_meaning.specs.Laws.{IsLegalFrom}
 use Rattle.journal_meaning.specs.Grown.{refusals, AreAdded}
 use Rattle.batch_meaning.specs.Pieces.{Start}
 use Rattle.journal_meaning.specs.States.{Claim, holder}
-use Rattle.plan_machine.specs.Shards.{Shard, IsShard, recorded}
+use Rattle.plan_machine.specs.Shards.{Shard, IsShard, shard_with_entry}
 use Rattle.plan_machine.specs.Plans.{no_shard}
 use Rattle.plan_machine.specs.Sound.{IsFresh}
 
@@ -28,7 +28,7 @@ entries_in shards = of_batch (journals_of shards)
 
 -- the charge of a query so far: its fills in this batch, at most its budget
 abbrev pub charge_of : List Entry → Query → ℕ
-charge_of es q = min (filled es q.number) q.budget
+charge_of es q = min (fill_count es q.number) q.budget
 
 -- a query for one point, with the number of this query
 abbrev pub sub_query : Query → Point → Query
@@ -67,26 +67,26 @@ pub record AreSettled (b : Batch) (opening : ℕ → List SignalCell) (old new :
 
 -- Before settlement the claims that are left are dropped, in an order that has each of them once.
 pub record IsOrder (claims order : List Claim) : Type 0 where
-  pub held : AllByRecursion (λ c. holder claims c.point ≡ Some c.query) order
+  pub claimed : AllByRecursion (λ c. holder claims c.point ≡ Some c.query) order
   pub different : AllPairs (λ a b. a.point ≢ b.point) order
   pub all : (p : Point) (q : ℕ) → holder claims p ≡ Some q → (c : Claim) × Contains order c × (c.point ≡ p)
 
 abbrev pub drop_of : Claim → Entry
 drop_of c = Dropped c.query c.point
 
-abbrev pub freed : List Claim → Shard → Shard
-freed [] h = h
-freed (c ∷ order) h = freed order (recorded (drop_of c) h)
+abbrev pub shard_without : List Claim → Shard → Shard
+shard_without [] h = h
+shard_without (c ∷ order) h = shard_without order (shard_with_entry (drop_of c) h)
 
 -- each shard is freed in some order
 pub record AreFreed (old new : List Shard) : Type 0 where
   pub count : length new ≡ length old
-  pub order : (n : ℕ) → n < length old → (order : List Claim) × IsOrder (get_or old n no_shard).state.claims order × (get_or new n no_shard ≡ freed order (get_or old n no_shard))
+  pub order : (n : ℕ) → n < length old → (order : List Claim) × IsOrder (slice_index_or old n no_shard).state.claims order × (slice_index_or new n no_shard ≡ shard_without order (slice_index_or old n no_shard))
 
 -- the shards of a batch, possibly with claims
 pub record AreShards (b : Batch) (opening : ℕ → List SignalCell) (shards : List Shard) : Type 0 where
   pub count : length shards ≡ b.shards
-  pub right : (n : ℕ) → n < b.shards → IsShard b n (opening n) (get_or shards n no_shard)
+  pub right : (n : ℕ) → n < b.shards → IsShard b n (opening n) (slice_index_or shards n no_shard)
 
 -- the answer to a query: its wave, or none if it was refused
 abbrev pub answer_of : Circuit → Query → Bool → Option (List Run)

@@ -25,7 +25,7 @@ says p (Claimed q x) = false
 says p (Filled q x cell) = covers p (cell_for x cell)
 says p (Evicted signal start) = false
 says p (Dropped q x) = false
-says p (Spent q x held) = false
+says p (Spent q x claims) = false
 
 abbrev pub is_covered_in : Circuit → List Entry → Point → Bool
 is_covered_in c es p = not (is_evaluable c p) || list_any (says p) es

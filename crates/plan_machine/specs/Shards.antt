@@ -18,21 +18,21 @@ pub record Shard : Type 0 where
   pub journal : List Entry
 
 -- one more entry
-abbrev pub recorded : Entry → Shard → Shard
-recorded e h = record { state = after h.state e; journal = h.journal ++ e ∷ [] }
+abbrev pub shard_with_entry : Entry → Shard → Shard
+shard_with_entry e h = record { state = after h.state e; journal = h.journal ++ e ∷ [] }
 
 -- the least recent cell is evicted
-abbrev pub evicted : Option SignalCell → Shard → Shard
-evicted None h = h
-evicted (Some x) h = recorded (Evicted x.signal x.cell.span.start) h
+abbrev pub shard_without_cell : Option SignalCell → Shard → Shard
+shard_without_cell None h = h
+shard_without_cell (Some x) h = shard_with_entry (Evicted x.signal x.cell.span.start) h
 
 -- if the cell is new and the shard is full, the least recent cell is evicted
 abbrev pub with_room : ℕ → SignalCell → Shard → Shard
-with_room capacity x h = if not (is_stored x h.state.cells) && nat_eq (length h.state.cells) capacity then evicted (last_cell h.state.cells) h else h
+with_room capacity x h = if not (is_stored x h.state.cells) && nat_eq (length h.state.cells) capacity then shard_without_cell (last_cell h.state.cells) h else h
 
 -- the point is filled with its cell for the query q
 abbrev pub filled_shard : ℕ → ℕ → Point → Cell → Shard → Shard
-filled_shard capacity q p cell h = recorded (Filled q p cell) (with_room capacity (cell_for p cell) h)
+filled_shard capacity q p cell h = shard_with_entry (Filled q p cell) (with_room capacity (cell_for p cell) h)
 
 -- A shard of the batch: its state is the replay of its journal from its opening, and the journal is legal.
 pub record IsShard (b : Batch) (number : ℕ) (opening : List SignalCell) (h : Shard) : Type 0 where

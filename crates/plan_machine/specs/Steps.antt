@@ -54,8 +54,8 @@ turned_by (Finish p) = Filled
 turned_by (GiveBack p) = Dropped
 turned_by Rest = NotReady
 
-abbrev pub turned : Plan → ℕ → Turned
-turned plan i = turned_by (step plan i)
+abbrev pub turn_outcome : Plan → ℕ → Turned
+turn_outcome plan i = turned_by (step plan i)
 
 -- 0 for a NotReady turn, and 1 for any other
 abbrev pub is_turn : Turned → ℕ

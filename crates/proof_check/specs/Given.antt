@@ -27,12 +27,12 @@ pub record Given : Type 0 where
   pub stimulus : List ℕ
 
 -- the files with the first three names have these bytes
-pub record AreGiven (held : List ℕ → Option (List ℕ)) (names : Names) (given : Given) : Type 0 where
-  pub netlist : held names.netlist ≡ Some given.netlist
-  pub timing : held names.timing ≡ Some given.timing
-  pub stimulus : held names.stimulus ≡ Some given.stimulus
+pub record AreGiven (bytes : List ℕ → Option (List ℕ)) (names : Names) (given : Given) : Type 0 where
+  pub netlist : bytes names.netlist ≡ Some given.netlist
+  pub timing : bytes names.timing ≡ Some given.timing
+  pub stimulus : bytes names.stimulus ≡ Some given.stimulus
 
 -- the same, and the fourth file has the bytes of the proof
-pub record AreAll (held : List ℕ → Option (List ℕ)) (names : Names) (given : Given) (proof : List ℕ) : Type 0 where
-  pub circuit : AreGiven held names given
-  pub proof_is : held names.proof ≡ Some proof
+pub record AreAll (bytes : List ℕ → Option (List ℕ)) (names : Names) (given : Given) (proof : List ℕ) : Type 0 where
+  pub circuit : AreGiven bytes names given
+  pub proof_is : bytes names.proof ≡ Some proof

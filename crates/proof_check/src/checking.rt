@@ -2,7 +2,7 @@
 
 ghost use Rattle.std.specs.Prelude.{◌≡◌, ◌<◌, ◌⊎◌, ℕ, List, Some, Ok, Err, map, length};
 ghost use Rattle.backsim_io.specs.Counts.{Grows, GrowsByPrefix, Stays};
-ghost use Rattle.backsim_io.specs.Held.{SameMade};
+ghost use Rattle.backsim_io.specs.FilesInMemory.{SameMade};
 ghost use Rattle.circuit_files.specs.Files.{netlist_of, first_two, design_of_files};
 ghost use Rattle.circuit_files.specs.Texts.{refusal_text};
 ghost use Rattle.circuit_files.specs.declared.refusal.FileRefusal.{FileRefusal};
@@ -35,49 +35,50 @@ fn check_files<F: Files, S: Sink>(
     requires { (F.state files.old).started ≡ 0 }
     ensures no_usage { ¬ (result ≡ CheckStatus.Words) }
     ensures yes { (given : Given) (bytes : List ℕ)
-        → AreAll (F.state files.old).held (names_of netlist.now timing.now stimulus.now proof.now)
+        → AreAll (F.state files.old).bytes (names_of netlist.now timing.now stimulus.now proof.now)
         given bytes
         → result ≡ CheckStatus.Yes → Wrote (IsProved given bytes) (S.written out.old)
         (S.written out.new) }
-    ensures holds { (given : Given) → AreGiven (F.state files.old).held
+    ensures holds { (given : Given) → AreGiven (F.state files.old).bytes
         (names_of netlist.now timing.now stimulus.now proof.now) given
         → result ≡ CheckStatus.Yes → Wrote (IsTrueOf given) (S.written out.old)
         (S.written out.new) }
     ensures no { (given : Given) (bytes : List ℕ)
-        → AreAll (F.state files.old).held (names_of netlist.now timing.now stimulus.now proof.now)
+        → AreAll (F.state files.old).bytes (names_of netlist.now timing.now stimulus.now proof.now)
         given bytes
         → result ≡ CheckStatus.No → Wrote (IsUnproved given bytes) (S.written out.old)
         (S.written out.new) }
     ensures refused { (given : Given) (bytes : List ℕ)
-        → AreAll (F.state files.old).held (names_of netlist.now timing.now stimulus.now proof.now)
+        → AreAll (F.state files.old).bytes (names_of netlist.now timing.now stimulus.now proof.now)
         given bytes
         → result ≡ CheckStatus.Refused → Wrote (IsRefused given bytes) (S.written out.old)
         (S.written out.new) }
     ensures proved { (given : Given) (bytes line : List ℕ)
-        → AreAll (F.state files.old).held (names_of netlist.now timing.now stimulus.now proof.now)
+        → AreAll (F.state files.old).bytes (names_of netlist.now timing.now stimulus.now proof.now)
         given bytes
         → IsProved given bytes line → EndsAs CheckStatus.Yes result }
     ensures unproved { (given : Given) (bytes line : List ℕ)
-        → AreAll (F.state files.old).held (names_of netlist.now timing.now stimulus.now proof.now)
+        → AreAll (F.state files.old).bytes (names_of netlist.now timing.now stimulus.now proof.now)
         given bytes
         → IsUnproved given bytes line → EndsAs CheckStatus.No result }
     ensures netlist_refused { (refusal : FileRefusal) (first : List ℕ)
-        → (F.state files.old).held netlist.now ≡ Some first → netlist_of first ≡ Err refusal
+        → (F.state files.old).bytes netlist.now ≡ Some first → netlist_of first ≡ Err refusal
         → Refuses 1 (refusal_text refusal) (F.state files.new).started (S.written out.old)
         (S.written out.new) result }
     ensures timing_refused { (refusal : FileRefusal) (first second : List ℕ)
-        → (F.state files.old).held netlist.now ≡ Some first
-        → (F.state files.old).held timing.now ≡ Some second → first_two first second ≡ Err refusal
+        → (F.state files.old).bytes netlist.now ≡ Some first
+        → (F.state files.old).bytes timing.now ≡ Some second → first_two first second ≡ Err refusal
         → Refuses 2 (refusal_text refusal) (F.state files.new).started (S.written out.old)
         (S.written out.new) result }
     ensures files_refused { (refusal : FileRefusal) (given : Given)
-        → AreGiven (F.state files.old).held (names_of netlist.now timing.now stimulus.now proof.now)
+        → AreGiven (F.state files.old).bytes (names_of netlist.now timing.now stimulus.now
+        proof.now)
         given
         → design_of_files given.netlist given.timing given.stimulus ≡ Err refusal
         → Refuses 3 (refusal_text refusal) (F.state files.new).started (S.written out.old)
         (S.written out.new) result }
     ensures proof_refused { (design : Joined) (given : Given) (bytes : List ℕ)
-        → AreAll (F.state files.old).held (names_of netlist.now timing.now stimulus.now proof.now)
+        → AreAll (F.state files.old).bytes (names_of netlist.now timing.now stimulus.now proof.now)
         given bytes
         → design_of_files given.netlist given.timing given.stimulus ≡ Ok design
         → 268435456 < length bytes
@@ -86,7 +87,7 @@ fn check_files<F: Files, S: Sink>(
     ensures state { CheckChanges (F.state files.old) (F.state files.new) (S.faults out.old)
         (S.faults out.new) result }
     ensures cut { (given : Given) (bytes : List ℕ)
-        → AreAll (F.state files.old).held (names_of netlist.now timing.now stimulus.now proof.now)
+        → AreAll (F.state files.old).bytes (names_of netlist.now timing.now stimulus.now proof.now)
         given bytes
         → result ≡ CheckStatus.WriteFault
         → WrotePart (IsAnswer given bytes) (S.written out.old) (S.written out.new) }
@@ -125,22 +126,22 @@ pub fn check<F: Files, S: Sink>(
     // The theorem: if the line says yes, forward simulation of the circuit of the three files gives that value, whoever wrote the
     // proof.
     ensures holds { OnNames (λ names. (given : Given)
-        → AreGiven (F.state files.old).held names given
+        → AreGiven (F.state files.old).bytes names given
         → result ≡ CheckStatus.Yes → Wrote (IsTrueOf given) (S.written out.old) (S.written out.new))
         (map (λ word. word.now) words.now) }
     // Each status, and what is written with it.
     ensures yes { OnNames (λ names. (given : Given) (proof : List ℕ)
-        → AreAll (F.state files.old).held names given proof
+        → AreAll (F.state files.old).bytes names given proof
         → result ≡ CheckStatus.Yes → Wrote (IsProved given proof) (S.written out.old)
         (S.written out.new))
         (map (λ word. word.now) words.now) }
     ensures no { OnNames (λ names. (given : Given) (proof : List ℕ)
-        → AreAll (F.state files.old).held names given proof
+        → AreAll (F.state files.old).bytes names given proof
         → result ≡ CheckStatus.No → Wrote (IsUnproved given proof) (S.written out.old)
         (S.written out.new))
         (map (λ word. word.now) words.now) }
     ensures refused { OnNames (λ names. (given : Given) (proof : List ℕ)
-        → AreAll (F.state files.old).held names given proof
+        → AreAll (F.state files.old).bytes names given proof
         → result ≡ CheckStatus.Refused → Wrote (IsRefused given proof) (S.written out.old)
         (S.written out.new))
         (map (λ word. word.now) words.now) }
@@ -149,39 +150,40 @@ pub fn check<F: Files, S: Sink>(
     ensures state { CheckChanges (F.state files.old) (F.state files.new) (S.faults out.old)
         (S.faults out.new) result }
     ensures cut { OnNames (λ names. (given : Given) (proof : List ℕ)
-        → AreAll (F.state files.old).held names given proof
+        → AreAll (F.state files.old).bytes names given proof
         → result ≡ CheckStatus.WriteFault
         → WrotePart (IsAnswer given proof) (S.written out.old) (S.written out.new))
         (map (λ word. word.now) words.now) }
     ensures unread { WritesNothing result → Stays (S.written out.old) (S.written out.new) }
     // When each status comes, unless a fault or a lack of memory ends the call.
     ensures proved { OnNames (λ names. (given : Given) (proof line : List ℕ)
-        → AreAll (F.state files.old).held names given proof
+        → AreAll (F.state files.old).bytes names given proof
         → IsProved given proof line → EndsAs CheckStatus.Yes result)
         (map (λ word. word.now) words.now) }
     ensures unproved { OnNames (λ names. (given : Given) (proof line : List ℕ)
-        → AreAll (F.state files.old).held names given proof
+        → AreAll (F.state files.old).bytes names given proof
         → IsUnproved given proof line → EndsAs CheckStatus.No result)
         (map (λ word. word.now) words.now) }
     ensures netlist_refused { OnNames (λ names. (refusal : FileRefusal) (first : List ℕ)
-        → (F.state files.old).held names.netlist ≡ Some first → netlist_of first ≡ Err refusal
+        → (F.state files.old).bytes names.netlist ≡ Some first → netlist_of first ≡ Err refusal
         → Refuses 1 (refusal_text refusal) (F.state files.new).started (S.written out.old)
         (S.written out.new) result)
         (map (λ word. word.now) words.now) }
     ensures timing_refused { OnNames (λ names. (refusal : FileRefusal) (first second : List ℕ)
-        → (F.state files.old).held names.netlist ≡ Some first
-        → (F.state files.old).held names.timing ≡ Some second → first_two first second ≡ Err refusal
+        → (F.state files.old).bytes names.netlist ≡ Some first
+        → (F.state files.old).bytes names.timing ≡ Some second → first_two first second
+        ≡ Err refusal
         → Refuses 2 (refusal_text refusal) (F.state files.new).started (S.written out.old)
         (S.written out.new) result)
         (map (λ word. word.now) words.now) }
     ensures files_refused { OnNames (λ names. (refusal : FileRefusal) (given : Given)
-        → AreGiven (F.state files.old).held names given
+        → AreGiven (F.state files.old).bytes names given
         → design_of_files given.netlist given.timing given.stimulus ≡ Err refusal
         → Refuses 3 (refusal_text refusal) (F.state files.new).started (S.written out.old)
         (S.written out.new) result)
         (map (λ word. word.now) words.now) }
     ensures proof_refused { OnNames (λ names. (design : Joined) (given : Given) (proof : List ℕ)
-        → AreAll (F.state files.old).held names given proof
+        → AreAll (F.state files.old).bytes names given proof
         → design_of_files given.netlist given.timing given.stimulus ≡ Ok design
         → 268435456 < length proof
         → Refuses 4 too_long (F.state files.new).started (S.written out.old) (S.written out.new)

@@ -31,17 +31,17 @@ pub fn yes_line(alloc: Global, name: &[u8], time: u32, value: Value) -> Result<V
 pub fn no_line(alloc: Global, line: u32) -> Result<Vec<u8>, OutOfMemory>
     ensures { IfOk result (λ text. text.items ≡ texts.no_line line) }
 {
-    numbered(alloc, b"no line ", line)
+    numbered_line(alloc, b"no line ", line)
 }
 
 /// At this line the text stops being a proof.
 pub fn bad_line(alloc: Global, line: u32) -> Result<Vec<u8>, OutOfMemory>
     ensures { IfOk result (λ text. text.items ≡ texts.bad_line line) }
 {
-    numbered(alloc, b"bad line ", line)
+    numbered_line(alloc, b"bad line ", line)
 }
 
-fn numbered(alloc: Global, words: &[u8], number: u32) -> Result<Vec<u8>, OutOfMemory>
+fn numbered_line(alloc: Global, words: &[u8], number: u32) -> Result<Vec<u8>, OutOfMemory>
     ensures { IfOk result (λ text. text.items ≡ words.now ++ (decimal number ++ codes "\n")) }
 {
     let mut buffer = Buffer::new();

@@ -1,7 +1,7 @@
 //! Reading the four files.
 
 ghost use Rattle.std.specs.Prelude.{◌≡◌, ◌≤◌, ◌<◌, ℕ, List, Some, Ok, Err, IfErr, IfOk, length};
-ghost use Rattle.backsim_io.specs.Held.{SameMade};
+ghost use Rattle.backsim_io.specs.FilesInMemory.{SameMade};
 ghost use Rattle.circuit_files.specs.Files.{netlist_of, first_two, design_of_files};
 ghost use Rattle.circuit_files.specs.Texts.{refusal_text};
 ghost use Rattle.circuit_files.specs.declared.refusal.FileRefusal.{FileRefusal};
@@ -70,35 +70,38 @@ pub fn read_all<F: Files>(
     files: &mut F,
 ) -> Result<(Design, Vec<u8>), Stop>
     requires { (F.state files.old).started ≡ 0 }
-    ensures design { (given : Given) → AreGiven (F.state files.old).held
+    ensures design { (given : Given) → AreGiven (F.state files.old).bytes
         (names_of netlist.now timing.now stimulus.now proof.now) given
         → IfOk result (λ read. design_of_files given.netlist given.timing given.stimulus ≡ Ok
         read.0) }
-    ensures text { (bytes : List ℕ) → (F.state files.old).held proof.now ≡ Some bytes
+    ensures text { (bytes : List ℕ) → (F.state files.old).bytes proof.now ≡ Some bytes
         → IfOk result (λ read. read.1.items ≡ bytes) }
     ensures short { IfOk result (λ read. length read.1.items ≤ 268435456) }
     ensures refused { (given : Given) (bytes : List ℕ)
-        → AreGiven (F.state files.old).held (names_of netlist.now timing.now stimulus.now proof.now)
+        → AreGiven (F.state files.old).bytes (names_of netlist.now timing.now stimulus.now
+        proof.now)
         given
-        → (F.state files.old).held proof.now ≡ Some bytes
+        → (F.state files.old).bytes proof.now ≡ Some bytes
         → IfErr result (RefusesRight given bytes) }
     ensures first { (first : List ℕ) (refusal : FileRefusal)
-        → (F.state files.old).held netlist.now ≡ Some first → netlist_of first ≡ Err refusal
+        → (F.state files.old).bytes netlist.now ≡ Some first → netlist_of first ≡ Err refusal
         → RefusedFirst 1 (refusal_text refusal) (F.state files.new).started result }
     ensures second { (first second : List ℕ) (refusal : FileRefusal)
-        → (F.state files.old).held netlist.now ≡ Some first
-        → (F.state files.old).held timing.now ≡ Some second
+        → (F.state files.old).bytes netlist.now ≡ Some first
+        → (F.state files.old).bytes timing.now ≡ Some second
         → first_two first second ≡ Err refusal
         → RefusedFirst 2 (refusal_text refusal) (F.state files.new).started result }
     ensures third { (given : Given) (refusal : FileRefusal)
-        → AreGiven (F.state files.old).held (names_of netlist.now timing.now stimulus.now proof.now)
+        → AreGiven (F.state files.old).bytes (names_of netlist.now timing.now stimulus.now
+        proof.now)
         given
         → design_of_files given.netlist given.timing given.stimulus ≡ Err refusal
         → RefusedFirst 3 (refusal_text refusal) (F.state files.new).started result }
     ensures fourth { (given : Given) (bytes : List ℕ) (design : Joined)
-        → AreGiven (F.state files.old).held (names_of netlist.now timing.now stimulus.now proof.now)
+        → AreGiven (F.state files.old).bytes (names_of netlist.now timing.now stimulus.now
+        proof.now)
         given
-        → (F.state files.old).held proof.now ≡ Some bytes
+        → (F.state files.old).bytes proof.now ≡ Some bytes
         → design_of_files given.netlist given.timing given.stimulus ≡ Ok design
         → 268435456 < length bytes
         → RefusedFirst 4 too_long (F.state files.new).started result }
@@ -113,14 +116,14 @@ pub fn read_all<F: Files>(
 /// The bytes of the proof, which is read after the three files.
 fn read_proof<F: Files>(alloc: Global, proof: &str, files: &mut F) -> Result<Vec<u8>, Stop>
     requires { (F.state files.old).started ≡ 3 }
-    ensures text { (bytes : List ℕ) → (F.state files.old).held proof.now ≡ Some bytes
+    ensures text { (bytes : List ℕ) → (F.state files.old).bytes proof.now ≡ Some bytes
         → IfOk result (λ text. text.items ≡ bytes) }
     ensures short { IfOk result (λ text. length text.items ≤ 268435456) }
     ensures refused { (given : Given) (bytes : List ℕ) (design : Joined)
-        → (F.state files.old).held proof.now ≡ Some bytes
+        → (F.state files.old).bytes proof.now ≡ Some bytes
         → design_of_files given.netlist given.timing given.stimulus ≡ Ok design
         → IfErr result (RefusesRight given bytes) }
-    ensures long { (bytes : List ℕ) → (F.state files.old).held proof.now ≡ Some bytes
+    ensures long { (bytes : List ℕ) → (F.state files.old).bytes proof.now ≡ Some bytes
         → 268435456 < length bytes → RefusedFirst 4 too_long (F.state files.new).started result }
     ensures state { ProofChanges (F.state files.old) (F.state files.new) result }
     ensures made { SameMade (F.made files.old) (F.made files.new) }

@@ -17,7 +17,7 @@ use Rattle.query_lines.specs.declared.unit.Item.{Item}
 use Rattle.query_lines.specs.declared.unit.Unit.{Unit as ScriptUnit}
 use Rattle.query_lines.specs.declared.unit.Unit.TheVariants as units
 use Rattle.query_lines.specs.Lines.{by_words, line_of}
-use Rattle.query_lines.specs.Units.{LineStep, budget_weight, length_weight, budgets, lengths, closed, is_over, pending_up_to_64, line_step, units_from}
+use Rattle.query_lines.specs.Units.{LineStep, budget_weight, length_weight, budgets, lengths, closed_unit, is_over, pending_up_to_64, line_step, units_from}
 use Rattle.query_lines.specs.Reading.{numbered_lines, script_units}
 use Rattle.query_lines.specs.Readers.{Reader, HasRead}
 use Rattle.query_lines.specs.Laws.{IsWithin, IsWithinLimits}
@@ -50,7 +50,7 @@ bad-item number = record { line = number; what = whats.Bad }
 
 -- all units of a step, where the script ends after it
 abbrev all-of : LineStep → List ScriptUnit
-all-of done = done.units ++ closed done.pending
+all-of done = done.units ++ closed_unit done.pending
 
 -- what such a line makes of the pending items, where it is the last
 long-gives : (horizon first : ℕ) (pending : List Item) (line more : List ℕ) → is_plain line ≡ true → is_plain more ≡ true → 4096 < length more
@@ -62,16 +62,16 @@ long-gives horizon first pending line more a b long =
 
 -- A bad item counts nothing, so it never takes a batch over its limits.
 
-closed-one : (items : List Item) (item : Item) → closed (items ++ item ∷ []) ≡ units.Batch (items ++ item ∷ []) ∷ []
+closed-one : (items : List Item) (item : Item) → closed_unit (items ++ item ∷ []) ≡ units.Batch (items ++ item ∷ []) ∷ []
 closed-one [] item = refl
 closed-one (x ∷ items) item = refl
 
-up_to_64-closed : (items : List Item) → all-of (pending_up_to_64 items) ≡ closed items
+up_to_64-closed : (items : List Item) → all-of (pending_up_to_64 items) ≡ closed_unit items
 up_to_64-closed items = cases (ltb (length items) 64)
   where
-    cases : (b : Bool) → all-of (cond b (record { units = []; pending = items }) (record { units = closed items; pending = [] })) ≡ closed items
+    cases : (b : Bool) → all-of (cond b (record { units = []; pending = items }) (record { units = closed_unit items; pending = [] })) ≡ closed_unit items
     cases true = refl
-    cases false = append-nil (closed items)
+    cases false = append-nil (closed_unit items)
 
 not-over : (horizon : ℕ) (first : Item) (items : List Item) (number : ℕ) → budgets (first ∷ items) ≤ 1000000 → lengths horizon (first ∷ items) ≤ 4000000 → is_over horizon (first ∷ items) (bad-item number) ≡ false
 unfolding bad-item
@@ -81,7 +81,7 @@ not-over horizon first items number fits short =
     ap (λ v. v || ltb 4000000 (lengths horizon (first ∷ items ++ bad-item number ∷ []))) (le-ltb 1000000 _ (omega (arith, b, fits))) ∙ le-ltb 4000000 _ (omega (arith, l, short))
 
 abbrev with_or_without : List Item → Item → Bool → LineStep
-with_or_without pending item over = cond over (record { units = closed pending; pending = item ∷ [] }) (pending_up_to_64 (pending ++ item ∷ []))
+with_or_without pending item over = cond over (record { units = closed_unit pending; pending = item ∷ [] }) (pending_up_to_64 (pending ++ item ∷ []))
 
 never-over : (horizon first : ℕ) (pending : List Item) → All (IsWithinLimits horizon) (all-of (line_step horizon pending first Bad))
     → is_over horizon pending (bad-item first) ≡ false
@@ -92,7 +92,7 @@ never-over horizon first (x ∷ items) all = cases (is_over horizon (x ∷ items
     cases : (b : Bool) → is_over horizon (x ∷ items) (bad-item first) ≡ b → All (IsWithinLimits horizon) (all-of (with_or_without (x ∷ items) (bad-item first) b)) → is_over horizon (x ∷ items) (bad-item first) ≡ false
     cases false e all = e
     cases true e all =
-        let whole : IsWithin horizon (x ∷ items) = All-head (IsWithinLimits horizon) (units.Batch (x ∷ items)) (closed (bad-item first ∷ [])) all in
+        let whole : IsWithin horizon (x ∷ items) = All-head (IsWithinLimits horizon) (units.Batch (x ∷ items)) (closed_unit (bad-item first ∷ [])) all in
         not-over horizon x items first whole.budgets_fit whole.lengths_fit
 
 long-closes : (horizon first : ℕ) (pending : List Item) → is_over horizon pending (bad-item first) ≡ false

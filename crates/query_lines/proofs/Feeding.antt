@@ -11,7 +11,7 @@ use Rattle.query_lines.specs.declared.unit.Item.{Item}
 use Rattle.query_lines.specs.declared.unit.Unit.{Unit as ScriptUnit}
 use Rattle.query_lines.specs.Cutting.{Cutter, IsUnderWay, LineEnds}
 use Rattle.query_lines.specs.Lines.{line_of}
-use Rattle.query_lines.specs.Units.{Pending, closed, line_step, units_from}
+use Rattle.query_lines.specs.Units.{Pending, closed_unit, line_step, units_from}
 use Rattle.query_lines.specs.Laws.{IsWithinLimits}
 use Rattle.query_lines.proofs.Limits.{units-within}
 use Rattle.query_lines.specs.Reading.{numbered_lines, script_units}
@@ -63,14 +63,14 @@ line_read horizon script given units old mid new byte p feed reads holds pending
 }
 
 -- the end of a script behind a line feed, or of an empty script
-pub none_left : (horizon : ℕ) (script : List ℕ) (given : List ScriptUnit) (old : Reader) (p : HasRead horizon script given old) → p.line ≡ [] → script_units horizon script ≡ given ++ closed old.pending.items
+pub none_left : (horizon : ℕ) (script : List ℕ) (given : List ScriptUnit) (old : Reader) (p : HasRead horizon script given old) → p.line ≡ [] → script_units horizon script ≡ given ++ closed_unit old.pending.items
 none_left horizon script given old p none =
     ap (script_units horizon) (sym (append-nil script)) ∙ p.goes_on []
     ∙ ap (λ (l : List (List ℕ)). given ++ units_from horizon old.pending.items (enumerate_from (old.lines + 1) (map line_of l))) (ap (λ (line : List ℕ). lines (line ++ [])) none ∙ no_line)
 
 -- the end of a script in a line
 pub line_left : (horizon : ℕ) (script : List ℕ) (given : List ScriptUnit) (old : Reader) (p : HasRead horizon script given old) → 0 < length p.line
-    → script_units horizon script ≡ given ++ ((line_step horizon old.pending.items (old.lines + 1) (line_of p.line)).units ++ closed (line_step horizon old.pending.items (old.lines + 1) (line_of p.line)).pending)
+    → script_units horizon script ≡ given ++ ((line_step horizon old.pending.items (old.lines + 1) (line_of p.line)).units ++ closed_unit (line_step horizon old.pending.items (old.lines + 1) (line_of p.line)).pending)
 line_left horizon script given old p some =
     ap (script_units horizon) (sym (append-nil script)) ∙ p.goes_on []
     ∙ ap (λ (l : List (List ℕ)). given ++ units_from horizon old.pending.items (enumerate_from (old.lines + 1) (map line_of l))) (ap lines (append-nil p.line) ∙ line_last p.line p.under_way some)
@@ -107,16 +107,16 @@ some_byte (b ∷ line) c holds some = omega arith
 
 -- at the end of a script, where no line is under way
 pub last_none : (horizon : ℕ) (script : List ℕ) (given units : List ScriptUnit) (old : Reader) → HasRead horizon script given old → old.cutter.kept ≡ [] → units ≡ []
-    → script_units horizon script ≡ given ++ (units ++ closed old.pending.items)
+    → script_units horizon script ≡ given ++ (units ++ closed_unit old.pending.items)
 last_none horizon script given units old p empty none =
-    none_left horizon script given old p (no_byte p.line old.cutter p.holds empty) ∙ ap (λ (l : List ScriptUnit). given ++ (l ++ closed old.pending.items)) (sym none)
+    none_left horizon script given old p (no_byte p.line old.cutter p.holds empty) ∙ ap (λ (l : List ScriptUnit). given ++ (l ++ closed_unit old.pending.items)) (sym none)
 
 -- at the end of a script, where a line is under way that is then read
 pub last_line : {E : Type 0} (horizon : ℕ) (script : List ℕ) (given : List ScriptUnit) (old new : Reader) (result : Result (List ScriptUnit) E) → HasRead horizon script given old → old.cutter.kept ≢ []
-    → ((line : List ℕ) → IsUnderWay line old.cutter → IfOk result (ReadsLine line old new)) → IfOk result (λ units. script_units horizon script ≡ given ++ (units ++ closed new.pending.items))
+    → ((line : List ℕ) → IsUnderWay line old.cutter → IfOk result (ReadsLine line old new)) → IfOk result (λ units. script_units horizon script ≡ given ++ (units ++ closed_unit new.pending.items))
 last_line {E} horizon script given old new result p some reads = of_line result (reads p.line p.holds)
   where
-    of_line : (r : Result (List ScriptUnit) E) → IfOk r (ReadsLine p.line old new) → IfOk r (λ units. script_units horizon script ≡ given ++ (units ++ closed new.pending.items))
+    of_line : (r : Result (List ScriptUnit) E) → IfOk r (ReadsLine p.line old new) → IfOk r (λ units. script_units horizon script ≡ given ++ (units ++ closed_unit new.pending.items))
     of_line (Err e) read = read
     of_line (Ok units) read = rw (read.units_are, read.pending_are, p.horizon_is) (line_left horizon script given old p (some_byte p.line old.cutter p.holds some))
 

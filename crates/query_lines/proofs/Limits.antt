@@ -20,7 +20,7 @@ use Rattle.query_lines.specs.declared.unit.Item.{Item}
 use Rattle.query_lines.specs.declared.unit.Unit.{Unit as ScriptUnit}
 use Rattle.query_lines.specs.declared.unit.Unit.TheVariants as units
 use Rattle.query_lines.specs.Lines.{within, number_up_to, instant, budget_of, wave_of_parts, wave_of, at_of_parts, at_of, first_of_parts, first_of, why_of_parts, why_of, dump_of, level_of, stuck_of_parts, stuck_at, stuck_of, trim_of_part, trim_of, alone, by_words, line_of}
-use Rattle.query_lines.specs.Units.{LineStep, budget_weight, window_length, length_weight, budgets, lengths, closed, is_over, pending_up_to_64, with_item, line_step, units_from}
+use Rattle.query_lines.specs.Units.{LineStep, budget_weight, window_length, length_weight, budgets, lengths, closed_unit, is_over, pending_up_to_64, with_item, line_step, units_from}
 use Rattle.query_lines.specs.Reading.{script_units}
 use Rattle.query_lines.specs.Laws.{IsWithinLimits}
 
@@ -185,18 +185,18 @@ length_weight-fits horizon whats.Bad bound = omega arith
 one_item : (horizon : ℕ) (item : Item) → horizon ≤ 1000000 → budget_weight item.what ≤ 500000 → IsPending horizon (item ∷ [])
 one_item horizon item bound modest = let fits = length_weight-fits horizon item.what bound in record { few = omega arith; budgets_fit = omega (arith, modest); lengths_fit = omega (arith, fits) }
 
-closed-within : (horizon : ℕ) (items : List Item) → length items ≤ 64 → budgets items ≤ 1000000 → lengths horizon items ≤ 4000000 → All (IsWithinLimits horizon) (closed items)
+closed-within : (horizon : ℕ) (items : List Item) → length items ≤ 64 → budgets items ≤ 1000000 → lengths horizon items ≤ 4000000 → All (IsWithinLimits horizon) (closed_unit items)
 closed-within horizon [] most b l = All-nil (IsWithinLimits horizon)
 closed-within horizon (item ∷ items) most b l =
     All-cons (IsWithinLimits horizon) (units.Batch (item ∷ items)) [] (record { some = omega arith; most = most; budgets_fit = b; lengths_fit = l }) (All-nil (IsWithinLimits horizon))
 
-closed-sound : (horizon : ℕ) (items : List Item) → IsPending horizon items → All (IsWithinLimits horizon) (closed items)
+closed-sound : (horizon : ℕ) (items : List Item) → IsPending horizon items → All (IsWithinLimits horizon) (closed_unit items)
 closed-sound horizon items p = closed-within horizon items (omega (arith, p.few)) p.budgets_fit p.lengths_fit
 
 up_to_64-sound : (horizon : ℕ) (items : List Item) → length items ≤ 64 → budgets items ≤ 1000000 → lengths horizon items ≤ 4000000 → IsSound horizon (pending_up_to_64 items)
 up_to_64-sound horizon items most b l = cases (ltb (length items) 64) refl
   where
-    cases : (v : Bool) → ltb (length items) 64 ≡ v → IsSound horizon (cond v (record { units = []; pending = items }) (record { units = closed items; pending = [] }))
+    cases : (v : Bool) → ltb (length items) 64 ≡ v → IsSound horizon (cond v (record { units = []; pending = items }) (record { units = closed_unit items; pending = [] }))
     cases true h = record { given = All-nil (IsWithinLimits horizon); pending = record { few = ltb-true _ _ h; budgets_fit = b; lengths_fit = l } }
     cases false h = record { given = closed-within horizon items most b l; pending = no_items horizon }
 
@@ -215,15 +215,15 @@ not_over horizon (first ∷ items) item bound modest h =
 with_item-sound : (horizon : ℕ) (pending : List Item) (item : Item) → horizon ≤ 1000000 → budget_weight item.what ≤ 500000 → IsPending horizon pending → IsSound horizon (with_item horizon pending item)
 with_item-sound horizon pending item bound modest p = cases (is_over horizon pending item) refl
   where
-    cases : (b : Bool) → is_over horizon pending item ≡ b → IsSound horizon (cond b (record { units = closed pending; pending = item ∷ [] }) (pending_up_to_64 (pending ++ item ∷ [])))
+    cases : (b : Bool) → is_over horizon pending item ≡ b → IsSound horizon (cond b (record { units = closed_unit pending; pending = item ∷ [] }) (pending_up_to_64 (pending ++ item ∷ [])))
     cases true h = record { given = closed-sound horizon pending p; pending = one_item horizon item bound modest }
     cases false h =
         let fits = not_over horizon pending item bound modest h in
         up_to_64-sound horizon (pending ++ item ∷ []) (omega (arith, p.few, length-append pending (item ∷ []))) fits.0 fits.1
 
-with_unit-sound : (horizon : ℕ) (pending : List Item) (unit : ScriptUnit) → IsPending horizon pending → IsWithinLimits horizon unit → IsSound horizon (record { units = closed pending ++ unit ∷ []; pending = [] })
+with_unit-sound : (horizon : ℕ) (pending : List Item) (unit : ScriptUnit) → IsPending horizon pending → IsWithinLimits horizon unit → IsSound horizon (record { units = closed_unit pending ++ unit ∷ []; pending = [] })
 with_unit-sound horizon pending unit p fits = record {
-  given = All-append (IsWithinLimits horizon) (closed pending) (unit ∷ []) (closed-sound horizon pending p) (All-cons (IsWithinLimits horizon) unit [] fits (All-nil (IsWithinLimits horizon)));
+  given = All-append (IsWithinLimits horizon) (closed_unit pending) (unit ∷ []) (closed-sound horizon pending p) (All-cons (IsWithinLimits horizon) unit [] fits (All-nil (IsWithinLimits horizon)));
   pending = no_items horizon;
 }
 

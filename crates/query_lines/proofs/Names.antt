@@ -16,7 +16,7 @@ use Rattle.query_lines.specs.declared.unit.Item.{Item}
 use Rattle.query_lines.specs.declared.unit.Unit.{Unit as ScriptUnit}
 use Rattle.query_lines.specs.declared.unit.Unit.TheVariants as units
 use Rattle.query_lines.specs.Lines.{number_up_to, instant, budget_of, wave_of_parts, wave_of, at_of_parts, at_of, first_of_parts, first_of, why_of_parts, why_of, dump_of, level_of, stuck_of_parts, stuck_at, stuck_of, trim_of_part, trim_of, alone, by_words, line_of}
-use Rattle.query_lines.specs.Units.{LineStep, closed, is_over, pending_up_to_64, with_item, line_step, units_from}
+use Rattle.query_lines.specs.Units.{LineStep, closed_unit, is_over, pending_up_to_64, with_item, line_step, units_from}
 use Rattle.query_lines.specs.Reading.{script_units}
 use Rattle.query_lines.specs.Fit.{AsksByName, HasNames}
 
@@ -165,27 +165,27 @@ none-named = All-nil (λ item. AsksByName item.what)
 push-named : (items : List Item) (item : Item) → AsksByName item.what → AskByName items → AskByName (items ++ item ∷ [])
 push-named items item named p = All-append (λ i. AsksByName i.what) items (item ∷ []) p (All-cons (λ i. AsksByName i.what) item [] named none-named)
 
-closed-named : (items : List Item) → AskByName items → All HasNames (closed items)
+closed-named : (items : List Item) → AskByName items → All HasNames (closed_unit items)
 closed-named [] p = All-nil HasNames
 closed-named (item ∷ items) p = All-cons HasNames (units.Batch (item ∷ items)) [] p (All-nil HasNames)
 
 up_to_64-named : (items : List Item) → AskByName items → GivesNamed (pending_up_to_64 items)
 up_to_64-named items p = cases (ltb (length items) 64)
   where
-    cases : (b : Bool) → GivesNamed (cond b (record { units = []; pending = items }) (record { units = closed items; pending = [] }))
+    cases : (b : Bool) → GivesNamed (cond b (record { units = []; pending = items }) (record { units = closed_unit items; pending = [] }))
     cases true = record { given = All-nil HasNames; pending = p }
     cases false = record { given = closed-named items p; pending = none-named }
 
 with_item-named : (horizon : ℕ) (pending : List Item) (item : Item) → AsksByName item.what → AskByName pending → GivesNamed (with_item horizon pending item)
 with_item-named horizon pending item named p = cases (is_over horizon pending item)
   where
-    cases : (b : Bool) → GivesNamed (cond b (record { units = closed pending; pending = item ∷ [] }) (pending_up_to_64 (pending ++ item ∷ [])))
+    cases : (b : Bool) → GivesNamed (cond b (record { units = closed_unit pending; pending = item ∷ [] }) (pending_up_to_64 (pending ++ item ∷ [])))
     cases true = record { given = closed-named pending p; pending = push-named [] item named none-named }
     cases false = up_to_64-named (pending ++ item ∷ []) (push-named pending item named p)
 
-with_unit-named : (pending : List Item) (unit : ScriptUnit) → HasNames unit → AskByName pending → GivesNamed (record { units = closed pending ++ unit ∷ []; pending = [] })
+with_unit-named : (pending : List Item) (unit : ScriptUnit) → HasNames unit → AskByName pending → GivesNamed (record { units = closed_unit pending ++ unit ∷ []; pending = [] })
 with_unit-named pending unit named p = record {
-  given = All-append HasNames (closed pending) (unit ∷ []) (closed-named pending p) (All-cons HasNames unit [] named (All-nil HasNames));
+  given = All-append HasNames (closed_unit pending) (unit ∷ []) (closed-named pending p) (All-cons HasNames unit [] named (All-nil HasNames));
   pending = none-named;
 }
 

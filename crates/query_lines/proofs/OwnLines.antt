@@ -14,7 +14,7 @@ use Rattle.query_lines.specs.declared.unit.Item.{Item}
 use Rattle.query_lines.specs.declared.unit.Unit.{Unit as ScriptUnit}
 use Rattle.query_lines.specs.declared.unit.Unit.TheVariants as units
 use Rattle.query_lines.specs.Lines.{line_of}
-use Rattle.query_lines.specs.Units.{LineStep, closed, is_over, pending_up_to_64, with_item, line_step, units_from}
+use Rattle.query_lines.specs.Units.{LineStep, closed_unit, is_over, pending_up_to_64, with_item, line_step, units_from}
 use Rattle.query_lines.specs.Reading.{numbered_lines, script_units}
 use Rattle.query_lines.specs.Readers.{Reader, HasRead}
 use Rattle.query_lines.specs.Fit.{HaveOwnLines, HasOwnLines, IsFit}
@@ -47,27 +47,27 @@ push-pending next items item is p = record {
       (All-cons (λ i. i.line < next + 1) item [] (omega (arith, is)) (All-nil (λ i. i.line < next + 1)));
 }
 
-closed-own : (items : List Item) → HaveOwnLines items → All HasOwnLines (closed items)
+closed-own : (items : List Item) → HaveOwnLines items → All HasOwnLines (closed_unit items)
 closed-own [] own = All-nil HasOwnLines
 closed-own (item ∷ items) own = All-cons HasOwnLines (units.Batch (item ∷ items)) [] own (All-nil HasOwnLines)
 
 up_to_64-own : (next : ℕ) (items : List Item) → ArePending next items → GivesOwn next (pending_up_to_64 items)
 up_to_64-own next items p = cases (ltb (length items) 64)
   where
-    cases : (b : Bool) → GivesOwn next (cond b (record { units = []; pending = items }) (record { units = closed items; pending = [] }))
+    cases : (b : Bool) → GivesOwn next (cond b (record { units = []; pending = items }) (record { units = closed_unit items; pending = [] }))
     cases true = record { given = All-nil HasOwnLines; pending = p }
     cases false = record { given = closed-own items p.own; pending = none-pending next }
 
 with_item-own : (horizon next : ℕ) (pending : List Item) (item : Item) → item.line ≡ next → ArePending next pending → GivesOwn (next + 1) (with_item horizon pending item)
 with_item-own horizon next pending item is p = cases (is_over horizon pending item)
   where
-    cases : (b : Bool) → GivesOwn (next + 1) (cond b (record { units = closed pending; pending = item ∷ [] }) (pending_up_to_64 (pending ++ item ∷ [])))
+    cases : (b : Bool) → GivesOwn (next + 1) (cond b (record { units = closed_unit pending; pending = item ∷ [] }) (pending_up_to_64 (pending ++ item ∷ [])))
     cases true = record { given = closed-own pending p.own; pending = push-pending next [] item is (none-pending next) }
     cases false = up_to_64-own (next + 1) (pending ++ item ∷ []) (push-pending next pending item is p)
 
-with_unit-own : (next : ℕ) (pending : List Item) (unit : ScriptUnit) → HasOwnLines unit → ArePending next pending → GivesOwn (next + 1) (record { units = closed pending ++ unit ∷ []; pending = [] })
+with_unit-own : (next : ℕ) (pending : List Item) (unit : ScriptUnit) → HasOwnLines unit → ArePending next pending → GivesOwn (next + 1) (record { units = closed_unit pending ++ unit ∷ []; pending = [] })
 with_unit-own next pending unit own p = record {
-  given = All-append HasOwnLines (closed pending) (unit ∷ []) (closed-own pending p.own) (All-cons HasOwnLines unit [] own (All-nil HasOwnLines));
+  given = All-append HasOwnLines (closed_unit pending) (unit ∷ []) (closed-own pending p.own) (All-cons HasOwnLines unit [] own (All-nil HasOwnLines));
   pending = none-pending (next + 1);
 }
 

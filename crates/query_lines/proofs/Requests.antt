@@ -11,7 +11,7 @@ use Rattle.query_lines.specs.declared.unit.Asks.TheVariants as kinds
 use Rattle.query_lines.specs.declared.unit.Item.{Item}
 use Rattle.query_lines.specs.declared.unit.Unit.{Unit as ScriptUnit}
 use Rattle.query_lines.specs.declared.unit.Unit.TheVariants.{Trim, Stats, Question, Vcd}
-use Rattle.query_lines.specs.Units.{LineStep, closed, is_over, pending_up_to_64, with_item, line_step, units_from}
+use Rattle.query_lines.specs.Units.{LineStep, closed_unit, is_over, pending_up_to_64, with_item, line_step, units_from}
 use Rattle.query_lines.specs.Laws.{Request, Answer, requests_in, requests_on}
 
 abbrev told : List ScriptUnit → List Request
@@ -25,30 +25,30 @@ map_answer-append : (xs ys : List Item) → map Answer (xs ++ ys) ≡ map Answer
 map_answer-append [] ys = refl
 map_answer-append (x ∷ xs) ys = ap (λ (l : List Request). Answer x ∷ l) (map_answer-append xs ys)
 
-told-closed : (items : List Item) → told (closed items) ≡ map Answer items
+told-closed : (items : List Item) → told (closed_unit items) ≡ map Answer items
 told-closed [] = refl
 told-closed (item ∷ items) = append-nil (map Answer (item ∷ items))
 
-kept-whole : (items : List Item) → kept (record { units = closed items; pending = [] }) ≡ map Answer items
-kept-whole items = append-nil (told (closed items)) ∙ told-closed items
+kept-whole : (items : List Item) → kept (record { units = closed_unit items; pending = [] }) ≡ map Answer items
+kept-whole items = append-nil (told (closed_unit items)) ∙ told-closed items
 
 kept-pending : (items : List Item) → kept (pending_up_to_64 items) ≡ map Answer items
 kept-pending items = cases (ltb (length items) 64)
   where
-    cases : (b : Bool) → kept (cond b (record { units = []; pending = items }) (record { units = closed items; pending = [] })) ≡ map Answer items
+    cases : (b : Bool) → kept (cond b (record { units = []; pending = items }) (record { units = closed_unit items; pending = [] })) ≡ map Answer items
     cases true = refl
     cases false = kept-whole items
 
 kept-item : (horizon : ℕ) (pending : List Item) (item : Item) → kept (with_item horizon pending item) ≡ map Answer pending ++ Answer item ∷ []
 kept-item horizon pending item = cases (is_over horizon pending item)
   where
-    cases : (b : Bool) → kept (cond b (record { units = closed pending; pending = item ∷ [] }) (pending_up_to_64 (pending ++ item ∷ []))) ≡ map Answer pending ++ Answer item ∷ []
+    cases : (b : Bool) → kept (cond b (record { units = closed_unit pending; pending = item ∷ [] }) (pending_up_to_64 (pending ++ item ∷ []))) ≡ map Answer pending ++ Answer item ∷ []
     cases true = ap (λ (l : List Request). l ++ Answer item ∷ []) (told-closed pending)
     cases false = kept-pending (pending ++ item ∷ []) ∙ map_answer-append pending (item ∷ [])
 
-kept-after : (pending : List Item) (unit : ScriptUnit) → kept (record { units = closed pending ++ unit ∷ []; pending = [] }) ≡ map Answer pending ++ requests_in unit
+kept-after : (pending : List Item) (unit : ScriptUnit) → kept (record { units = closed_unit pending ++ unit ∷ []; pending = [] }) ≡ map Answer pending ++ requests_in unit
 kept-after pending unit =
-    append-nil (told (closed pending ++ unit ∷ [])) ∙ flat_map-append requests_in (closed pending) (unit ∷ [])
+    append-nil (told (closed_unit pending ++ unit ∷ [])) ∙ flat_map-append requests_in (closed_unit pending) (unit ∷ [])
     ∙ ap (λ (l : List Request). l ++ told (unit ∷ [])) (told-closed pending) ∙ ap (λ (l : List Request). map Answer pending ++ l) (append-nil (requests_in unit))
 
 kept-step : (horizon : ℕ) (pending : List Item) (number : ℕ) (line : Line) → kept (line_step horizon pending number line) ≡ map Answer pending ++ requests_on number line

@@ -41,9 +41,9 @@ is_over horizon (first ∷ items) item =
     || nat_lt 4000000 (lengths horizon (first ∷ items ++ item ∷ []))
 
 -- the pending items as a unit, if there are any
-abbrev pub closed : List Item → List ScriptUnit
-closed [] = []
-closed (item ∷ items) = Batch (item ∷ items) ∷ []
+abbrev pub closed_unit : List Item → List ScriptUnit
+closed_unit [] = []
+closed_unit (item ∷ items) = Batch (item ∷ items) ∷ []
 
 -- the result of a line: the units that it completes, and the pending items after it
 pub record LineStep : Type 0 where
@@ -55,33 +55,33 @@ abbrev pub pending_up_to_64 : List Item → LineStep
 pending_up_to_64 items =
     if nat_lt (length items) 64
     then record { units = []; pending = items }
-    else record { units = closed items; pending = [] }
+    else record { units = closed_unit items; pending = [] }
 
 -- one more item; if it would take the pending batch over a limit, that batch first becomes a unit
 abbrev pub with_item : ℕ → List Item → Item → LineStep
 with_item horizon pending item =
     if is_over horizon pending item
-    then record { units = closed pending; pending = item ∷ [] }
+    then record { units = closed_unit pending; pending = item ∷ [] }
     else pending_up_to_64 (pending ++ item ∷ [])
 
 -- the question of this line is a unit, after the pending items
 abbrev pub with_question : List Item → ℕ → Asks → LineStep
 with_question pending number asks =
-    record { units = closed pending ++ Question (record { line = number; asks = asks }) ∷ []; pending = [] }
+    record { units = closed_unit pending ++ Question (record { line = number; asks = asks }) ∷ []; pending = [] }
 
 -- the line of this number, after these pending items
 abbrev pub line_step : ℕ → List Item → ℕ → Line → LineStep
 line_step horizon pending number Blank = record { units = []; pending = pending }
 line_step horizon pending number (Ask what) = with_item horizon pending (record { line = number; what = what })
 line_step horizon pending number lines.Bad = with_item horizon pending (record { line = number; what = Bad })
-line_step horizon pending number Go = record { units = closed pending; pending = [] }
+line_step horizon pending number Go = record { units = closed_unit pending; pending = [] }
 line_step horizon pending number (lines.Trim cells) =
-    record { units = closed pending ++ Trim cells ∷ []; pending = [] }
-line_step horizon pending number lines.Stats = record { units = closed pending ++ Stats ∷ []; pending = [] }
+    record { units = closed_unit pending ++ Trim cells ∷ []; pending = [] }
+line_step horizon pending number lines.Stats = record { units = closed_unit pending ++ Stats ∷ []; pending = [] }
 line_step horizon pending number (lines.First first) = with_question pending number (First first)
 line_step horizon pending number (lines.Why why) = with_question pending number (Why why)
 line_step horizon pending number (lines.Vcd file) =
-    record { units = closed pending ++ Vcd file ∷ []; pending = [] }
+    record { units = closed_unit pending ++ Vcd file ∷ []; pending = [] }
 line_step horizon pending number (lines.Stuck stuck) = with_question pending number (Stuck stuck)
 
 -- the state of a batcher: the horizon, and the pending items
@@ -99,7 +99,7 @@ left_by pending number line = record pending { items = (line_step pending.horizo
 
 -- the units of numbered lines, after these pending items; the end of the script closes the last batch
 abbrev pub units_from : ℕ → List Item → List (ℕ × Line) → List ScriptUnit
-units_from horizon pending [] = closed pending
+units_from horizon pending [] = closed_unit pending
 units_from horizon pending (line ∷ lines) =
     let done = line_step horizon pending line.0 line.1 in
     done.units ++ units_from horizon done.pending lines

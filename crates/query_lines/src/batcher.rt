@@ -3,7 +3,7 @@
 ghost use Rattle.std.specs.Prelude.{◌≡◌, ◌<◌, ◌^◌, ◌++◌, [], ◌∷◌, false, length, OnOk, OnErr, IfOk, IsNone, ◌↔◌, option_to_list};
 ghost use Rattle.query_lines.specs.declared.unit.Unit.TheVariants.{Question as QuestionUnit};
 ghost use Rattle.query_lines.specs.Units as units;
-ghost use Rattle.query_lines.specs.Units.{closed, given_by, left_by, with_item};
+ghost use Rattle.query_lines.specs.Units.{closed_unit, given_by, left_by, with_item};
 
 use crate::line::{Line, What};
 use crate::unit::{Asks, Item, ItemList, Question, Unit, UnitList};
@@ -118,7 +118,7 @@ impl Batcher {
 
     /// Closes the pending batch; `None` exactly when no item is pending.
     pub fn end(&mut self) -> Option<Unit>
-        ensures unit { option_to_list result ≡ closed self.old.items }
+        ensures unit { option_to_list result ≡ closed_unit self.old.items }
         ensures pending { self.new ≡ record self.old { items = [] } }
         ensures none { IsNone result ↔ (self.old.items ≡ []) }
     {
@@ -133,7 +133,7 @@ impl Batcher {
 
     // Closes the pending batch, and gives this unit after it.
     fn close(&mut self, last: Option<Unit>) -> Result<UnitList, OutOfMemory>
-        ensures units { IfOk result (λ units. units ≡ closed self.old.items ++ option_to_list
+        ensures units { IfOk result (λ units. units ≡ closed_unit self.old.items ++ option_to_list
             last) }
         ensures pending { OnOk result (self.new ≡ record self.old { items = [] }) }
         ensures err { OnErr result (self.new ≡ self.old) }
@@ -150,7 +150,7 @@ impl Batcher {
 
     // Closes the pending batch, and gives the question of this line after it.
     fn ask(&mut self, line: u32, asks: Asks) -> Result<UnitList, OutOfMemory>
-        ensures units { IfOk result (λ units. units ≡ closed self.old.items
+        ensures units { IfOk result (λ units. units ≡ closed_unit self.old.items
             ++ QuestionUnit (record { line = line; asks = asks }) ∷ []) }
         ensures pending { OnOk result (self.new ≡ record self.old { items = [] }) }
         ensures err { OnErr result (self.new ≡ self.old) }
@@ -186,7 +186,7 @@ impl Batcher {
     // Closes the pending batch, and begins one with this item.
     fn begin_anew(&mut self, item: Item) -> Result<UnitList, OutOfMemory>
         requires { 0 < length self.old.items }
-        ensures units { IfOk result (λ done. done ≡ closed self.old.items) }
+        ensures units { IfOk result (λ done. done ≡ closed_unit self.old.items) }
         ensures pending { OnOk result (self.new ≡ record self.old { items = item ∷ [] }) }
         ensures err { OnErr result (self.new ≡ self.old) }
     {
@@ -204,7 +204,7 @@ impl Batcher {
 
     // Closes the pending batch with this item as its last.
     fn close_with(&mut self, item: Item) -> Result<UnitList, OutOfMemory>
-        ensures units { IfOk result (λ done. done ≡ closed (self.old.items ++ item ∷ [])) }
+        ensures units { IfOk result (λ done. done ≡ closed_unit (self.old.items ++ item ∷ [])) }
         ensures pending { OnOk result (self.new ≡ record self.old { items = [] }) }
         ensures err { OnErr result (self.new ≡ self.old) }
     {

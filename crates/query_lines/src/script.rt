@@ -7,7 +7,7 @@ ghost use Rattle.query_lines.specs.Lines.{line_of};
 ghost use Rattle.query_lines.specs.Reading.{script_units};
 ghost use Rattle.query_lines.specs.Readers.{HasRead};
 ghost use Rattle.query_lines.specs.inner.Reading.{ReadsLine};
-ghost use Rattle.query_lines.specs.Units.{closed};
+ghost use Rattle.query_lines.specs.Units.{closed_unit};
 ghost use Rattle.query_lines.specs.declared.unit.Unit.{Unit as ScriptUnit};
 
 use crate::batcher::Batcher;
@@ -93,7 +93,7 @@ impl ScriptReader {
         ensures { (horizon : ℕ) (script : List ℕ) (given : List ScriptUnit)
             → HasRead horizon script given self.old
             → IfOk result (λ units. script_units horizon script
-            ≡ given ++ (units ++ closed self.new.pending.items)) }
+            ≡ given ++ (units ++ closed_unit self.new.pending.items)) }
     {
         if self.cutter.is_empty() {
             return Ok(UnitList::from_vec(Vec::new(self.alloc)));
@@ -103,7 +103,7 @@ impl ScriptReader {
 
     // Appends the pending batch to these units.
     fn close(&mut self, units: UnitList) -> Result<UnitList, OutOfMemory>
-        ensures { IfOk result (λ all. all ≡ units ++ closed self.old.pending.items) }
+        ensures { IfOk result (λ all. all ≡ units ++ closed_unit self.old.pending.items) }
     {
         let mut units = units.into_vec();
         if let Some(batch) = self.batcher.end() {

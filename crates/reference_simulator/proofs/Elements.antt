@@ -5,7 +5,7 @@ use Rattle.gate_values.specs.declared.Value.TheVariants.{X}
 use Rattle.gate_values.specs.declared.Kind.{Kind}
 use Rattle.gate_values.specs.Gates.{gate_value}
 use Rattle.circuit_meaning.specs.Circuit.{Input, Gate, Flop, Circuit, IsCircuit, IsDriver, driver}
-use Rattle.circuit_meaning.specs.Forward.{value, value_from, seen, flop_value, input_value, last_setting}
+use Rattle.circuit_meaning.specs.Forward.{value, value_from, seen_value, flop_value, input_value, last_setting}
 use Rattle.flip_flops.specs.Edges.{shown_edge}
 use Rattle.flip_flops.proofs.EdgeLemmas.{shown_edge-le}
 use Rattle.circuit_meaning.proofs.Equations.{value_is, driver_fits}
@@ -22,7 +22,7 @@ module _ (c : Circuit) (ok : IsCircuit c) (s t : ℕ) where
   pub value-input : (settings : List Setting) → driver c s ≡ Input settings → value c s t ≡ input_value (last_setting settings t)
   value-input settings e = value_is c ok s t ∙ ap (value_from (value c) t) e
 
-  pub value-gate : (kind : Kind) (pins : List Pin) → driver c s ≡ Gate kind pins → value c s t ≡ gate_value kind (map (seen (value c) t) pins)
+  pub value-gate : (kind : Kind) (pins : List Pin) → driver c s ≡ Gate kind pins → value c s t ≡ gate_value kind (map (seen_value (value c) t) pins)
   value-gate kind pins e = value_is c ok s t ∙ ap (value_from (value c) t) e
 
   pub value-flop : (f : FlipFlop) → driver c s ≡ Flop f → value c s t ≡ flop_value (value c) f (shown_edge f.clock f.delay t)
@@ -52,7 +52,7 @@ module _ (c : Circuit) (ok : IsCircuit c) (s t : ℕ) (r : Element) (e : driver 
       let low = shown_edge-le f.clock f.delay t x (sym l ∙ k) in
       (omega arith, fits.pin)
 
-  pub at-gate : (kind : Kind) (v : Vec Pin Global) → r ≡ GateElement kind v → (xs : List Value) → xs ≡ map (seen (value c) t) v.items → gate_value kind xs ≡ value c s t
+  pub at-gate : (kind : Kind) (v : Vec Pin Global) → r ≡ GateElement kind v → (xs : List Value) → xs ≡ map (seen_value (value c) t) v.items → gate_value kind xs ≡ value c s t
   at-gate kind v q xs x = ap (gate_value kind) x ∙ sym (value-gate c ok s t kind v.items (e ∙ ap driver_of q))
 
   pub few-pins : (kind : Kind) (v : Vec Pin Global) → r ≡ GateElement kind v → length v.items ≤ 64
@@ -61,19 +61,19 @@ module _ (c : Circuit) (ok : IsCircuit c) (s t : ℕ) (r : Element) (e : driver 
       fits.few
 
 -- one pin more is seen
-pub see-more : (f : Pin → Value) (seen : List Value) (pins : List Pin) (i : ℕ) (w : Value) (d : Pin) → i < length seen → i < length pins → take i seen ≡ map f (take i pins) → w ≡ f (get_or pins i d) → take (i + 1) (set seen i w) ≡ map f (take (i + 1) pins)
-see-more f seen pins i w d h k e q = take_more_set seen i w h ∙ ap (λ a. a ++ w ∷ []) e ∙ ap (λ x. map f (take i pins) ++ x ∷ []) q ∙ sym (map_more f pins i d k)
+pub see-more : (f : Pin → Value) (seen_value : List Value) (pins : List Pin) (i : ℕ) (w : Value) (d : Pin) → i < length seen_value → i < length pins → take i seen_value ≡ map f (take i pins) → w ≡ f (get_or pins i d) → take (i + 1) (set seen_value i w) ≡ map f (take (i + 1) pins)
+see-more f seen_value pins i w d h k e q = take_more_set seen_value i w h ∙ ap (λ a. a ++ w ∷ []) e ∙ ap (λ x. map f (take i pins) ++ x ∷ []) q ∙ sym (map_more f pins i d k)
 
 module _ (v : ℕ → ℕ → Value) (t : ℕ) (pins : List Pin) (i : ℕ) (p : Pin) (at : p ≡ get_or pins i p) where
-  pub seen-late : p.delay ≤ t → (w : Value) → w ≡ v p.signal (t - p.delay) → w ≡ seen v t (get_or pins i p)
-  seen-late h w e = subst (λ q. w ≡ seen v t q) at (rw (le-ltb t p.delay h) e)
+  pub seen-late : p.delay ≤ t → (w : Value) → w ≡ v p.signal (t - p.delay) → w ≡ seen_value v t (get_or pins i p)
+  seen-late h w e = subst (λ q. w ≡ seen_value v t q) at (rw (le-ltb t p.delay h) e)
 
-  pub seen-early : t < p.delay → X ≡ seen v t (get_or pins i p)
-  seen-early h = subst (λ q. X ≡ seen v t q) at (rw (lt-ltb t p.delay h))
+  pub seen-early : t < p.delay → X ≡ seen_value v t (get_or pins i p)
+  seen-early h = subst (λ q. X ≡ seen_value v t q) at (rw (lt-ltb t p.delay h))
 
 -- all pins are seen
-pub see-all : (f : Pin → Value) (seen : List Value) (pins : List Pin) (i n : ℕ) → take i seen ≡ map f (take i pins) → i ≡ n → n ≡ length pins → take n seen ≡ map f pins
-see-all f seen pins i n e q l = subst (λ k. take k seen ≡ map f pins) q (e ∙ ap (map f) (take_all i pins (omega arith)))
+pub see-all : (f : Pin → Value) (seen_value : List Value) (pins : List Pin) (i n : ℕ) → take i seen_value ≡ map f (take i pins) → i ≡ n → n ≡ length pins → take n seen_value ≡ map f pins
+see-all f seen_value pins i n e q l = subst (λ k. take k seen_value ≡ map f pins) q (e ∙ ap (map f) (take_all i pins (omega arith)))
 
 some_element : Element
 some_element = FlopElement (record { pin = 0; delay = 0; clock = None; initial = X })

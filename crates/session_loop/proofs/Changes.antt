@@ -2,7 +2,7 @@
 use Rattle.std.proofs.Common.{◌≡◌, ℕ, ◌+◌, ◌<◌, List, [], ◌∷◌, ◌++◌, Contains, Result, Ok, Err, refl, sym, ap, subst, ◌∙◌, arith}
 use Rattle.std.specs.Prelude.{IsErrAnd}
 use Rattle.std.proofs.lemmas.List.Elements.{All-head, Contains-append_right}
-use Rattle.backsim_io.specs.Held.{Places, without}
+use Rattle.backsim_io.specs.FilesInMemory.{Places, list_without}
 use Rattle.backsim_io.specs.State.{FilesState, SourceState, FileFault, SourceFault, Rises}
 use Rattle.session_loop.specs.declared.stop.Stop.{Stop}
 use Rattle.session_loop.specs.declared.stop.Stop.TheVariants.{ScriptUnread, ScriptTooLong, RepliesUnwritten, JournalUnwritten, DumpUnmade, DumpUnwritten, DumpUnfinished, OutOfMemory}
@@ -202,17 +202,17 @@ none-unfinished files [] none places = refl
 none-unfinished files (k ∷ ks) none places = let below : k < files = All-head (λ i. i < files) k ks places.0 in absurd (omega (arith, below, none))
 
 -- once the only unfinished file is finished, none is left
-all-finished : (files : FilesState) → files.created ≡ 0 → Places files.created files.unfinished → without (files.unfinished ++ files.created ∷ []) 0 ≡ files.unfinished
+all-finished : (files : FilesState) → files.created ≡ 0 → Places files.created files.unfinished → list_without (files.unfinished ++ files.created ∷ []) 0 ≡ files.unfinished
 all-finished files none places =
     let empty = none-unfinished files.created files.unfinished none places in
-    ap (λ (l : List ℕ). without (l ++ files.created ∷ []) 0) empty ∙ ap (λ (k : ℕ). without (k ∷ []) 0) none ∙ sym empty
+    ap (λ (l : List ℕ). list_without (l ++ files.created ∷ []) 0) empty ∙ ap (λ (k : ℕ). list_without (k ∷ []) 0) none ∙ sym empty
 
 -- a journal that was created and finished leaves nothing unfinished
 pub journal-done : (old mid new : FilesState) → old.created ≡ 0 → Places old.created old.unfinished → Dumped (with_file old) mid
-    → new ≡ record mid { unfinished = without mid.unfinished 0 } → new ≡ record old { created = mid.created }
+    → new ≡ record mid { unfinished = list_without mid.unfinished 0 } → new ≡ record old { created = mid.created }
 journal-done old mid new none places dumped ends =
     ends
-    ∙ ap (λ (f : FilesState). record f { unfinished = without f.unfinished 0 }) dumped.same
+    ∙ ap (λ (f : FilesState). record f { unfinished = list_without f.unfinished 0 }) dumped.same
     ∙ ap (λ (l : List ℕ). record old { created = mid.created; unfinished = l }) (all-finished old none places)
 
 -- it could not be finished
@@ -302,6 +302,6 @@ work-unfinished old mid new JournalUnfinished is fault = subst (λ (f : FilesSta
 
 -- it was finished
 pub work-done : (old mid new : FilesState) → old.created ≡ 0 → Places old.created old.unfinished → mid ≡ with_file old
-    → new ≡ record mid { unfinished = without mid.unfinished 0 } → new ≡ record old { created = old.created + 1 }
+    → new ≡ record mid { unfinished = list_without mid.unfinished 0 } → new ≡ record old { created = old.created + 1 }
 work-done old mid new none places is ends =
-    journal-done old (with_file old) new none places (dumped-none (with_file old)) (ends ∙ ap (λ (f : FilesState). record f { unfinished = without f.unfinished 0 }) is)
+    journal-done old (with_file old) new none places (dumped-none (with_file old)) (ends ∙ ap (λ (f : FilesState). record f { unfinished = list_without f.unfinished 0 }) is)

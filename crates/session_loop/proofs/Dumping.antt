@@ -11,7 +11,7 @@ use Rattle.std.proofs.lemmas.List.Folds.{list_any-append}
 use Rattle.std.proofs.lemmas.Str.{IsUtf8-from_ascii}
 use Rattle.backsim_io.specs.Counts.{Grows}
 use Rattle.owned_text.specs.Made.{Made}
-use Rattle.backsim_io.specs.Held.{grown, CreatesIn, FileGrows, SameMade, Places, without}
+use Rattle.backsim_io.specs.FilesInMemory.{files_with, CreatesIn, FileGrows, SameMade, Places, list_without}
 use Rattle.backsim_io.specs.State.{FilesState}
 use Rattle.text_rules.specs.Text.{is_mark, is_hash, is_name, is_name_byte}
 use Rattle.query_lines.specs.declared.unit.Unit.{Unit as ScriptUnit}
@@ -34,7 +34,7 @@ use Rattle.session_loop.specs.declared.stop.Stop.TheVariants.{ScriptUnread, Scri
 use Rattle.unit_answers.specs.Stores.{cells_of}
 use Rattle.session_loop.specs.Halting.{session_files}
 use Rattle.session_loop.specs.Outside.{with_file}
-use Rattle.session_loop.specs.inner.Desks.{IsCount, Keeps, KeepsDumps, Shows, refused, refused_last}
+use Rattle.session_loop.specs.inner.Desks.{IsCount, Keeps, KeepsDumps, Shows, refused_reply, refused_last}
 use Rattle.session_loop.specs.inner.Outside.{RepliesStops, DumpStops}
 use Rattle.session_loop.specs.inner.Growing.{Adds, GrowsPart, IsDumpPart}
 use Rattle.session_loop.specs.inner.Serving.{BreaksAt, Serves, Stops}
@@ -56,7 +56,7 @@ when-passed (Err e) is h = absurd (true≢false is)
 
 -- what is written to the last of the files
 grown-last : (before : List Made) (name bytes : List ℕ)
-    → grown (before ++ record { name = name; bytes = [] } ∷ []) (length before) bytes ≡ before ++ record { name = name; bytes = bytes } ∷ []
+    → files_with (before ++ record { name = name; bytes = [] } ∷ []) (length before) bytes ≡ before ++ record { name = name; bytes = bytes } ∷ []
 grown-last [] name bytes = refl
 grown-last (file ∷ before) name bytes = ap (λ l. file ∷ l) (grown-last before name bytes)
 
@@ -65,7 +65,7 @@ pub adds-file : (u v w : List Made → Type 0) (count slot : ℕ) (name bytes : 
     → Adds u w count (record { name = name; bytes = bytes } ∷ [])
 adds-file u v w count slot name bytes is creates grows before long was =
     let made : List Made = before ++ record { name = name; bytes = [] } ∷ [] in
-    subst w (ap (λ k. grown made k bytes) (is ∙ sym long) ∙ grown-last before name bytes) (grows made (creates before was))
+    subst w (ap (λ k. files_with made k bytes) (is ∙ sym long) ∙ grown-last before name bytes) (grows made (creates before was))
 
 -- and nothing since
 pub adds-then : (u v w : List Made → Type 0) (count : ℕ) (more : List Made) → Adds u v count more → SameMade v w → Adds u w count more
@@ -79,18 +79,18 @@ adds-none u v count same before long was = subst v (sym (append-nil before)) (sa
 pub holds-last : (before after : List ℕ) (place slot : ℕ) → after ≡ before ++ place ∷ [] → slot ≡ place → Contains after slot
 holds-last before after place slot is same = subst (λ l. Contains l slot) (sym is) (Contains-append_right before (place ∷ []) slot (0, omega arith, sym same))
 
-others-stay : (places : List ℕ) (slot : ℕ) → All (λ k. k < slot) places → without places slot ≡ places
+others-stay : (places : List ℕ) (slot : ℕ) → All (λ k. k < slot) places → list_without places slot ≡ places
 others-stay [] slot below = refl
 others-stay (k ∷ places) slot below =
     let less : k < slot = All-head (λ i. i < slot) k places below in
     let apart : (k == slot) ≡ false = ne_eqb k slot (λ e. omega arith) in
     rw apart (ap (λ l. k ∷ l) (others-stay places slot (All-tail (λ i. i < slot) k places below)))
 
-last-goes : (slot : ℕ) → without (slot ∷ []) slot ≡ []
+last-goes : (slot : ℕ) → list_without (slot ∷ []) slot ≡ []
 last-goes slot = let same : (slot == slot) ≡ true = eq-eqb slot slot refl in rw same refl
 
 -- once the file that was created last is finished, those are left that were before
-others-left : (places : List ℕ) (count : ℕ) → Places count places → without (places ++ count ∷ []) count ≡ places
+others-left : (places : List ℕ) (count : ℕ) → Places count places → list_without (places ++ count ∷ []) count ≡ places
 others-left places count are =
     filter-append (λ k. not (k == count)) places (count ∷ [])
     ∙ ap₂ (λ (a b : List ℕ). a ++ b) (others-stay places count are.0) (last-goes count)
@@ -98,11 +98,11 @@ others-left places count are =
 
 -- a file that was created, written and finished leaves nothing unfinished
 pub dump-done : (old created written new : FilesState) (slot : ℕ) → Places old.created old.unfinished → slot ≡ old.created → created ≡ with_file old → written ≡ created
-    → new ≡ record written { unfinished = without written.unfinished slot } → new ≡ record old { created = old.created + 1 }
+    → new ≡ record written { unfinished = list_without written.unfinished slot } → new ≡ record old { created = old.created + 1 }
 dump-done old created written new slot places is creates same ends =
     ends
-    ∙ ap (λ (f : FilesState). record f { unfinished = without f.unfinished slot }) (same ∙ creates)
-    ∙ ap (λ (k : ℕ). record old { created = old.created + 1; unfinished = without (old.unfinished ++ old.created ∷ []) k }) is
+    ∙ ap (λ (f : FilesState). record f { unfinished = list_without f.unfinished slot }) (same ∙ creates)
+    ∙ ap (λ (k : ℕ). record old { created = old.created + 1; unfinished = list_without (old.unfinished ++ old.created ∷ []) k }) is
     ∙ ap (λ (l : List ℕ). record old { created = old.created + 1; unfinished = l }) (others-left old.unfinished old.created places)
 
 -- ---- names
@@ -203,15 +203,15 @@ module _ (setup : Setup) where
           ap₂ (λ (a b : List (List ℕ)). list_any (bytes_eq file) a || list_any (bytes_eq file) b) keeps.own keeps.made
           ∙ sym (list_any-append (bytes_eq file) setup.names (map (λ (dump : Made). dump.name) now.dumps))
 
-      refused-is : refused dumps file ≡ cond (is_taken setup now file) (Some replies.Taken) (refused_last dumps.last (length now.dumps))
+      refused-is : refused_reply dumps file ≡ cond (is_taken setup now file) (Some replies.Taken) (refused_last dumps.last (length now.dumps))
       refused-is = ap₂ (λ (b : Bool) (n : ℕ). cond b (Some replies.Taken) (refused_last dumps.last n)) taken-is as-many
 
       -- no dump is made, and the reply says why
-      line-refused : (reply : VcdReply) → refused dumps file ≡ Some reply → with_vcd setup now file ≡ with_reply now (vcd_line file reply)
+      line-refused : (reply : VcdReply) → refused_reply dumps file ≡ Some reply → with_vcd setup now file ≡ with_reply now (vcd_line file reply)
       line-refused reply is = told-name (is_taken setup now file) dumps.last reply keeps.shows (sym refused-is ∙ is)
 
       -- a dump is made
-      line-makes : (last : LastBatch) → dumps.last ≡ Some last → refused dumps file ≡ None
+      line-makes : (last : LastBatch) → dumps.last ≡ Some last → refused_reply dumps file ≡ None
           → with_vcd setup now file ≡ with_dump now file (wires_of setup.design last.items last.replies.items)
       line-makes last has is =
           made-name (is_taken setup now file) last (subst (λ l. Shows setup.design l now.waves) has keeps.shows)
@@ -238,7 +238,7 @@ module _ (setup : Setup) where
 
     module _ (file : List ℕ) where
       -- no dump is made
-      module _ (reply : VcdReply) (is : refused desk.dumps file ≡ Some reply) (out new_out : List ℕ → Type 0) (made : List Made → Type 0) where
+      module _ (reply : VcdReply) (is : refused_reply desk.dumps file ≡ Some reply) (out new_out : List ℕ → Type 0) (made : List Made → Type 0) where
         -- its reply was written
         pub refusal-served : Grows out new_out (vcd_line file reply) → Serves setup desk desk (Vcd file ∷ []) out new_out made made
         refusal-served replied units now session keeps = record {
@@ -273,7 +273,7 @@ module _ (setup : Setup) where
             }
 
       -- a dump is made
-      module _ (last : LastBatch) (has : desk.dumps.last ≡ Some last) (free : refused desk.dumps file ≡ None)
+      module _ (last : LastBatch) (has : desk.dumps.last ≡ Some last) (free : refused_reply desk.dumps file ≡ None)
           (text : List ℕ) (text-is : text ≡ vcd_of (wires_of setup.design last.items last.replies.items))
           (count : ℕ) (many : count ≡ length desk.dumps.made.items + 1) (out new_out : List ℕ → Type 0) (made new_made : List Made → Type 0) where
         abbrev wires : List Wire

@@ -3,7 +3,7 @@ use Rattle.std.proofs.Common.{◌≡◌, ℕ, ◌+◌, ◌≤◌, List, [], ◌�
 use Rattle.std.specs.Prelude.{Option, IfErr, OnOk}
 use Rattle.backsim_io.specs.Counts.{Grows}
 use Rattle.owned_text.specs.Made.{Made}
-use Rattle.backsim_io.specs.Held.{FileGrows, SameMade}
+use Rattle.backsim_io.specs.FilesInMemory.{FileGrows, SameMade}
 use Rattle.backsim_io.specs.State.{FilesState}
 use Rattle.journal_text.specs.Spelling.{head_line}
 use Rattle.session_meaning.specs.Session.{Setup, IsSessionOf}

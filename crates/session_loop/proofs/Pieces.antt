@@ -7,7 +7,7 @@ use Rattle.std.proofs.lemmas.List.Concat.{flat_map-append}
 use Rattle.std.proofs.Math.Seq.{take-add}
 use Rattle.backsim_io.specs.Counts.{Grows}
 use Rattle.owned_text.specs.Made.{Made}
-use Rattle.backsim_io.specs.Held.{FileGrows}
+use Rattle.backsim_io.specs.FilesInMemory.{FileGrows}
 use Rattle.journal_meaning.specs.declared.Entry.{Entry}
 use Rattle.text_fields.specs.Spelling.{field}
 use Rattle.journal_text.specs.Spelling.{line_feed, entry_line, shard_lines, kind_word, section_lines}

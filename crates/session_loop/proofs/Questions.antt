@@ -4,7 +4,7 @@ use Rattle.std.proofs.lemmas.List.Sums.{fold-append}
 use Rattle.cell_store.specs.Recency.{Contents}
 use Rattle.backsim_io.specs.Counts.{Grows}
 use Rattle.owned_text.specs.Made.{Made}
-use Rattle.backsim_io.specs.Held.{FileGrows}
+use Rattle.backsim_io.specs.FilesInMemory.{FileGrows}
 use Rattle.circuit_meaning.specs.Circuit.{Circuit}
 use Rattle.journal_meaning.specs.declared.Entry.{Entry}
 use Rattle.batch_meaning.specs.Batches.{Site, Batch as BatchRecord}
@@ -151,7 +151,7 @@ module _ (setup : Setup) where
       record {
         serves = λ now keeps. record {
           lists = lists;
-          held = held;
+          own_lists = held;
           reply = reply;
           count = done.count;
           legal = λ shard h. subst (λ cells. IsLegalBatch batch shard cells (get_or lists shard [])) (keeps.cells shard h) (done.legal shard h);

@@ -4,12 +4,12 @@ use Rattle.std.proofs.lemmas.List.{take-append-drop, take-append-le, take-take, 
 use Rattle.std.specs.Io.KnownBytes.{Consumes, IsAtEnd}
 use Rattle.std.proofs.KnownBytes.{Consumes-trans}
 use Rattle.owned_text.specs.Made.{Made}
-use Rattle.backsim_io.specs.Held.{ConsumesUpTo}
+use Rattle.backsim_io.specs.FilesInMemory.{ConsumesUpTo}
 use Rattle.query_lines.specs.declared.unit.Unit.{Unit as ScriptUnit}
 use Rattle.query_lines.specs.Reading.{script_units, completed_units}
 use Rattle.query_lines.specs.Readers.{Reader, HasRead}
 use Rattle.query_lines.proofs.Completed.{given-completed}
-use Rattle.session_meaning.specs.Session.{Setup, Opened, opened, IsSession, IsSessionOf}
+use Rattle.session_meaning.specs.Session.{Setup, Opened, first_course, IsSession, IsSessionOf}
 use Rattle.session_meaning.specs.Broken.{journal_of, BreaksIn, IsCutOff}
 use Rattle.session_loop.specs.declared.desk.Desk.{Desk}
 use Rattle.session_loop.specs.declared.desk.LastBatch.{LastBatch}
@@ -58,7 +58,7 @@ stopped-is setup script left old new DumpUnwritten replies journal dumps h b = b
 stopped-is setup script left old new DumpUnfinished replies journal dumps h b = b
 stopped-is setup script left old new OutOfMemory replies journal dumps h b = b
 
-module _ (setup : Setup) (desk : Desk) (fresh : KeepsDesk setup desk opened) where
+module _ (setup : Setup) (desk : Desk) (fresh : KeepsDesk setup desk first_course) where
   -- nothing was read
   pub has-none : (first : Option (List ℕ)) (reader : Reader) (out : List ℕ → Type 0) (made : List Made → Type 0) → HasRead setup.design.circuit.horizon [] [] reader → HasServed setup 0 first first reader desk desk out out made made
   has-none first reader out made read = record {
@@ -93,7 +93,7 @@ module _ (setup : Setup) (desk : Desk) (fresh : KeepsDesk setup desk opened) whe
   wrote-session : (units : List ScriptUnit) (later : Desk) (out new_out : List ℕ → Type 0) (made new_made : List Made → Type 0) (files : ℕ) → files ≡ length later.dumps.made.items + 1
       → Serves setup desk later units out new_out made new_made → Wrote setup (IsSession setup units) out new_out made new_made files
   wrote-session units later out new_out made new_made files many served =
-      let s = served [] opened Opened fresh in
+      let s = served [] first_course Opened fresh in
       record {
         replies = s.next.out;
         journal = journal_of setup s.next;
@@ -113,7 +113,7 @@ module _ (setup : Setup) (desk : Desk) (fresh : KeepsDesk setup desk opened) whe
   wrote-broken : (units : List ScriptUnit) (out new_out : List ℕ → Type 0) (made new_made : List Made → Type 0) (files : ℕ) (stop : Stop)
       → Stops setup desk units out new_out made new_made files stop → Wrote setup (λ replies journal dumps. BreaksAt setup units replies journal dumps stop) out new_out made new_made files
   wrote-broken units out new_out made new_made files stop stopped =
-      let s = stopped [] opened Opened fresh in
+      let s = stopped [] first_course Opened fresh in
       record { replies = s.replies; journal = s.journal; dumps = s.dumps; are = s.broken; replied = s.replied; recorded = s.recorded; count = s.count }
 
   module _ (script : List ℕ) (first : Option (List ℕ)) (is : first ≡ Some script) where
@@ -237,7 +237,7 @@ module _ (setup : Setup) (desk : Desk) (fresh : KeepsDesk setup desk opened) whe
 
 -- a session begins
 pub fresh-desk : (setup : Setup) (desk : Desk) → ((shard : ℕ) → shard < setup.shards → cells_of desk.stores.items shard ≡ []) → desk.counts ≡ no_counts
-    → desk.dumps.last ≡ None → desk.dumps.own.items ≡ setup.names → desk.dumps.made.items ≡ [] → KeepsDesk setup desk opened
+    → desk.dumps.last ≡ None → desk.dumps.own.items ≡ setup.names → desk.dumps.made.items ≡ [] → KeepsDesk setup desk first_course
 fresh-desk setup desk empty none last own made = record {
   cells = empty;
   counts = record {

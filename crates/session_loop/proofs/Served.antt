@@ -9,12 +9,12 @@ use Rattle.valid_intervals.specs.declared.SignalCell.{SignalCell}
 use Rattle.cell_store.specs.Recency.{Contents}
 use Rattle.backsim_io.specs.Counts.{Grows}
 use Rattle.owned_text.specs.Made.{Made}
-use Rattle.backsim_io.specs.Held.{FileGrows}
+use Rattle.backsim_io.specs.FilesInMemory.{FileGrows}
 use Rattle.backsim_io.specs.State.{FilesState}
 use Rattle.journal_meaning.specs.declared.Entry.{Entry}
 use Rattle.journal_meaning.specs.States.{fresh}
 use Rattle.journal_meaning.specs.Replay.{IsLegalBatch, IsLegalTrim}
-use Rattle.journal_meaning.specs.Sections.{Purpose, Asks, Trims, Forces, SectionEntries, own, cells_left, cells_after}
+use Rattle.journal_meaning.specs.Sections.{Purpose, Asks, Trims, Forces, SectionEntries, own_entries, cells_left, cells_after}
 use Rattle.journal_meaning.specs.Counts.{count}
 use Rattle.journal_text.specs.Spelling.{section_lines}
 use Rattle.query_lines.specs.declared.unit.Item.{Item}
@@ -24,7 +24,7 @@ use Rattle.reply_lines.specs.declared.reply.Reply.{Reply}
 use Rattle.reply_lines.specs.Replies.{trimmed_line, stats_line}
 use Rattle.journal_text.specs.declared.sections.SectionKind.TheVariants.{Batch, Trim}
 use Rattle.session_meaning.specs.Replies.{replies_text}
-use Rattle.session_meaning.specs.Written.{kind_of, numbered}
+use Rattle.session_meaning.specs.Written.{kind_of, numbered_section}
 use Rattle.session_meaning.specs.Session.{Setup, Course, IsServed, Session, Served, batch_of, with_section, with_reply, counts_line, cells_stored, trim_entries, is_batch, is_fill, is_eviction, entries_that}
 use Rattle.session_meaning.specs.Broken.{IsPrefix, journal_of, IsBroken}
 use Rattle.session_meaning.specs.Dumps.{wires_of}
@@ -51,7 +51,7 @@ none-counted : (lists : List (List Entry)) → sum_by (λ (entries : List Entry)
 none-counted [] = refl
 none-counted (es ∷ lists) = let first = sum_by-cons (λ (entries : List Entry). 0) es lists in let rest = none-counted lists in omega (arith, first, rest)
 
-counted-own : (test : Entry → Bool) (purpose : Purpose) (lists : List (List Entry)) → sum_by (λ entries. count test (own purpose entries)) lists ≡ sum_by (count test) (counted_lists (kind_of purpose) lists)
+counted-own : (test : Entry → Bool) (purpose : Purpose) (lists : List (List Entry)) → sum_by (λ entries. count test (own_entries purpose entries)) lists ≡ sum_by (count test) (counted_lists (kind_of purpose) lists)
 counted-own test (Asks b) lists = refl
 counted-own test Trims lists = refl
 counted-own test (Forces b) lists = none-counted lists
@@ -59,7 +59,7 @@ counted-own test (Forces b) lists = none-counted lists
 entries-more : (test : Entry → Bool) (sections : List SectionEntries) (section : SectionEntries)
     → entries_that test (sections ++ section ∷ []) ≡ entries_that test sections + sum_by (count test) (counted_lists (kind_of section.purpose) section.lists)
 entries-more test sections section =
-    sum_by-append (λ (s : SectionEntries). sum_by (λ entries. count test (own s.purpose entries)) s.lists) sections (section ∷ [])
+    sum_by-append (λ (s : SectionEntries). sum_by (λ entries. count test (own_entries s.purpose entries)) s.lists) sections (section ∷ [])
     ∙ ap (λ n. entries_that test sections + n) (omega (arith, counted-own test section.purpose section.lists))
 
 batches-more : (sections : List SectionEntries) (section : SectionEntries) → length (filter (λ s. is_batch s.purpose) (sections ++ section ∷ [])) ≡ length (filter (λ s. is_batch s.purpose) sections) + batches_in (kind_of section.purpose)
@@ -211,7 +211,7 @@ module _ (setup : Setup) where
 
       module _ (served : IsServed setup now unit next) (number : ℕ) (is : number ≡ desk.counts.sections + 1) where
         abbrev pub section-text : List ℕ
-        section-text = section_lines (numbered number section)
+        section-text = section_lines (numbered_section number section)
 
         journal-is : journal_of setup next ≡ journal_of setup now ++ section-text
         journal-is = journal-more setup now purpose lists text number (is ∙ ap (λ n. n + 1) keeps.counts.sections_are)

@@ -2,7 +2,7 @@
 use Rattle.std.proofs.Common.{◌≡◌, ℕ, ◌<◌, List, [], ◌++◌, get_or, refl, sym, ap, subst, ◌∙◌, append-nil, Err, inl, inr}
 use Rattle.cell_store.specs.Recency.{Contents}
 use Rattle.owned_text.specs.Made.{Made}
-use Rattle.backsim_io.specs.Held.{FileGrows, SameMade}
+use Rattle.backsim_io.specs.FilesInMemory.{FileGrows, SameMade}
 use Rattle.backsim_io.specs.State.{FilesState}
 use Rattle.journal_meaning.specs.declared.Entry.{Entry}
 use Rattle.journal_meaning.specs.Replay.{IsLegalBatch}
@@ -14,7 +14,7 @@ use Rattle.query_lines.specs.declared.unit.Unit.TheVariants as units
 use Rattle.reply_lines.specs.declared.reply.Reply.{Reply}
 use Rattle.session_meaning.specs.Replies.{replies_text}
 use Rattle.session_meaning.specs.Dumps.{wires_of}
-use Rattle.session_meaning.specs.Session.{Setup, Course, Opened, opened, batch_of, with_section, with_waves, IsBatchServed}
+use Rattle.session_meaning.specs.Session.{Setup, Course, Opened, first_course, batch_of, with_section, with_waves, IsBatchServed}
 use Rattle.session_meaning.specs.Broken.{IsPrefix, journal_of}
 use Rattle.session_meaning.proofs.Journals.{journal-more, broken-at, prefix-same, prefix-behind}
 use Rattle.unit_answers.specs.Stores.{cells_of}
@@ -43,12 +43,12 @@ module _ (setup : Setup) (items : List Item) (name : List ℕ) where
   -- The batch was answered over empty stores.
   module _ (opening left : List Contents) (empty : (shard : ℕ) → shard < setup.shards → cells_of opening shard ≡ []) (replies : List Reply) (lists : List (List Entry)) (done : IsBatchDone setup items opening replies lists left) where
     abbrev next : Course
-    next = with_waves (with_section opened (Asks (batch_of setup items)) lists (replies_text items replies)) (wires_of setup.design items replies)
+    next = with_waves (with_section first_course (Asks (batch_of setup items)) lists (replies_text items replies)) (wires_of setup.design items replies)
 
     abbrev pub work_text : List ℕ
     work_text = section_lines (record { kind = Batch; number = 1; shards = lists })
 
-    served : IsBatchServed setup opened next items
+    served : IsBatchServed setup first_course next items
     served = record {
       lists = lists;
       replies = replies;
@@ -60,7 +60,7 @@ module _ (setup : Setup) (items : List Item) (name : List ℕ) where
 
     whole : journal_of setup next ≡ head_line setup.shards setup.capacity ++ work_text
     whole =
-        journal-more setup opened (Asks (batch_of setup items)) lists (replies_text items replies) 1 refl
+        journal-more setup first_course (Asks (batch_of setup items)) lists (replies_text items replies) 1 refl
         ∙ ap (λ l. l ++ work_text) (append-nil (head_line setup.shards setup.capacity))
 
     -- its section was written
@@ -80,7 +80,7 @@ module _ (setup : Setup) (items : List Item) (name : List ℕ) where
           journal = head ++ part.0;
           are = inr (
             replies,
-            broken-at setup [] (units.Batch items) opened next (replies_text items replies) (head ++ part.0) [] Opened served (replies_text items replies, refl)
+            broken-at setup [] (units.Batch items) first_course next (replies_text items replies) (head ++ part.0) [] Opened served (replies_text items replies, refl)
                 (part.0, ap (λ l. l ++ part.0) (sym (append-nil head))) (prefix-same (replies_text items replies))
                 (subst (IsPrefix (head ++ part.0)) (sym whole) (prefix-behind head part.0 work_text part.1))
                 ([], refl) tt (inl refl) (inr refl) (λ _ _. refl),

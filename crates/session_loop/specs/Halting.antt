@@ -2,13 +2,13 @@
 use Rattle.std.specs.Prelude.{◌≡◌, ⊤, ℕ, ◌+◌, ◌≤◌, ◌⊎◌, List, [], ◌∷◌, length, Option}
 use Rattle.backsim_io.specs.Counts.{Grows, Stays}
 use Rattle.owned_text.specs.Made.{Made}
-use Rattle.backsim_io.specs.Held.{SameMade}
+use Rattle.backsim_io.specs.FilesInMemory.{SameMade}
 use Rattle.journal_text.specs.Spelling.{head_line}
 use Rattle.query_lines.specs.declared.unit.Item.{Item}
 use Rattle.query_lines.specs.declared.unit.Unit.TheVariants.{Batch}
 use Rattle.reply_lines.specs.declared.reply.Reply.{Reply}
 use Rattle.session_meaning.specs.Replies.{replies_text}
-use Rattle.session_meaning.specs.Session.{Setup, Course, opened, IsBatchServed, IsSessionOf}
+use Rattle.session_meaning.specs.Session.{Setup, Course, first_course, IsBatchServed, IsSessionOf}
 use Rattle.session_meaning.specs.Broken.{IsPrefix, journal_of, IsHeadBegun, IsBroken}
 use Rattle.session_loop.specs.declared.stop.Stop.{Stop}
 use Rattle.session_loop.specs.declared.stop.Stop.TheVariants.{ScriptUnread, ScriptTooLong, RepliesUnwritten, JournalUnwritten, DumpUnmade, DumpUnwritten, DumpUnfinished, OutOfMemory}
@@ -78,7 +78,7 @@ pub record WroteJournal (such : List ℕ → Type 0) (name : List ℕ) (made new
 -- the journal of the session of one batch of these items, with these replies
 pub record IsWork (setup : Setup) (items : List Item) (replies : List Reply) (journal : List ℕ) : Type 0 where
   pub next : Course
-  pub served : IsBatchServed setup opened next items
+  pub served : IsBatchServed setup first_course next items
   pub replies_are : served.replies ≡ replies
   pub journal_is : journal ≡ journal_of setup next
 

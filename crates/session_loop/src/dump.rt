@@ -10,7 +10,7 @@ ghost use Rattle.query_lines.specs.declared.unit.Unit.TheVariants as kinds;
 ghost use Rattle.reply_lines.specs.Replies.{vcd_line};
 ghost use Rattle.unit_answers.specs.Stores.{setup_of};
 ghost use Rattle.session_loop.specs.Serving.{session_of};
-ghost use Rattle.session_loop.specs.inner.Desks.{IsDesk, refused};
+ghost use Rattle.session_loop.specs.inner.Desks.{IsDesk, refused_reply};
 ghost use Rattle.session_loop.specs.inner.Growing.{Adds, GrowsPart, IsDumpPart};
 ghost use Rattle.session_loop.specs.inner.Serving.{Serves, Stops};
 ghost use Rattle.session_loop.specs.inner.Outside.{RepliesChanges, DumpChanges, UnitsChanges};
@@ -37,7 +37,7 @@ fn is_among(names: &[Text], file: &Text) -> bool
 
 /// Why no dump is made under this name, if none is.
 fn refusal_of(dumps: &Dumps, file: &Text) -> Option<VcdReply>
-    ensures { result ≡ refused dumps.now file.now }
+    ensures { result ≡ refused_reply dumps.now file.now }
 {
     if is_among(&dumps.own, file) || is_among(&dumps.made, file) {
         Some(VcdReply::Taken)
@@ -107,7 +107,7 @@ fn make_dump<F: Files, S: Sink>(
     out: &mut S,
 ) -> Result<Desk, Stop>
     requires named { IsTrue (texts.is_name file) }
-    requires free { refused desk.dumps file ≡ None }
+    requires free { refused_reply desk.dumps file ≡ None }
     requires desk { IsDesk (setup_of setting.now.design.now setting.now.sizes) desk }
     requires files { (F.state files.old).created ≡ length desk.dumps.made.items + 1 }
     ensures desk { let setup = setup_of setting.now.design.now setting.now.sizes in

@@ -1,7 +1,7 @@
 //! A journal is begun and finished.
 
 ghost use Rattle.std.specs.Prelude.{◌≡◌, Contains, IfErr, OnOk};
-ghost use Rattle.backsim_io.specs.Held.{SameMade};
+ghost use Rattle.backsim_io.specs.FilesInMemory.{SameMade};
 ghost use Rattle.journal_text.specs.Spelling.{head_line};
 ghost use Rattle.session_loop.specs.Halting.{Stands};
 ghost use Rattle.session_loop.specs.inner.Halting.{IsHeadHalted};

@@ -1,7 +1,7 @@
 //! Questions that are batches of their own.
 
 ghost use Rattle.std.specs.Prelude.{◌≡◌, ◌+◌, ◌<◌, ◌≤◌, ◌∷◌, [], ℕ, List, length, Contains, IfErr, IfOk, OnErr, OnOk};
-ghost use Rattle.backsim_io.specs.Held.{FileGrows};
+ghost use Rattle.backsim_io.specs.FilesInMemory.{FileGrows};
 ghost use Rattle.batch_meaning.specs.Batches.{Batch as BatchRecord};
 ghost use Rattle.query_lines.specs.declared.unit.Unit.{Unit as UnitRecord};
 ghost use Rattle.query_lines.specs.declared.unit.Unit.TheVariants as kinds;
@@ -33,7 +33,7 @@ use unit_answers::answer_question;
 struct Answered {
     text: Vec<u8>,
     lists: Vec<EntryList>,
-    held: Vec<EntryList>,
+    own_lists: Vec<EntryList>,
     stores: Vec<CellStore>,
 }
 
@@ -80,7 +80,7 @@ fn write_answered<F: Files, S: Sink>(
     out: &mut S,
 ) -> Result<Desk, Stop>
     requires few { length answered.lists.items ≤ 4294967295 }
-    requires few_held { length answered.held.items ≤ 4294967295 }
+    requires few_own { length answered.own_lists.items ≤ 4294967295 }
     requires files { (F.state files.old).created ≡ length dumps.made.items + 1 }
     requires unfinished { Contains (F.state files.old).unfinished 0 }
     ensures stores { IfOk result (λ later. later.stores.items ≡ answered.stores.items) }
@@ -89,14 +89,14 @@ fn write_answered<F: Files, S: Sink>(
         (unit : UnitRecord) (batch own : BatchRecord)
         → desk.counts ≡ counts → desk.dumps ≡ dumps
         → IsAnswered setup desk unit batch own answered.text.items
-        answered.lists.items answered.held.items answered.stores.items
+        answered.lists.items answered.own_lists.items answered.stores.items
         → IfOk result (λ later. Serves setup desk later (unit ∷ [])
         (S.written out.old) (S.written out.new) (F.made files.old) (F.made files.new)) }
     ensures stopped { (setup : Setup) (desk : DeskRecord)
         (unit : UnitRecord) (batch own : BatchRecord)
         → desk.counts ≡ counts → desk.dumps ≡ dumps
         → IsAnswered setup desk unit batch own answered.text.items
-        answered.lists.items answered.held.items answered.stores.items
+        answered.lists.items answered.own_lists.items answered.stores.items
         → IfErr result (Stops setup desk (unit ∷ []) (S.written out.old) (S.written out.new)
         (F.made files.old) (F.made files.new) (F.state files.new).created) }
     ensures state { UnitChanges
@@ -116,7 +116,7 @@ fn write_answered<F: Files, S: Sink>(
         JOURNAL,
         files,
     )?;
-    let counts = write_held(alloc, &answered.held, counts, files)?;
+    let counts = write_held(alloc, &answered.own_lists, counts, files)?;
     Ok(Desk {
         stores: answered.stores,
         counts,
@@ -167,7 +167,7 @@ pub fn serve_question<F: Files, S: Sink>(
     let answered = Answered {
         text: question_text(alloc, &question.asks, &done.reply)?,
         lists: done.lists,
-        held: done.held,
+        own_lists: done.own_lists,
         stores: done.stores,
     };
     write_answered(alloc, answered, counts, dumps, files, out)

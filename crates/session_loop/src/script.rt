@@ -1,7 +1,7 @@
 //! The script, read a block at a time and served a unit at a time.
 
 ghost use Rattle.std.specs.Prelude.{◌≡◌, ◌+◌, ◌<◌, ◌≤◌, ℕ, List, [], length, Some, Contains, IfErr, IfOk, OnOk};
-ghost use Rattle.backsim_io.specs.Held.{ConsumesUpTo};
+ghost use Rattle.backsim_io.specs.FilesInMemory.{ConsumesUpTo};
 ghost use Rattle.session_meaning.specs.Session.{IsSessionOf};
 ghost use Rattle.unit_answers.specs.Stores.{setup_of, AreStores, cells_of};
 ghost use Rattle.session_loop.specs.inner.Desks.{IsDesk};

@@ -3,7 +3,7 @@
 ghost use Rattle.std.specs.Prelude.{◌≡◌, ◌++◌, ◌<◌, ◌≤◌, length, flat_map, Contains, IfOk, OnErr, OnOk};
 ghost use Rattle.std.specs.List.{AllZip};
 ghost use Rattle.backsim_io.specs.Counts.{Grows};
-ghost use Rattle.backsim_io.specs.Held.{FileGrows};
+ghost use Rattle.backsim_io.specs.FilesInMemory.{FileGrows};
 ghost use Rattle.journal_text.specs.Spelling.{entry_line, kind_word, shard_lines, section_lines};
 ghost use Rattle.reply_lines.specs.Replies.{Suits};
 ghost use Rattle.session_meaning.specs.Replies.{replies_text};

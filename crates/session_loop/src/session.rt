@@ -1,7 +1,7 @@
 //! A session of a script, with its journal.
 
 ghost use Rattle.std.specs.Prelude.{◌≡◌, ◌++◌, ◌∷◌, ◌<◌, ◌≤◌, [], ℕ, List, Some, length, map, IsErrOf, IfErr, IfOk, OnOk};
-ghost use Rattle.backsim_io.specs.Held.{ConsumesUpTo};
+ghost use Rattle.backsim_io.specs.FilesInMemory.{ConsumesUpTo};
 ghost use Rattle.session_meaning.specs.Session.{IsSessionOf};
 ghost use Rattle.unit_answers.specs.Stores.{setup_of, AreStores};
 ghost use Rattle.session_loop.specs.Halting.{WroteFiles, IsHalted, IsUntouched};

@@ -108,7 +108,7 @@ unit-accepted setup facts now next (units.Batch items) fit served = tt
 unit-accepted setup facts now next (units.Trim most) fit served = tt
 unit-accepted setup facts now next units.Stats fit served = tt
 unit-accepted setup facts now next (units.Question question) fit served =
-    question-accepted setup.design facts question.line question.asks (of_batch served.lists) (of_batch served.held) served.reply fit.named served.right
+    question-accepted setup.design facts question.line question.asks (of_batch served.lists) (of_batch served.own_lists) served.reply fit.named served.right
 unit-accepted setup facts now next (units.Vcd file) fit served = tt
 
 pub explanations-accepted : ExplanationsAreAccepted

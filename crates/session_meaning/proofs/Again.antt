@@ -6,7 +6,7 @@ use Rattle.circuit_meaning.proofs.Alike.{held-fits}
 use Rattle.batch_meaning.specs.Batches.{Batch, Site}
 use Rattle.journal_meaning.specs.declared.Entry.{Entry}
 use Rattle.journal_meaning.specs.Replay.{IsLegalBatch}
-use Rattle.journal_meaning.specs.Sections.{Asks, Trims, Forces, SectionEntries, AreLegal, joined}
+use Rattle.journal_meaning.specs.Sections.{Asks, Trims, Forces, SectionEntries, AreLegal, joined_entries}
 use Rattle.journal_meaning.specs.Laws.{OfCircuit}
 use Rattle.journal_meaning.proofs.Counted.{counts-add}
 use Rattle.journal_meaning.proofs.Kept as kept
@@ -27,9 +27,9 @@ use Rattle.session_meaning.proofs.Legal.{session-legal}
 use Rattle.session_meaning.proofs.Spread.{IsSpread, fills-home, fills-spread}
 
 -- legal sections of one circuit
-frugal : (c : Circuit) → IsCircuit c → (shard : ℕ) (sections : List SectionEntries) → All (OfCircuit c) sections → AreLegal shard [] sections → IsFrugal (joined shard sections)
+frugal : (c : Circuit) → IsCircuit c → (shard : ℕ) (sections : List SectionEntries) → All (OfCircuit c) sections → AreLegal shard [] sections → IsFrugal (joined_entries shard sections)
 frugal c ok shard sections same legal = record {
-  sum = counts-add (joined shard sections);
+  sum = counts-add (joined_entries shard sections);
   evicted = λ q r p x y before between behind e. kept.again_after_eviction c ok shard sections same legal q r p x y before between behind e;
 }
 
@@ -102,7 +102,7 @@ module _ (setup : Setup) (ok : IsCircuit setup.design.circuit) where
   unit-fine now next (units.Question question) served fine =
       let batch = question_batch setup question.line question.asks in
       subst (FineIn setup) (sym served.leads)
-      (fine-own setup _ (fine-asked setup now.sections fine batch served.lists refl refl served.count) ok question.line question.asks served.held served.memo)
+      (fine-own setup _ (fine-asked setup now.sections fine batch served.lists refl refl served.count) ok question.line question.asks served.own_lists served.memo)
 
   session-fine : (us : List ScriptUnit) (course : Course) → Session setup us course → FineIn setup course
   session-fine us course Opened = All-nil (IsFine setup)

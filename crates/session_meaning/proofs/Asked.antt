@@ -13,7 +13,7 @@ use Rattle.design.specs.Joined.{Joined}
 use Rattle.design.specs.Join.{number}
 use Rattle.session_meaning.specs.declared.Verdict.{Verdict}
 use Rattle.session_meaning.specs.declared.Verdict.TheVariants.{Ask, Unknown, Past, Bad}
-use Rattle.session_meaning.specs.Verdicts.{window_verdict, what_verdict, verdict_of, asked, queries_of}
+use Rattle.session_meaning.specs.Verdicts.{window_verdict, what_verdict, verdict_of, asked_queries, queries_of}
 
 -- the query of a window
 record IsOfWindow (horizon line : ℕ) (signal : Option ℕ) (q : Query) : Type 0 where
@@ -61,15 +61,15 @@ module _ (d : Joined) (item : Item) (q : Query) (is : verdict_of d item ≡ Ask 
       let low = w.2 q.signal w.1.signal_is in
       omega arith
 
-asked-has : (v : Verdict) (r : Query) → Contains (asked v) r → v ≡ Ask r
+asked-has : (v : Verdict) (r : Query) → Contains (asked_queries v) r → v ≡ Ask r
 asked-has (Ask q) r (zero, l, is) = ap Ask is
 asked-has (Ask q) r (suc k, l, is) = absurd (omega (arith, l))
 asked-has Unknown r (k, l, is) = absurd (omega (arith, l))
 asked-has Past r (k, l, is) = absurd (omega (arith, l))
 asked-has Bad r (k, l, is) = absurd (omega (arith, l))
 
-has-asked : (v : Verdict) (r : Query) → v ≡ Ask r → Contains (asked v) r
-has-asked v r is = subst (λ v. Contains (asked v) r) (sym is) (0, omega arith, refl)
+has-asked : (v : Verdict) (r : Query) → v ≡ Ask r → Contains (asked_queries v) r
+has-asked v r is = subst (λ v. Contains (asked_queries v) r) (sym is) (0, omega arith, refl)
 
 -- the item at this place asks the query
 pub record IsAskedIn (d : Joined) (items : List Item) (q : Query) : Type 0 where
@@ -83,7 +83,7 @@ module _ (d : Joined) where
   -- each query of a batch is asked by one of its items
   pub asked-in : (items : List Item) (q : Query) → Contains (queries_of d items) q → IsAskedIn d items q
   asked-in [] q (k, l, is) = absurd (omega (arith, l))
-  asked-in (item ∷ items) q has = elim (Contains-append_cases (asked (verdict_of d item)) (queries_of d items) q has) [
+  asked-in (item ∷ items) q has = elim (Contains-append_cases (asked_queries (verdict_of d item)) (queries_of d items) q has) [
     | inl here ↦ record { place = 0; low = omega arith; item = item; there = λ z. refl; asks = asked-has (verdict_of d item) q here }
     | inr later ↦ let f = asked-in items q later in record { place = suc f.place; low = (let l = f.low in omega arith); item = f.item; there = λ z. f.there z; asks = f.asks }
   ]
@@ -91,8 +91,8 @@ module _ (d : Joined) where
   -- and what an item asks is one of them
   pub in-asked : (items : List Item) (k : ℕ) (item : Item) (q : Query) → k < length items → ((z : Item) → get_or items k z ≡ item) → verdict_of d item ≡ Ask q → Contains (queries_of d items) q
   in-asked [] k item q l at is = absurd (omega (arith, l))
-  in-asked (x ∷ items) zero item q l at is = Contains-append_left (asked (verdict_of d x)) (queries_of d items) q (has-asked (verdict_of d x) q (ap (verdict_of d) (at x) ∙ is))
-  in-asked (x ∷ items) (suc k) item q l at is = Contains-append_right (asked (verdict_of d x)) (queries_of d items) q (in-asked items k item q (omega (arith, l)) at is)
+  in-asked (x ∷ items) zero item q l at is = Contains-append_left (asked_queries (verdict_of d x)) (queries_of d items) q (has-asked (verdict_of d x) q (ap (verdict_of d) (at x) ∙ is))
+  in-asked (x ∷ items) (suc k) item q l at is = Contains-append_right (asked_queries (verdict_of d x)) (queries_of d items) q (in-asked items k item q (omega (arith, l)) at is)
 
   each-asked : (P : Query → Type 0) (items : List Item) → ((q : Query) → IsAskedIn d items q → P q) → All P (queries_of d items)
   each-asked P items f = All-weaker (Contains (queries_of d items)) P (λ q has. f q (asked-in items q has)) (queries_of d items) (All-contains_itself (queries_of d items))
@@ -116,7 +116,7 @@ module _ (d : Joined) where
           let lines : item.line ≡ (get_or items f.place item).line = sym (asks-line d item q is) ∙ same ∙ asks-line d f.item r f.asks ∙ ap (λ (x : Item). x.line) (sym (f.there item)) in
           apart 0 (suc f.place) item (omega arith) (omega arith) lines)
 
-      by : (v : Verdict) → verdict_of d item ≡ v → AllPairs (λ q r. q.number ≢ r.number) (queries_of d items) → AllPairs (λ q r. q.number ≢ r.number) (asked v ++ queries_of d items)
+      by : (v : Verdict) → verdict_of d item ≡ v → AllPairs (λ q r. q.number ≢ r.number) (queries_of d items) → AllPairs (λ q r. q.number ≢ r.number) (asked_queries v ++ queries_of d items)
       by (Ask q) is rest = AllPairs-cons (λ (q r : Query). q.number ≢ r.number) q (queries_of d items) (others q is) rest
       by Unknown is rest = rest
       by Past is rest = rest

@@ -40,7 +40,7 @@ use Rattle.reply_lines.specs.declared.reply.StuckReply.{StuckReply}
 use Rattle.reply_lines.specs.declared.reply.StuckReply.TheVariants as stucks
 use Rattle.session_meaning.specs.declared.Verdict.{Verdict}
 use Rattle.session_meaning.specs.declared.Verdict.TheVariants.{Ask, Unknown, Past, Bad}
-use Rattle.session_meaning.specs.Verdicts.{verdict_of, first_verdict, why_verdict, site_of, stuck_verdict, asked, asked_at}
+use Rattle.session_meaning.specs.Verdicts.{verdict_of, first_verdict, why_verdict, site_of, stuck_verdict, asked_queries, asked_at}
 use Rattle.session_meaning.specs.FirstTimes.{first_time, up_to_first, IsFirstReply}
 use Rattle.session_meaning.specs.Explanations.{IsWhyReply}
 use Rattle.session_meaning.specs.StuckSignals.{stuck_circuit, held_batch, IsStuckReply, IsHeldMemo}
@@ -134,7 +134,7 @@ module _ (setup : Setup) (circuit : IsCircuit setup.design.circuit) (line : ℕ)
   module _ (cells : ℕ → List SignalCell) (lists : List (List Entry)) (legal : IsLegalFrom first-batch cells lists) (room : IsRoomy first-batch lists) where
     own-query : (query : Query) → first_verdict setup.design line first ≡ Ask query → IsOwnQuery first-batch (up_to_first setup.design.circuit query first.value)
     own-query query is =
-        one-query first-batch (up_to_first setup.design.circuit query first.value) (ap (λ v. map (λ q. up_to_first setup.design.circuit q first.value) (asked v)) is)
+        one-query first-batch (up_to_first setup.design.circuit query first.value) (ap (λ v. map (λ q. up_to_first setup.design.circuit q first.value) (asked_queries v)) is)
 
     told : (query : Query) (verdict : Verdict) (reply : FirstReply) → first_verdict setup.design line first ≡ Ask query → verdict ≡ Ask query
         → NeedsAtMost first-batch (up_to_first setup.design.circuit query first.value) query.budget
@@ -168,7 +168,7 @@ module _ (setup : Setup) (circuit : IsCircuit setup.design.circuit) (line : ℕ)
     unspent query (Ask q) (whys.Answer (explained.Proof cells v)) is same most right budget = λ e. cc
     unspent query (Ask q) (whys.Answer (explained.Budget b)) is same most right budget = λ _. let e : q ≡ query = cc in
         none-some None _ refl (enough-budget why-batch circuit cells lists legal room
-        query (one-query why-batch query (ap asked is)) most None (subst (λ x. IsSpent (of_batch lists) x) e right.0.1))
+        query (one-query why-batch query (ap asked_queries is)) most None (subst (λ x. IsSpent (of_batch lists) x) e right.0.1))
     unspent query (Ask q) whys.Unknown is same most right budget = absurd right
     unspent query (Ask q) whys.Past is same most right budget = absurd right
     unspent query Unknown reply is same most right budget = absurd cc
@@ -191,7 +191,7 @@ module _ (setup : Setup) (circuit : IsCircuit setup.design.circuit) (line : ℕ)
       (own-memo : IsHeldMemo c (site_of setup.design stuck) (stuck_verdict setup.design line stuck) held)
       (site : Site) (query : Query) (known : site_of setup.design stuck ≡ Some site) (asks : stuck_verdict setup.design line stuck ≡ Ask query) where
     stuck-queries : stuck-batch.queries ≡ query ∷ []
-    stuck-queries = ap (λ s. asked_at s (stuck_verdict setup.design line stuck)) known ∙ ap asked asks
+    stuck-queries = ap (λ s. asked_at s (stuck_verdict setup.design line stuck)) known ∙ ap asked_queries asks
 
     -- what is free and needed is needed
     fewer : NeedsAtMost (held_batch c site query) query query.budget → NeedsAtMost stuck-batch query query.budget
@@ -247,7 +247,7 @@ unit-ample setup circuit now next (units.Batch items) served own = enough setup 
 unit-ample setup circuit now next (units.Trim most) served own = tt
 unit-ample setup circuit now next units.Stats served own = tt
 unit-ample setup circuit now next (units.Question question) served own =
-    enough-question setup circuit question.line question.asks (λ shard. cells_after shard now.sections) served.lists served.held served.reply
+    enough-question setup circuit question.line question.asks (λ shard. cells_after shard now.sections) served.lists served.own_lists served.reply
     (record { count = served.count; legal = served.legal }) served.memo served.right
 unit-ample setup circuit now next (units.Vcd file) served own = tt
 

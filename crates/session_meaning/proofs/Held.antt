@@ -20,7 +20,7 @@ use Rattle.reply_lines.specs.declared.reply.Reply.{Reply}
 use Rattle.reply_lines.specs.declared.reply.Reply.TheVariants as replies
 use Rattle.reply_lines.specs.declared.reply.VcdReply.TheVariants as dumps
 use Rattle.reply_lines.specs.Replies.{name_of, vcd_line}
-use Rattle.vcd_answers.specs.Wires.{Wire, AreWires, is_wire, answered, shown}
+use Rattle.vcd_answers.specs.Wires.{Wire, AreWires, is_wire, wire_of_query, shown_value}
 use Rattle.vcd_answers.specs.Dumps.{vcd_of}
 use Rattle.vcd_answers.proofs.Sound.{are_sound}
 use Rattle.session_meaning.specs.declared.Verdict.{Verdict}
@@ -33,8 +33,8 @@ use Rattle.query_lines.proofs.OwnLines.{first-part, later-part}
 -- ---- the wires of a batch
 
 module _ (c : Circuit) (short : c.horizon ≤ 1000000) where
-  answered-sound : (name : List ℕ) (s a b : ℕ) → is_name name ≡ true → is_wire (answered name c s a b) ≡ true
-  answered-sound name s a b named = and_from _ _ named (are_sound (shown (value c s) a b) (c.horizon + 1) (omega (arith, short)))
+  answered-sound : (name : List ℕ) (s a b : ℕ) → is_name name ≡ true → is_wire (wire_of_query name c s a b) ≡ true
+  answered-sound name s a b named = and_from _ _ named (are_sound (shown_value (value c s) a b) (c.horizon + 1) (omega (arith, short)))
 
   wire-sound : (name : List ℕ) (verdict : Verdict) (reply : Reply) → is_name name ≡ true → list_all is_wire (wire_of c name verdict reply) ≡ true
   wire-sound name (Ask q) (replies.Wave runs) named = and_from _ _ (answered-sound name q.signal q.from q.to named) refl

@@ -60,7 +60,7 @@ unit-legal setup now next (units.Question question) served shard h legal =
     let batch = question_batch setup question.line question.asks in
     subst (λ (c : Course). AreLegal shard [] c.sections) (sym served.leads)
     (with-own setup shard _ (legal-more shard [] now.sections (record { purpose = Asks batch; lists = served.lists }) legal (served.legal shard h))
-    question.line question.asks served.held served.memo)
+    question.line question.asks served.own_lists served.memo)
 unit-legal setup now next units.Stats served shard h legal = subst (λ (c : Course). AreLegal shard [] c.sections) (sym served) legal
 unit-legal setup now next (units.Vcd file) served shard h legal =
     subst (λ s. AreLegal shard [] s) (sym (ap (λ (c : Course). c.sections) served ∙ vcd-sections setup now file)) legal

@@ -11,7 +11,7 @@ use Rattle.journal_meaning.specs.declared.Entry.TheVariants.{Told, Claimed, Fill
 use Rattle.journal_meaning.specs.States.{State, fresh}
 use Rattle.journal_meaning.specs.Table.{after}
 use Rattle.journal_meaning.specs.Replay.{IsLegal, IsLegalTrim}
-use Rattle.journal_meaning.specs.Sections.{Purpose, Asks, Trims, Forces, SectionEntries, IsLegalIn, AreLegal, own, list_of, cells_left, joined}
+use Rattle.journal_meaning.specs.Sections.{Purpose, Asks, Trims, Forces, SectionEntries, IsLegalIn, AreLegal, own_entries, list_of, cells_left, joined_entries}
 use Rattle.journal_meaning.specs.Counts.{count, evaluations}
 use Rattle.journal_meaning.proofs.Grown.{count-append}
 use Rattle.session_meaning.specs.Session.{is_fill, entries_that}
@@ -66,31 +66,31 @@ evaluated-is (Spent q p held ∷ es) = evaluated-is es
 
 module _ (test : Entry → Bool) (shards : ℕ) where
   abbrev in-section : SectionEntries → ℕ
-  in-section section = sum_by (λ entries. count test (own section.purpose entries)) section.lists
+  in-section section = sum_by (λ entries. count test (own_entries section.purpose entries)) section.lists
 
   by-shard : (purpose : Purpose) (lists : List (List Entry)) → IsSpread shards purpose lists
-      → sum_by (λ entries. count test (own purpose entries)) lists ≡ sum_by (λ k. count test (own purpose (get_or lists k []))) (range_with_len 0 shards)
+      → sum_by (λ entries. count test (own_entries purpose entries)) lists ≡ sum_by (λ k. count test (own_entries purpose (get_or lists k []))) (range_with_len 0 shards)
   by-shard (Asks batch) lists is = sum-at (count test) lists ∙ ap (λ n. sum_by (λ k. count test (get_or lists k [])) (range_with_len 0 n)) is.0
   by-shard Trims lists is = sum-at (count test) lists ∙ ap (λ n. sum_by (λ k. count test (get_or lists k [])) (range_with_len 0 n)) is
   by-shard (Forces batch) lists is = sum-none lists ∙ sym (sum-none (range_with_len 0 shards))
 
-  by-shards : (sections : List SectionEntries) → AreSpread shards sections → entries_that test sections ≡ sum_by (λ k. count test (joined k sections)) (range_with_len 0 shards)
+  by-shards : (sections : List SectionEntries) → AreSpread shards sections → entries_that test sections ≡ sum_by (λ k. count test (joined_entries k sections)) (range_with_len 0 shards)
   by-shards [] are = sym (sum-none (range_with_len 0 shards))
   by-shards (section ∷ rest) are =
       let numbers = range_with_len 0 shards in
-      let here : ℕ → ℕ = λ k. count test (own section.purpose (list_of section k)) in
-      let later : ℕ → ℕ = λ k. count test (joined k rest) in
+      let here : ℕ → ℕ = λ k. count test (own_entries section.purpose (list_of section k)) in
+      let later : ℕ → ℕ = λ k. count test (joined_entries k rest) in
       sum_by-cons in-section section rest
       ∙ ap (λ n. n + entries_that test rest) (by-shard section.purpose section.lists are.0)
       ∙ ap (λ n. sum_by here numbers + n) (by-shards rest are.1)
       ∙ sym (sum-both here later numbers)
-      ∙ sum-same (λ k. here k + later k) (λ k. count test (joined k (section ∷ rest))) (λ k. sym (count-append test (own section.purpose (list_of section k)) (joined k rest))) numbers
+      ∙ sum-same (λ k. here k + later k) (λ k. count test (joined_entries k (section ∷ rest))) (λ k. sym (count-append test (own_entries section.purpose (list_of section k)) (joined_entries k rest))) numbers
 
 -- the fills that a session counts are the evaluations of its shards
-pub fills-spread : (shards : ℕ) (sections : List SectionEntries) → AreSpread shards sections → entries_that is_fill sections ≡ sum_by (λ shard. evaluations (joined shard sections)) (range_with_len 0 shards)
+pub fills-spread : (shards : ℕ) (sections : List SectionEntries) → AreSpread shards sections → entries_that is_fill sections ≡ sum_by (λ shard. evaluations (joined_entries shard sections)) (range_with_len 0 shards)
 fills-spread shards sections are =
     by-shards is_fill shards sections are
-    ∙ sum-same (λ k. count is_fill (joined k sections)) (λ k. evaluations (joined k sections)) (λ k. sym (evaluated-is (joined k sections))) (range_with_len 0 shards)
+    ∙ sum-same (λ k. count is_fill (joined_entries k sections)) (λ k. evaluations (joined_entries k sections)) (λ k. sym (evaluated-is (joined_entries k sections))) (range_with_len 0 shards)
 
 -- ---- where it stands
 
@@ -122,18 +122,18 @@ module _ (shards shard : ℕ) where
   trim-home s (Dropped q p ∷ es) l = absurd l.0
   trim-home s (Spent q p held ∷ es) l = absurd l.0
 
-  own-home : (purpose : Purpose) (lists : List (List Entry)) (cells : List SignalCell) (es : List Entry) → IsSpread shards purpose lists → IsLegalIn purpose shard cells es → AllByRecursion FillsHome (own purpose es)
+  own-home : (purpose : Purpose) (lists : List (List Entry)) (cells : List SignalCell) (es : List Entry) → IsSpread shards purpose lists → IsLegalIn purpose shard cells es → AllByRecursion FillsHome (own_entries purpose es)
   own-home (Asks batch) lists cells es is l = legal-home batch is.1 (fresh cells) es l.legal
   own-home Trims lists cells es is l = trim-home (fresh cells) es l
   own-home (Forces batch) lists cells es is l = tt
 
-  joined-home : (cells : List SignalCell) (sections : List SectionEntries) → AreSpread shards sections → AreLegal shard cells sections → AllByRecursion FillsHome (joined shard sections)
+  joined-home : (cells : List SignalCell) (sections : List SectionEntries) → AreSpread shards sections → AreLegal shard cells sections → AllByRecursion FillsHome (joined_entries shard sections)
   joined-home cells [] are legal = tt
   joined-home cells (section ∷ rest) are legal =
-      each-append (own section.purpose (list_of section shard)) (joined shard rest) (own-home section.purpose section.lists cells (list_of section shard) are.0 legal.0)
+      each-append (own_entries section.purpose (list_of section shard)) (joined_entries shard rest) (own-home section.purpose section.lists cells (list_of section shard) are.0 legal.0)
       (joined-home (cells_left shard cells section) rest are.1 legal.1)
 
   -- what a session evaluates in a shard are points of this shard
-  pub fills-home : (sections : List SectionEntries) → AreSpread shards sections → AreLegal shard [] sections → AreOfShard shards shard (joined shard sections)
+  pub fills-home : (sections : List SectionEntries) → AreSpread shards sections → AreLegal shard [] sections → AreOfShard shards shard (joined_entries shard sections)
   fills-home sections are legal q p x has =
-      All-contains FillsHome (joined shard sections) (Filled q p x) (All-from_recursion FillsHome (joined shard sections) (joined-home [] sections are legal)) has
+      All-contains FillsHome (joined_entries shard sections) (Filled q p x) (All-from_recursion FillsHome (joined_entries shard sections) (joined-home [] sections are legal)) has

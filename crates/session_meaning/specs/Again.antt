@@ -6,7 +6,7 @@ use Rattle.valid_intervals.specs.declared.Point.{Point}
 use Rattle.batch_meaning.specs.Batches.{shard_number}
 use Rattle.journal_meaning.specs.declared.Entry.{Entry}
 use Rattle.journal_meaning.specs.declared.Entry.TheVariants.{Filled, Evicted}
-use Rattle.journal_meaning.specs.Sections.{Purpose, Asks, Trims, Forces, SectionEntries, joined}
+use Rattle.journal_meaning.specs.Sections.{Purpose, Asks, Trims, Forces, SectionEntries, joined_entries}
 use Rattle.journal_meaning.specs.Counts.{evaluations, distinct, again}
 use Rattle.session_meaning.specs.Session.{is_fill, entries_that}
 
@@ -36,8 +36,8 @@ IsFrugalMemo (Forces batch) lists = All IsFrugal lists
 -- Each shard is frugal over all sections of the session's memo. The evaluations of the shards are
 -- the fills that the session counts. Each second memo is frugal too.
 pub record AreFrugal (shards : ℕ) (sections : List SectionEntries) : Type 0 where
-  pub own : (shard : ℕ) → shard < shards → IsFrugal (joined shard sections)
-  pub home : (shard : ℕ) → shard < shards → AreOfShard shards shard (joined shard sections)
+  pub own : (shard : ℕ) → shard < shards → IsFrugal (joined_entries shard sections)
+  pub home : (shard : ℕ) → shard < shards → AreOfShard shards shard (joined_entries shard sections)
   pub fills : entries_that is_fill sections
-      ≡ sum_by (λ shard. evaluations (joined shard sections)) (range_with_len 0 shards)
+      ≡ sum_by (λ shard. evaluations (joined_entries shard sections)) (range_with_len 0 shards)
   pub apart : All (λ section. IsFrugalMemo section.purpose section.lists) sections

@@ -84,7 +84,7 @@ IsAmpleUnit setup now next (units.Batch items) served = IsAmpleBatch setup items
 IsAmpleUnit setup now next (units.Trim most) served = ⊤
 IsAmpleUnit setup now next units.Stats served = ⊤
 IsAmpleUnit setup now next (units.Question question) served =
-    IsAmpleQuestion setup question.line question.asks served.lists served.held served.reply
+    IsAmpleQuestion setup question.line question.asks served.lists served.own_lists served.reply
 IsAmpleUnit setup now next (units.Vcd file) served = ⊤
 
 -- the same for every unit of a session

@@ -6,14 +6,14 @@ use Rattle.reply_lines.specs.declared.reply.Reply.{Reply}
 use Rattle.reply_lines.specs.declared.reply.Reply.TheVariants as replies
 use Rattle.reply_lines.specs.Replies.{name_of}
 use Rattle.design.specs.Joined.{Joined}
-use Rattle.vcd_answers.specs.Wires.{Wire, answered}
+use Rattle.vcd_answers.specs.Wires.{Wire, wire_of_query}
 use Rattle.session_meaning.specs.declared.Verdict.{Verdict}
 use Rattle.session_meaning.specs.declared.Verdict.TheVariants.{Ask}
 use Rattle.session_meaning.specs.Verdicts.{verdict_of}
 
 -- the wire of a reply that is a wave, for an item with this name; another reply has none
 abbrev pub wire_of : Circuit → List ℕ → Verdict → Reply → List Wire
-wire_of c name (Ask query) (replies.Wave runs) = answered name c query.signal query.from query.to ∷ []
+wire_of c name (Ask query) (replies.Wave runs) = wire_of_query name c query.signal query.from query.to ∷ []
 wire_of c name verdict reply = []
 
 -- the wires of the replies to these items

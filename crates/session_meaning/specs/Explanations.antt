@@ -24,7 +24,7 @@ Tells x (Filled q p cell) = (p.signal ≡ x.signal) × (cell ≡ x.cell)
 Tells x (Claimed q p) = ⊥
 Tells x (Evicted signal start) = ⊥
 Tells x (Dropped q p) = ⊥
-Tells x (Spent q p held) = ⊥
+Tells x (Spent q p claims) = ⊥
 
 -- the order of cells: by first time, then by signal
 abbrev pub IsBefore : SignalCell → SignalCell → Type 0

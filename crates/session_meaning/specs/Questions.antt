@@ -8,7 +8,7 @@ use Rattle.query_lines.specs.declared.unit.Asks.TheVariants as kinds
 use Rattle.reply_lines.specs.declared.reply.QuestionReply.{QuestionReply}
 use Rattle.reply_lines.specs.declared.reply.QuestionReply.TheVariants as told
 use Rattle.design.specs.Joined.{Joined}
-use Rattle.session_meaning.specs.Verdicts.{first_verdict, why_verdict, site_of, stuck_verdict, asked, asked_at}
+use Rattle.session_meaning.specs.Verdicts.{first_verdict, why_verdict, site_of, stuck_verdict, asked_queries, asked_at}
 use Rattle.session_meaning.specs.FirstTimes.{up_to_first, IsFirstReply}
 use Rattle.session_meaning.specs.Explanations.{IsWhyReply}
 use Rattle.session_meaning.specs.StuckSignals.{IsStuckReply, IsHeldMemo}
@@ -16,8 +16,8 @@ use Rattle.session_meaning.specs.StuckSignals.{IsStuckReply, IsHeldMemo}
 -- The queries of the batch: for a first time the query up to that time, for an explanation that of the one time, and for a stuck signal
 -- that of the window, if the site is known.
 abbrev pub question_queries : Joined → ℕ → Asks → List Query
-question_queries d line (kinds.First first) = map (λ query. up_to_first d.circuit query first.value) (asked (first_verdict d line first))
-question_queries d line (kinds.Why why) = asked (why_verdict d line why)
+question_queries d line (kinds.First first) = map (λ query. up_to_first d.circuit query first.value) (asked_queries (first_verdict d line first))
+question_queries d line (kinds.Why why) = asked_queries (why_verdict d line why)
 question_queries d line (kinds.Stuck stuck) = asked_at (site_of d stuck) (stuck_verdict d line stuck)
 
 -- the site of the batch: with a stuck signal, the batch asks only for what is free of it
@@ -35,6 +35,6 @@ IsRightReply d line asks es own reply = ⊥
 
 -- The lists of a second memo: a question for a wave with a stuck signal has them, and other questions have none.
 abbrev pub IsOwnMemo : Joined → ℕ → Asks → List (List Entry) → Type 0
-IsOwnMemo d line (kinds.First first) held = held ≡ []
-IsOwnMemo d line (kinds.Why why) held = held ≡ []
-IsOwnMemo d line (kinds.Stuck stuck) held = IsHeldMemo d.circuit (site_of d stuck) (stuck_verdict d line stuck) held
+IsOwnMemo d line (kinds.First first) own_lists = own_lists ≡ []
+IsOwnMemo d line (kinds.Why why) own_lists = own_lists ≡ []
+IsOwnMemo d line (kinds.Stuck stuck) own_lists = IsHeldMemo d.circuit (site_of d stuck) (stuck_verdict d line stuck) own_lists

@@ -1,5 +1,5 @@
 -- A session: the replies to the units of a script, and the sections of its journal. Each kind of unit is a case.
-use Rattle.std.specs.Prelude.{◌≡◌, ℕ, ◌<◌, Bool, true, false, nat_lt, List, [], ◌∷◌, ◌++◌, length, get_or, map, drop, reverse, filter, sum_by, Option, Some, None, if◌then◌else◌}
+use Rattle.std.specs.Prelude.{◌≡◌, ℕ, ◌<◌, Bool, true, false, nat_lt, List, [], ◌∷◌, ◌++◌, length, slice_index_or, map, drop, reverse, filter, sum_by, Option, Some, None, if◌then◌else◌}
 use Rattle.std.specs.List.{AllZip, list_any, range_with_len}
 use Rattle.std.specs.Str.{bytes_eq}
 use Rattle.owned_text.specs.Made.{Made}
@@ -9,7 +9,7 @@ use Rattle.journal_meaning.specs.declared.Entry.TheVariants.{Filled, Evicted}
 use Rattle.journal_meaning.specs.States.{fresh}
 use Rattle.batch_meaning.specs.Batches.{Batch, Site}
 use Rattle.journal_meaning.specs.Replay.{IsLegalBatch, IsLegalTrim}
-use Rattle.journal_meaning.specs.Sections.{Purpose, Asks, Trims, Forces, SectionEntries, own, cells_after, of_batch}
+use Rattle.journal_meaning.specs.Sections.{Purpose, Asks, Trims, Forces, SectionEntries, own_entries, cells_after, of_batch}
 use Rattle.journal_meaning.specs.Counts.{count}
 use Rattle.query_lines.specs.declared.unit.Asks.{Asks as QuestionAsks}
 use Rattle.query_lines.specs.declared.unit.Asks.TheVariants as kinds
@@ -51,8 +51,8 @@ pub record Course : Type 0 where
   pub dumps : List Made
 
 -- the state at the beginning
-abbrev pub opened : Course
-opened = record { sections = []; out = []; waves = None; dumps = [] }
+abbrev pub first_course : Course
+first_course = record { sections = []; out = []; waves = None; dumps = [] }
 
 -- one more reply
 abbrev pub with_reply : Course → List ℕ → Course
@@ -88,7 +88,7 @@ pub record IsBatchServed (setup : Setup) (now next : Course) (items : List Item)
   pub replies : List Reply
   pub count : length lists ≡ setup.shards
   pub legal : (shard : ℕ) → shard < setup.shards
-      → IsLegalBatch (batch_of setup items) shard (cells_after shard now.sections) (get_or lists shard [])
+      → IsLegalBatch (batch_of setup items) shard (cells_after shard now.sections) (slice_index_or lists shard [])
   pub right : AllZip (λ item reply. IsReply setup.design.circuit (of_batch lists) (verdict_of setup.design item) reply) items replies
   pub leads : next ≡ with_waves (with_section now (Asks (batch_of setup items)) lists (replies_text items replies)) (wires_of setup.design items replies)
 
@@ -111,25 +111,25 @@ held_sections setup site verdict lists = []
 
 -- the sections of a second memo; a question of another kind has none
 abbrev pub own_sections : Setup → ℕ → QuestionAsks → List (List Entry) → List SectionEntries
-own_sections setup line (kinds.First first) held = []
-own_sections setup line (kinds.Why why) held = []
-own_sections setup line (kinds.Stuck stuck) held =
-    held_sections setup (site_of setup.design stuck) (stuck_verdict setup.design line stuck) held
+own_sections setup line (kinds.First first) own_lists = []
+own_sections setup line (kinds.Why why) own_lists = []
+own_sections setup line (kinds.Stuck stuck) own_lists =
+    held_sections setup (site_of setup.design stuck) (stuck_verdict setup.design line stuck) own_lists
 
 -- Each shard has a list of entries, legal from the cells that the earlier sections leave, and so has the second memo, if there is one. The
 -- reply is right.
 pub record IsQuestionServed (setup : Setup) (now next : Course) (question : Question) : Type 0 where
   pub lists : List (List Entry)
-  pub held : List (List Entry)
+  pub own_lists : List (List Entry)
   pub reply : QuestionReply
   pub count : length lists ≡ setup.shards
   pub legal : (shard : ℕ) → shard < setup.shards
-      → IsLegalBatch (question_batch setup question.line question.asks) shard (cells_after shard now.sections) (get_or lists shard [])
-  pub memo : IsOwnMemo setup.design question.line question.asks held
-  pub right : IsRightReply setup.design question.line question.asks (of_batch lists) (of_batch held) reply
+      → IsLegalBatch (question_batch setup question.line question.asks) shard (cells_after shard now.sections) (slice_index_or lists shard [])
+  pub memo : IsOwnMemo setup.design question.line question.asks own_lists
+  pub right : IsRightReply setup.design question.line question.asks (of_batch lists) (of_batch own_lists) reply
   pub leads : next ≡ with_sections
       (with_section now (Asks (question_batch setup question.line question.asks)) lists (question_lines question.asks reply))
-      (own_sections setup question.line question.asks held)
+      (own_sections setup question.line question.asks own_lists)
 
 -- A trim.
 
@@ -141,8 +141,8 @@ trim_entries most cells = map (λ x. Evicted x.signal x.cell.span.start) (revers
 pub record IsTrimServed (setup : Setup) (now next : Course) (most : ℕ) : Type 0 where
   pub lists : List (List Entry)
   pub count : length lists ≡ setup.shards
-  pub legal : (shard : ℕ) → shard < setup.shards → IsLegalTrim (fresh (cells_after shard now.sections)) (get_or lists shard [])
-  pub evicts : (shard : ℕ) → shard < setup.shards → get_or lists shard [] ≡ trim_entries most (cells_after shard now.sections)
+  pub legal : (shard : ℕ) → shard < setup.shards → IsLegalTrim (fresh (cells_after shard now.sections)) (slice_index_or lists shard [])
+  pub evicts : (shard : ℕ) → shard < setup.shards → slice_index_or lists shard [] ≡ trim_entries most (cells_after shard now.sections)
   pub leads : next ≡ with_section now Trims lists (trimmed_line (sum_by length lists))
 
 -- A dump.
@@ -183,7 +183,7 @@ is_eviction entry = false
 
 -- how many entries of the session's memo pass the test
 abbrev pub entries_that : (Entry → Bool) → List SectionEntries → ℕ
-entries_that test sections = sum_by (λ section. sum_by (λ entries. count test (own section.purpose entries)) section.lists) sections
+entries_that test sections = sum_by (λ section. sum_by (λ entries. count test (own_entries section.purpose entries)) section.lists) sections
 
 -- the number of cells stored in all shards
 abbrev pub cells_stored : ℕ → List SectionEntries → ℕ
@@ -206,7 +206,7 @@ IsServed setup now (units.Vcd file) next = next ≡ with_vcd setup now file
 
 -- The state of a session after these units, one after another.
 pub data Session (setup : Setup) : List ScriptUnit → Course → Type 0 where
-  Opened : Session setup [] opened
+  Opened : Session setup [] first_course
   Served : {units : List ScriptUnit} {now next : Course} (unit : ScriptUnit)
       → Session setup units now → IsServed setup now unit next → Session setup (units ++ unit ∷ []) next
 

@@ -3,7 +3,7 @@ use Rattle.std.specs.Prelude.{◌≡◌, ⊤, ◌⊎◌, ℕ, List, [], ◌∷�
 use Rattle.valid_intervals.specs.declared.Cell.{Cell}
 use Rattle.valid_intervals.specs.declared.Point.{Point}
 use Rattle.circuit_meaning.specs.Circuit.{Circuit}
-use Rattle.circuit_meaning.specs.Forced.{forced, IsFree}
+use Rattle.circuit_meaning.specs.Forced.{forced_circuit, IsFree}
 use Rattle.circuit_meaning.specs.Forward.{wave}
 use Rattle.circuit_meaning.specs.Need.{children, IsRoot}
 use Rattle.batch_meaning.specs.declared.Query.{Query}
@@ -25,7 +25,7 @@ use Rattle.session_meaning.specs.declared.Verdict.TheVariants.{Ask, Unknown, Pas
 
 -- the circuit in which the site is stuck
 abbrev pub stuck_circuit : Circuit → Site → Circuit
-stuck_circuit c site = forced c site.signal site.value
+stuck_circuit c site = forced_circuit c site.signal site.value
 
 -- the batch of the second memo
 abbrev pub held_batch : Circuit → Site → Query → Batch

@@ -46,17 +46,17 @@ abbrev pub stuck_verdict : Joined → ℕ → Stuck → Verdict
 stuck_verdict d line stuck = window_verdict d.circuit.horizon line stuck.from stuck.to stuck.budget (number d.netlist stuck.name)
 
 -- the query that is asked, if there is one
-abbrev pub asked : Verdict → List Query
-asked (Ask query) = query ∷ []
-asked Unknown = []
-asked Past = []
-asked Bad = []
+abbrev pub asked_queries : Verdict → List Query
+asked_queries (Ask query) = query ∷ []
+asked_queries Unknown = []
+asked_queries Past = []
+asked_queries Bad = []
 
 -- the same, but none if the site is unknown
 abbrev pub asked_at : Option Site → Verdict → List Query
 asked_at None verdict = []
-asked_at (Some site) verdict = asked verdict
+asked_at (Some site) verdict = asked_queries verdict
 
 -- the queries of a batch with these items
 abbrev pub queries_of : Joined → List Item → List Query
-queries_of d items = flat_map (λ item. asked (verdict_of d item)) items
+queries_of d items = flat_map (λ item. asked_queries (verdict_of d item)) items

@@ -12,13 +12,13 @@ kind_of Trims = kinds.Trim
 kind_of (Forces batch) = kinds.Held
 
 -- a section with its number
-abbrev pub numbered : ℕ → SectionEntries → WrittenSection
-numbered number section = record { kind = kind_of section.purpose; number = number; shards = section.lists }
+abbrev pub numbered_section : ℕ → SectionEntries → WrittenSection
+numbered_section number section = record { kind = kind_of section.purpose; number = number; shards = section.lists }
 
 -- sections with the numbers from this one on
 abbrev pub numbered_from : ℕ → List SectionEntries → List WrittenSection
 numbered_from number [] = []
-numbered_from number (section ∷ sections) = numbered number section ∷ numbered_from (number + 1) sections
+numbered_from number (section ∷ sections) = numbered_section number section ∷ numbered_from (number + 1) sections
 
 -- the text of the journal, for this many shards with room for this many cells
 abbrev pub journal_text : ℕ → ℕ → List SectionEntries → List ℕ

@@ -12,7 +12,7 @@ use Rattle.std.proofs.lemmas.List.Folds.{list_any-append}
 use Rattle.gate_values.specs.declared.Value.{Value}
 use Rattle.stimulus_file.specs.declared.NumberedSet.{NumberedSet}
 use Rattle.stimulus_file.specs.declared.names.Names.{Names}
-use Rattle.stimulus_file.specs.Named.{named, HavePlaces}
+use Rattle.stimulus_file.specs.Named.{named_rows, HavePlaces}
 use Rattle.stimulus_file.specs.inner.Kept.{is_at, key_eq, same_bytes, AreLatest, ArePlaces, IsPlace, StandsAt, HasNames, HasSeen, Finds, Tells}
 use Rattle.stimulus_file.proofs.Naming.{both, swapped, beyond, named_more, places_more, place_new, places_first, latest_push, grows_more, grows_at, reaches, long_as, with_time, is_later as later_at}
 
@@ -21,7 +21,7 @@ module _ (old new : Names) (sets : List NumberedSet) (q : Bor (List ℕ)) (time 
   pub finds_again : (place : ℕ) (is_later : Bool) → new.texts.items ≡ old.texts.items → ArePlaces new → IsPlace old.texts.items q.now place → is_later ≡ later_at old.latest.items place time
       → new.latest.items ≡ with_time old.latest.items place time is_later → Finds old new sets q.now time (record { place = place; is_later = is_later })
   finds_again place is_later texts places is later latest = record {
-    same = ap (λ (t : List (List ℕ)). named t sets) texts;
+    same = ap (λ (t : List (List ℕ)). named_rows t sets) texts;
     placed = subst (λ (t : List (List ℕ)). HavePlaces t sets) (sym texts) has.placed;
     place = subst (λ (t : List (List ℕ)). IsPlace t q.now place) (sym texts) is;
     later = λ l. has.latest place time (ltb-true (get_or old.latest.items place 0) time (both (ltb place (length old.latest.items)) _ (sym later ∙ l)).1);
@@ -47,7 +47,7 @@ module _ (old new : Names) (sets : List NumberedSet) (q : Bor (List ℕ)) (time 
       → ((p : Bor (List ℕ)) → get same_bytes new.places p ≡ cond (bytes_eq q.now p.now) (Some place) (get same_bytes old.places p))
       → Finds old new sets q.now time (record { place = place; is_later = true })
   finds_new place is texts latest never gives = record {
-    same = ap (λ (t : List (List ℕ)). named t sets) texts ∙ named_more old.texts.items q.now sets has.placed;
+    same = ap (λ (t : List (List ℕ)). named_rows t sets) texts ∙ named_more old.texts.items q.now sets has.placed;
     placed = subst (λ (t : List (List ℕ)). HavePlaces t sets) (sym texts) (places_more old.texts.items q.now sets has.placed);
     place = subst (λ (t : List (List ℕ)). IsPlace t q.now place) (sym texts) (subst (IsPlace (old.texts.items ++ q.now ∷ []) q.now) (sym is) (place_new old.texts.items q.now never));
     later = λ _. subst (λ (n : ℕ). list_any (is_at n time) sets ≡ false) (sym is) (beyond old.texts.items sets time has.placed);

@@ -9,7 +9,7 @@ use Rattle.stimulus_file.specs.Causes.{out_of_memory}
 use Rattle.stimulus_file.specs.Forms.{line_of}
 use Rattle.stimulus_file.specs.Stimulus.{cause_of, stimulus_of, horizon_of, with_horizon}
 use Rattle.std.specs.Prelude.{option_to_list, slice_get}
-use Rattle.stimulus_file.specs.Named.{named}
+use Rattle.stimulus_file.specs.Named.{named_rows}
 use Rattle.stimulus_file.specs.inner.Reading.{HasRead}
 
 pub fault_answers : (text : List ℕ) (fault : LineFault StimulusCause) → (fault ≡ out_of_memory) ⊎ (first_fault cause_of [] (map line_of (lines text)) ≡ Some fault) → (fault ≡ out_of_memory) ⊎ (stimulus_of text ≡ Err fault)
@@ -17,7 +17,7 @@ unfolding stimulus_of
 fault_answers text fault (inl memory) = inl memory
 fault_answers text fault (inr first) = inr (rw first refl)
 
-pub said : (text : List ℕ) (r : Reader) (o : Option ℕ) → (first_fault cause_of [] (map line_of (lines text)) ≡ None) × HasRead (map line_of (lines text)) r → r.horizon ≡ o → stimulus_of text ≡ with_horizon o (named r.names.texts.items r.sets.items)
+pub said : (text : List ℕ) (r : Reader) (o : Option ℕ) → (first_fault cause_of [] (map line_of (lines text)) ≡ None) × HasRead (map line_of (lines text)) r → r.horizon ≡ o → stimulus_of text ≡ with_horizon o (named_rows r.names.texts.items r.sets.items)
 unfolding stimulus_of
 said text r o read is =
     let all = map line_of (lines text) in

@@ -12,7 +12,7 @@ use Rattle.line_faults.specs.Rows.{rows_from}
 use Rattle.stimulus_file.specs.declared.NumberedSet.{NumberedSet}
 use Rattle.stimulus_file.specs.Forms.{Line, Blank, Other, Horizon, Setting}
 use Rattle.stimulus_file.specs.Stimulus.{SetRow, sets, row_of}
-use Rattle.stimulus_file.specs.Named.{named, HavePlaces}
+use Rattle.stimulus_file.specs.Named.{named_rows, HavePlaces}
 use Rattle.stimulus_file.specs.inner.Kept.{is_at, AreLatest, IsPlace, StandsAt}
 
 pub is_false : (b : Bool) → (b ≡ true → ⊥) → b ≡ false
@@ -57,7 +57,7 @@ module _ (names : List (List ℕ)) where
       (λ h. (bytes_eq-Decides (get_or names i []) name).1 (ap (λ (k : ℕ). get_or names k []) (sym (eqb-true place i h)) ∙ p.there))
 
   -- a name is set at a time as its place is
-  pub named_any : (xs : List NumberedSet) (name : List ℕ) (place time : ℕ) → HavePlaces names xs → IsPlace names name place → list_any (sets_at name time) (named names xs) ≡ list_any (is_at place time) xs
+  pub named_any : (xs : List NumberedSet) (name : List ℕ) (place time : ℕ) → HavePlaces names xs → IsPlace names name place → list_any (sets_at name time) (named_rows names xs) ≡ list_any (is_at place time) xs
   named_any [] name place time h p = refl
   named_any (x ∷ xs) name place time h p =
       let lt : x.name < length names = All-head (λ (s : NumberedSet). s.name < length names) x xs h in
@@ -74,7 +74,7 @@ module _ (names : List (List ℕ)) where
       rw (never, rest) refl
 
   -- a name more keeps the names of the settings
-  pub named_more : (name : List ℕ) (xs : List NumberedSet) → HavePlaces names xs → named (names ++ name ∷ []) xs ≡ named names xs
+  pub named_more : (name : List ℕ) (xs : List NumberedSet) → HavePlaces names xs → named_rows (names ++ name ∷ []) xs ≡ named_rows names xs
   named_more name [] h = refl
   named_more name (x ∷ xs) h =
       ap₂ (λ (n : List ℕ) (rows : List SetRow). record { line = x.line; name = n; time = x.time; value = x.value } ∷ rows)

@@ -12,8 +12,8 @@ use Rattle.stimulus_file.specs.declared.names.Found.{Found}
 use Rattle.stimulus_file.specs.declared.names.Names.{Names}
 use Rattle.stimulus_file.specs.declared.reader.Reader.{Reader}
 use Rattle.stimulus_file.specs.Forms.{Line, Blank, Horizon, Setting}
-use Rattle.stimulus_file.specs.Stimulus.{SetRow, is_blank, is_horizon, sets, cause_of, stated, row_of, rows_of}
-use Rattle.stimulus_file.specs.Named.{with_name, named}
+use Rattle.stimulus_file.specs.Stimulus.{SetRow, is_blank, is_horizon, sets, cause_of, stated_horizon, row_of, rows_of}
+use Rattle.stimulus_file.specs.Named.{with_name, named_rows}
 use Rattle.stimulus_file.specs.inner.Kept.{is_at, then_at, HasNames, HasSeen, Finds}
 use Rattle.stimulus_file.specs.inner.Reading.{HasRead}
 use Rattle.stimulus_file.proofs.Naming.{sets_at, rows_set, named_any}
@@ -32,7 +32,7 @@ horizon_step before r h read none =
     let none-is : r.horizon ≡ None = none_is r.horizon none in (
       rw (read.horizon_line, none) refl,
       record {
-        horizon = flat_map-append stated before (Horizon (Some h) ∷ []) ∙ ap (λ (l : List ℕ). l ++ h ∷ []) (read.horizon ∙ ap option_to_list none-is);
+        horizon = flat_map-append stated_horizon before (Horizon (Some h) ∷ []) ∙ ap (λ (l : List ℕ). l ++ h ∷ []) (read.horizon ∙ ap option_to_list none-is);
         blank = list_all-append is_blank before (Horizon (Some h) ∷ []) ∙ and-false (list_all is_blank before);
         horizon_line = list_any-append is_horizon before (Horizon (Some h) ∷ []) ∙ or-true (list_any is_horizon before);
         rows = read.rows ∙ sym (rows-push row_of before (Horizon (Some h)) (length before + 1) refl ∙ append-nil (rows_of before));
@@ -44,7 +44,7 @@ horizon_step before r h read none =
 -- a blank line
 pub blank_step : (before : List Line) (r : Reader) → HasRead before r → HasRead (before ++ Blank ∷ []) r
 blank_step before r read = record {
-  horizon = flat_map-append stated before (Blank ∷ []) ∙ append-nil (flat_map stated before) ∙ read.horizon;
+  horizon = flat_map-append stated_horizon before (Blank ∷ []) ∙ append-nil (flat_map stated_horizon before) ∙ read.horizon;
   blank = list_all-append is_blank before (Blank ∷ []) ∙ and-true (list_all is_blank before) ∙ read.blank;
   horizon_line = list_any-append is_horizon before (Blank ∷ []) ∙ or-false (list_any is_horizon before) ∙ read.horizon_line;
   rows = read.rows ∙ sym (rows-push row_of before Blank (length before + 1) refl ∙ append-nil (rows_of before));
@@ -69,10 +69,10 @@ setting_step before r new found name t line value read line-is some same f fresh
     let unset : list_any (sets name t) before ≡ false = set_before before r new.names found name t read f ∙ fresh in (
       rw (horizon, unset) refl,
       record {
-        horizon = flat_map-append stated before (Setting name (Some t) value ∷ []) ∙ append-nil (flat_map stated before) ∙ read.horizon ∙ ap option_to_list (sym same);
+        horizon = flat_map-append stated_horizon before (Setting name (Some t) value ∷ []) ∙ append-nil (flat_map stated_horizon before) ∙ read.horizon ∙ ap option_to_list (sym same);
         blank = list_all-append is_blank before (Setting name (Some t) value ∷ []) ∙ and-false (list_all is_blank before) ∙ sym some ∙ ap is_none (sym same);
         horizon_line = list_any-append is_horizon before (Setting name (Some t) value ∷ []) ∙ or-false (list_any is_horizon before) ∙ read.horizon_line ∙ ap is_some (sym same);
-        rows = ap (named new.names.texts.items) pushed ∙ map-append (with_name new.names.texts.items) r.sets.items (record { line = line; name = found.place; time = t; value = value } ∷ [])
+        rows = ap (named_rows new.names.texts.items) pushed ∙ map-append (with_name new.names.texts.items) r.sets.items (record { line = line; name = found.place; time = t; value = value } ∷ [])
             ∙ ap₂ (λ (rows : List SetRow) (n : List ℕ). rows ++ record { line = line; name = n; time = t; value = value } ∷ []) (f.same ∙ read.rows) f.place.there
             ∙ sym (rows-push row_of before (Setting name (Some t) value) line line-is);
         names = subst (HasNames new.names) (sym pushed) (f.next line value);

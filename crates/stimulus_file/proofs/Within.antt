@@ -16,7 +16,7 @@ use Rattle.line_faults.specs.Faults.{first_fault, unless_fault}
 use Rattle.line_faults.specs.Rows.{rows_from}
 use Rattle.stimulus_file.specs.declared.StimulusCause.{StimulusCause}
 use Rattle.stimulus_file.specs.Forms.{Line, Blank, Other, Horizon, Setting, horizon_of_amount, setting_of_parts, by_words, line_of}
-use Rattle.stimulus_file.specs.Stimulus.{Content, SetRow, stated, cause_of, row_of, rows_of, horizon_of, with_horizon, stimulus_of}
+use Rattle.stimulus_file.specs.Stimulus.{Content, SetRow, stated_horizon, cause_of, row_of, rows_of, horizon_of, with_horizon, stimulus_of}
 use Rattle.stimulus_file.specs.Ranges.{IsStimulus}
 
 abbrev IsTime : ℕ → Type 0
@@ -70,16 +70,16 @@ rows-within : (n : ℕ) (all : List (List ℕ)) → All IsRow (rows_from row_of 
 rows-within n [] = All-nil IsRow
 rows-within n (line ∷ all) = All-append IsRow (row_of n (line_of line)) (rows_from row_of (n + 1) (map line_of all)) (row_of-within n (line_of line) (line-within line)) (rows-within (n + 1) all)
 
-stated-within : (line : Line) → IsLine line → All IsTime (stated line)
+stated-within : (line : Line) → IsLine line → All IsTime (stated_horizon line)
 stated-within Blank h = All-nil IsTime
 stated-within Other h = All-nil IsTime
 stated-within (Horizon None) h = All-nil IsTime
 stated-within (Horizon (Some horizon)) h = All-cons IsTime horizon [] h (All-nil IsTime)
 stated-within (Setting name time value) h = All-nil IsTime
 
-horizons-within : (all : List (List ℕ)) → All IsTime (flat_map stated (map line_of all))
+horizons-within : (all : List (List ℕ)) → All IsTime (flat_map stated_horizon (map line_of all))
 horizons-within [] = All-nil IsTime
-horizons-within (line ∷ all) = subst (All IsTime) (sym (flat_map-cons stated (line_of line) (map line_of all))) (All-append IsTime (stated (line_of line)) (flat_map stated (map line_of all)) (stated-within (line_of line) (line-within line)) (horizons-within all))
+horizons-within (line ∷ all) = subst (All IsTime) (sym (flat_map-cons stated_horizon (line_of line) (map line_of all))) (All-append IsTime (stated_horizon (line_of line)) (flat_map stated_horizon (map line_of all)) (stated-within (line_of line) (line-within line)) (horizons-within all))
 
 first-within : (l : List ℕ) → All IsTime l → IfSome (slice_get l 0) IsTime
 first-within [] h = tt
@@ -88,7 +88,7 @@ first-within (t ∷ l) h = All-head IsTime t l h
 -- what a file says is in its ranges
 pub stimulus-within : (text : List ℕ) (c : Content) → stimulus_of text ≡ Ok c → IsStimulus c
 unfolding stimulus_of
-stimulus-within text c h = cases (first_fault cause_of [] (map line_of (lines text))) (horizon_of (map line_of (lines text))) (first-within (flat_map stated (map line_of (lines text))) (horizons-within (lines text))) h
+stimulus-within text c h = cases (first_fault cause_of [] (map line_of (lines text))) (horizon_of (map line_of (lines text))) (first-within (flat_map stated_horizon (map line_of (lines text))) (horizons-within (lines text))) h
   where
     cases : (fault : Option (LineFault StimulusCause)) (horizon : Option ℕ) → IfSome horizon IsTime → unless_fault fault (with_horizon horizon (rows_of (map line_of (lines text)))) ≡ Ok c → IsStimulus c
     cases None None g h = absurd cc

@@ -53,12 +53,12 @@ cause_of before (Setting name None value) = if list_all is_blank before then Som
 cause_of before (Setting name (Some t) value) = if list_all is_blank before then Some NoHorizon else (if list_any (sets name t) before then Some Twice else None)
 
 -- the horizon that a line states
-abbrev pub stated : Line → List ℕ
-stated Blank = []
-stated Other = []
-stated (Horizon None) = []
-stated (Horizon (Some h)) = h ∷ []
-stated (Setting name time value) = []
+abbrev pub stated_horizon : Line → List ℕ
+stated_horizon Blank = []
+stated_horizon Other = []
+stated_horizon (Horizon None) = []
+stated_horizon (Horizon (Some h)) = h ∷ []
+stated_horizon (Setting name time value) = []
 
 -- the row of the line with the number n
 abbrev pub row_of : ℕ → Line → List SetRow
@@ -73,7 +73,7 @@ abbrev pub rows_of : List Line → List SetRow
 rows_of all = rows_from row_of 1 all
 
 abbrev pub horizon_of : List Line → Option ℕ
-horizon_of all = slice_get (flat_map stated all) 0
+horizon_of all = slice_get (flat_map stated_horizon all) 0
 
 -- a file without a horizon is refused at line 0
 abbrev pub with_horizon : Option ℕ → List SetRow → Result Content (LineFault StimulusCause)

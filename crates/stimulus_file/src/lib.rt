@@ -122,32 +122,35 @@ pub struct Stimulus {
 
 impl Model for Stimulus {
     ghost use Rattle.stimulus_file.specs.Stimulus.{Content};
-    ghost use Rattle.stimulus_file.specs.Named.{named, HavePlaces};
+    ghost use Rattle.stimulus_file.specs.Named.{named_rows, HavePlaces};
     ghost use Rattle.stimulus_file.specs.Ranges.{IsStimulus};
 
     ghost Value = { Content };
 
-    ghost view = { λ s. record { horizon = s.horizon; sets = named s.names.items s.sets.items } };
+    ghost view = { λ s. record {
+      horizon = s.horizon;
+      sets = named_rows s.names.items s.sets.items;
+    } };
 
     ghost invariant = { λ s. IsStimulus (record {
       horizon = s.horizon;
-      sets = named s.names.items
+      sets = named_rows s.names.items
           s.sets.items;
     }) × HavePlaces s.names.items s.sets.items };
 }
 
 impl Stimulus {
-    ghost use Rattle.stimulus_file.specs.Named.{named, HavePlaces};
+    ghost use Rattle.stimulus_file.specs.Named.{named_rows, HavePlaces};
     ghost use Rattle.stimulus_file.specs.Ranges.{IsStimulus};
 
     fn new(horizon: u32, names: Vec<Text>, sets: Vec<NumberedSet>) -> Stimulus
         requires ranges { IsStimulus (record {
           horizon = horizon;
-          sets = named names.items
+          sets = named_rows names.items
               sets.items;
         }) }
         requires places { HavePlaces names.items sets.items }
-        ensures { result ≡ record { horizon = horizon; sets = named names.items sets.items } }
+        ensures { result ≡ record { horizon = horizon; sets = named_rows names.items sets.items } }
     {
         Stimulus {
             horizon,
@@ -172,7 +175,7 @@ impl Stimulus {
 
     /// The settings, in the order of the file.
     pub fn sets(&self) -> NamedSets<'_>
-        ensures named { named result.names.now result.sets.now ≡ self.now.sets }
+        ensures named { named_rows result.names.now result.sets.now ≡ self.now.sets }
         ensures places { HavePlaces result.names.now result.sets.now }
     {
         NamedSets {

@@ -10,7 +10,7 @@ use Rattle.circuit_meaning.proofs.Points.{children-earlier}
 use Rattle.batch_meaning.specs.Batches.{Batch, window_of}
 use Rattle.strand_meaning.specs.declared.Next.TheVariants.{Ask, Fill, Drop, Done}
 use Rattle.strand_meaning.specs.declared.Next.{Next}
-use Rattle.strand_meaning.specs.Strands.{Frame, Strand, has_children, is_evaluable, asked_children, ask_or, next_in, next, rest, roots_heard, stack_heard, heard, claimed, dropped, finished, IsHeld, left_in, IsFirst, IsAskedChild, IsChain, IsRootPoint, IsStrand}
+use Rattle.strand_meaning.specs.Strands.{Frame, Strand, has_children, is_evaluable, asked_children, ask_or, next_in, next, rest, roots_heard, stack_heard, after_answer, after_claim, after_drop, after_fill, IsOnStack, left_in, IsFirst, IsAskedChild, IsChain, IsRootPoint, IsStrand}
 
 pub rest_all : {A : Type 0} (P : A → Type 0) (xs : List A) → AllByRecursion P xs → AllByRecursion P (rest xs)
 rest_all P [] h = tt
@@ -97,24 +97,24 @@ pub drop-top : (s : Strand) (p : Point) → next s ≡ Drop p → IsTop s.stack 
 drop-top s p h = drop_in-top s.spent s.roots s.stack p h
 
 -- what is held before and after
-pub held-heard : (st : List Frame) (p : Point) → IsHeld (stack_heard st) p → IsHeld st p
+pub held-heard : (st : List Frame) (p : Point) → IsOnStack (stack_heard st) p → IsOnStack st p
 held-heard [] p h = h
 held-heard (f ∷ fs) p h = h
 
-pub heard-held : (st : List Frame) (p : Point) → IsHeld st p → IsHeld (stack_heard st) p
+pub heard-held : (st : List Frame) (p : Point) → IsOnStack st p → IsOnStack (stack_heard st) p
 heard-held [] p h = h
 heard-held (f ∷ fs) p h = h
 
-pub held-rest : (st : List Frame) (p : Point) → IsHeld (rest st) p → IsHeld st p
+pub held-rest : (st : List Frame) (p : Point) → IsOnStack (rest st) p → IsOnStack st p
 held-rest [] p h = h
 held-rest (f ∷ fs) p h = inr h
 
-pub rest-held : (st : List Frame) (p x : Point) → IsTop st p → IsHeld st x → (x ≡ p) ⊎ IsHeld (rest st) x
+pub rest-held : (st : List Frame) (p x : Point) → IsTop st p → IsOnStack st x → (x ≡ p) ⊎ IsOnStack (rest st) x
 rest-held [] p x t h = absurd h
 rest-held (f ∷ fs) p x t (inl h) = inl (sym h ∙ t)
 rest-held (f ∷ fs) p x t (inr h) = inr h
 
-pub top-held : (st : List Frame) (p : Point) → IsTop st p → IsHeld st p
+pub top-held : (st : List Frame) (p : Point) → IsTop st p → IsOnStack st p
 top-held [] p t = absurd t
 top-held (f ∷ fs) p t = inl t
 
@@ -127,7 +127,7 @@ module _ (c : Circuit) (ok : IsCircuit c) where
   source-earlier a p h = All-contains (λ x. x.time < a.time) (children c a.signal a.time) p (children-earlier c ok a.signal a.time) h.child
 
   -- what a strand waits for is earlier than all that it holds
-  pub earlier : (roots : List Point) (st : List Frame) (p x : Point) → IsChain c roots st → IsFirst (left_in roots st) p → IsHeld st x → p.time < x.time
+  pub earlier : (roots : List Point) (st : List Frame) (p x : Point) → IsChain c roots st → IsFirst (left_in roots st) p → IsOnStack st x → p.time < x.time
   earlier roots [] p x chain first h = absurd h
   earlier roots (f ∷ fs) p x chain first (inl h) = subst (λ (y : Point). p.time < y.time) h (source-earlier f.point p (first-all (IsAskedChild c f.point) f.left p chain.1 first))
   earlier roots (f ∷ fs) p x chain first (inr h) =
@@ -135,7 +135,7 @@ module _ (c : Circuit) (ok : IsCircuit c) where
       let b : f.point.time < x.time = earlier roots fs f.point x chain.2 chain.0 h in
       omega arith
 
-  pub top-once : (roots : List Point) (st : List Frame) (p x : Point) → IsChain c roots st → IsTop st p → IsHeld (rest st) x → p.time < x.time
+  pub top-once : (roots : List Point) (st : List Frame) (p x : Point) → IsChain c roots st → IsTop st p → IsOnStack (rest st) x → p.time < x.time
   top-once roots [] p x chain top h = absurd h
   top-once roots (f ∷ fs) p x chain top h = subst (λ (y : Point). y.time < x.time) top (earlier roots fs f.point x chain.2 chain.0 h)
 
@@ -160,7 +160,7 @@ first-askable c w roots [] p all chain first = root-askable c w p (first-all (Is
 first-askable c w roots (f ∷ fs) p all chain first = source-askable c w f.point p (first-askable c w roots fs f.point all chain.2 chain.0) (first-all (IsAskedChild c f.point) f.left p chain.1 first)
 
 -- each point of a stack is needed too
-pub held-askable : (c : Circuit) (w : Window) (roots : List Point) (st : List Frame) (p : Point) → AllByRecursion (IsRootPoint c w) roots → IsChain c roots st → IsHeld st p → IsAskable c w p
+pub held-askable : (c : Circuit) (w : Window) (roots : List Point) (st : List Frame) (p : Point) → AllByRecursion (IsRootPoint c w) roots → IsChain c roots st → IsOnStack st p → IsAskable c w p
 held-askable c w roots [] p all chain h = absurd h
 held-askable c w roots (f ∷ fs) p all chain (inl h) = subst (IsAskable c w) h (first-askable c w roots fs f.point all chain.2 chain.0)
 held-askable c w roots (f ∷ fs) p all chain (inr h) = held-askable c w roots fs p all chain.2 h
@@ -187,7 +187,7 @@ sources-right c p =
 
 -- the steps of a strand
 module _ (b : Batch) (s : Strand) (is : IsStrand b s) where
-  pub heard-keeps : IsStrand b (heard s)
+  pub heard-keeps : IsStrand b (after_answer s)
   heard-keeps = record {
     known = is.known;
     roots = roots-heard (IsRootPoint b.circuit (window_of s.query)) s.roots s.stack is.roots;
@@ -197,7 +197,7 @@ module _ (b : Batch) (s : Strand) (is : IsStrand b s) where
     budget = is.budget;
   }
 
-  pub claimed-keeps : (p : Point) → next s ≡ Ask p → s.charged < s.budget → IsStrand b (claimed b.circuit s p)
+  pub claimed-keeps : (p : Point) → next s ≡ Ask p → s.charged < s.budget → IsStrand b (after_claim b.circuit s p)
   claimed-keeps p asks room = record {
     known = is.known;
     roots = is.roots;
@@ -210,7 +210,7 @@ module _ (b : Batch) (s : Strand) (is : IsStrand b s) where
   pub flags-keep : (spent waits : Bool) → IsStrand b (record s { spent = spent; waits = waits })
   flags-keep spent waits = record { known = is.known; roots = is.roots; chain = is.chain; charge = is.charge; claims = is.claims; budget = is.budget }
 
-  pub dropped-keeps : (p : Point) → IsTop s.stack p → IsStrand b (dropped s)
+  pub dropped-keeps : (p : Point) → IsTop s.stack p → IsStrand b (after_drop s)
   dropped-keeps p top = record {
     known = is.known;
     roots = is.roots;
@@ -220,7 +220,7 @@ module _ (b : Batch) (s : Strand) (is : IsStrand b s) where
     budget = is.budget;
   }
 
-  pub finished-keeps : (p : Point) → IsTop s.stack p → IsStrand b (finished s)
+  pub finished-keeps : (p : Point) → IsTop s.stack p → IsStrand b (after_fill s)
   finished-keeps p top = record {
     known = is.known;
     roots = roots-heard (IsRootPoint b.circuit (window_of s.query)) s.roots (rest s.stack) is.roots;

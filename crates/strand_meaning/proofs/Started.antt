@@ -11,7 +11,7 @@ use Rattle.batch_meaning.specs.declared.Query.{Query}
 use Rattle.batch_meaning.specs.Batches.{Batch, window_of}
 use Rattle.batch_meaning.specs.Lawful.{IsLawful, IsQueryOf}
 use Rattle.batch_meaning.specs.Pieces.{Start, piece, IsStart}
-use Rattle.strand_meaning.specs.Strands.{started, is_evaluable, roots_from, IsRootPoint, IsStrand}
+use Rattle.strand_meaning.specs.Strands.{started_strand, is_evaluable, roots_from, IsRootPoint, IsStrand}
 use Rattle.strand_meaning.proofs.Stacks.{evaluable-true}
 
 record IsRootAt (c : Circuit) (w : Window) (p : Point) : Type 0 where
@@ -41,7 +41,7 @@ roots-evaluable c q (x ∷ xs) h = go (is_evaluable c x) refl (roots-evaluable c
     go true e k = (record { signal = h.0.signal; root = h.0.root; evaluable = evaluable-true c x.time (driver c x.signal) e }, k)
     go false e k = k
 
-pub started-right : (b : Batch) (a : Start) → IsStart b a → IsStrand b (started b.circuit a)
+pub started-right : (b : Batch) (a : Start) → IsStart b a → IsStrand b (started_strand b.circuit a)
 started-right b a is =
     let c = b.circuit in
     record {

@@ -4,7 +4,7 @@ use Rattle.valid_intervals.specs.declared.Point.{Point}
 use Rattle.circuit_meaning.specs.declared.Window.{Window}
 use Rattle.circuit_meaning.specs.Circuit.{Circuit, IsCircuit}
 use Rattle.circuit_meaning.specs.Need.{IsNeeded}
-use Rattle.circuit_meaning.specs.Forced.{forced}
+use Rattle.circuit_meaning.specs.Forced.{forced_circuit}
 use Rattle.circuit_meaning.specs.Laws.{at_point}
 use Rattle.circuit_meaning.proofs.Alike.{held-fits}
 use Rattle.circuit_meaning.proofs.Free.{needed-alike}
@@ -13,7 +13,7 @@ use Rattle.batch_meaning.specs.declared.Query.{Query}
 use Rattle.batch_meaning.specs.Batches.{Batch, Site, IsNeededBy, NeedOf, OfQuery, window_of}
 use Rattle.batch_meaning.specs.Lawful.{IsLawful, IsQueryOf, start_of}
 use Rattle.strand_meaning.specs.declared.Next.TheVariants.{Ask}
-use Rattle.strand_meaning.specs.Strands.{Strand, IsStrand, next, IsHeld}
+use Rattle.strand_meaning.specs.Strands.{Strand, IsStrand, next, IsOnStack}
 use Rattle.strand_meaning.specs.Laws.{IsWantedBy, AsksWhatIsNeeded}
 use Rattle.strand_meaning.proofs.Started.{query-within}
 use Rattle.strand_meaning.proofs.Stacks.{IsAskable, first-askable, held-askable, asks-first, earlier}
@@ -27,7 +27,7 @@ module _ (c : Circuit) (ok : IsCircuit c) (q : Query) (within : q.to ≤ c.horiz
   of-site None n = needed-alone c ok (window_of q) within x.signal x.from n p.signal p.time here
   of-site (Some site) n =
       let alike = needed-alike c site.signal site.value ok (at_point x.signal x.from) n.1 p.signal p.time here in
-      (needed-alone (forced c site.signal site.value) (held-fits c site.signal site.value ok) (window_of q) within x.signal x.from n.0 p.signal p.time alike.0, alike.1)
+      (needed-alone (forced_circuit c site.signal site.value) (held-fits c site.signal site.value ok) (window_of q) within x.signal x.from n.0 p.signal p.time alike.0, alike.1)
 
 within-of : (b : Batch) → IsLawful b → (q : Query) → Contains b.queries q → q.to ≤ b.circuit.horizon + 1
 within-of b l q (k, h, e) = subst (λ (x : Query). x.to ≤ b.circuit.horizon + 1) e (l.windows k q h)
@@ -39,17 +39,17 @@ needed-of b l q (inr k) p n = (k.of, k.known, sym k.number, of-site b.circuit l.
 pub asks-needed : (b : Batch) → IsLawful b → (s : Strand) → IsStrand b s → AsksWhatIsNeeded b s
 asks-needed b l s is = record {
   asked = λ p h. wanted p (first-askable b.circuit (window_of s.query) s.roots s.stack p is.roots is.chain (asks-first s p h));
-  held = λ p h. wanted p (held-askable b.circuit (window_of s.query) s.roots s.stack p is.roots is.chain h);
+  on_stack = λ p h. wanted p (held-askable b.circuit (window_of s.query) s.roots s.stack p is.roots is.chain h);
 }
   where
     wanted : (p : Point) → IsAskable b.circuit (window_of s.query) p → IsWantedBy b s p
     wanted p a = record { needed = needed-of b l s.query is.known p a.needed; evaluable = a.evaluable }
 
-pub waits-earlier : (b : Batch) → IsLawful b → (s : Strand) → IsStrand b s → (p x : Point) → next s ≡ Ask p → IsHeld s.stack x → p.time < x.time
+pub waits-earlier : (b : Batch) → IsLawful b → (s : Strand) → IsStrand b s → (p x : Point) → next s ≡ Ask p → IsOnStack s.stack x → p.time < x.time
 waits-earlier b l s is p x h k = earlier b.circuit l.circuit s.roots s.stack p x is.chain (asks-first s p h) k
 
 -- what a strand holds lies within the horizon
-pub held-within : (b : Batch) → IsLawful b → (s : Strand) → IsStrand b s → (p : Point) → IsHeld s.stack p → p.time ≤ b.circuit.horizon
+pub held-within : (b : Batch) → IsLawful b → (s : Strand) → IsStrand b s → (p : Point) → IsOnStack s.stack p → p.time ≤ b.circuit.horizon
 held-within b l s is p h =
     let a = held-askable b.circuit (window_of s.query) s.roots s.stack p is.roots is.chain h in
     let before : p.time < s.query.to = needed-before b.circuit l.circuit (window_of s.query) p.signal p.time a.needed in

@@ -48,8 +48,8 @@ unfoldable pub roots_from : Circuit → Window → ℕ → ℕ → List Point
 roots_from c w zero t = []
 roots_from c w (suc n) t = if nat_lt t w.stop then record { signal = w.signal; time = t } ∷ roots_from c w n (span c w.signal t).stop else []
 
-abbrev pub started : Circuit → Start → Strand
-started c a = record {
+abbrev pub started_strand : Circuit → Start → Strand
+started_strand c a = record {
   query = a.query;
   budget = a.budget;
   roots = filter (is_evaluable c) (roots_from c (piece a) (a.stop - a.start) a.start);
@@ -86,11 +86,11 @@ stack_heard [] = []
 stack_heard (f ∷ fs) = record { point = f.point; left = rest f.left } ∷ fs
 
 -- the strand after it has heard what it asked for
-abbrev pub heard : Strand → Strand
-heard s = record s { roots = roots_heard s.roots s.stack; stack = stack_heard s.stack }
+abbrev pub after_answer : Strand → Strand
+after_answer s = record s { roots = roots_heard s.roots s.stack; stack = stack_heard s.stack }
 
-abbrev pub claimed : Circuit → Strand → Point → Strand
-claimed c s p = record s { stack = record { point = p; left = asked_children c p } ∷ s.stack; charged = s.charged + 1 }
+abbrev pub after_claim : Circuit → Strand → Point → Strand
+after_claim c s p = record s { stack = record { point = p; left = asked_children c p } ∷ s.stack; charged = s.charged + 1 }
 
 abbrev pub waiting : Strand → Strand
 waiting s = record s { waits = true }
@@ -102,17 +102,17 @@ abbrev pub given_up : Strand → Strand
 given_up s = record s { spent = true }
 
 -- the strand after its top was dropped
-abbrev pub dropped : Strand → Strand
-dropped s = record s { stack = rest s.stack }
+abbrev pub after_drop : Strand → Strand
+after_drop s = record s { stack = rest s.stack }
 
 -- the strand after its top was filled; the frame below hears the answer
-abbrev pub finished : Strand → Strand
-finished s = heard (record s { stack = rest s.stack; filled = s.filled + 1 })
+abbrev pub after_fill : Strand → Strand
+after_fill s = after_answer (record s { stack = rest s.stack; filled = s.filled + 1 })
 
 -- the point is on the stack
-abbrev pub IsHeld : List Frame → Point → Type 0
-IsHeld [] p = ⊥
-IsHeld (f ∷ fs) p = (f.point ≡ p) ⊎ IsHeld fs p
+abbrev pub IsOnStack : List Frame → Point → Type 0
+IsOnStack [] p = ⊥
+IsOnStack (f ∷ fs) p = (f.point ≡ p) ⊎ IsOnStack fs p
 
 -- what the top, or else the strand itself, has not heard yet
 abbrev pub left_in : List Point → List Frame → List Point

@@ -24,11 +24,11 @@ use Rattle.journal_meaning.specs.States.{Claim, without_point}
 use Rattle.journal_meaning.proofs.Claims.{own-covers}
 use Rattle.journal_meaning.proofs.Lists.{pairs_to}
 use Rattle.strand_meaning.specs.declared.Next.TheVariants.{Ask, Fill}
-use Rattle.strand_meaning.specs.Strands.{Frame, Strand, next, rest, heard, claimed, given_up, finished, asked_children, IsStrand, left_in, IsFirst, IsChain}
+use Rattle.strand_meaning.specs.Strands.{Frame, Strand, next, rest, after_answer, after_claim, given_up, after_fill, asked_children, IsStrand, left_in, IsFirst, IsChain}
 use Rattle.strand_meaning.proofs.Stacks.{IsTop, asks-first, fill-top, fill-heard, top-held}
 use Rattle.strand_meaning.proofs.Wanted.{held-within}
 use Rattle.plan_machine.specs.Bounds.{turns_left}
-use Rattle.plan_machine.specs.Shards.{Shard, recorded, evicted, with_room}
+use Rattle.plan_machine.specs.Shards.{Shard, shard_with_entry, shard_without_cell, with_room}
 use Rattle.plan_machine.specs.Journals.{evictions_for}
 use Rattle.plan_machine.specs.Alone.{AreFed, IsUnspent, IsUnderWay, IsGivingUp, points_on}
 use Rattle.plan_machine.specs.inner.Settle.{IsStanding}
@@ -64,11 +64,11 @@ says-cell p x h =
 room-claims : (capacity : ℕ) (x : SignalCell) (h : Shard) → (with_room capacity x h).state.claims ≡ h.state.claims
 room-claims capacity x h = by (not (is_stored x h.state.cells) && nat_eq (length h.state.cells) capacity)
   where
-    evicts : (o : Option SignalCell) → (evicted o h).state.claims ≡ h.state.claims
+    evicts : (o : Option SignalCell) → (shard_without_cell o h).state.claims ≡ h.state.claims
     evicts None = refl
     evicts (Some y) = refl
 
-    by : (t : Bool) → (cond t (evicted (last_cell h.state.cells) h) h).state.claims ≡ h.state.claims
+    by : (t : Bool) → (cond t (shard_without_cell (last_cell h.state.cells) h) h).state.claims ≡ h.state.claims
     by true = evicts (last_cell h.state.cells)
     by false = refl
 
@@ -157,7 +157,7 @@ module _ (b : Batch) (opening : ℕ → List SignalCell) (question : Question) (
         let said : IsSaid (asks.mirror ++ more) p =
         (entry, Contains-append_right asks.mirror more entry (0, omega arith, refl), says-cell p x (found (covers p) m.shard.state.cells x f.stored).0) in
         record {
-          asks = asks-by ms asks.first asks.stands new t (asks.mirror ++ more) (m.shard.journal ++ more) m.shard.state.claims (heard s.strand)
+          asks = asks-by ms asks.first asks.stands new t (asks.mirror ++ more) (m.shard.journal ++ more) m.shard.state.claims (after_answer s.strand)
               (ap (λ (z : KeptShard). z.shard.journal) f.shard) (ap (λ (z : KeptShard). z.shard.state.claims) f.shard) f.strand.strand (ap (λ (z : KeptShard). z.number) f.shard ∙ asks.number)
               (f.strand.from ∙ asks.from) (f.strand.to ∙ asks.to)
               (mirrors-more c site (entries_of ms) m.shard.journal asks.mirror asks.mirrors more)
@@ -174,7 +174,7 @@ module _ (b : Batch) (opening : ℕ → List SignalCell) (question : Question) (
         let more = entry ∷ [] in
         let claim : Claim = record { query = s.strand.query.number; point = p } in
         record {
-          asks = asks-by ms asks.first asks.stands new t (asks.mirror ++ more) (m.shard.journal ++ more) (claim ∷ m.shard.state.claims) (claimed d s.strand p)
+          asks = asks-by ms asks.first asks.stands new t (asks.mirror ++ more) (m.shard.journal ++ more) (claim ∷ m.shard.state.claims) (after_claim d s.strand p)
               (ap (λ (z : KeptShard). z.shard.journal) f.shard) (ap (λ (z : KeptShard). z.shard.state.claims) f.shard) f.strand.strand (ap (λ (z : KeptShard). z.number) f.shard ∙ asks.number)
               (f.strand.from ∙ asks.from) (f.strand.to ∙ asks.to)
               (mirrors-more c site (entries_of ms) m.shard.journal asks.mirror asks.mirrors more)
@@ -190,7 +190,7 @@ module _ (b : Batch) (opening : ℕ → List SignalCell) (question : Question) (
 
     -- it is refused, and that is recorded
     pub spends-on : (new : KeptShard) (t : Demand) (p : Point) → next s.strand ≡ Ask p → Refuses m m p s t
-        → new ≡ with_shard m (recorded (Spent t.strand.query.number p (length t.strand.stack)) m.shard) → GivesUp b question time ms new t (Own p)
+        → new ≡ with_shard m (shard_with_entry (Spent t.strand.query.number p (length t.strand.stack)) m.shard) → GivesUp b question time ms new t (Own p)
     spends-on new t p e f shard =
         let u = given_up s.strand in
         let query : t.strand.query ≡ q = ap (λ (z : Strand). z.query) f.strand.strand ∙ asks.way.query in
@@ -253,7 +253,7 @@ module _ (b : Batch) (opening : ℕ → List SignalCell) (question : Question) (
         let known : Contains more entry = Contains-append_right evictions (entry ∷ []) entry (0, omega arith, refl) in
         let said : IsSaid (asks.mirror ++ more) p = (entry, Contains-append_right asks.mirror more entry known, own-covers d ok p within) in
         record {
-          asks = asks-by ms asks.first asks.stands new t (asks.mirror ++ more) (m.shard.journal ++ more) (without_point m.shard.state.claims p) (finished s.strand)
+          asks = asks-by ms asks.first asks.stands new t (asks.mirror ++ more) (m.shard.journal ++ more) (without_point m.shard.state.claims p) (after_fill s.strand)
               (ap (λ (z : Shard). z.journal) f.shard ∙ ap (λ l. l ++ entry ∷ []) (room-journal own.capacity (cell_for p x) m.shard) ∙ append_assoc m.shard.journal evictions (entry ∷ []))
               (ap (λ (z : Shard). z.state.claims) f.shard ∙ ap (λ z. without_point z p) (room-claims own.capacity (cell_for p x) m.shard))
               f.strand.strand (f.number ∙ asks.number) (f.strand.from ∙ asks.from) (f.strand.to ∙ asks.to)
@@ -271,7 +271,7 @@ module _ (b : Batch) (opening : ℕ → List SignalCell) (question : Question) (
 
     -- it hears a cell from the session's memo
     pub hears-on : (new_ms : List KeptShard) (first : List Shard) → IsStanding b opening q [] first (live new_ms) → AreKept (entries_of ms) (entries_of new_ms) → (t : Demand) (p : Point) → next s.strand ≡ Ask p
-        → IsFree c question.site p.signal → IsSaid (entries_of new_ms) p → TakesStep heard s t → AsksFurther b opening own question time new_ms m s t
+        → IsFree c question.site p.signal → IsSaid (entries_of new_ms) p → TakesStep after_answer s t → AsksFurther b opening own question time new_ms m s t
     hears-on new_ms first stands kept t p e free said f =
         let x : Cell = record { span = record { start = p.time; stop = p.time + 1 }; value = X } in
         let entry = Told q.number p x in
@@ -279,7 +279,7 @@ module _ (b : Batch) (opening : ℕ → List SignalCell) (question : Question) (
         let here : IsSaid (asks.mirror ++ more) p =
         (entry, Contains-append_right asks.mirror more entry (0, omega arith, refl), covers-itself p) in
         record {
-          asks = asks-by new_ms first stands m t (asks.mirror ++ more) m.shard.journal m.shard.state.claims (heard s.strand)
+          asks = asks-by new_ms first stands m t (asks.mirror ++ more) m.shard.journal m.shard.state.claims (after_answer s.strand)
               refl refl f.strand asks.number (f.from ∙ asks.from) (f.to ∙ asks.to)
               (mirrors-heard c site (entries_of new_ms) m.shard.journal asks.mirror (mirrors-kept c site (entries_of ms) m.shard.journal asks.mirror asks.mirrors (entries_of new_ms) kept) q.number p x free said refl refl)
               (goes-heard d a (asks.mirror ++ more) s.strand (goes-more d a asks.mirror s.strand asks.way more (refl, tt) (tt, tt) (tt, tt)) p (asks-first s.strand p e) here)

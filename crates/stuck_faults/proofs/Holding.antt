@@ -4,13 +4,13 @@ use Rattle.valid_intervals.specs.declared.Point.{Point}
 use Rattle.circuit_meaning.specs.Circuit.{Circuit, IsCircuit}
 use Rattle.journal_meaning.specs.States.{Claim, holder, without_point}
 use Rattle.journal_meaning.proofs.Claims.{some≢none, cases_point, claim-here, claim-other, holder-without, without-other, no-claims}
-use Rattle.strand_meaning.specs.Strands.{Frame, rest, stack_heard, IsHeld, IsChain}
+use Rattle.strand_meaning.specs.Strands.{Frame, rest, stack_heard, IsOnStack, IsChain}
 use Rattle.strand_meaning.proofs.Stacks.{IsTop, held-heard, heard-held, held-rest, rest-held, top-once}
 
 -- claims of one query, and a stack
 pub record Holds (number : ℕ) (claims : List Claim) (st : List Frame) : Type 0 where
-  pub held : (p : Point) → IsHeld st p → holder claims p ≡ Some number
-  pub holder : (p : Point) (q : ℕ) → holder claims p ≡ Some q → IsHeld st p
+  pub held : (p : Point) → IsOnStack st p → holder claims p ≡ Some number
+  pub holder : (p : Point) (q : ℕ) → holder claims p ≡ Some q → IsOnStack st p
 
 module _ (number : ℕ) (claims : List Claim) (st : List Frame) (h : Holds number claims st) where
   pub holds-heard : Holds number claims (stack_heard st)
@@ -29,7 +29,7 @@ module _ (number : ℕ) (claims : List Claim) (st : List Frame) (h : Holds numbe
     ];
   }
     where
-      other : (x : Point) → x ≢ p → IsHeld (record { point = p; left = left } ∷ st) x → holder claims x ≡ Some number
+      other : (x : Point) → x ≢ p → IsOnStack (record { point = p; left = left } ∷ st) x → holder claims x ≡ Some number
       other x ne (inl e) = absurd (ne (sym e))
       other x ne (inr k) = h.held x k
 
@@ -52,4 +52,4 @@ module _ (number : ℕ) (claims : List Claim) (st : List Frame) (h : Holds numbe
     where
       free : (p : Point) (o : Option ℕ) → holder claims p ≡ o → holder claims p ≡ None
       free p None e = e
-      free p (Some q) e = absurd (subst (λ s. IsHeld s p) empty (h.holder p q e))
+      free p (Some q) e = absurd (subst (λ s. IsOnStack s p) empty (h.holder p q e))

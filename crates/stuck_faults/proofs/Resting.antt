@@ -13,13 +13,13 @@ use Rattle.batch_meaning.specs.Batches.{Batch, Site}
 use Rattle.batch_meaning.specs.Pieces.{Start}
 use Rattle.journal_meaning.specs.declared.Entry.{Entry}
 use Rattle.journal_meaning.specs.declared.Entry.TheVariants.{Filled, Dropped, Spent}
-use Rattle.journal_meaning.specs.Answers.{IsCovered, IsSpent, is_fill_of, filled, last_of}
+use Rattle.journal_meaning.specs.Answers.{IsCovered, IsSpent, is_fill_of, fill_count, last_of}
 use Rattle.journal_meaning.specs.Grown.{IsFor, is_spent_of, refusals}
 use Rattle.journal_meaning.specs.States.{Claim, without_point}
 use Rattle.journal_meaning.proofs.Grown.{grows-none, count-append}
 use Rattle.journal_meaning.proofs.Lists.{each-append, each-left, each-right, pairs_from, pairs_to}
 use Rattle.strand_meaning.specs.declared.Next.TheVariants.{Fill, Drop, Done}
-use Rattle.strand_meaning.specs.Strands.{Frame, Strand, next, next_in, ask_or, started, roots_from, is_evaluable, dropped, IsStrand, IsChain, rest}
+use Rattle.strand_meaning.specs.Strands.{Frame, Strand, next, next_in, ask_or, started_strand, roots_from, is_evaluable, after_drop, IsStrand, IsChain, rest}
 use Rattle.strand_meaning.proofs.Stacks.{drop-top}
 use Rattle.plan_machine.specs.Alone.{IsUnderWay, IsUnspent, IsGivingUp, IsRefusedAlone, IsDue, points_on, drops, roots_of}
 use Rattle.plan_machine.specs.Shards.{Shard}
@@ -94,7 +94,7 @@ module _ (b : Batch) (opening : ℕ → List SignalCell) (question : Question) w
     }));
     mirror = [];
     mirrors = record {
-      fills = λ n. ap (λ l. filled l n) (sym empty);
+      fills = λ n. ap (λ l. fill_count l n) (sym empty);
       has = λ e h. absurd (contains-none e m.shard.journal empty h);
       only = λ e h. absurd (contains-none e [] refl h);
     };
@@ -103,7 +103,7 @@ module _ (b : Batch) (opening : ℕ → List SignalCell) (question : Question) w
     going = tt;
     number = number;
     idle = idle;
-    charged = ap (λ l. filled l q.number) empty;
+    charged = ap (λ l. fill_count l q.number) empty;
     few = omega arith;
     reached = λ n p h. absurd (contains-none _ m.shard.journal empty h);
   }
@@ -114,7 +114,7 @@ module _ (b : Batch) (opening : ℕ → List SignalCell) (question : Question) w
 
     -- a strand begins
     pub asks-begin : (ms : List KeptShard) (m : KeptShard) (charge : ℕ) → Rests b opening question ms m charge → (s : Demand) → s.from ≡ time → s.to ≡ time + 1
-        → s.strand ≡ started d (record { query = q; start = time; stop = time + 1; budget = q.budget; charged = charge }) → Asks b opening question time ms m s
+        → s.strand ≡ started_strand d (record { query = q; start = time; stop = time + 1; budget = q.budget; charged = charge }) → Asks b opening question time ms m s
     asks-begin ms m charge r s from to strand = record {
       first = r.first;
       stands = r.stands;
@@ -126,13 +126,13 @@ module _ (b : Batch) (opening : ℕ → List SignalCell) (question : Question) w
         unspent = refl;
         charge = let k = r.charged in let l = r.mirrors.fills q.number in omega arith;
         frames = tt;
-        roots = All-weaker (Contains (started d a).roots) (IsDue r.mirror (started d a).roots) (λ x h. inl h) (started d a).roots (All-contains_itself (started d a).roots);
+        roots = All-weaker (Contains (started_strand d a).roots) (IsDue r.mirror (started_strand d a).roots) (λ x h. inl h) (started_strand d a).roots (All-contains_itself (started_strand d a).roots);
         fed = r.fed;
         own = r.own;
         going = r.going;
       });
       holds = record {
-        held = λ p h. absurd (subst (λ (z : Strand). Rattle.strand_meaning.specs.Strands.IsHeld z.stack p) strand h);
+        held = λ p h. absurd (subst (λ (z : Strand). Rattle.strand_meaning.specs.Strands.IsOnStack z.stack p) strand h);
         holder = λ p n h. absurd (none n (sym (ap (λ z. Rattle.journal_meaning.specs.States.holder z p) r.idle) ∙ h));
       };
       number = r.number;
@@ -242,8 +242,8 @@ module _ (b : Batch) (opening : ℕ → List SignalCell) (question : Question) w
           more : List Entry
           more = extends.0
 
-          fills : filled own q.number ≡ filled was q.number + filled more q.number
-          fills = ap (λ l. filled l q.number) extends.1 ∙ count-append (is_fill_of q.number) was more
+          fills : fill_count own q.number ≡ fill_count was q.number + fill_count more q.number
+          fills = ap (λ l. fill_count l q.number) extends.1 ∙ count-append (is_fill_of q.number) was more
 
           counts : refusals own q.number ≡ refusals more q.number
           counts =
@@ -296,7 +296,7 @@ module _ (b : Batch) (opening : ℕ → List SignalCell) (question : Question) w
           journal : new.shard.journal ≡ m.shard.journal ++ entry ∷ []
           journal = ap (λ (z : Shard). z.journal) f.shard ∙ ap (λ n. m.shard.journal ++ Dropped n p ∷ []) number
 
-          cause : (who : RefusedBy) → IsGivingUpBy c question time (entries_of ms) m.shard.journal s.strand who → IsGivingUpBy c question time (entries_of ms) (m.shard.journal ++ entry ∷ []) (dropped s.strand) who
+          cause : (who : RefusedBy) → IsGivingUpBy c question time (entries_of ms) m.shard.journal s.strand who → IsGivingUpBy c question time (entries_of ms) (m.shard.journal ++ entry ∷ []) (after_drop s.strand) who
           cause Neither k = k
           cause Session k = (
             k.0,
@@ -326,7 +326,7 @@ module _ (b : Batch) (opening : ℕ → List SignalCell) (question : Question) w
             let count : length g.gone + length s.strand.stack ≡ length g.gone = omega arith in
             let same : m.shard.journal ≡ g.before ++ Spent n p (length g.gone) ∷ drops n g.gone = g.added_is ∙ ap (λ k. g.before ++ Spent n p k ∷ drops n g.gone) count in
             let apart = pairs_from (p ∷ g.gone ++ points_on s.strand.stack) g.different in
-            let fills : filled m.shard.journal n ≡ filled g.before n = ap (λ z. filled z n) same ∙ refused-filled n g.before p (length g.gone) g.gone in
+            let fills : fill_count m.shard.journal n ≡ fill_count g.before n = ap (λ z. fill_count z n) same ∙ refused-filled n g.before p (length g.gone) g.gone in
             let account = g.account in
             record {
               ours = subst (AllByRecursion (IsFor n)) (sym same) (refused-own n g.before p (length g.gone) g.gone g.own);
@@ -361,7 +361,7 @@ module _ (b : Batch) (opening : ℕ → List SignalCell) (question : Question) w
             spent : (p : Point) → IsRefusedAlone a p m.shard.journal m.shard.journal → IsSpent m.shard.journal q
             spent p k = record {
               point = p;
-              held = length k.given_up;
+              claims = length k.given_up;
               last = k.last;
               given_up = k.given_up;
               different = k.different;

@@ -18,10 +18,10 @@ use Rattle.journal_meaning.specs.Grown.{IsSaid}
 use Rattle.journal_meaning.specs.States.{holder}
 use Rattle.strand_meaning.specs.declared.Next.{Next}
 use Rattle.strand_meaning.specs.declared.Next.TheVariants.{Ask, Fill, Drop, Done}
-use Rattle.strand_meaning.specs.Strands.{Strand, next, next_in, heard, given_up, IsHeld, IsStrand, IsChain}
+use Rattle.strand_meaning.specs.Strands.{Strand, next, next_in, after_answer, given_up, IsOnStack, IsStrand, IsChain}
 use Rattle.strand_meaning.proofs.Stacks.{asks-first, asks-unspent, fill-top, top-held, earlier}
 use Rattle.plan_machine.specs.Alone.{IsUnderWay}
-use Rattle.plan_machine.specs.Shards.{Shard, recorded}
+use Rattle.plan_machine.specs.Shards.{Shard, shard_with_entry}
 use Rattle.plan_machine.specs.Bounds.{turns_left}
 use Rattle.plan_machine.specs.Journals.{evictions_for}
 use Rattle.plan_machine.specs.Settle.{child_start, charge_of, sub_query}
@@ -149,10 +149,10 @@ module _ (b h : Batch) (opening : ℕ → List SignalCell) (question : Question)
         ),
       )
 
-      pub own-spent : (new : KeptShard) → new ≡ with_shard mid (recorded (Spent t.strand.query.number p (length t.strand.stack)) mid.shard) → GivesUp b question time ms new t (Own p) × Extends m.shard.journal new.shard.journal
+      pub own-spent : (new : KeptShard) → new ≡ with_shard mid (shard_with_entry (Spent t.strand.query.number p (length t.strand.stack)) mid.shard) → GivesUp b question time ms new t (Own p) × Extends m.shard.journal new.shard.journal
       own-spent new shard =
           let entry = Spent t.strand.query.number p (length t.strand.stack) in
-          let over_m : new ≡ with_shard m (recorded entry m.shard) = subst (λ z. new ≡ with_shard z (recorded entry z.shard)) f.1.shard shard in (
+          let over_m : new ≡ with_shard m (shard_with_entry entry m.shard) = subst (λ z. new ≡ with_shard z (shard_with_entry entry z.shard)) f.1.shard shard in (
             spends-on b opening question time asked.lawful asked.queries ms m s asks is new t p (is-next ∙ f.0 ∙ ap Ask (sym point)) (subst (λ x. Refuses m m x s t) (sym point) (subst (λ z. Refuses m z (step_point n) s t) f.1.shard f.1)) over_m,
             (entry ∷ [], ap (λ (z : KeptShard). z.shard.journal) over_m),
           )
@@ -186,7 +186,7 @@ module _ (b h : Batch) (opening : ℕ → List SignalCell) (question : Question)
       pub turn-kept : AreKept (entries_of ms) (entries_of new)
       turn-kept = has.journals.together.kept
 
-      pub turn-heard : r ≡ false → (t : Demand) → TakesStep heard s t → AsksFurther b opening h question time new m s t
+      pub turn-heard : r ≡ false → (t : Demand) → TakesStep after_answer s t → AsksFurther b opening h question time new m s t
       turn-heard lacks t f =
           let whole = subst (HasAsked b opening (asked_at (sub_query q p) p.time charge) (shards_in ms) (shards_in new)) lacks has in
           over new m t (hears-on b opening question time asked.lawful asked.queries ms m s asks is new asks.first (subst (λ z. IsStanding b opening q [] asks.first (standing new z)) lacks after) turn-kept t p e free
@@ -220,8 +220,8 @@ asks-same b opening question time ms m s t f asks = record {
   mirrors = asks.mirrors;
   way = subst (IsUnderWay (circuit_of b question) (start_at question time) asks.mirror) (sym f.strand) asks.way;
   holds = record {
-    held = λ p h. asks.holds.held p (subst (λ (z : Strand). IsHeld z.stack p) f.strand h);
-    holder = λ p n h. subst (λ (z : Strand). IsHeld z.stack p) (sym f.strand) (asks.holds.holder p n h);
+    held = λ p h. asks.holds.held p (subst (λ (z : Strand). IsOnStack z.stack p) f.strand h);
+    holder = λ p n h. subst (λ (z : Strand). IsOnStack z.stack p) (sym f.strand) (asks.holds.holder p n h);
   };
   number = asks.number;
   reached = asks.reached;
@@ -254,8 +254,8 @@ turn-same b opening own question time old ms m s t f (Err e) h = tt
 pub gives-same : (b : Batch) (question : Question) (time : ℕ) (ms : List KeptShard) (m : KeptShard) (s t : Demand) → (who : RefusedBy) → TakesStep itself s t → GivesUp b question time ms m s who → GivesUp b question time ms m t who
 gives-same b question time ms m s t who f gives = record {
   holds = record {
-    held = λ p h. gives.holds.held p (subst (λ (z : Strand). IsHeld z.stack p) f.strand h);
-    holder = λ p n h. subst (λ (z : Strand). IsHeld z.stack p) (sym f.strand) (gives.holds.holder p n h);
+    held = λ p h. gives.holds.held p (subst (λ (z : Strand). IsOnStack z.stack p) f.strand h);
+    holder = λ p n h. subst (λ (z : Strand). IsOnStack z.stack p) (sym f.strand) (gives.holds.holder p n h);
   };
   query = ap (λ (z : Strand). z.query) f.strand ∙ gives.query;
   number = gives.number;

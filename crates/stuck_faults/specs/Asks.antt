@@ -9,7 +9,7 @@ use Rattle.batch_meaning.specs.declared.Query.{Query}
 use Rattle.batch_meaning.specs.Batches.{Batch, Site, window_of}
 use Rattle.batch_meaning.specs.Pieces.{Start}
 use Rattle.journal_meaning.specs.declared.Entry.{Entry}
-use Rattle.journal_meaning.specs.Answers.{filled}
+use Rattle.journal_meaning.specs.Answers.{fill_count}
 use Rattle.journal_meaning.specs.Grown.{IsFor, refusals}
 use Rattle.plan_machine.specs.Shards.{Shard}
 use Rattle.plan_machine.specs.Alone.{IsRefusedAlone}
@@ -56,7 +56,7 @@ pub record HearsRoot (b : Batch) (opening : ℕ → List SignalCell) (site : Sit
   pub added : List Entry
   pub journal : own ≡ was ++ added
   pub numbers : AllByRecursion (IsFor a.query.number) added
-  pub charge : a.charged + filled added a.query.number ≤ a.budget
+  pub charge : a.charged + fill_count added a.query.number ≤ a.budget
   pub outcome : IsOutcomeOf b.circuit site a (entries_in new) added own refused_by
 
 -- What is asked of both memos for a query, one root of its window after another, and nothing more of either once one refused a strand.

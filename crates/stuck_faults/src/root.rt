@@ -115,7 +115,7 @@ pub fn hear_root<B: BatchName, H: BatchName>(
             Turn::GoesOn(next) => strand = next,
             Turn::Ended(ended) => {
                 ended.facts();
-                memos.filled = ended.charged();
+                memos.filled = ended.charge();
                 let Some(cell) = ended.last() else {
                     unreachable!()
                 };

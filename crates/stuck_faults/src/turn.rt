@@ -107,7 +107,7 @@ fn ask_session<B: BatchName, H: BatchName>(
     };
     match reach(&mut memos.session, design, one, p.time, &mut memos.charge)? {
         Some(cell) => {
-            strand.heard(&held.design, cell);
+            strand.hear(&held.design, cell);
             Ok(Turn::GoesOn(strand))
         }
         None => {

@@ -8,7 +8,7 @@ use Rattle.std.proofs.lemmas.List.Concat.{flat_map-cons}
 use Rattle.std.proofs.lemmas.List.Sums.{passes_at_first}
 use Rattle.std.proofs.Math.Seq.{split_at, drop-length}
 use Rattle.text_rules.proofs.Cuts.{found, found_none}
-use Rattle.text_rules.specs.Text.{is_blank, is_mark, is_hash, is_name_byte, is_filled, is_name, content, words, spaced, tokens, line_tokens, ends_token, starts_with_name, starts_with_mark}
+use Rattle.text_rules.specs.Text.{is_blank, is_mark, is_hash, is_name_byte, is_filled, is_name, content, words, spaced_mark, tokens, line_tokens, ends_token, starts_with_name, starts_with_mark}
 
 -- a byte is of one kind
 blank_no_mark : (b : ℕ) → is_blank b ≡ true → is_mark b ≡ false
@@ -40,22 +40,22 @@ content_none : (b : ℕ) (line : List ℕ) → is_hash b ≡ true → content (b
 content_none b line h = rw h refl
 
 abbrev parts : List ℕ → List (List ℕ)
-parts bytes = slice_split is_blank (flat_map spaced bytes)
+parts bytes = slice_split is_blank (flat_map spaced_mark bytes)
 
 blank_parts : (b : ℕ) (bytes : List ℕ) → is_blank b ≡ true → parts (b ∷ bytes) ≡ [] ∷ parts bytes
 blank_parts b bytes h =
     let m = blank_no_mark b h in
-    let f : flat_map spaced (b ∷ bytes) ≡ b ∷ flat_map spaced bytes = flat_map-cons spaced b bytes ∙ rw m refl in
+    let f : flat_map spaced_mark (b ∷ bytes) ≡ b ∷ flat_map spaced_mark bytes = flat_map-cons spaced_mark b bytes ∙ rw m refl in
     ap (slice_split is_blank) f ∙ rw h refl
 
 mark_parts : (b : ℕ) (bytes : List ℕ) → is_blank b ≡ false → is_mark b ≡ true → parts (b ∷ bytes) ≡ [] ∷ (b ∷ []) ∷ parts bytes
 mark_parts b bytes h m =
-    let f : flat_map spaced (b ∷ bytes) ≡ 32 ∷ b ∷ 32 ∷ flat_map spaced bytes = flat_map-cons spaced b bytes ∙ rw m refl in
+    let f : flat_map spaced_mark (b ∷ bytes) ≡ 32 ∷ b ∷ 32 ∷ flat_map spaced_mark bytes = flat_map-cons spaced_mark b bytes ∙ rw m refl in
     ap (slice_split is_blank) f ∙ rw h refl
 
 plain_parts : (b : ℕ) (bytes : List ℕ) → is_blank b ≡ false → is_mark b ≡ false → parts (b ∷ bytes) ≡ onto_first b (parts bytes)
 plain_parts b bytes h m =
-    let f : flat_map spaced (b ∷ bytes) ≡ b ∷ flat_map spaced bytes = flat_map-cons spaced b bytes ∙ rw m refl in
+    let f : flat_map spaced_mark (b ∷ bytes) ≡ b ∷ flat_map spaced_mark bytes = flat_map-cons spaced_mark b bytes ∙ rw m refl in
     ap (slice_split is_blank) f ∙ rw h refl
 
 -- no bytes, and a comment

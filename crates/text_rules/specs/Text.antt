@@ -56,12 +56,12 @@ unfoldable pub words : List ℕ → List (List ℕ)
 words bytes = filter is_filled (slice_split is_blank bytes)
 
 -- a mark stands as if between blanks
-abbrev pub spaced : ℕ → List ℕ
-spaced b = if is_mark b then 32 ∷ b ∷ 32 ∷ [] else b ∷ []
+abbrev pub spaced_mark : ℕ → List ℕ
+spaced_mark b = if is_mark b then 32 ∷ b ∷ 32 ∷ [] else b ∷ []
 
 -- the tokens: the words, where each mark stands as if between blanks
 unfoldable pub tokens : List ℕ → List (List ℕ)
-tokens bytes = words (flat_map spaced bytes)
+tokens bytes = words (flat_map spaced_mark bytes)
 
 abbrev pub is_name : List ℕ → Bool
 is_name word = is_filled word && list_all is_name_byte word

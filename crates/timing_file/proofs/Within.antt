@@ -23,7 +23,7 @@ use Rattle.timing_file.specs.declared.TimingRow.{TimingRow}
 use Rattle.timing_file.specs.declared.ClockRow.{ClockRow}
 use Rattle.timing_file.specs.declared.form.Reading.{Reading}
 use Rattle.timing_file.specs.declared.form.Reading.TheVariants.{NotNumbers, Outside, Inside}
-use Rattle.timing_file.specs.Forms.{Entry, CommonClock, NamedClock, Default, DefaultOf, DelayOf, InitOf, PinOf, ClockedBy, Line, Blank, Other, Version, Plain, Versioned, from_least, number_in, both, as_clock, delay_in, clock_in, pin_in, plain, versioned, version_line, default_line, default_of_kind, default_of_line, common_clock_line, delay_line, init_to, init_line, clocked_line, named_clock_line, pin_line, two_words, three_words, four_words, by_words, line_of}
+use Rattle.timing_file.specs.Forms.{Entry, CommonClock, NamedClock, Default, DefaultOf, DelayOf, InitOf, PinOf, ClockedBy, Line, Blank, Other, Version, Plain, Versioned, from_least, number_in, both, as_clock, delay_in, clock_in, pin_in, plain, versioned_line, version_line, default_line, default_of_kind, default_of_line, common_clock_line, delay_line, init_to, init_line, clocked_line, named_clock_line, pin_line, two_words, three_words, four_words, by_words, line_of}
 use Rattle.timing_file.specs.Subjects.{same_kind}
 use Rattle.timing_file.specs.Timing.{Content, Statement, clock_stated, default_stated, kind_stated, row_of, clock_row_of, kind_delay, default_of, cause_of, stated_at, statements_at, statements_of, content_from, content_of, timing_of}
 use Rattle.timing_file.specs.Ranges.{IsDelay, IsWithin, IsTiming}
@@ -98,7 +98,7 @@ plain-within P entry NotNumbers f h = tt
 plain-within P entry Outside f h = tt
 plain-within P entry (Inside x) f h = f x h
 
-versioned-within : {T : Type 0} (P : T → Type 0) (entry : T → Entry) (r : Reading T) → ((x : T) → P x → IsEntry (entry x)) → IsRead P r → IsLine (versioned entry r)
+versioned-within : {T : Type 0} (P : T → Type 0) (entry : T → Entry) (r : Reading T) → ((x : T) → P x → IsEntry (entry x)) → IsRead P r → IsLine (versioned_line entry r)
 versioned-within P entry NotNumbers f h = tt
 versioned-within P entry Outside f h = tt
 versioned-within P entry (Inside x) f h = f x h
@@ -148,8 +148,8 @@ from_pin keyword a b c = if bytes_eq keyword (codes "pin") then pin_line a b c e
 
 four-within : (keyword a b c : List ℕ) → IsLine (four_words keyword a b c)
 four-within keyword a b c =
-    let pin : IsLine (pin_line a b c) = either (is_name a) (versioned (λ numbers. PinOf a numbers.0 numbers.1) (pin_in b c)) Other (versioned-within (λ numbers. IsBetween 0 63 numbers.0 × IsDelay numbers.1) (λ numbers. PinOf a numbers.0 numbers.1) (pin_in b c) (λ x h. h) (pin-within b c)) tt in
-    let clock : IsLine (named_clock_line a b c) = either (is_name a) (versioned (NamedClock a) (clock_in b c)) Other (versioned-within IsClock (NamedClock a) (clock_in b c) (λ x h. h) (clock-within b c)) tt in
+    let pin : IsLine (pin_line a b c) = either (is_name a) (versioned_line (λ numbers. PinOf a numbers.0 numbers.1) (pin_in b c)) Other (versioned-within (λ numbers. IsBetween 0 63 numbers.0 × IsDelay numbers.1) (λ numbers. PinOf a numbers.0 numbers.1) (pin_in b c) (λ x h. h) (pin-within b c)) tt in
+    let clock : IsLine (named_clock_line a b c) = either (is_name a) (versioned_line (NamedClock a) (clock_in b c)) Other (versioned-within IsClock (NamedClock a) (clock_in b c) (λ x h. h) (clock-within b c)) tt in
     either (bytes_eq keyword (codes "clock")) (named_clock_line a b c) (from_pin keyword a b c) clock (either (bytes_eq keyword (codes "pin")) (pin_line a b c) Other pin tt)
 
 words-within : (w : List (List ℕ)) → IsLine (by_words w)

@@ -72,10 +72,10 @@ plain entry Outside = Plain None
 plain entry (Inside x) = Plain (Some (entry x))
 
 -- a line of a file of version 2
-abbrev pub versioned : {T : Type 0} → (T → Entry) → Reading T → Line
-versioned entry NotNumbers = Other
-versioned entry Outside = Versioned None
-versioned entry (Inside x) = Versioned (Some (entry x))
+abbrev pub versioned_line : {T : Type 0} → (T → Entry) → Reading T → Line
+versioned_line entry NotNumbers = Other
+versioned_line entry Outside = Versioned None
+versioned_line entry (Inside x) = Versioned (Some (entry x))
 
 -- `version 2`
 abbrev pub version_line : List ℕ → Line
@@ -116,11 +116,11 @@ clocked_line flop clock = if is_name flop && is_name clock then Versioned (Some 
 
 -- `clock NAME FIRST PERIOD`
 abbrev pub named_clock_line : List ℕ → List ℕ → List ℕ → Line
-named_clock_line name first period = if is_name name then versioned (NamedClock name) (clock_in first period) else Other
+named_clock_line name first period = if is_name name then versioned_line (NamedClock name) (clock_in first period) else Other
 
 -- `pin NAME K DELAY`
 abbrev pub pin_line : List ℕ → List ℕ → List ℕ → Line
-pin_line name place delay = if is_name name then versioned (λ numbers. PinOf name numbers.0 numbers.1) (pin_in place delay) else Other
+pin_line name place delay = if is_name name then versioned_line (λ numbers. PinOf name numbers.0 numbers.1) (pin_in place delay) else Other
 
 abbrev pub two_words : List ℕ → List ℕ → Line
 two_words keyword a =

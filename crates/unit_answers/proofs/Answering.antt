@@ -14,9 +14,9 @@ use Rattle.design.specs.Joined.{Joined}
 use Rattle.window_answers.specs.Phases.{is_budget, IsReplyTo, AreReplies, refused_of}
 use Rattle.session_meaning.specs.declared.Verdict.{Verdict}
 use Rattle.session_meaning.specs.declared.Verdict.TheVariants.{Ask, Unknown, Past, Bad}
-use Rattle.session_meaning.specs.Verdicts.{verdict_of, asked, queries_of}
+use Rattle.session_meaning.specs.Verdicts.{verdict_of, asked_queries, queries_of}
 use Rattle.session_meaning.specs.Replies.{IsReply}
-use Rattle.unit_answers.specs.inner.Placed.{placed}
+use Rattle.unit_answers.specs.inner.Placed.{placed_replies}
 use Rattle.unit_answers.proofs.Suiting.{reply-suits}
 use Rattle.unit_answers.proofs.Zips.{zip-weaker}
 
@@ -27,13 +27,13 @@ zip-map R f (x ∷ xs) [] h = absurd h
 zip-map R f (x ∷ xs) (y ∷ ys) h = (h.0, zip-map R f xs ys h.1)
 
 -- the queries of items are those of their verdicts
-queries-are : (d : Joined) (items : List Item) → flat_map asked (map (verdict_of d) items) ≡ queries_of d items
+queries-are : (d : Joined) (items : List Item) → flat_map asked_queries (map (verdict_of d) items) ≡ queries_of d items
 queries-are d [] = refl
-queries-are d (item ∷ items) = ap (λ l. asked (verdict_of d item) ++ l) (queries-are d items)
+queries-are d (item ∷ items) = ap (λ l. asked_queries (verdict_of d item) ++ l) (queries-are d items)
 
 -- also where they are gathered from the verdicts of code
-pub asked-by : (d : Joined) (items : List Item) (vs seen : List Verdict) (qs queries : List Query) → vs ≡ map (verdict_of d) items → seen ≡ vs → qs ≡ flat_map asked seen → queries ≡ qs → queries ≡ queries_of d items
-asked-by d items vs seen qs queries all same gathered is = is ∙ gathered ∙ ap (flat_map asked) (same ∙ all) ∙ queries-are d items
+pub asked-by : (d : Joined) (items : List Item) (vs seen : List Verdict) (qs queries : List Query) → vs ≡ map (verdict_of d) items → seen ≡ vs → qs ≡ flat_map asked_queries seen → queries ≡ qs → queries ≡ queries_of d items
+asked-by d items vs seen qs queries all same gathered is = is ∙ gathered ∙ ap (flat_map asked_queries) (same ∙ all) ∙ queries-are d items
 
 -- there is a reply for each query
 replies-many : (c : Circuit) (qs : List Query) (rs : List Reply) → AreReplies c qs rs → length rs ≡ length qs
@@ -43,9 +43,9 @@ replies-many c (q ∷ qs) [] h = absurd h
 replies-many c (q ∷ qs) (r ∷ rs) h = omega (arith, replies-many c qs rs h.1)
 
 -- also for those that the verdicts ask
-pub replies-asked : (c : Circuit) (vs seen again : List Verdict) (qs queries : List Query) (rs : List Reply) → seen ≡ vs → qs ≡ flat_map asked seen → queries ≡ qs → again ≡ vs → AreReplies c queries rs → length rs ≡ length (flat_map asked again)
+pub replies-asked : (c : Circuit) (vs seen again : List Verdict) (qs queries : List Query) (rs : List Reply) → seen ≡ vs → qs ≡ flat_map asked_queries seen → queries ≡ qs → again ≡ vs → AreReplies c queries rs → length rs ≡ length (flat_map asked_queries again)
 replies-asked c vs seen again qs queries rs same gathered is also h =
-    let asks : queries ≡ flat_map asked again = is ∙ gathered ∙ ap (flat_map asked) (same ∙ sym also) in
+    let asks : queries ≡ flat_map asked_queries again = is ∙ gathered ∙ ap (flat_map asked_queries) (same ∙ sym also) in
     replies-many c queries rs h ∙ ap length asks
 
 module _ (c : Circuit) (es : List Entry) where
@@ -65,7 +65,7 @@ module _ (c : Circuit) (es : List Entry) where
   all-right (q ∷ qs) [] h k = absurd h
   all-right (q ∷ qs) (r ∷ rs) h k = (reply-right q r h.0 k.0, all-right qs rs h.1 k.1)
 
-  placed-right : (vs : List Verdict) (rs : List Reply) → AllZip IsRightTo (flat_map asked vs) rs → AllZip (IsReply c es) vs (placed vs rs)
+  placed-right : (vs : List Verdict) (rs : List Reply) → AllZip IsRightTo (flat_map asked_queries vs) rs → AllZip (IsReply c es) vs (placed_replies vs rs)
   placed-right [] rs h = tt
   placed-right (Ask q ∷ vs) [] h = absurd h
   placed-right (Ask q ∷ vs) (r ∷ rs) h = (h.0, placed-right vs rs h.1)
@@ -75,12 +75,12 @@ module _ (c : Circuit) (es : List Entry) where
 
   module _ (d : Joined) (items : List Item) (rs : List Reply) (h : AreReplies c (queries_of d items) rs) (k : AreAnswered c es (queries_of d items) (refused_of rs)) where
     -- each item has a right reply
-    pub items-right : AllZip (λ item reply. IsReply c es (verdict_of d item) reply) items (placed (map (verdict_of d) items) rs)
+    pub items-right : AllZip (λ item reply. IsReply c es (verdict_of d item) reply) items (placed_replies (map (verdict_of d) items) rs)
     items-right =
         let vs = map (verdict_of d) items in
-        let right : AllZip IsRightTo (flat_map asked vs) rs = subst (λ (qs : List Query). AllZip IsRightTo qs rs) (sym (queries-are d items)) (all-right (queries_of d items) rs h k) in
-        zip-map (IsReply c es) (verdict_of d) items (placed vs rs) (placed-right vs rs right)
+        let right : AllZip IsRightTo (flat_map asked_queries vs) rs = subst (λ (qs : List Query). AllZip IsRightTo qs rs) (sym (queries-are d items)) (all-right (queries_of d items) rs h k) in
+        zip-map (IsReply c es) (verdict_of d) items (placed_replies vs rs) (placed-right vs rs right)
 
     -- which suits it
-    pub items-suit : AllZip (λ item reply. Suits item.what reply) items (placed (map (verdict_of d) items) rs)
-    items-suit = zip-weaker (λ item reply. IsReply c es (verdict_of d item) reply) (λ item reply. Suits item.what reply) (reply-suits c es d) items (placed (map (verdict_of d) items) rs) items-right
+    pub items-suit : AllZip (λ item reply. Suits item.what reply) items (placed_replies (map (verdict_of d) items) rs)
+    items-suit = zip-weaker (λ item reply. IsReply c es (verdict_of d item) reply) (λ item reply. Suits item.what reply) (reply-suits c es d) items (placed_replies (map (verdict_of d) items) rs) items-right

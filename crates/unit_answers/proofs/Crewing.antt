@@ -5,11 +5,11 @@ use Rattle.std.proofs.lemmas.List.Sums.{sum_by-cons}
 use Rattle.valid_intervals.specs.declared.SignalCell.{SignalCell}
 use Rattle.circuit_meaning.specs.Circuit.{Circuit}
 use Rattle.journal_meaning.specs.declared.Entry.{Entry}
-use Rattle.journal_meaning.specs.Counts.{booked}
+use Rattle.journal_meaning.specs.Counts.{booked_count}
 use Rattle.journal_meaning.specs.Grown.{AreAdded}
 use Rattle.batch_meaning.specs.Batches.{Batch}
 use Rattle.batch_meaning.specs.Pieces.{Start}
-use Rattle.strand_meaning.specs.Strands.{Strand, started}
+use Rattle.strand_meaning.specs.Strands.{Strand, started_strand}
 use Rattle.plan_machine.specs.Shards.{Shard}
 use Rattle.plan_machine.specs.Settle.{journals_of}
 use Rattle.reply_lines.specs.declared.reply.Reply.{Reply}
@@ -23,28 +23,28 @@ use Rattle.unit_answers.specs.Crewed.{IsEndOf, HasCrewed}
 use Rattle.unit_answers.proofs.Running.{map-twice}
 
 -- the claims and fills of shards are those of their journals
-booked-lists : (ms : List KeptShard) → sum_by booked_in ms ≡ sum_by booked (journals_of (shards_in ms))
+booked-lists : (ms : List KeptShard) → sum_by booked_in ms ≡ sum_by booked_count (journals_of (shards_in ms))
 booked-lists [] = refl
 booked-lists (m ∷ ms) =
     let a = sum_by-cons booked_in m ms in
-    let b = sum_by-cons booked m.shard.journal (journals_of (shards_in ms)) in
+    let b = sum_by-cons booked_count m.shard.journal (journals_of (shards_in ms)) in
     let more = booked-lists ms in
     omega arith
 
 -- the strand that was started at a place, and its task
-started-at : (c : Circuit) (strands : List Demand) (starts : List Start) → strands_in strands ≡ map (started c) starts → (i : ℕ) (a : Start) → slice_get starts i ≡ Some a
-    → (r : Demand) × (slice_get (map task_of strands) i ≡ Some (task_of r)) × (r.strand ≡ started c a)
+started-at : (c : Circuit) (strands : List Demand) (starts : List Start) → strands_in strands ≡ map (started_strand c) starts → (i : ℕ) (a : Start) → slice_get starts i ≡ Some a
+    → (r : Demand) × (slice_get (map task_of strands) i ≡ Some (task_of r)) × (r.strand ≡ started_strand c a)
 started-at c strands [] same i a at = absurd (cc)
 started-at c [] (b ∷ starts) same i a at = absurd (cc)
 started-at c (x ∷ strands) (b ∷ starts) same zero a at =
     let here : b ≡ a = cc in
-    let is : x.strand ≡ started c b = cc in
-    (x, refl, is ∙ ap (started c) here)
+    let is : x.strand ≡ started_strand c b = cc in
+    (x, refl, is ∙ ap (started_strand c) here)
 started-at c (x ∷ strands) (b ∷ starts) same (suc i) a at =
-    let more : strands_in strands ≡ map (started c) starts = cc in
+    let more : strands_in strands ≡ map (started_strand c) starts = cc in
     started-at c strands starts more i a at
 
-module _ (c : Circuit) (starts : List Start) (strands : List Demand) (same : strands_in strands ≡ map (started c) starts) (places : List (Option Demand)) (counts : List ℕ) (ends : AreEnds places (map task_of strands) counts) where
+module _ (c : Circuit) (starts : List Start) (strands : List Demand) (same : strands_in strands ≡ map (started_strand c) starts) (places : List (Option Demand)) (counts : List ℕ) (ends : AreEnds places (map task_of strands) counts) where
   -- each strand that came back has ended with its piece
   ends-of : (i : ℕ) (a : Start) (s : Demand) → slice_get starts i ≡ Some a → slice_get places i ≡ Some (Some s) → IsEndOf a s.strand (slice_index counts i)
   ends-of i a s piece at =
@@ -60,7 +60,7 @@ module _ (c : Circuit) (starts : List Start) (strands : List Demand) (same : str
       }
 
   strands-many : length strands ≡ length starts
-  strands-many = sym (length-map strands (λ (s : Demand). s.strand)) ∙ ap length same ∙ length-map starts (started c)
+  strands-many = sym (length-map strands (λ (s : Demand). s.strand)) ∙ ap length same ∙ length-map starts (started_strand c)
 
   -- the batch was run by a crew, and then settled
   pub has-crewed : (b : Batch) (opening : ℕ → List SignalCell) (handed ms : List KeptShard) (rs : List Reply) (lists : List (List Entry)) (is_open : Bool) → HasSettled b opening handed ms rs → lists ≡ map (λ m. m.shard.journal) ms

@@ -20,8 +20,8 @@ use Rattle.session_meaning.specs.Replies.{IsReply}
 use Rattle.session_meaning.specs.Session.{Setup, batch_of, trim_entries}
 use Rattle.unit_answers.specs.Stores.{AreStores, cells_of}
 use Rattle.unit_answers.specs.Done.{IsBatchDone, IsTrimDone}
-use Rattle.unit_answers.specs.inner.Placed.{placed}
-use Rattle.unit_answers.specs.inner.Trims.{trimmed, entries_at}
+use Rattle.unit_answers.specs.inner.Placed.{placed_replies}
+use Rattle.unit_answers.specs.inner.Trims.{trimmed_store, entries_at}
 use Rattle.unit_answers.specs.inner.Runs.{asks, HasRun}
 use Rattle.unit_answers.proofs.Answering.{items-right, items-suit}
 use Rattle.unit_answers.proofs.Left.{lists-many, lists-legal, stores-left, stores-leave}
@@ -32,7 +32,7 @@ module _ (setup : Setup) (items : List Item) (opening : List Contents) (rs : Lis
   answered = settled-answered (batch_of setup items) (cells_of opening) run.handed run.shards (refused_of rs) run.settled
 
   -- the batch is done once the replies stand at the places of the items
-  pub batch-done : (replies : List Reply) → replies ≡ placed (map (verdict_of setup.design) items) rs → IsBatchDone setup items opening replies lists left
+  pub batch-done : (replies : List Reply) → replies ≡ placed_replies (map (verdict_of setup.design) items) rs → IsBatchDone setup items opening replies lists left
   batch-done replies at =
       let c = setup.design.circuit in
       let queries = queries_of setup.design items in
@@ -49,17 +49,17 @@ module _ (setup : Setup) (items : List Item) (opening : List Contents) (rs : Lis
         leaves = stores-leave setup None queries opening run.shards lists left free run.lists_are run.stores_are;
       }
 
-module _ (setup : Setup) (most : ℕ) (opening : List Contents) (stores : AreStores setup opening) (lists : List (List Entry)) (left : List Contents) (lists_are : lists ≡ map (entries_at most) opening) (left_are : left ≡ map (trimmed most) opening) where
+module _ (setup : Setup) (most : ℕ) (opening : List Contents) (stores : AreStores setup opening) (lists : List (List Entry)) (left : List Contents) (lists_are : lists ≡ map (entries_at most) opening) (left_are : left ≡ map (trimmed_store most) opening) where
   list-of : (n : ℕ) → n < setup.shards → get_or lists n [] ≡ trim_entries most (cells_of opening n)
   list-of n low =
       let count = stores.count in
       ap (λ l. get_or l n []) lists_are ∙ get_or-map (entries_at most) opening n (contents 0 []) [] (omega arith)
 
-  store-of : (n : ℕ) (d : Contents) → n < setup.shards → get_or left n d ≡ trimmed most (get_or opening n d)
-  store-of n d low = let count = stores.count in ap (λ l. get_or l n d) left_are ∙ get_or-map (trimmed most) opening n d d (omega arith)
+  store-of : (n : ℕ) (d : Contents) → n < setup.shards → get_or left n d ≡ trimmed_store most (get_or opening n d)
+  store-of n d low = let count = stores.count in ap (λ l. get_or l n d) left_are ∙ get_or-map (trimmed_store most) opening n d d (omega arith)
 
   many : length left ≡ setup.shards
-  many = ap length left_are ∙ length-map opening (trimmed most) ∙ stores.count
+  many = ap length left_are ∙ length-map opening (trimmed_store most) ∙ stores.count
 
   -- the trim is done once each store is trimmed
   pub trim-done : IsTrimDone setup most opening lists left

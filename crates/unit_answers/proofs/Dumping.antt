@@ -18,7 +18,7 @@ use Rattle.reply_lines.specs.declared.reply.Reply.TheVariants as replies
 use Rattle.reply_lines.specs.Replies.{name_of, start_of, stop_of}
 use Rattle.design.specs.Joined.{Joined}
 use Rattle.design.specs.Join.{number}
-use Rattle.vcd_answers.specs.Wires.{Wire, answered, is_wire, AreWires}
+use Rattle.vcd_answers.specs.Wires.{Wire, wire_of_query, is_wire, AreWires}
 use Rattle.session_meaning.specs.Dumps.{wire_of, wires_of}
 use Rattle.session_meaning.specs.declared.Verdict.{Verdict}
 use Rattle.session_meaning.specs.declared.Verdict.TheVariants.{Ask, Unknown, Past, Bad}
@@ -34,7 +34,7 @@ pub record IsAskedWave (c : Circuit) (name : List ℕ) (start stop : ℕ) (v : V
   pub signal : ℕ
   pub within : stop ≤ c.horizon + 1
   pub shows : runs ≡ wave c signal start stop
-  pub wire : wire_of c name v (replies.Wave runs) ≡ answered name c signal start stop ∷ []
+  pub wire : wire_of c name v (replies.Wave runs) ≡ wire_of_query name c signal start stop ∷ []
 
 module _ (c : Circuit) (name : List ℕ) (runs : List Run) where
   asked-window : (line start stop budget : ℕ) (signal : Option ℕ) → IsOwnWave c (window_verdict c.horizon line start stop budget signal) (replies.Wave runs)

@@ -14,7 +14,7 @@ use Rattle.query_lines.specs.Laws.{IsWithin}
 use Rattle.design.specs.Joined.{Joined}
 use Rattle.design.specs.Join.{number}
 use Rattle.session_meaning.specs.declared.Verdict.TheVariants.{Ask, Past}
-use Rattle.session_meaning.specs.Verdicts.{window_verdict, what_verdict, verdict_of, asked, queries_of}
+use Rattle.session_meaning.specs.Verdicts.{window_verdict, what_verdict, verdict_of, asked_queries, queries_of}
 
 -- from a cut on there is one piece for each 65,536 times that are left, and one more
 few-from : (n k t stop : ℕ) → t ≡ k * 65536 → length (cuts n t stop) * 65536 ≤ (stop - t) + 65536
@@ -56,16 +56,16 @@ few-window q true e = let few = few-pieces q in let same = ap length (append-nil
 few-window q false e =
     let few = few-pieces q in let same = ap length (append-nil (pieces q)) in let low = ltb-false q.from q.to e in omega arith
 
-few-asked : (horizon line from to budget : ℕ) (signal : Option ℕ) → length (flat_map pieces (asked (window_verdict horizon line from to budget signal))) * 65536 ≤ window_length horizon from to + 131072
+few-asked : (horizon line from to budget : ℕ) (signal : Option ℕ) → length (flat_map pieces (asked_queries (window_verdict horizon line from to budget signal))) * 65536 ≤ window_length horizon from to + 131072
 few-asked horizon line from to budget None = omega arith
 few-asked horizon line from to budget (Some s) =
     let q : Query = record { number = line; signal = s; from = from; to = to; budget = budget } in
-    elim (nat_le to (horizon + 1)) as (λ b. length (flat_map pieces (asked (cond b (Ask q) Past))) * 65536 ≤ cond (nat_lt from to && b) (to - from) 0 + 131072) [
+    elim (nat_le to (horizon + 1)) as (λ b. length (flat_map pieces (asked_queries (cond b (Ask q) Past))) * 65536 ≤ cond (nat_lt from to && b) (to - from) 0 + 131072) [
       | true ↦ few-window q (nat_lt from to) refl
       | false ↦ omega arith
     ]
 
-few-what : (d : Joined) (line : ℕ) (what : What) → length (flat_map pieces (asked (what_verdict d line what))) * 65536 ≤ length_weight d.circuit.horizon what + 131072
+few-what : (d : Joined) (line : ℕ) (what : What) → length (flat_map pieces (asked_queries (what_verdict d line what))) * 65536 ≤ length_weight d.circuit.horizon what + 131072
 few-what d line (whats.Wave name from to budget) = few-asked d.circuit.horizon line from to budget (number d.netlist name)
 few-what d line (whats.At name time budget) = few-asked d.circuit.horizon line time (time + 1) budget (number d.netlist name)
 few-what d line whats.Bad = omega arith
@@ -75,8 +75,8 @@ few-items d [] = omega arith
 few-items d (item ∷ items) =
     let first = few-what d item.line item.what in
     let rest = few-items d items in
-    let both : length (flat_map pieces (queries_of d (item ∷ items))) ≡ length (flat_map pieces (asked (verdict_of d item))) + length (flat_map pieces (queries_of d items)) =
-    ap length (flat_map-append pieces (asked (verdict_of d item)) (queries_of d items)) ∙ length-append (flat_map pieces (asked (verdict_of d item))) (flat_map pieces (queries_of d items)) in
+    let both : length (flat_map pieces (queries_of d (item ∷ items))) ≡ length (flat_map pieces (asked_queries (verdict_of d item))) + length (flat_map pieces (queries_of d items)) =
+    ap length (flat_map-append pieces (asked_queries (verdict_of d item)) (queries_of d items)) ∙ length-append (flat_map pieces (asked_queries (verdict_of d item))) (flat_map pieces (queries_of d items)) in
     let weights = sum_by-cons (λ (x : Item). length_weight d.circuit.horizon x.what) item items in
     omega arith
 

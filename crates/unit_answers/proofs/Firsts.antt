@@ -15,7 +15,7 @@ use Rattle.design.specs.Joined.{IsDesign}
 use Rattle.session_meaning.specs.declared.Verdict.{Verdict}
 use Rattle.session_meaning.specs.declared.Verdict.TheVariants.{Ask, Unknown, Past}
 use Rattle.session_meaning.specs.FirstTimes.{up_to_first, IsFirstAnswer, IsFirstReply}
-use Rattle.session_meaning.specs.Verdicts.{first_verdict, asked}
+use Rattle.session_meaning.specs.Verdicts.{first_verdict, asked_queries}
 use Rattle.session_meaning.specs.Questions.{IsRightReply}
 use Rattle.session_meaning.specs.Session.{Setup, question_batch}
 use Rattle.session_meaning.proofs.Asked.{asks-within, asks-signal}
@@ -44,7 +44,7 @@ module _ (setup : Setup) (line : ℕ) (first : First) where
   module _ (q : Query) (is : first_verdict setup.design line first ≡ Ask q) where
     -- the batch has one query
     pub first-queries : batch.queries ≡ up_to q ∷ []
-    first-queries = ap (λ (v : Verdict). map up_to (asked v)) is
+    first-queries = ap (λ (v : Verdict). map up_to (asked_queries v)) is
 
     -- and is lawful
     pub first-batch-lawful : IsDesign setup.design → 0 < setup.shards → 0 < setup.capacity → IsLawful batch

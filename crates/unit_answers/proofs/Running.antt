@@ -12,7 +12,7 @@ use Rattle.batch_meaning.specs.Batches.{Batch, Site}
 use Rattle.journal_meaning.specs.Allowed.{IsRight}
 use Rattle.journal_meaning.proofs.Lists.{Each, each-append}
 use Rattle.batch_meaning.specs.Lawful.{IsLawful}
-use Rattle.strand_meaning.specs.Strands.{Strand, started}
+use Rattle.strand_meaning.specs.Strands.{Strand, started_strand}
 use Rattle.batch_meaning.specs.Pieces.{Start, spans_of, starts_of, pieces}
 use Rattle.plan_machine.specs.Shards.{Shard}
 use Rattle.plan_machine.specs.Plans.{no_shard}
@@ -77,16 +77,16 @@ uncharged-pieces (q ∷ qs) =
     let m = length (spans_of q) in
     each-append IsUncharged (pieces q) (flat_map pieces qs) (uncharged-starts q (q.budget / m + q.budget % m) (q.budget / m) (spans_of q)) (uncharged-pieces qs)
 
-unused-at : (c : Circuit) (strands : List Demand) (starts : List Start) → strands_in strands ≡ map (started c) starts → Each IsUncharged starts → (i : ℕ) (s : Demand) → slice_get strands i ≡ Some s → IsUnused s.strand
+unused-at : (c : Circuit) (strands : List Demand) (starts : List Start) → strands_in strands ≡ map (started_strand c) starts → Each IsUncharged starts → (i : ℕ) (s : Demand) → slice_get strands i ≡ Some s → IsUnused s.strand
 unused-at c [] starts same h i s at = absurd (cc)
 unused-at c (x ∷ strands) [] same h i s at = absurd (cc)
 unused-at c (x ∷ strands) (a ∷ starts) same h zero s at =
     let here : x ≡ s = cc in
-    let is : x.strand ≡ started c a = cc in
-    let begins : s.strand ≡ started c a = ap (λ (y : Demand). y.strand) (sym here) ∙ is in
+    let is : x.strand ≡ started_strand c a = cc in
+    let begins : s.strand ≡ started_strand c a = ap (λ (y : Demand). y.strand) (sym here) ∙ is in
     record { charged = ap (λ (y : Strand). y.charged) begins ∙ h.0; free = ap (λ (y : Strand). y.stack) begins; filled = ap (λ (y : Strand). y.filled) begins }
 unused-at c (x ∷ strands) (a ∷ starts) same h (suc i) s at =
-    let more : strands_in strands ≡ map (started c) starts = cc in unused-at c strands starts more h.1 i s at
+    let more : strands_in strands ≡ map (started_strand c) starts = cc in unused-at c strands starts more h.1 i s at
 
 at-place : {X : Type 0} (xs : List X) (i : ℕ) (x : X) → slice_get xs i ≡ Some x → (i < length xs) × ((d : X) → get_or xs i d ≡ x)
 at-place [] i x at = absurd (cc)
@@ -98,16 +98,16 @@ place-at [] i d low = absurd (omega arith)
 place-at (y ∷ xs) zero d low = refl
 place-at (y ∷ xs) (suc i) d low = place-at xs i d (omega arith)
 
-started-from : (c : Circuit) (starts : List Start) (n : ℕ) (s : Strand) → slice_get (map (started c) starts) n ≡ Some s → (a : Start) × (s ≡ started c a)
+started-from : (c : Circuit) (starts : List Start) (n : ℕ) (s : Strand) → slice_get (map (started_strand c) starts) n ≡ Some s → (a : Start) × (s ≡ started_strand c a)
 started-from c [] n s e = absurd (cc)
 started-from c (a ∷ starts) zero s e = (a, cc)
 started-from c (a ∷ starts) (suc n) s e = started-from c starts n s e
 
 -- each strand is as it was started
-pub strands-started : (c : Circuit) (starts : List Start) (strands : List Strand) → strands ≡ map (started c) starts → AreStarted c strands
+pub strands-started : (c : Circuit) (starts : List Start) (strands : List Strand) → strands ≡ map (started_strand c) starts → AreStarted c strands
 strands-started c starts strands same n s at = started-from c starts n s (subst (λ (l : List Strand). slice_get l n ≡ Some s) same at)
 
-module _ (c : Circuit) (qs : List Query) (strands : List Demand) (order : IsInOrder strands) (same : strands_in strands ≡ map (started c) (flat_map pieces qs)) where
+module _ (c : Circuit) (qs : List Query) (strands : List Demand) (order : IsInOrder strands) (same : strands_in strands ≡ map (started_strand c) (flat_map pieces qs)) where
   -- the strands of the pieces are new
   pub strands-new : AreNew strands
   strands-new i s at =
@@ -122,7 +122,7 @@ module _ (c : Circuit) (qs : List Query) (strands : List Demand) (order : IsInOr
 
   -- and as many as the pieces
   pub strands-many : length strands ≡ length (flat_map pieces qs)
-  strands-many = sym (length-map strands (λ (s : Demand). s.strand)) ∙ ap length same ∙ length-map (flat_map pieces qs) (started c)
+  strands-many = sym (length-map strands (λ (s : Demand). s.strand)) ∙ ap length same ∙ length-map (flat_map pieces qs) (started_strand c)
 
 -- shards in order are numbered
 pub order-numbers : (ms : List KeptShard) → AreInOrder ms → AreNumbered ms

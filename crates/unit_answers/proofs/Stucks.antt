@@ -21,7 +21,7 @@ use Rattle.design.specs.Join.{number}
 use Rattle.session_meaning.specs.declared.Verdict.{Verdict}
 use Rattle.session_meaning.specs.declared.Verdict.TheVariants.{Ask, Unknown, Past}
 use Rattle.session_meaning.specs.StuckSignals.{IsHeldJournal, IsStuckAnswer, IsStuckReply, IsHeldMemo}
-use Rattle.session_meaning.specs.Verdicts.{site_of, stuck_verdict, asked, asked_at}
+use Rattle.session_meaning.specs.Verdicts.{site_of, stuck_verdict, asked_queries, asked_at}
 use Rattle.session_meaning.specs.Questions.{IsRightReply, IsOwnMemo}
 use Rattle.session_meaning.specs.Session.{Setup, question_batch}
 use Rattle.unit_answers.specs.inner.Runs.{asks, asks_at}
@@ -110,8 +110,8 @@ module _ (setup : Setup) (line : ℕ) (stuck : Stuck) where
     pub stuck-batch-lawful : IsDesign setup.design → 0 < setup.shards → 0 < setup.capacity → IsLawful batch
     stuck-batch-lawful design some_shard some_cell =
         let verdict = stuck_verdict setup.design line stuck in
-        let items : IsLawful (asks setup (asked verdict)) =
-        subst (λ (qs : List Query). IsLawful (asks setup qs)) (append-nil (asked verdict))
+        let items : IsLawful (asks setup (asked_queries verdict)) =
+        subst (λ (qs : List Query). IsLawful (asks setup qs)) (append-nil (asked_queries verdict))
         (lawful-items setup (as_item ∷ []) design some_shard some_cell (λ i j d l m. absurd (omega arith))) in
         lawful-at setup (site_of setup.design stuck) (asked_at (site_of setup.design stuck) verdict)
         (subst (λ (s : Option Site). IsLawful (asks setup (asked_at s verdict))) (sym known) items)
@@ -119,7 +119,7 @@ module _ (setup : Setup) (line : ℕ) (stuck : Stuck) where
     module _ (q : Query) (is : stuck_verdict setup.design line stuck ≡ Ask q) where
       -- it has one query
       pub stuck-queries : batch.queries ≡ q ∷ []
-      stuck-queries = ap (λ (s : Option Site). asked_at s (stuck_verdict setup.design line stuck)) known ∙ ap asked is
+      stuck-queries = ap (λ (s : Option Site). asked_at s (stuck_verdict setup.design line stuck)) known ∙ ap asked_queries is
 
       -- what is answered is a right reply
       pub stuck-right : (b : Batch) (es own : List Entry) (found : StuckAnswer) → b ≡ batch → IsStuckAnswer b.circuit site es own q found

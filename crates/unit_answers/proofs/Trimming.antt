@@ -10,7 +10,7 @@ use Rattle.journal_meaning.specs.Replay.{replay, IsLegalTrim}
 use Rattle.journal_meaning.specs.inner.Trims.{evictions_back}
 use Rattle.journal_meaning.proofs.Trims.{trim-legal, trim-leaves}
 use Rattle.session_meaning.specs.Session.{trim_entries}
-use Rattle.unit_answers.specs.inner.Trims.{eviction_of, trimmed, entries_at}
+use Rattle.unit_answers.specs.inner.Trims.{eviction_of, trimmed_store, entries_at}
 
 abbrev eviction : SignalCell → Entry
 eviction x = Evicted x.signal x.cell.span.start
@@ -61,14 +61,14 @@ module _ {X : Type 0} (f : X → X) where
 
 -- the first so many of the stores are trimmed
 pub record AreTrimmed (most n : ℕ) (old now : List Contents) (lists : List (List Entry)) : Type 0 where
-  pub stores : now ≡ changed (trimmed most) n old
+  pub stores : now ≡ changed (trimmed_store most) n old
   pub entries : lists ≡ map (entries_at most) (take n old)
 
 -- one store more
 pub trims-more : (most n : ℕ) (old now : List Contents) (lists more : List (List Entry)) (d y : Contents) (es : List Entry) → AreTrimmed most n old now lists
-    → n < length old → y ≡ trimmed most (get_or now n d) → es ≡ entries_at most (get_or now n d) → more ≡ lists ++ es ∷ [] → AreTrimmed most (n + 1) old (set now n y) more
+    → n < length old → y ≡ trimmed_store most (get_or now n d) → es ≡ entries_at most (get_or now n d) → more ≡ lists ++ es ∷ [] → AreTrimmed most (n + 1) old (set now n y) more
 trims-more most n old now lists more d y es h within left is push =
-    let f : Contents → Contents = trimmed most in
+    let f : Contents → Contents = trimmed_store most in
     let g : Contents → List Entry = entries_at most in
     let here : get_or now n d ≡ get_or old n d = ap (λ l. get_or l n d) h.stores ∙ changed-at f old n d in
     record {
@@ -78,8 +78,8 @@ trims-more most n old now lists more d y es h within left is push =
     }
 
 -- all stores
-pub trims-stores : (most n : ℕ) (old now : List Contents) (lists : List (List Entry)) → AreTrimmed most n old now lists → length old ≤ n → now ≡ map (trimmed most) old
-trims-stores most n old now lists h low = h.stores ∙ changed-all (trimmed most) old n low
+pub trims-stores : (most n : ℕ) (old now : List Contents) (lists : List (List Entry)) → AreTrimmed most n old now lists → length old ≤ n → now ≡ map (trimmed_store most) old
+trims-stores most n old now lists h low = h.stores ∙ changed-all (trimmed_store most) old n low
 
 pub trims-entries : (most n : ℕ) (old now : List Contents) (lists : List (List Entry)) → AreTrimmed most n old now lists → length old ≤ n → lists ≡ map (entries_at most) old
 trims-entries most n old now lists h low = h.entries ∙ ap (map (entries_at most)) (take_all n old low)

@@ -20,7 +20,7 @@ use Rattle.design.specs.Join.{number}
 use Rattle.session_meaning.specs.declared.Verdict.{Verdict}
 use Rattle.session_meaning.specs.declared.Verdict.TheVariants.{Ask, Unknown, Past}
 use Rattle.session_meaning.specs.Explanations.{IsWhyAnswer, IsChecked, IsWhyReply}
-use Rattle.session_meaning.specs.Verdicts.{why_verdict, window_verdict, asked}
+use Rattle.session_meaning.specs.Verdicts.{why_verdict, window_verdict, asked_queries}
 use Rattle.session_meaning.specs.Questions.{IsRightReply}
 use Rattle.session_meaning.specs.Session.{Setup, question_batch}
 use Rattle.unit_answers.specs.inner.Runs.{asks}
@@ -62,7 +62,7 @@ module _ (setup : Setup) (line : ℕ) (why : Why) where
   module _ (q : Query) (is : why_verdict setup.design line why ≡ Ask q) where
     -- the batch has one query
     pub why-queries : batch.queries ≡ q ∷ []
-    why-queries = ap asked is
+    why-queries = ap asked_queries is
 
     for-time : IsForTime setup.design.circuit.horizon line why.time (number setup.design.netlist why.name) q
     for-time = time-asks setup.design.circuit.horizon line why.time why.budget (number setup.design.netlist why.name) q is
@@ -74,7 +74,7 @@ module _ (setup : Setup) (line : ℕ) (why : Why) where
     -- and is lawful
     pub why-batch-lawful : IsDesign setup.design → 0 < setup.shards → 0 < setup.capacity → IsLawful batch
     why-batch-lawful design some_shard some_cell =
-        subst (λ (qs : List Query). IsLawful (asks setup qs)) (append-nil (asked (why_verdict setup.design line why)))
+        subst (λ (qs : List Query). IsLawful (asks setup qs)) (append-nil (asked_queries (why_verdict setup.design line why)))
         (lawful-items setup (as_item ∷ []) design some_shard some_cell (λ i j d l m. absurd (omega arith)))
 
     -- what is answered is a right reply

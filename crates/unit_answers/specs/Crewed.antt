@@ -1,7 +1,7 @@
 -- What a crew left of the strands and journals of a batch, before settlement.
 use Rattle.std.specs.Prelude.{◌≡◌, ◌≢◌, ℕ, ◌+◌, ◌<◌, Bool, true, List, length, sum, sum_by, Option, Some, None, slice_get, slice_index}
 use Rattle.journal_meaning.specs.declared.Entry.{Entry}
-use Rattle.journal_meaning.specs.Counts.{booked}
+use Rattle.journal_meaning.specs.Counts.{booked_count}
 use Rattle.journal_meaning.specs.Grown.{AreAdded}
 use Rattle.batch_meaning.specs.Pieces.{Start}
 use Rattle.strand_meaning.specs.Strands.{Strand, next}
@@ -24,7 +24,7 @@ pub record HasCrewed (pieces : List Start) (is_open : Bool) (lists : List (List 
   pub journals : AreAdded left added lists
   pub counts : List ℕ
   pub strands : List (Option Demand)
-  pub counted : sum counts ≡ sum_by booked left
+  pub counted : sum counts ≡ sum_by booked_count left
   pub places : length strands ≡ length pieces
   pub amounts : length counts ≡ length pieces
   pub ends : (i : ℕ) (a : Start) (s : Demand) → slice_get pieces i ≡ Some a → slice_get strands i ≡ Some (Some s) → IsEndOf a s.strand (slice_index counts i)

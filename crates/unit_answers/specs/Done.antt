@@ -1,5 +1,5 @@
 -- The result of a unit over the stores.
-use Rattle.std.specs.Prelude.{◌≡◌, ℕ, ◌<◌, List, [], length, get_or}
+use Rattle.std.specs.Prelude.{◌≡◌, ℕ, ◌<◌, List, [], length, slice_index_or}
 use Rattle.std.specs.List.{AllZip}
 use Rattle.cell_store.specs.Recency.{Contents}
 use Rattle.journal_meaning.specs.declared.Entry.{Entry}
@@ -21,30 +21,30 @@ use Rattle.unit_answers.specs.Stores.{AreStores, cells_of}
 pub record IsBatchDone (setup : Setup) (items : List Item) (opening : List Contents) (replies : List Reply) (lists : List (List Entry)) (left : List Contents) : Type 0 where
   pub count : length lists ≡ setup.shards
   pub legal : (shard : ℕ) → shard < setup.shards
-      → IsLegalBatch (batch_of setup items) shard (cells_of opening shard) (get_or lists shard [])
+      → IsLegalBatch (batch_of setup items) shard (cells_of opening shard) (slice_index_or lists shard [])
   pub right : AllZip (λ item reply. IsReply setup.design.circuit (of_batch lists) (verdict_of setup.design item) reply) items replies
   pub suits : AllZip (λ item reply. Suits item.what reply) items replies
   pub stores : AreStores setup left
   pub leaves : (shard : ℕ) → shard < setup.shards
-      → cells_of left shard ≡ (replay (fresh (cells_of opening shard)) (get_or lists shard [])).cells
+      → cells_of left shard ≡ (replay (fresh (cells_of opening shard)) (slice_index_or lists shard [])).cells
 
 -- A question, given the number of its line and what it asks: journals that are legal from the cells in the stores, the lists of a second
 -- memo, if there is one, a right reply, and the stores as the journals leave them.
-pub record IsQuestionDone (setup : Setup) (line : ℕ) (asks : Asks) (opening : List Contents) (reply : QuestionReply) (lists held : List (List Entry)) (left : List Contents) : Type 0 where
+pub record IsQuestionDone (setup : Setup) (line : ℕ) (asks : Asks) (opening : List Contents) (reply : QuestionReply) (lists own_lists : List (List Entry)) (left : List Contents) : Type 0 where
   pub count : length lists ≡ setup.shards
   pub legal : (shard : ℕ) → shard < setup.shards
-      → IsLegalBatch (question_batch setup line asks) shard (cells_of opening shard) (get_or lists shard [])
-  pub memo : IsOwnMemo setup.design line asks held
-  pub right : IsRightReply setup.design line asks (of_batch lists) (of_batch held) reply
+      → IsLegalBatch (question_batch setup line asks) shard (cells_of opening shard) (slice_index_or lists shard [])
+  pub memo : IsOwnMemo setup.design line asks own_lists
+  pub right : IsRightReply setup.design line asks (of_batch lists) (of_batch own_lists) reply
   pub stores : AreStores setup left
   pub leaves : (shard : ℕ) → shard < setup.shards
-      → cells_of left shard ≡ (replay (fresh (cells_of opening shard)) (get_or lists shard [])).cells
+      → cells_of left shard ≡ (replay (fresh (cells_of opening shard)) (slice_index_or lists shard [])).cells
 
 -- A trim: in each shard the last cells are evicted until few enough are left, and the stores are as the lists leave them.
 pub record IsTrimDone (setup : Setup) (most : ℕ) (opening : List Contents) (lists : List (List Entry)) (left : List Contents) : Type 0 where
   pub count : length lists ≡ setup.shards
-  pub legal : (shard : ℕ) → shard < setup.shards → IsLegalTrim (fresh (cells_of opening shard)) (get_or lists shard [])
-  pub evicts : (shard : ℕ) → shard < setup.shards → get_or lists shard [] ≡ trim_entries most (cells_of opening shard)
+  pub legal : (shard : ℕ) → shard < setup.shards → IsLegalTrim (fresh (cells_of opening shard)) (slice_index_or lists shard [])
+  pub evicts : (shard : ℕ) → shard < setup.shards → slice_index_or lists shard [] ≡ trim_entries most (cells_of opening shard)
   pub stores : AreStores setup left
   pub leaves : (shard : ℕ) → shard < setup.shards
-      → cells_of left shard ≡ (replay (fresh (cells_of opening shard)) (get_or lists shard [])).cells
+      → cells_of left shard ≡ (replay (fresh (cells_of opening shard)) (slice_index_or lists shard [])).cells

@@ -1,5 +1,5 @@
 -- The stores of the shards between two units.
-use Rattle.std.specs.Prelude.{◌≡◌, ℕ, List, [], length, get_or, All}
+use Rattle.std.specs.Prelude.{◌≡◌, ℕ, List, [], length, slice_index_or, All}
 use Rattle.valid_intervals.specs.declared.SignalCell.{SignalCell}
 use Rattle.cell_store.specs.Recency.{Contents, contents}
 use Rattle.journal_meaning.specs.Allowed.{IsRight}
@@ -13,7 +13,7 @@ setup_of design sizes = record { design = design; shards = sizes.shards; capacit
 
 -- the cells of the shard with this number
 abbrev pub cells_of : List Contents → ℕ → List SignalCell
-cells_of stores shard = (get_or stores shard (contents 0 [])).cells
+cells_of stores shard = (slice_index_or stores shard (contents 0 [])).cells
 
 -- one store for each shard, with the shard's room, and with right cells
 pub record AreStores (setup : Setup) (stores : List Contents) : Type 0 where

@@ -44,7 +44,7 @@ fn run_first<B: BatchName>(
     requires most { sizes.shards ≤ 64 }
     ensures { IfOk result (λ done. IsQuestionDone (setup_of design.now sizes) line
         (kinds.First first.now) stores.items
-        done.reply done.lists.items done.held.items done.stores.items) }
+        done.reply done.lists.items done.own_lists.items done.stores.items) }
 {
     let begun = begin_all::<B>(alloc, stores)?;
     let found = first_time(alloc, design, begun, query, first.value)?;
@@ -52,7 +52,7 @@ fn run_first<B: BatchName>(
     Ok(QuestionDone {
         reply: QuestionReply::First(FirstReply::Answer(found.answer)),
         lists,
-        held: Vec::new(alloc),
+        own_lists: Vec::new(alloc),
         stores,
     })
 }
@@ -71,7 +71,7 @@ pub fn answer_first(
     requires shards { (0 < sizes.shards) × (sizes.shards ≤ 64) }
     ensures { IfOk result (λ done. IsQuestionDone (setup_of design.now sizes) line
         (kinds.First first.now) stores.items
-        done.reply done.lists.items done.held.items done.stores.items) }
+        done.reply done.lists.items done.own_lists.items done.stores.items) }
 {
     design.facts();
     have_room(design, sizes, &stores);

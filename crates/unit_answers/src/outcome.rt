@@ -20,7 +20,7 @@ pub struct QuestionDone {
     pub reply: QuestionReply,
     pub lists: Vec<EntryList>,
     /// The journal of a second memo, if the question has one, and otherwise none.
-    pub held: Vec<EntryList>,
+    pub own_lists: Vec<EntryList>,
     pub stores: Vec<CellStore>,
 }
 
@@ -33,13 +33,13 @@ pub fn reply_unasked(
     ensures { (setup : Setup) (line : ℕ) (asks : QuestionAsks) → AreStores setup stores.items
         → IsRightReply setup.design line asks [] [] reply → IsOwnMemo setup.design line asks []
         → IfOk result (λ done. IsQuestionDone setup line asks stores.items
-        done.reply done.lists.items done.held.items done.stores.items) }
+        done.reply done.lists.items done.own_lists.items done.stores.items) }
 {
     let lists = no_entries(alloc, &stores)?;
     Ok(QuestionDone {
         reply,
         lists,
-        held: Vec::new(alloc),
+        own_lists: Vec::new(alloc),
         stores,
     })
 }

@@ -28,7 +28,7 @@ pub fn answer_question(
     requires shards { (0 < sizes.shards) × (sizes.shards ≤ 64) }
     ensures { IfOk result (λ done. IsQuestionDone (setup_of design.now sizes)
         question.now.line question.now.asks stores.items
-        done.reply done.lists.items done.held.items done.stores.items) }
+        done.reply done.lists.items done.own_lists.items done.stores.items) }
 {
     let line = question.line;
     match &question.asks {

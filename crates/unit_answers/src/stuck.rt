@@ -54,18 +54,18 @@ fn run_stuck<B: BatchName>(
     requires most { sizes.shards ≤ 64 }
     ensures { IfOk result (λ done. IsQuestionDone (setup_of design.now sizes) line
         (kinds.Stuck stuck.now) stores.items
-        done.reply done.lists.items done.held.items done.stores.items) }
+        done.reply done.lists.items done.own_lists.items done.stores.items) }
 {
     design.facts();
     let begun = begin_all::<B>(alloc, stores)?;
     let found = stuck_wave(alloc, design, begun, asked.query, asked.site, stuck.value)?;
     let (lists, stores) = end_all(alloc, found.shards)?;
-    let mut held = Vec::with_capacity(alloc, 1)?;
-    held.push(EntryList::from_vec(found.held))?;
+    let mut own_lists = Vec::with_capacity(alloc, 1)?;
+    own_lists.push(EntryList::from_vec(found.held))?;
     Ok(QuestionDone {
         reply: QuestionReply::Stuck(StuckReply::Answer(found.answer)),
         lists,
-        held,
+        own_lists,
         stores,
     })
 }
@@ -84,7 +84,7 @@ pub fn answer_stuck(
     requires shards { (0 < sizes.shards) × (sizes.shards ≤ 64) }
     ensures { IfOk result (λ done. IsQuestionDone (setup_of design.now sizes) line
         (kinds.Stuck stuck.now) stores.items
-        done.reply done.lists.items done.held.items done.stores.items) }
+        done.reply done.lists.items done.own_lists.items done.stores.items) }
 {
     design.facts();
     have_room(design, sizes, &stores);

@@ -3,7 +3,7 @@
 ghost use Rattle.std.specs.Prelude.{◌≡◌, map, IfOk, OnOk};
 ghost use Rattle.unit_answers.specs.Stores.{setup_of, AreStores};
 ghost use Rattle.unit_answers.specs.Done.{IsTrimDone};
-ghost use Rattle.unit_answers.specs.inner.Trims.{eviction_of, trimmed, entries_at};
+ghost use Rattle.unit_answers.specs.inner.Trims.{eviction_of, trimmed_store, entries_at};
 
 use crate::sizes::Sizes;
 use cell_store::{CellStore, Key};
@@ -37,7 +37,7 @@ fn evictions(alloc: Global, keys: &[Key]) -> Result<Vec<Entry>, OutOfMemory>
 /// Evicts the least recent cells of a store, until at most this many are left. Returns the entries.
 fn trim_store(alloc: Global, most: u32, store: &mut CellStore) -> Result<EntryList, OutOfMemory>
     ensures entries { IfOk result (λ entries. entries ≡ entries_at most store.old) }
-    ensures left { OnOk result (store.new ≡ trimmed most store.old) }
+    ensures left { OnOk result (store.new ≡ trimmed_store most store.old) }
 {
     let keys = store.trim(most)?;
     Ok(EntryList::from_vec(evictions(alloc, &keys)?))

@@ -43,7 +43,7 @@ fn run_why<B: BatchName>(
     requires most { sizes.shards ≤ 64 }
     ensures { IfOk result (λ done. IsQuestionDone (setup_of design.now sizes) line
         (kinds.Why why.now) stores.items
-        done.reply done.lists.items done.held.items done.stores.items) }
+        done.reply done.lists.items done.own_lists.items done.stores.items) }
 {
     let begun = begin_all::<B>(alloc, stores)?;
     let found = explain(alloc, design, begun, query)?;
@@ -51,7 +51,7 @@ fn run_why<B: BatchName>(
     Ok(QuestionDone {
         reply: QuestionReply::Why(WhyReply::Answer(found.answer)),
         lists,
-        held: Vec::new(alloc),
+        own_lists: Vec::new(alloc),
         stores,
     })
 }
@@ -70,7 +70,7 @@ pub fn answer_why(
     requires shards { (0 < sizes.shards) × (sizes.shards ≤ 64) }
     ensures { IfOk result (λ done. IsQuestionDone (setup_of design.now sizes) line
         (kinds.Why why.now) stores.items
-        done.reply done.lists.items done.held.items done.stores.items) }
+        done.reply done.lists.items done.own_lists.items done.stores.items) }
 {
     design.facts();
     have_room(design, sizes, &stores);

@@ -18,8 +18,8 @@ abbrev pub meet : Span → Span → Span
 meet a b = from_to (max a.start b.start) (min a.stop b.stop)
 
 -- the same times, each later by d
-abbrev pub moved : ℕ → Span → Span
-moved d a = from_to (a.start + d) (a.stop + d)
+abbrev pub moved_span : ℕ → Span → Span
+moved_span d a = from_to (a.start + d) (a.stop + d)
 
 -- the times below the limit
 abbrev pub cut_at : ℕ → Span → Span
@@ -37,4 +37,4 @@ MeetsAreIntersections = (a b : Span) (t : ℕ) → (IsIn (meet a b) t) ↔ (IsIn
 -- a time plus d is in the span moved by d and cut at the limit, exactly when the time is in the span and the sum is below the
 -- limit
 abbrev pub MovedIsLater : Type 0
-MovedIsLater = (d limit : ℕ) (a : Span) (t : ℕ) → (IsIn (cut_at limit (moved d a)) (t + d)) ↔ (IsIn a t × (t + d < limit))
+MovedIsLater = (d limit : ℕ) (a : Span) (t : ℕ) → (IsIn (cut_at limit (moved_span d a)) (t + d)) ↔ (IsIn a t × (t + d < limit))

@@ -11,7 +11,7 @@
 //! Every call takes constant time and does not allocate. All values are copied.
 //!
 //! ```
-//! let pin = Span::new(0, 10)?.moved(3, 11)?; // 3 to 11
+//! let pin = Span::new(0, 10)?.later_by(3, 11)?; // 3 to 11
 //! let both = pin.meet(Span::new(0, 8)?)?; // 3 to 8
 //! let cell = Cell { span: both, value: Value::One };
 //! cell.covers(7) // true
@@ -87,10 +87,10 @@ impl Span {
     }
 
     /// The times of the span, each later by `by`, as far as they are below `cut`.
-    pub fn moved(self, by: u32, cut: u32) -> Option<Span>
+    pub fn later_by(self, by: u32, cut: u32) -> Option<Span>
         requires by { by ≤ 1000001 }
         requires cut { cut ≤ 1000001 }
-        ensures some { IfSome result (λ span. span ≡ cut_at cut (spans.moved by self)) }
+        ensures some { IfSome result (λ span. span ≡ cut_at cut (spans.moved_span by self)) }
         ensures none { IsNone result ↔ (cut ≤ self.start + by) }
     {
         Span::new(self.start + by, (self.end + by).min(cut))
@@ -174,7 +174,11 @@ mod tests {
         }
         // from 2 to 11, and from 5 to 11
         for (by, cut, moved) in [(3, 11, span(3, 11)), (3, 9, span(3, 9)), (9, 9, None)] {
-            assert_eq!(rt; span(0, 8).and_then(|s| s.moved(by, cut)), moved, "by {by}");
+            assert_eq!(rt;
+                span(0, 8).and_then(|s| s.later_by(by, cut)),
+                moved,
+                "by {by}"
+            );
         }
         for (start, end, met) in [(5, 20, span(5, 8)), (0, 3, span(2, 3)), (8, 9, None)] {
             let other = span(start, end);

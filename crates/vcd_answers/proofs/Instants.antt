@@ -15,7 +15,7 @@ use Rattle.circuit_meaning.specs.declared.Run.{Run}
 use Rattle.text_rules.specs.Text.{is_name}
 use Rattle.vcd_answers.specs.declared.writing.Event.{Event}
 use Rattle.vcd_answers.specs.Wires.{Wire, last_time, goes_on, are_changes, is_wire}
-use Rattle.vcd_answers.specs.Dumps.{first_code, is_at, change_line, time_line, change_lines, changes_at, is_instant, instant_lines, body_lines, var_line, var_lines, ended, vcd_of}
+use Rattle.vcd_answers.specs.Dumps.{first_code, is_at, change_line, time_line, change_lines, changes_at, is_instant, instant_lines, body_lines, var_line, var_lines, with_line_feed, vcd_of}
 use Rattle.vcd_answers.specs.inner.Events.{event, run_of, by_wire, events_at, by_time, event_text}
 use Rattle.vcd_answers.proofs.Grouped.{flat_same, of, Rises, Below, rises-from, below-from, grouped, stays}
 
@@ -168,22 +168,22 @@ some_at t code (wire ∷ wires) =
 -- ---- the text of all instants
 
 abbrev text : List (List ℕ) → List ℕ
-text lines = flat_map ended lines
+text lines = flat_map with_line_feed lines
 
 same_time : (t : ℕ) (es rest : List Event) → AllAt t es → event_text t (es ++ rest) ≡ text (map line_of es) ++ event_text t rest
 same_time t [] rest all = refl
 same_time t (e ∷ es) rest all =
-    rw (eq-eqb e.time t all.0) (ap (λ (u : ℕ). ended (line_of e) ++ event_text u (es ++ rest)) all.0
-    ∙ ap (λ (l : List ℕ). ended (line_of e) ++ l) (same_time t es rest all.1)
-    ∙ sym (append_assoc (ended (line_of e)) (text (map line_of es)) (event_text t rest)))
+    rw (eq-eqb e.time t all.0) (ap (λ (u : ℕ). with_line_feed (line_of e) ++ event_text u (es ++ rest)) all.0
+    ∙ ap (λ (l : List ℕ). with_line_feed (line_of e) ++ l) (same_time t es rest all.1)
+    ∙ sym (append_assoc (with_line_feed (line_of e)) (text (map line_of es)) (event_text t rest)))
 
-new_time : (last t : ℕ) (es rest : List Event) → last < t → AllAt t es → some es ≡ true → event_text last (es ++ rest) ≡ ended (time_line t) ++ event_text t (es ++ rest)
+new_time : (last t : ℕ) (es rest : List Event) → last < t → AllAt t es → some es ≡ true → event_text last (es ++ rest) ≡ with_line_feed (time_line t) ++ event_text t (es ++ rest)
 new_time last t [] rest less all is = absurd cc
 new_time last t (e ∷ es) rest less all is =
     let other : eqb e.time last ≡ false = ne_eqb e.time last (λ h. omega (arith, all.0)) in
     let own : eqb e.time t ≡ true = eq-eqb e.time t all.0 in
-    rw (other, own) (append_assoc (ended (time_line e.time)) (ended (line_of e)) (event_text e.time (es ++ rest))
-    ∙ ap (λ (u : ℕ). ended (time_line u) ++ (ended (line_of e) ++ event_text e.time (es ++ rest))) all.0)
+    rw (other, own) (append_assoc (with_line_feed (time_line e.time)) (with_line_feed (line_of e)) (event_text e.time (es ++ rest))
+    ∙ ap (λ (u : ℕ). with_line_feed (time_line u) ++ (with_line_feed (line_of e) ++ event_text e.time (es ++ rest))) all.0)
 
 abbrev instants : List Wire → ℕ → ℕ → List (List ℕ)
 instants wires a n = flat_map (instant_lines wires) (filter (is_instant wires) (range_with_len a n))
@@ -192,9 +192,9 @@ abbrev events : List Wire → ℕ → ℕ → List Event
 events wires a n = flat_map (events_at first_code wires) (range_with_len a n)
 
 -- an instant and what follows
-instant_text : (wires : List Wire) (a : ℕ) (rest : List (List ℕ)) → text (instant_lines wires a ++ rest) ≡ ended (time_line a) ++ (text (map line_of (events_at first_code wires a)) ++ text rest)
+instant_text : (wires : List Wire) (a : ℕ) (rest : List (List ℕ)) → text (instant_lines wires a ++ rest) ≡ with_line_feed (time_line a) ++ (text (map line_of (events_at first_code wires a)) ++ text rest)
 instant_text wires a rest =
-    ap (λ (l : List ℕ). ended (time_line a) ++ l) (flat_map-append ended (change_lines a first_code wires) rest
+    ap (λ (l : List ℕ). with_line_feed (time_line a) ++ l) (flat_map-append with_line_feed (change_lines a first_code wires) rest
     ∙ ap (λ (l : List (List ℕ)). text l ++ text rest) (sym (lines_are a first_code wires)))
 
 pub empty_is : (es : List Event) → some es ≡ false → es ≡ []
@@ -211,7 +211,7 @@ later_text wires a (suc n) last less = cases (list_any (changes_at a) wires) ref
         let are : some (events_at first_code wires a) ≡ true = some_at a first_code wires ∙ h in
         let later = ne_eqb a 0 (λ e. omega arith) in
         rw (later, h) (new_time last a (events_at first_code wires a) (events wires (a + 1) n) less (all_at a first_code wires) are
-        ∙ ap (λ (l : List ℕ). ended (time_line a) ++ l) (same_time a (events_at first_code wires a) (events wires (a + 1) n) (all_at a first_code wires)
+        ∙ ap (λ (l : List ℕ). with_line_feed (time_line a) ++ l) (same_time a (events_at first_code wires a) (events wires (a + 1) n) (all_at a first_code wires)
         ∙ ap (λ (l : List ℕ). text (map line_of (events_at first_code wires a)) ++ l) (more a (omega arith)))
         ∙ sym (instant_text wires a (instants wires (a + 1) n)))
     cases false h more =
@@ -219,10 +219,10 @@ later_text wires a (suc n) last less = cases (list_any (changes_at a) wires) ref
         let no_one : events_at first_code wires a ≡ [] = empty_is (events_at first_code wires a) (some_at a first_code wires ∙ h) in
         rw (later, h, no_one) (more last (omega arith))
 
-zero_text : (wires : List Wire) (n k : ℕ) → k ≡ suc n → ended (time_line 0) ++ event_text 0 (events wires 0 k) ≡ text (instants wires 0 k)
+zero_text : (wires : List Wire) (n k : ℕ) → k ≡ suc n → with_line_feed (time_line 0) ++ event_text 0 (events wires 0 k) ≡ text (instants wires 0 k)
 zero_text wires n k is =
-    ap (λ (j : ℕ). ended (time_line 0) ++ event_text 0 (events wires 0 j)) is
-    ∙ ap (λ (l : List ℕ). ended (time_line 0) ++ l) (same_time 0 (events_at first_code wires 0) (events wires 1 n) (all_at 0 first_code wires)
+    ap (λ (j : ℕ). with_line_feed (time_line 0) ++ event_text 0 (events wires 0 j)) is
+    ∙ ap (λ (l : List ℕ). with_line_feed (time_line 0) ++ l) (same_time 0 (events_at first_code wires 0) (events wires 1 n) (all_at 0 first_code wires)
     ∙ ap (λ (l : List ℕ). text (map line_of (events_at first_code wires 0)) ++ l) (later_text wires 1 n 0 (omega arith)))
     ∙ sym (instant_text wires 0 (instants wires 1 n))
     ∙ sym (ap (λ (j : ℕ). text (instants wires 0 j)) is)
@@ -238,14 +238,14 @@ middle = codes "$upscope $end\n$enddefinitions $end\n#0\n"
 pub whole_text : (wires : List Wire) → front ++ (text (var_lines first_code wires) ++ (middle ++ event_text 0 (by_time wires))) ≡ vcd_of wires
 unfolding vcd_of
 whole_text wires =
-    let zero_line : ended (time_line 0) ≡ codes "#0\n" = ap (λ (l : List ℕ). 35 ∷ (l ++ 10 ∷ [])) (decimal_digit 0 (omega arith)) in
+    let zero_line : with_line_feed (time_line 0) ≡ codes "#0\n" = ap (λ (l : List ℕ). 35 ∷ (l ++ 10 ∷ [])) (decimal_digit 0 (omega arith)) in
     let body : codes "#0\n" ++ event_text 0 (by_time wires) ≡ text (body_lines wires) = ap (λ (l : List ℕ). l ++ event_text 0 (by_time wires)) (sym zero_line) ∙ zero_text wires last_time (last_time + 1) (omega arith) in
     let tail : middle ++ event_text 0 (by_time wires) ≡ text (codes "$upscope $end" ∷ codes "$enddefinitions $end" ∷ body_lines wires) = ap (λ (l : List ℕ). codes "$upscope $end\n$enddefinitions $end\n" ++ l) body in
     ap (λ (l : List ℕ). front ++ l) (ap (λ (l : List ℕ). text (var_lines first_code wires) ++ l) tail
-    ∙ sym (flat_map-append ended (var_lines first_code wires) (codes "$upscope $end" ∷ codes "$enddefinitions $end" ∷ body_lines wires)))
+    ∙ sym (flat_map-append with_line_feed (var_lines first_code wires) (codes "$upscope $end" ∷ codes "$enddefinitions $end" ∷ body_lines wires)))
 
 -- what the program has written
-pub written_is : (wires ws : List Wire) (es : List Event) (written : List ℕ) → ws ≡ wires → es ≡ by_time ws → written ≡ ((front ++ flat_map ended (var_lines first_code ws)) ++ middle) ++ event_text 0 es → written ≡ vcd_of wires
+pub written_is : (wires ws : List Wire) (es : List Event) (written : List ℕ) → ws ≡ wires → es ≡ by_time ws → written ≡ ((front ++ flat_map with_line_feed (var_lines first_code ws)) ++ middle) ++ event_text 0 es → written ≡ vcd_of wires
 written_is wires ws es written same are is =
     is ∙ ap (λ (l : List Event). ((front ++ text (var_lines first_code ws)) ++ middle) ++ event_text 0 l) are
     ∙ append_assoc (front ++ text (var_lines first_code ws)) middle (event_text 0 (by_time ws))
@@ -253,14 +253,14 @@ written_is wires ws es written same are is =
     ∙ whole_text ws ∙ ap vcd_of same
 
 -- one more line of a wire
-pub vars_more : (text new : List ℕ) (code i : ℕ) (wires : List Wire) (wire : Wire) (name : List ℕ) (all : List ℕ) → i < length wires → wire ≡ get_or wires i wire → name ≡ wire.name → new ≡ text ++ ended (var_line code name)
-    → text ++ flat_map ended (var_lines code (drop i wires)) ≡ all → new ++ flat_map ended (var_lines (code + 1) (drop (i + 1) wires)) ≡ all
+pub vars_more : (text new : List ℕ) (code i : ℕ) (wires : List Wire) (wire : Wire) (name : List ℕ) (all : List ℕ) → i < length wires → wire ≡ get_or wires i wire → name ≡ wire.name → new ≡ text ++ with_line_feed (var_line code name)
+    → text ++ flat_map with_line_feed (var_lines code (drop i wires)) ≡ all → new ++ flat_map with_line_feed (var_lines (code + 1) (drop (i + 1) wires)) ≡ all
 vars_more text new code i wires wire name all less is named written so_far =
     let more : i + 1 ≡ suc i = omega arith in
     let line = var_line code wire.name in
-    let rest = flat_map ended (var_lines (code + 1) (drop (suc i) wires)) in
+    let rest = flat_map with_line_feed (var_lines (code + 1) (drop (suc i) wires)) in
     let front_is : drop i wires ≡ wire ∷ drop (suc i) wires = drop-cons wires i wire less ∙ ap (λ (w : Wire). w ∷ drop (suc i) wires) (sym is) in
-    ap (λ (k : ℕ). new ++ flat_map ended (var_lines (code + 1) (drop k wires))) more
-    ∙ ap (λ (l : List ℕ). l ++ rest) (written ∙ ap (λ (n : List ℕ). text ++ ended (var_line code n)) named)
-    ∙ append_assoc text (ended line) rest
-    ∙ ap (λ (l : List Wire). text ++ flat_map ended (var_lines code l)) (sym front_is) ∙ so_far
+    ap (λ (k : ℕ). new ++ flat_map with_line_feed (var_lines (code + 1) (drop k wires))) more
+    ∙ ap (λ (l : List ℕ). l ++ rest) (written ∙ ap (λ (n : List ℕ). text ++ with_line_feed (var_line code n)) named)
+    ∙ append_assoc text (with_line_feed line) rest
+    ∙ ap (λ (l : List Wire). text ++ flat_map with_line_feed (var_lines code l)) (sym front_is) ∙ so_far

@@ -18,7 +18,7 @@ use Rattle.text_rules.specs.Text.{is_filled, is_name, is_name_byte, is_number, i
 use Rattle.text_rules.proofs.Stream.{is_plain, line_front, no_line}
 use Rattle.text_rules.proofs.Digits.{with_digit, number_is}
 use Rattle.vcd_answers.specs.Wires.{Wire, last_time, is_wire}
-use Rattle.vcd_answers.specs.Dumps.{first_code, is_at, change_line, time_line, change_lines, is_instant, instant_lines, body_lines, var_line, var_lines, vcd_lines, ended, vcd_of}
+use Rattle.vcd_answers.specs.Dumps.{first_code, is_at, change_line, time_line, change_lines, is_instant, instant_lines, body_lines, var_line, var_lines, vcd_lines, with_line_feed, vcd_of}
 use Rattle.vcd_answers.proofs.Sound.{last_is}
 use Rattle.vcd_answers.proofs.Instants.{and_both, each_of}
 
@@ -132,11 +132,11 @@ plain_all wires each =
     lines_append (var_lines first_code wires) (codes "$upscope $end" ∷ codes "$enddefinitions $end" ∷ body_lines wires) (plain_vars first_code wires (omega arith) each)
     (plain_instants wires 0 (last_time + 1) (omega (arith, last_is)))
 
-lines_ended : (ls : List (List ℕ)) → plain_lines ls ≡ true → lines (flat_map ended ls) ≡ ls
+lines_ended : (ls : List (List ℕ)) → plain_lines ls ≡ true → lines (flat_map with_line_feed ls) ≡ ls
 lines_ended [] h = no_line
 lines_ended (l ∷ ls) h =
     let both = and_both _ _ h in
-    ap lines (append_assoc l (10 ∷ []) (flat_map ended ls)) ∙ line_front l (flat_map ended ls) both.0 ∙ ap (λ (m : List (List ℕ)). l ∷ m) (lines_ended ls both.1)
+    ap lines (append_assoc l (10 ∷ []) (flat_map with_line_feed ls)) ∙ line_front l (flat_map with_line_feed ls) both.0 ∙ ap (λ (m : List (List ℕ)). l ∷ m) (lines_ended ls both.1)
 
 pub lines_of_dump : (wires : List Wire) → list_all is_wire wires ≡ true → lines (vcd_of wires) ≡ vcd_lines wires
 unfolding vcd_of

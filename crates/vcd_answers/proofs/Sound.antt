@@ -10,7 +10,7 @@ use Rattle.circuit_meaning.specs.Circuit.{Circuit}
 use Rattle.circuit_meaning.specs.Forward.{value, wave}
 use Rattle.text_rules.specs.Text.{is_name}
 use Rattle.window_walks.specs.Runs.{maximal_runs}
-use Rattle.vcd_answers.specs.Wires.{Wire, last_time, changes_of, shown, framed, answered, goes_on, are_changes, is_wire}
+use Rattle.vcd_answers.specs.Wires.{Wire, last_time, changes_of, shown_value, wire_runs, wire_of_query, goes_on, are_changes, is_wire}
 use Rattle.vcd_answers.proofs.Windows.{same-sym, same_is, point, differs, wave_changes}
 
 pub last_is : last_time ≡ 1000001
@@ -46,16 +46,16 @@ module _ (f : ℕ → Value) where
 abbrev pub made : List ℕ → List Run → Wire
 made name runs = record { name = name; changes = runs }
 
-pub made_is : (name given : List ℕ) (c : Circuit) (s a b horizon : ℕ) (runs changes : List Run) → name ≡ given → b ≤ horizon + 1 → c.horizon ≡ horizon → runs ≡ wave c s a b → changes ≡ maximal_runs (framed a b runs)
-    → made name changes ≡ answered given c s a b
+pub made_is : (name given : List ℕ) (c : Circuit) (s a b horizon : ℕ) (runs changes : List Run) → name ≡ given → b ≤ horizon + 1 → c.horizon ≡ horizon → runs ≡ wave c s a b → changes ≡ maximal_runs (wire_runs a b runs)
+    → made name changes ≡ wire_of_query given c s a b
 made_is name given c s a b horizon runs changes named within ends are is =
-    let all : changes ≡ changes_of (shown (value c s) a b) (c.horizon + 1) = is ∙ wave_changes c s a b runs horizon within are ∙ ap (λ (n : ℕ). changes_of (shown (value c s) a b) (n + 1)) (sym ends) in
+    let all : changes ≡ changes_of (shown_value (value c s) a b) (c.horizon + 1) = is ∙ wave_changes c s a b runs horizon within are ∙ ap (λ (n : ℕ). changes_of (shown_value (value c s) a b) (n + 1)) (sym ends) in
     ap (λ (l : List ℕ). made l changes) named ∙ ap (made given) all
 
-pub made_sound : (name given : List ℕ) (c : Circuit) (s a b horizon : ℕ) (runs changes : List Run) → name ≡ given → b ≤ horizon + 1 → horizon ≤ 1000000 → runs ≡ wave c s a b → changes ≡ maximal_runs (framed a b runs)
+pub made_sound : (name given : List ℕ) (c : Circuit) (s a b horizon : ℕ) (runs changes : List Run) → name ≡ given → b ≤ horizon + 1 → horizon ≤ 1000000 → runs ≡ wave c s a b → changes ≡ maximal_runs (wire_runs a b runs)
     → is_name given ≡ true → is_wire (made name changes) ≡ true
 made_sound name given c s a b horizon runs changes named within small are is names =
-    let all : changes ≡ changes_of (shown (value c s) a b) (horizon + 1) = is ∙ wave_changes c s a b runs horizon within are in
-    let sound : are_changes changes ≡ true = ap are_changes all ∙ are_sound (shown (value c s) a b) (horizon + 1) (omega arith) in
+    let all : changes ≡ changes_of (shown_value (value c s) a b) (horizon + 1) = is ∙ wave_changes c s a b runs horizon within are in
+    let sound : are_changes changes ≡ true = ap are_changes all ∙ are_sound (shown_value (value c s) a b) (horizon + 1) (omega arith) in
     let known : is_name name ≡ true = ap is_name named ∙ names in
     rw (known, sound) refl

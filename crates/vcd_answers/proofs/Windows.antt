@@ -10,7 +10,7 @@ use Rattle.circuit_meaning.specs.declared.Run.{Run}
 use Rattle.circuit_meaning.specs.Circuit.{Circuit}
 use Rattle.circuit_meaning.specs.Forward.{value, wave}
 use Rattle.window_walks.specs.Runs.{changes_from, maximal_runs}
-use Rattle.vcd_answers.specs.Wires.{changes_of, shown, framed}
+use Rattle.vcd_answers.specs.Wires.{changes_of, shown_value, wire_runs}
 
 pub same-sym : (v w : Value) → same_value v w ≡ same_value w v
 same-sym Zero Zero = refl
@@ -169,13 +169,13 @@ points_same f g a (suc n) same =
 
 -- ---- the window
 
-shown_inside : (f : ℕ → Value) (a b t : ℕ) → a ≤ t → t < b → shown f a b t ≡ f t
+shown_inside : (f : ℕ → Value) (a b t : ℕ) → a ≤ t → t < b → shown_value f a b t ≡ f t
 shown_inside f a b t low high = rw (le-leb a t low, lt-ltb t b high) refl
 
-shown_before : (f : ℕ → Value) (a b t : ℕ) → t < a → shown f a b t ≡ X
+shown_before : (f : ℕ → Value) (a b t : ℕ) → t < a → shown_value f a b t ≡ X
 shown_before f a b t low = rw (lt-leb a t low) refl
 
-shown_behind : (f : ℕ → Value) (a b t : ℕ) → b ≤ t → shown f a b t ≡ X
+shown_behind : (f : ℕ → Value) (a b t : ℕ) → b ≤ t → shown_value f a b t ≡ X
 shown_behind f a b t high = rw (le-ltb t b high) (cases (leb a t))
   where
     cases : (x : Bool) → cond (x && false) (f t) X ≡ X
@@ -185,9 +185,9 @@ shown_behind f a b t high = rw (le-ltb t b high) (cases (leb a t))
 abbrev window : (ℕ → Value) → ℕ → ℕ → List Run
 window f a b = maximal_runs (points f a (b - a))
 
-from_zero : (f : ℕ → Value) (b n : ℕ) → b ≤ n → maximal_runs (framed 0 b (window f 0 b)) ≡ maximal_runs (points (shown f 0 b) 0 (suc n))
+from_zero : (f : ℕ → Value) (b n : ℕ) → b ≤ n → maximal_runs (wire_runs 0 b (window f 0 b)) ≡ maximal_runs (points (shown_value f 0 b) 0 (suc n))
 from_zero f b n within =
-    let g = shown f 0 b in
+    let g = shown_value f 0 b in
     let all : b - 0 ≡ b = omega arith in
     let inside : points f 0 b ≡ points g 0 b = points_same f g 0 b (λ t low high. sym (shown_inside f 0 b t low (omega arith))) in
     let tail = settles_all (points g 0 b) g X b (n - b) (λ t low high. shown_behind f 0 b t low) in
@@ -196,9 +196,9 @@ from_zero f b n within =
     ∙ ap (λ (l : List Run). maximal_runs (l ++ last b X)) (ap (points f 0) all ∙ inside)
     ∙ sym tail ∙ ap maximal_runs (sym parts)
 
-from_later : (f : ℕ → Value) (a b n : ℕ) → suc a ≤ b → b ≤ n → maximal_runs (framed (suc a) b (window f (suc a) b)) ≡ maximal_runs (points (shown f (suc a) b) 0 (suc n))
+from_later : (f : ℕ → Value) (a b n : ℕ) → suc a ≤ b → b ≤ n → maximal_runs (wire_runs (suc a) b (window f (suc a) b)) ≡ maximal_runs (points (shown_value f (suc a) b) 0 (suc n))
 from_later f a b n order within =
-    let g = shown f (suc a) b in
+    let g = shown_value f (suc a) b in
     let m = b - suc a in
     let rest = points g b (suc (n - b)) in
     let first : g 0 ≡ X = shown_before f (suc a) b 0 (omega arith) in
@@ -217,29 +217,29 @@ from_later f a b n order within =
     ∙ ap (λ (v : Value). record { time = 0; value = v } ∷ changes_from v (points g 1 n)) (sym first))
 
 -- a window that ends where it begins or before shows nothing
-shown_never : (f : ℕ → Value) (a b t : ℕ) → b ≤ a → shown f a b t ≡ X
+shown_never : (f : ℕ → Value) (a b t : ℕ) → b ≤ a → shown_value f a b t ≡ X
 shown_never f a b t empty = cases (leb a t) refl
   where
-    cases : (x : Bool) → leb a t ≡ x → shown f a b t ≡ X
+    cases : (x : Bool) → leb a t ≡ x → shown_value f a b t ≡ X
     cases true e = shown_behind f a b t (omega (arith, leb-true a t e))
     cases false e = rw e refl
 
-from_none : (f : ℕ → Value) (a b n : ℕ) → b ≤ suc a → maximal_runs (framed (suc a) b (window f (suc a) b)) ≡ maximal_runs (points (shown f (suc a) b) 0 (suc n))
+from_none : (f : ℕ → Value) (a b n : ℕ) → b ≤ suc a → maximal_runs (wire_runs (suc a) b (window f (suc a) b)) ≡ maximal_runs (points (shown_value f (suc a) b) 0 (suc n))
 from_none f a b n empty =
     let later : eqb (suc a) 0 ≡ false = ne_eqb (suc a) 0 (λ e. omega arith) in
     let none : b - suc a ≡ 0 = omega arith in
-    rw (later, none) (sym (settles_all [] (shown f (suc a) b) X 0 n (λ t low high. shown_never f (suc a) b t empty)))
+    rw (later, none) (sym (settles_all [] (shown_value f (suc a) b) X 0 n (λ t low high. shown_never f (suc a) b t empty)))
 
-pub shown_changes : (f : ℕ → Value) (a b n : ℕ) → b ≤ n → maximal_runs (framed a b (window f a b)) ≡ changes_of (shown f a b) n
-shown_changes f zero b n within = from_zero f b n within ∙ sym (changes_points (shown f 0 b) n)
-shown_changes f (suc a) b n within = cases (leb (suc a) b) refl ∙ sym (changes_points (shown f (suc a) b) n)
+pub shown_changes : (f : ℕ → Value) (a b n : ℕ) → b ≤ n → maximal_runs (wire_runs a b (window f a b)) ≡ changes_of (shown_value f a b) n
+shown_changes f zero b n within = from_zero f b n within ∙ sym (changes_points (shown_value f 0 b) n)
+shown_changes f (suc a) b n within = cases (leb (suc a) b) refl ∙ sym (changes_points (shown_value f (suc a) b) n)
   where
-    cases : (x : Bool) → leb (suc a) b ≡ x → maximal_runs (framed (suc a) b (window f (suc a) b)) ≡ maximal_runs (points (shown f (suc a) b) 0 (suc n))
+    cases : (x : Bool) → leb (suc a) b ≡ x → maximal_runs (wire_runs (suc a) b (window f (suc a) b)) ≡ maximal_runs (points (shown_value f (suc a) b) 0 (suc n))
     cases true e = from_later f a b n (leb-true (suc a) b e) within
     cases false e = from_none f a b n (omega (arith, leb-false (suc a) b e))
 
 -- the wire of a query
 pub wave_changes : (c : Circuit) (s a b : ℕ) (runs : List Run) (horizon : ℕ) → b ≤ horizon + 1 → runs ≡ wave c s a b
-    → maximal_runs (framed a b runs) ≡ changes_of (shown (value c s) a b) (horizon + 1)
+    → maximal_runs (wire_runs a b runs) ≡ changes_of (shown_value (value c s) a b) (horizon + 1)
 wave_changes c s a b runs horizon within are =
-    ap (λ (l : List Run). maximal_runs (framed a b l)) (are ∙ wave_points c s a b) ∙ shown_changes (value c s) a b (horizon + 1) within
+    ap (λ (l : List Run). maximal_runs (wire_runs a b l)) (are ∙ wave_points c s a b) ∙ shown_changes (value c s) a b (horizon + 1) within

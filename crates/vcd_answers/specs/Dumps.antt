@@ -56,9 +56,9 @@ vcd_lines wires =
     var_lines first_code wires ++ codes "$upscope $end" ∷ codes "$enddefinitions $end" ∷ body_lines wires)
 
 -- a line with its line feed
-abbrev pub ended : List ℕ → List ℕ
-ended line = line ++ 10 ∷ []
+abbrev pub with_line_feed : List ℕ → List ℕ
+with_line_feed line = line ++ 10 ∷ []
 
 -- the dump of these wires: every line ends with a line feed
 unfoldable pub vcd_of : List Wire → List ℕ
-vcd_of wires = flat_map ended (vcd_lines wires)
+vcd_of wires = flat_map with_line_feed (vcd_lines wires)

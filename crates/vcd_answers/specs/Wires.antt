@@ -24,20 +24,20 @@ abbrev pub changes_of : (ℕ → Value) → ℕ → List Run
 changes_of f last = map (λ t. record { time = t; value = f t }) (filter (λ t. (t == 0) || not (same_value (f t) (f (t - 1)))) (range_with_len 0 (last + 1)))
 
 -- what a window shows of a function of time: its values in [start, stop), and x elsewhere
-abbrev pub shown : (ℕ → Value) → ℕ → ℕ → ℕ → Value
-shown f start stop t = if nat_le start t && nat_lt t stop then f t else X
+abbrev pub shown_value : (ℕ → Value) → ℕ → ℕ → ℕ → Value
+shown_value f start stop t = if nat_le start t && nat_lt t stop then f t else X
 
 -- the wire of a query for the signal s in the window from start to stop, up to just after the horizon
-abbrev pub answered : List ℕ → Circuit → ℕ → ℕ → ℕ → Wire
-answered name c s start stop = record { name = name; changes = changes_of (shown (value c s) start stop) (c.horizon + 1) }
+abbrev pub wire_of_query : List ℕ → Circuit → ℕ → ℕ → ℕ → Wire
+wire_of_query name c s start stop = record { name = name; changes = changes_of (shown_value (value c s) start stop) (c.horizon + 1) }
 
 -- x from time 0 on, if the window begins later
 abbrev pub before_window : ℕ → List Run
 before_window start = if start == 0 then [] else record { time = 0; value = X } ∷ []
 
 -- the runs of a window, with x before it and from its end on; neighbours may have one value
-abbrev pub framed : ℕ → ℕ → List Run → List Run
-framed start stop runs = before_window start ++ runs ++ record { time = stop; value = X } ∷ []
+abbrev pub wire_runs : ℕ → ℕ → List Run → List Run
+wire_runs start stop runs = before_window start ++ runs ++ record { time = stop; value = X } ∷ []
 
 -- runs that may come after this one: times ascend, consecutive values differ, and no time is after the last time of a dump
 abbrev pub goes_on : Run → List Run → Bool

@@ -6,7 +6,7 @@ ghost use Rattle.circuit_meaning.specs.Circuit.{Circuit};
 ghost use Rattle.circuit_meaning.specs.Forward.{wave};
 ghost use Rattle.text_rules.specs.Text as text;
 ghost use Rattle.window_walks.specs.Runs.{maximal_runs};
-ghost use Rattle.vcd_answers.specs.Wires.{answered, before_window, framed, goes_on, are_changes, AreWires};
+ghost use Rattle.vcd_answers.specs.Wires.{wire_of_query, before_window, wire_runs, goes_on, are_changes, AreWires};
 ghost use Rattle.vcd_answers.specs.Wires as wires;
 ghost use Rattle.vcd_answers.specs.inner.Reading.{blank, put_at};
 
@@ -184,7 +184,7 @@ pub fn wire_of(
     requires stop { stop ≤ horizon + 1 }
     // If the runs are the waveform of the window, this is the wire of the query.
     ensures answered { (c : Circuit) (s : ℕ) → c.horizon ≡ horizon → runs.now ≡ wave c s start stop
-        → IfOk result (λ wire. wire ≡ answered name.now c s start stop) }
+        → IfOk result (λ wire. wire ≡ wire_of_query name.now c s start stop) }
     // A dump can hold such a wire.
     ensures sound { (c : Circuit) (s : ℕ) → runs.now ≡ wave c s start stop
         → IsTrue (text.is_name name.now)
@@ -192,7 +192,7 @@ pub fn wire_of(
     // For any runs: the wire has x before the window, the runs, and x from the window's end on, each at its time.
     // Neighbours with one value are one change.
     ensures runs { IfOk result (λ wire. wire ≡ record
-        { name = name.now; changes = maximal_runs (framed start stop runs.now) }) }
+        { name = name.now; changes = maximal_runs (wire_runs start stop runs.now) }) }
 {
     let name = name.to_vec(alloc)?;
     let points = framed_runs(alloc, start, stop, runs.as_slice())?;
@@ -203,7 +203,7 @@ pub fn wire_of(
 }
 
 fn framed_runs(alloc: Global, start: u32, stop: u32, runs: &[Run]) -> Result<Runs, OutOfMemory>
-    ensures { IfOk result (λ points. points ≡ maximal_runs (framed start stop runs.now)) }
+    ensures { IfOk result (λ points. points ≡ maximal_runs (wire_runs start stop runs.now)) }
 {
     let mut points = runs_before(alloc, start)?;
     for run in runs {

@@ -2,7 +2,7 @@
 ghost use Rattle.std.specs.Prelude.{◌≡◌, ℕ, ◌+◌, ◌≤◌, ◌++◌, ◌∷◌, [], List, length, map, flat_map, IsTrue, OnOk, IfOk};
 ghost use Rattle.std.specs.List.{list_all};
 ghost use Rattle.std.specs.Fmt.{decimal};
-ghost use Rattle.vcd_answers.specs.Dumps.{first_code, var_line, var_lines, time_line, change_line, ended, vcd_of};
+ghost use Rattle.vcd_answers.specs.Dumps.{first_code, var_line, var_lines, time_line, change_line, with_line_feed, vcd_of};
 ghost use Rattle.vcd_answers.specs.Wires.{AreWires, is_wire};
 ghost use Rattle.vcd_answers.specs.inner.Events.{event, run_of, by_wire, by_time, event_line, event_text};
 
@@ -74,7 +74,7 @@ fn push_changes(events: &mut Vec<Event>, code: u8, changes: &[Run]) -> Result<()
 
 fn push_vars(text: &mut Vec<u8>, wires: &[Wire]) -> Result<(), OutOfMemory>
     requires { length wires.now ≤ 64 }
-    ensures { OnOk result (text.new.items ≡ text.old.items ++ flat_map ended
+    ensures { OnOk result (text.new.items ≡ text.old.items ++ flat_map with_line_feed
         (var_lines first_code wires.now)) }
 {
     let mut code = b'!';
@@ -86,7 +86,8 @@ fn push_vars(text: &mut Vec<u8>, wires: &[Wire]) -> Result<(), OutOfMemory>
 }
 
 fn push_var(text: &mut Vec<u8>, code: u8, name: &[u8]) -> Result<(), OutOfMemory>
-    ensures { OnOk result (text.new.items ≡ text.old.items ++ ended (var_line code name.now)) }
+    ensures { OnOk result (text.new.items ≡ text.old.items ++ with_line_feed (var_line code
+        name.now)) }
 {
     text.extend_from_slice(b"$var wire 1 ")?;
     text.push(code)?;
@@ -120,7 +121,7 @@ fn push_event(text: &mut Vec<u8>, last: u32, event: Event) -> Result<(), OutOfMe
 }
 
 fn push_time(text: &mut Vec<u8>, time: u32) -> Result<(), OutOfMemory>
-    ensures { OnOk result (text.new.items ≡ text.old.items ++ ended (time_line time)) }
+    ensures { OnOk result (text.new.items ≡ text.old.items ++ with_line_feed (time_line time)) }
 {
     let mut buffer = Buffer::new();
     text.push(b'#')?;

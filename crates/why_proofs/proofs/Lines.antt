@@ -11,7 +11,7 @@ use Rattle.valid_intervals.specs.declared.SignalCell.{SignalCell}
 use Rattle.text_fields.specs.Spelling.{field, IsNumber}
 use Rattle.why_proofs.specs.Spelling.{last_field, claim_line, cell_line, IsLine}
 use Rattle.text_fields.specs.Reading.{◌>>=◌, after_word, field_at, value_at}
-use Rattle.why_proofs.specs.inner.Reading.{last_field_at, is_space, named, name_at, Claim, claim_at, cell_at, line_of}
+use Rattle.why_proofs.specs.inner.Reading.{last_field_at, is_space, name_before, name_at, Claim, claim_at, cell_at, line_of}
 use Rattle.text_fields.proofs.Numbers.{and_both}
 use Rattle.text_fields.proofs.Items.{AreSpelled}
 use Rattle.text_fields.proofs.Fields.{bind_some, some_is, after_takes, field_takes, field_again, value_takes}
@@ -56,7 +56,7 @@ drop-front (x ∷ xs) ys = drop-front xs ys
 pub name_takes : (text name rest : List ℕ) → name_at text ≡ Some (name, rest) → (text ≡ name ++ rest) × (is_name name ≡ true)
 unfolding name_at
 name_takes text name rest e =
-    let (n, at, is) = bind_some (position is_space text) (named text) (name, rest) e in
+    let (n, at, is) = bind_some (position is_space text) (name_before text) (name, rest) e in
     let both = cond_some (is_name (take n text)) (take n text, drop n text) (name, rest) is in
     subst (λ (r : List ℕ × List ℕ). (text ≡ r.0 ++ r.1) × (is_name r.0 ≡ true)) both.1 (take-drop n text, both.0)
 
@@ -82,7 +82,7 @@ name_again name text h =
     let place : position_or_len is_space whole ≡ length name = space-behind name text both.1 in
     let short : nat_lt (length name) (length whole) ≡ true = lt-ltb _ _ (omega (arith, length-append name (32 ∷ text))) in
     let found : position is_space whole ≡ Some (length name) = ap (λ n. cond (nat_lt n (length whole)) (Some n) None) place ∙ ap (λ b. cond b (Some (length name)) None) short in
-    ap (λ o. o >>= named whole) found
+    ap (λ o. o >>= name_before whole) found
     ∙ ap₂ (λ (a b : List ℕ). cond (is_name a) (Some (a, b)) None) (take-front name (32 ∷ text)) (drop-front name (32 ∷ text))
     ∙ ap (λ b. cond b (Some (name, 32 ∷ text)) None) h
 

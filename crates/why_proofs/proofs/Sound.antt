@@ -15,12 +15,12 @@ use Rattle.gate_values.proofs.Looked.{gate_value-looked, cut_alike, map-up_to_fi
 use Rattle.valid_intervals.specs.declared.Cell.{Cell}
 use Rattle.valid_intervals.specs.declared.SignalCell.{SignalCell}
 use Rattle.valid_intervals.specs.Cells.{covers}
-use Rattle.valid_intervals.specs.Spans.{Span, IsIn, moved}
+use Rattle.valid_intervals.specs.Spans.{Span, IsIn, moved_span}
 use Rattle.flip_flops.specs.Edges.{shown_edge}
 use Rattle.circuit_meaning.specs.declared.Pin.{Pin}
 use Rattle.circuit_meaning.specs.Circuit.{Circuit, Driver, Input, Gate, Flop, driver, IsCircuit}
-use Rattle.circuit_meaning.specs.Forward.{value, value_from, seen, flop_value}
-use Rattle.circuit_meaning.specs.Cells.{span, span_from, looked, pin_span, gate_span, least_delay, cell_at, point_at}
+use Rattle.circuit_meaning.specs.Forward.{value, value_from, seen_value, flop_value}
+use Rattle.circuit_meaning.specs.Cells.{span, span_from, looked_pins, pin_span, gate_span, least_delay, cell_at, point_at}
 use Rattle.circuit_meaning.specs.Base.{base_answer}
 use Rattle.circuit_meaning.specs.Need.{IsEvaluable}
 use Rattle.circuit_meaning.proofs.Equations.{map_same, all_imply, value_is, span_is}
@@ -98,7 +98,7 @@ module _ (c : Circuit) (ok : IsCircuit c) where
         go None e h = absurd (cc h)
 
     -- a pin that is answered sees what it sees
-    seen-same : (t : ℕ) (p : Pin) → IsAnswered a t p → seen (value_in a) t p ≡ seen (value c) t p
+    seen-same : (t : ℕ) (p : Pin) → IsAnswered a t p → seen_value (value_in a) t p ≡ seen_value (value c) t p
     seen-same t p h = elim (cases_lt t p.delay) [
       | inl l ↦ seen-early (value_in a) t p l ∙ sym (seen-early (value c) t p l)
       | inr l ↦ seen-late (value_in a) t p l ∙ value-known p.signal (t - p.delay) (h l) ∙ sym (seen-late (value c) t p l)
@@ -107,27 +107,27 @@ module _ (c : Circuit) (ok : IsCircuit c) where
     span-same : (t : ℕ) (p : Pin) → IsAnswered a t p → pin_span (span_in a) t p ≡ pin_span (span c) t p
     span-same t p h = elim (cases_lt t p.delay) [
       | inl l ↦ pin_span-early (span_in a) t p l ∙ sym (pin_span-early (span c) t p l)
-      | inr l ↦ pin_span-late (span_in a) t p l ∙ ap (moved p.delay) (span-known p.signal (t - p.delay) (h l)) ∙ sym (pin_span-late (span c) t p l)
+      | inr l ↦ pin_span-late (span_in a) t p l ∙ ap (moved_span p.delay) (span-known p.signal (t - p.delay) (h l)) ∙ sym (pin_span-late (span c) t p l)
     ]
 
     module _ (t : ℕ) (kind : Kind) (pins : List Pin) where
       -- the same pins are looked at, if those are answered
-      pub looked-from : AllByRecursion (IsAnswered a t) (looked_in a t kind pins) → looked c t kind pins ≡ looked_in a t kind pins
-      looked-from h = cut_alike (decides kind) (seen (value_in a) t) (seen (value c) t) pins (all_imply (IsAnswered a t) (λ p. seen (value_in a) t p ≡ seen (value c) t p) (seen-same t) (looked_in a t kind pins) h)
+      pub looked-from : AllByRecursion (IsAnswered a t) (looked_in a t kind pins) → looked_pins c t kind pins ≡ looked_in a t kind pins
+      looked-from h = cut_alike (decides kind) (seen_value (value_in a) t) (seen_value (value c) t) pins (all_imply (IsAnswered a t) (λ p. seen_value (value_in a) t p ≡ seen_value (value c) t p) (seen-same t) (looked_in a t kind pins) h)
 
-      pub looked-to : AllByRecursion (IsAnswered a t) (looked c t kind pins) → looked_in a t kind pins ≡ looked c t kind pins
-      looked-to h = cut_alike (decides kind) (seen (value c) t) (seen (value_in a) t) pins (all_imply (IsAnswered a t) (λ p. seen (value c) t p ≡ seen (value_in a) t p) (λ p k. sym (seen-same t p k)) (looked c t kind pins) h)
+      pub looked-to : AllByRecursion (IsAnswered a t) (looked_pins c t kind pins) → looked_in a t kind pins ≡ looked_pins c t kind pins
+      looked-to h = cut_alike (decides kind) (seen_value (value c) t) (seen_value (value_in a) t) pins (all_imply (IsAnswered a t) (λ p. seen_value (value c) t p ≡ seen_value (value_in a) t p) (λ p k. sym (seen-same t p k)) (looked_pins c t kind pins) h)
 
       gate-value : AllByRecursion (IsAnswered a t) (looked_in a t kind pins) → rule_value a t (Gate kind pins) ≡ value_from (value c) t (Gate kind pins)
       gate-value h =
           let L = looked_in a t kind pins in
-          ap (gate_value kind) (map_same (seen (value_in a) t) (seen (value c) t) L (all_imply (IsAnswered a t) (λ p. seen (value_in a) t p ≡ seen (value c) t p) (seen-same t) L h))
-          ∙ ap (λ l. gate_value kind (map (seen (value c) t) l)) (sym (looked-from h))
-          ∙ ap (gate_value kind) (map-up_to_first (decides kind) (seen (value c) t) pins)
-          ∙ gate_value-looked kind (map (seen (value c) t) pins)
+          ap (gate_value kind) (map_same (seen_value (value_in a) t) (seen_value (value c) t) L (all_imply (IsAnswered a t) (λ p. seen_value (value_in a) t p ≡ seen_value (value c) t p) (seen-same t) L h))
+          ∙ ap (λ l. gate_value kind (map (seen_value (value c) t) l)) (sym (looked-from h))
+          ∙ ap (gate_value kind) (map-up_to_first (decides kind) (seen_value (value c) t) pins)
+          ∙ gate_value-looked kind (map (seen_value (value c) t) pins)
 
       gate-span : (limit : ℕ) → AllByRecursion (IsAnswered a t) (looked_in a t kind pins)
-          → gate_span limit t (least_delay pins) (map (pin_span (span_in a) t) (looked_in a t kind pins)) ≡ gate_span limit t (least_delay pins) (map (pin_span (span c) t) (looked c t kind pins))
+          → gate_span limit t (least_delay pins) (map (pin_span (span_in a) t) (looked_in a t kind pins)) ≡ gate_span limit t (least_delay pins) (map (pin_span (span c) t) (looked_pins c t kind pins))
       gate-span limit h =
           let L = looked_in a t kind pins in
           ap (gate_span limit t (least_delay pins)) (map_same (pin_span (span_in a) t) (pin_span (span c) t) L (all_imply (IsAnswered a t) (λ p. pin_span (span_in a) t p ≡ pin_span (span c) t p) (span-same t) L h))

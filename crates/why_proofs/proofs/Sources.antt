@@ -12,8 +12,8 @@ use Rattle.valid_intervals.specs.declared.Point.{Point}
 use Rattle.flip_flops.specs.Edges.{shown_edge}
 use Rattle.circuit_meaning.specs.declared.Pin.{Pin}
 use Rattle.circuit_meaning.specs.Circuit.{Circuit, Driver, Input, Gate, Flop, driver, IsCircuit}
-use Rattle.circuit_meaning.specs.Forward.{value, seen}
-use Rattle.circuit_meaning.specs.Cells.{looked}
+use Rattle.circuit_meaning.specs.Forward.{value, seen_value}
+use Rattle.circuit_meaning.specs.Cells.{looked_pins}
 use Rattle.circuit_meaning.specs.Looks.{kind_of, pin_point, flop_points, pin_points_at, sees}
 use Rattle.circuit_meaning.proofs.Steady.{map_all}
 use Rattle.circuit_meaning.proofs.Equations.{all_imply}
@@ -33,12 +33,12 @@ all-unmap : {A B : Type 0} (P : B → Type 0) (f : A → B) (xs : List A) → Al
 all-unmap P f [] h = tt
 all-unmap P f (x ∷ xs) h = (h.0, all-unmap P f xs h.1)
 
-sees-source : (c : Circuit) (t : ℕ) (p : Pin) → sees c (pin_point t p) ≡ seen (value c) t p
+sees-source : (c : Circuit) (t : ℕ) (p : Pin) → sees c (pin_point t p) ≡ seen_value (value c) t p
 sees-source c t p = elim (nat_lt t p.delay) as (λ b. sees c (cond b None (Some (record { signal = p.signal; time = t - p.delay }))) ≡ cond b X (value c p.signal (t - p.delay))) [ true ↦ refl | false ↦ refl ]
 
-cut-sources : (c : Circuit) (t : ℕ) (kind : Kind) (pins : List Pin) → map (pin_point t) (looked c t kind pins) ≡ up_to_first (λ o. decides kind (sees c o)) (map (pin_point t) pins)
+cut-sources : (c : Circuit) (t : ℕ) (kind : Kind) (pins : List Pin) → map (pin_point t) (looked_pins c t kind pins) ≡ up_to_first (λ o. decides kind (sees c o)) (map (pin_point t) pins)
 cut-sources c t kind pins =
-    ap (map (pin_point t)) (cut_alike (decides kind) (λ p. sees c (pin_point t p)) (seen (value c) t) pins (all_of (λ p. sees c (pin_point t p) ≡ seen (value c) t p) (sees-source c t) (up_to_first (λ p. decides kind (sees c (pin_point t p))) pins)))
+    ap (map (pin_point t)) (cut_alike (decides kind) (λ p. sees c (pin_point t p)) (seen_value (value c) t) pins (all_of (λ p. sees c (pin_point t p) ≡ seen_value (value c) t p) (sees-source c t) (up_to_first (λ p. decides kind (sees c (pin_point t p))) pins)))
     ∙ map-up_to_first (λ o. decides kind (sees c o)) (pin_point t) pins
 
 source-known : (a : Answers) (t : ℕ) (p : Pin) → IsAnswered a t p → IsKnown a (pin_point t p)
@@ -62,9 +62,9 @@ module _ (c : Circuit) (ok : IsCircuit c) (a : Answers) (right : AreRight c ok a
   known-from t (Input settings) h = tt
   known-from t (Gate kind pins) h =
       let each : AllByRecursion (IsAnswered a t) (looked_in a t kind pins) = recursion_from_All (IsAnswered a t) (looked_in a t kind pins) h in
-      let true-pins : AllByRecursion (IsAnswered a t) (looked c t kind pins) = subst (AllByRecursion (IsAnswered a t)) (sym (looked-from c ok a right t kind pins each)) each in
+      let true-pins : AllByRecursion (IsAnswered a t) (looked_pins c t kind pins) = subst (AllByRecursion (IsAnswered a t)) (sym (looked-from c ok a right t kind pins each)) each in
       subst (AllByRecursion (IsKnown a)) (cut-sources c t kind pins)
-      (map_all (IsKnown a) (pin_point t) (looked c t kind pins) (all_imply (IsAnswered a t) (λ p. IsKnown a (pin_point t p)) (source-known a t) (looked c t kind pins) true-pins))
+      (map_all (IsKnown a) (pin_point t) (looked_pins c t kind pins) (all_imply (IsAnswered a t) (λ p. IsKnown a (pin_point t p)) (source-known a t) (looked_pins c t kind pins) true-pins))
   known-from t (Flop f) h = go (shown_edge f.clock f.delay t) h
     where
       cut : (b : Bool) → AllByRecursion (IsKnown a) (cond b [] [])
@@ -78,8 +78,8 @@ module _ (c : Circuit) (ok : IsCircuit c) (a : Answers) (right : AreRight c ok a
   known-to : (t : ℕ) (d : Driver) → AllByRecursion (IsKnown a) (sources t d) → AreAnswered a t d
   known-to t (Input settings) h = tt
   known-to t (Gate kind pins) h =
-      let mapped : AllByRecursion (IsKnown a) (map (pin_point t) (looked c t kind pins)) = subst (AllByRecursion (IsKnown a)) (sym (cut-sources c t kind pins)) h in
-      let true-pins : AllByRecursion (IsAnswered a t) (looked c t kind pins) = all_imply (λ p. IsKnown a (pin_point t p)) (IsAnswered a t) (source-answered a t) (looked c t kind pins) (all-unmap (IsKnown a) (pin_point t) (looked c t kind pins) mapped) in
+      let mapped : AllByRecursion (IsKnown a) (map (pin_point t) (looked_pins c t kind pins)) = subst (AllByRecursion (IsKnown a)) (sym (cut-sources c t kind pins)) h in
+      let true-pins : AllByRecursion (IsAnswered a t) (looked_pins c t kind pins) = all_imply (λ p. IsKnown a (pin_point t p)) (IsAnswered a t) (source-answered a t) (looked_pins c t kind pins) (all-unmap (IsKnown a) (pin_point t) (looked_pins c t kind pins) mapped) in
       All-from_recursion (IsAnswered a t) (looked_in a t kind pins) (subst (AllByRecursion (IsAnswered a t)) (sym (looked-to c ok a right t kind pins true-pins)) true-pins)
   known-to t (Flop f) h = go (shown_edge f.clock f.delay t) h
     where

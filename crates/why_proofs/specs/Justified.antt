@@ -14,7 +14,7 @@ use Rattle.valid_intervals.specs.Spans.{Span, from_to}
 use Rattle.flip_flops.specs.Edges.{shown_edge, flop_span}
 use Rattle.circuit_meaning.specs.declared.Pin.{Pin}
 use Rattle.circuit_meaning.specs.Circuit.{Driver, Input, Gate, Flop, Circuit, driver}
-use Rattle.circuit_meaning.specs.Forward.{last_setting, input_value, seen, flop_value}
+use Rattle.circuit_meaning.specs.Forward.{last_setting, input_value, seen_value, flop_value}
 use Rattle.circuit_meaning.specs.Cells.{next_setting, input_start, least_delay, gate_span, pin_span, point_at}
 use Rattle.circuit_meaning.specs.Base.{base_answer}
 use Rattle.circuit_meaning.specs.Need.{IsEvaluable}
@@ -45,7 +45,7 @@ span_in a s t = option_map_or (λ x. x.span) (a s t) (from_to 0 0)
 
 -- the pins of a gate up to and including the first whose answer decides its value at t
 abbrev pub looked_in : Answers → ℕ → Kind → List Pin → List Pin
-looked_in a t kind pins = up_to_first (λ p. decides kind (seen (value_in a) t p)) pins
+looked_in a t kind pins = up_to_first (λ p. decides kind (seen_value (value_in a) t p)) pins
 
 -- a pin that reads a time from 0 on has an answer
 abbrev pub IsAnswered : Answers → ℕ → Pin → Type 0
@@ -60,7 +60,7 @@ AreAnswered a t (Flop f) = IfSome (shown_edge f.clock f.delay t) (λ e. IsSome (
 -- the value and the interval that a driver gives at t from these answers, by the rules of values and cells
 abbrev pub rule_value : Answers → ℕ → Driver → Value
 rule_value a t (Input settings) = input_value (last_setting settings t)
-rule_value a t (Gate kind pins) = gate_value kind (map (seen (value_in a) t) (looked_in a t kind pins))
+rule_value a t (Gate kind pins) = gate_value kind (map (seen_value (value_in a) t) (looked_in a t kind pins))
 rule_value a t (Flop f) = flop_value (value_in a) f (shown_edge f.clock f.delay t)
 
 abbrev pub rule_span : ℕ → Answers → ℕ → Driver → Span

@@ -2,7 +2,7 @@
 use Rattle.std.proofs.Common.{◌≡◌, ℕ, zero, suc, ◌+◌, ◌<◌, ◌++◌, nat_eq, Bool, true, false, cond, List, [], ◌∷◌, length, get_or, take, filter, refl, sym, ap, subst, ◌∙◌, arith, append_assoc, append-nil}
 use Rattle.journal_meaning.specs.declared.Entry.{Entry}
 use Rattle.journal_meaning.specs.declared.Entry.TheVariants.{Told, Claimed, Filled, Evicted, Dropped, Spent}
-use Rattle.journal_meaning.specs.Answers.{is_fill_of, filled}
+use Rattle.journal_meaning.specs.Answers.{is_fill_of, fill_count}
 use Rattle.journal_meaning.proofs.Lists.{Each, each-left, each-right}
 use Rattle.plan_machine.specs.Settling.{fills_of}
 use Rattle.memo_shards.specs.KeptShards.{KeptShard}
@@ -23,13 +23,13 @@ fills-append (Dropped r p ∷ xs) ys q = fills-append xs ys q
 fills-append (Spent r p n ∷ xs) ys q = fills-append xs ys q
 
 -- there are as many as fills
-pub fills-count : (es : List Entry) (q : ℕ) → length (fills_of es q) ≡ filled es q
+pub fills-count : (es : List Entry) (q : ℕ) → length (fills_of es q) ≡ fill_count es q
 fills-count [] q = refl
 fills-count (Told r p x ∷ xs) q = fills-count xs q
 fills-count (Claimed r p ∷ xs) q = fills-count xs q
 fills-count (Filled r p x ∷ xs) q = by (nat_eq r q) (fills-count xs q)
   where
-    by : (t : Bool) → length (fills_of xs q) ≡ filled xs q → length (cond t (p ∷ fills_of xs q) (fills_of xs q)) ≡ length (cond t (Filled r p x ∷ filter (is_fill_of q) xs) (filter (is_fill_of q) xs))
+    by : (t : Bool) → length (fills_of xs q) ≡ fill_count xs q → length (cond t (p ∷ fills_of xs q) (fills_of xs q)) ≡ length (cond t (Filled r p x ∷ filter (is_fill_of q) xs) (filter (is_fill_of q) xs))
     by true h = ap suc h
     by false h = h
 fills-count (Evicted s t ∷ xs) q = fills-count xs q

@@ -10,7 +10,7 @@ use Rattle.circuit_meaning.specs.Need.{children}
 use Rattle.journal_meaning.specs.declared.Entry.{Entry}
 use Rattle.journal_meaning.specs.declared.Entry.TheVariants.{Filled}
 use Rattle.batch_meaning.specs.declared.Query.{Query}
-use Rattle.journal_meaning.specs.Answers.{IsCovered, filled}
+use Rattle.journal_meaning.specs.Answers.{IsCovered, fill_count}
 use Rattle.batch_meaning.specs.Batches.{Batch, IsNeededBy}
 use Rattle.journal_meaning.specs.Grown.{IsFor, GrowsBy}
 use Rattle.journal_meaning.specs.inner.Grown.{IsForOther}
@@ -56,7 +56,7 @@ pub all-open : (c : Circuit) (es : List Entry) (qs : List Query) → Each (λ q.
 all-open c es [] = tt
 all-open c es (q ∷ qs) = (record { added = []; grows = grows-none es; fed = λ p x h. absurd (contains-none _ [] refl h); refusals = refl }, all-open c es qs)
 
-all-filled : (es : List Entry) (qs : List Query) → Each (λ q. filled es q.number ≡ filled es q.number) qs
+all-filled : (es : List Entry) (qs : List Query) → Each (λ q. fill_count es q.number ≡ fill_count es q.number) qs
 all-filled es [] = tt
 all-filled es (q ∷ qs) = (refl, all-filled es qs)
 
@@ -81,7 +81,7 @@ module _ (c : Circuit) (start now more new : List Entry) (g : GrowsBy now more n
     others r ne = each-imply (IsFor q.number) (IsForOther r) (for-other r q.number ne) more own
 
     -- what was filled for others is what had been
-    pub fills-kept : (qs : List Query) → Each (λ r. q.number ≢ r.number) qs → Each (λ r. filled now r.number ≡ filled start r.number) qs → Each (λ r. filled new r.number ≡ filled start r.number) qs
+    pub fills-kept : (qs : List Query) → Each (λ r. q.number ≢ r.number) qs → Each (λ r. fill_count now r.number ≡ fill_count start r.number) qs → Each (λ r. fill_count new r.number ≡ fill_count start r.number) qs
     fills-kept [] ne h = tt
     fills-kept (r ∷ qs) ne h = (
       let a = h.0 in
@@ -215,9 +215,9 @@ module _ (b : Batch) (lawful : IsLawful b) (start : List Entry) (first : List Sh
       fed-needed opening fresh begun = subst (λ l. All (IsNeededBy b (get_or qs i d)) l) (sym (is ∙ ap (λ es. fills_of es (get_or qs i d).number) begun)) (fills-wanted b lawful opening (get_or qs i d) next first fresh)
 
       -- and is all that was filled for it: it is as much as it was when settlement began
-      pub fed-count : (now : List Shard) (fs : List Fed) → FedTo now i fs → length points ≡ filled (entries_in now) (get_or qs i d).number
+      pub fed-count : (now : List Shard) (fs : List Fed) → FedTo now i fs → length points ≡ fill_count (entries_in now) (get_or qs i d).number
       fed-count now fs h =
-          ap length is ∙ fills-count start (get_or qs i d).number ∙ sym (subst (λ l. Each (λ (q : Query). filled (entries_in now) q.number ≡ filled start q.number) l) rest h.fills).0
+          ap length is ∙ fills-count start (get_or qs i d).number ∙ sym (subst (λ l. Each (λ (q : Query). fill_count (entries_in now) q.number ≡ fill_count start q.number) l) rest h.fills).0
 
     -- it is fed
     pub fed-next : (now new : List Shard) (fs : List Fed) (f : Fed) → FedTo now i fs → FeedsQuery b (get_or qs i d) start now new f → FedTo new (i + 1) (fs ++ f ∷ [])

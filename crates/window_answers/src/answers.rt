@@ -2,7 +2,7 @@
 
 ghost use Rattle.std.specs.Prelude.{◌≡◌, true, false, min, List, [], All, Contains, None, length, IfOk, OnOk};
 ghost use Rattle.journal_meaning.specs.declared.Entry.{Entry as EntryRecord};
-ghost use Rattle.journal_meaning.specs.Answers.{filled};
+ghost use Rattle.journal_meaning.specs.Answers.{fill_count};
 ghost use Rattle.batch_meaning.specs.Batches.{IsNeededBy};
 ghost use Rattle.batch_meaning.specs.Lawful.{IsLawful};
 ghost use Rattle.plan_machine.specs.Shards.{Shard as ShardRecord};
@@ -61,7 +61,7 @@ fn feed_one<B: BatchName>(
     requires design { design.now.circuit ≡ B.batch.circuit }
     requires known { Contains B.batch.queries q }
     requires needed { All (IsNeededBy B.batch q) points.now }
-    requires counts { length points.now ≡ filled (entries_of memo.old) q.number }
+    requires counts { length points.now ≡ fill_count (entries_of memo.old) q.number }
     requires heard { heard ≡ true → All (IsVisited B.batch.circuit (entries_of memo.old)) points.now }
     requires kept { AreFreeShards B.batch B.opening memo.old }
     ensures kept { OnOk result (AreFreeShards B.batch B.opening memo.new) }

@@ -3,7 +3,7 @@
 ghost use Rattle.std.specs.Prelude.{◌≡◌, ◌≤◌, ◌++◌, ◌∷◌, [], Contains, None, length, map, flat_map, IfOk, OnOk};
 ghost use Rattle.batch_meaning.specs.Lawful.{IsLawful};
 ghost use Rattle.batch_meaning.specs.Pieces.{IsStart};
-ghost use Rattle.strand_meaning.specs.Strands.{started};
+ghost use Rattle.strand_meaning.specs.Strands.{started_strand};
 ghost use Rattle.batch_meaning.specs.Pieces.{next_cut, spans_of, pieces};
 ghost use Rattle.plan_core.specs.Parts.{strands_in};
 ghost use Rattle.window_answers.specs.Strands.{IsInOrder};
@@ -50,7 +50,7 @@ fn push_piece<B: BatchName>(
     requires order { IsInOrder strands.old.items }
     ensures order { OnOk result (IsInOrder strands.new.items) }
     ensures strands { OnOk result (strands_in strands.new.items ≡ strands_in
-        strands.old.items ++ started B.batch.circuit (piece_start q from to budget) ∷ []) }
+        strands.old.items ++ started_strand B.batch.circuit (piece_start q from to budget) ∷ []) }
 {
     let Ok(number) = u32::try_from(strands.len()) else {
         return Err(OutOfMemory);
@@ -71,7 +71,7 @@ fn push_pieces<B: BatchName>(
     requires order { IsInOrder strands.old.items }
     ensures order { OnOk result (IsInOrder strands.new.items) }
     ensures strands { OnOk result (strands_in strands.new.items ≡ strands_in
-        strands.old.items ++ map (started B.batch.circuit) (pieces q)) }
+        strands.old.items ++ map (started_strand B.batch.circuit) (pieces q)) }
 {
     let count = count_pieces(q);
     let each = q.budget / count;
@@ -96,7 +96,7 @@ pub fn strands_of<B: BatchName>(
     requires queries { queries.now ≡ B.batch.queries }
     ensures order { IfOk result (λ strands. IsInOrder strands.items) }
     ensures strands { IfOk result (λ strands. strands_in strands.items ≡ map
-        (started B.batch.circuit) (flat_map pieces queries.now)) }
+        (started_strand B.batch.circuit) (flat_map pieces queries.now)) }
 {
     let mut strands = Vec::new(alloc);
     for &q in queries {

@@ -1,6 +1,6 @@
 -- Strands that have ended, at their places.
 use Rattle.std.specs.Prelude.{◌≡◌, ◌≢◌, ℕ, ◌+◌, ◌<◌, ◌^◌, ◌-◌, true, List, [], length, sum_by, Option, Some, None, slice_get, slice_index}
-use Rattle.journal_meaning.specs.Counts.{booked}
+use Rattle.journal_meaning.specs.Counts.{booked_count}
 use Rattle.demand_points.specs.declared.strand.Task.{Task}
 use Rattle.demand_points.specs.Demands.{Demand}
 use Rattle.strand_meaning.specs.Strands.{next}
@@ -59,7 +59,7 @@ AreNew strands = (i : ℕ) (s : Demand) → slice_get strands i ≡ Some s → I
 
 -- how many claims and fills a shard has recorded
 abbrev pub booked_in : KeptShard → ℕ
-booked_in m = booked m.shard.journal
+booked_in m = booked_count m.shard.journal
 
 -- how often the strand at a place has claimed and filled a point
 abbrev pub booked_at : Option Demand → ℕ

@@ -100,12 +100,12 @@ fn gave_up_early<B: BatchName>(strand: &Strand<B>) -> bool
     ensures { result ≡ false → strand.now.strand.spent ≡ true
         → strand.now.strand.charged ≡ strand.now.strand.budget }
 {
-    strand.is_spent() && strand.charged() != strand.task().budget
+    strand.is_spent() && strand.charge() != strand.task().budget
 }
 
 /// How often the strand has claimed and filled a point.
 pub fn booked_of<B: BatchName>(strand: &Strand<B>) -> u64
     ensures { result ≡ strand.now.strand.charged + strand.now.strand.filled }
 {
-    strand.charged() as u64 + strand.filled() as u64
+    strand.charge() as u64 + strand.fills() as u64
 }

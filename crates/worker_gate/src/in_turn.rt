@@ -3,7 +3,7 @@
 ghost use Rattle.std.specs.Prelude.{◌≡◌, ◌↔◌, ◌^◌, ◌<◌, ◌≤◌, IsTrue, true, false, [], map, length, sum, sum_by, vec_len, All, IfOk, MatchOption};
 ghost use Rattle.batch_meaning.specs.Lawful.{IsLawful};
 ghost use Rattle.demand_points.specs.Demands.{IsKnownStrand};
-ghost use Rattle.journal_meaning.specs.Counts.{booked, is_booked};
+ghost use Rattle.journal_meaning.specs.Counts.{booked_count, is_booked};
 ghost use Rattle.memo_shards.specs.KeptShards.{IsKnownShard};
 ghost use Rattle.plan_core.specs.InTurn.{AllChildrenCovered, AreStarted, IsUnbegun};
 ghost use Rattle.plan_core.specs.Parts.{shards_in, strands_in};

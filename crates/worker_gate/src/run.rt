@@ -7,7 +7,7 @@ ghost use Rattle.worker_gate.specs.Ends.{task_of, AreEnds, AreFilled, AreInOrder
 use crate::board::Board;
 use crate::gate::Gate;
 use crate::ran::{CountList, EndedList, Ran, ShardList};
-use crate::slot::{Held, Slot};
+use crate::slot::{CountedShard, Slot};
 use crate::worker::{Shared, Worker};
 use demand_points::{BatchName, Strand, Task};
 use design::Design;
@@ -41,8 +41,8 @@ fn lock_each<B: BatchName>(
     while !shards.is_empty() {
         let shard = shards.remove(0);
         let counts = no_counts(alloc, strands)?;
-        let held = Some(Held { shard, counts });
-        slots.push(Mutex::new(Slot { held }))?;
+        let content = Some(CountedShard { shard, counts });
+        slots.push(Mutex::new(Slot { content }))?;
     }
     Ok(slots)
 }
@@ -76,12 +76,12 @@ pub fn empty_board<B: BatchName>(alloc: Global, tasks: Vec<Task>) -> Result<Boar
 }
 
 // Takes out the shard with this number, however often the lock has to be taken.
-fn take_shard<B: BatchName, R: Wait>(rt: &R, lock: &Mutex<Slot<B>>, number: u32) -> Held<B>
+fn take_shard<B: BatchName, R: Wait>(rt: &R, lock: &Mutex<Slot<B>>, number: u32) -> CountedShard<B>
     ensures { result.shard.number ≡ number }
 {
     for _ in rt.forever() {
-        if let Some(held) = lock.lock(rt).take(number) {
-            return held;
+        if let Some(counted) = lock.lock(rt).take(number) {
+            return counted;
         }
     }
     unreachable!()
@@ -120,7 +120,7 @@ fn take_all<B: BatchName, R: Wait>(
     let mut shards = Vec::new(alloc);
     let mut counts = no_counts(alloc, strands)?;
     for i in 0..slots.len() {
-        let Held {
+        let CountedShard {
             shard,
             counts: more,
         } = take_shard(rt, &slots[i], i as u32);

@@ -20,13 +20,13 @@ use valid_intervals::Point;
 
 /// A shard, and for each strand the number of claims and fills that the shard has recorded of it.
 #[derive(Drop)]
-pub struct Held<B: BatchName> {
+pub struct CountedShard<B: BatchName> {
     pub shard: Shard<B>,
     pub counts: Vec<u64>,
     ghost amount: { sum counts.items ≡ booked_in shard },
 }
 
-impl<B: BatchName> Held<B> {
+impl<B: BatchName> CountedShard<B> {
     /// Whether the shard with this number is this one, can count one more claim or fill of the strand, and has the claim that its next
     /// step ends.
     pub fn can_step(&self, strand: &Strand<B>, next: Next, number: usize) -> bool
@@ -57,7 +57,7 @@ impl<B: BatchName> Held<B> {
         requires stands { MayStep B.batch self.old.shard next strand.old }
         ensures { OfStep B.batch self.old.shard self.new.shard next strand.old strand.new result }
     {
-        let Held { shard, counts } = self;
+        let CountedShard { shard, counts } = self;
         let n = strand.number() as usize;
         let came = shard.step(strand, design, next)?;
         match &came {
@@ -85,16 +85,16 @@ impl<B: BatchName> Held<B> {
 /// What stands under the lock of a shard.
 #[derive(Drop)]
 pub struct Slot<B: BatchName> {
-    pub held: Option<Held<B>>,
+    pub content: Option<CountedShard<B>>,
 }
 
 impl<B: BatchName> Slot<B> {
     /// The shard, where it is there and has this number.
-    pub fn take(&mut self, number: u32) -> Option<Held<B>>
+    pub fn take(&mut self, number: u32) -> Option<CountedShard<B>>
         ensures { IfSome result (λ h. h.shard.number ≡ number) }
     {
-        match &self.held {
-            Some(h) if h.shard.number() == number => self.held.take(),
+        match &self.content {
+            Some(h) if h.shard.number() == number => self.content.take(),
             _ => None,
         }
     }

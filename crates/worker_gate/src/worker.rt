@@ -182,10 +182,10 @@ impl<B: BatchName> Shared<B> {
         p: Point,
     ) -> MutexGuard<'_, Slot<B>>
         requires { p ≡ step_point next }
-        ensures some { IsSome (mutex_guard_value result).held }
-        ensures stands { IfSome (mutex_guard_value result).held
+        ensures some { IsSome (mutex_guard_value result).content }
+        ensures stands { IfSome (mutex_guard_value result).content
             (λ h. MayStep B.batch h.shard next strand.now) }
-        ensures room { IfSome (mutex_guard_value result).held
+        ensures room { IfSome (mutex_guard_value result).content
             (λ h. HasRoom h.counts.items strand.now.number) }
     {
         let number = shard_number(p.signal, self.count as usize);
@@ -194,10 +194,10 @@ impl<B: BatchName> Shared<B> {
                 continue;
             };
             let slot = take_lock(rt, lock);
-            let Some(held) = &slot.held else {
+            let Some(counted) = &slot.content else {
                 continue;
             };
-            if held.can_step(strand, next, number) {
+            if counted.can_step(strand, next, number) {
                 worker.gate.within(worker.number, number as u32);
                 return slot;
             }
@@ -223,16 +223,16 @@ impl<B: BatchName> Shared<B> {
             return Turn::Rests;
         };
         let mut slot = self.lock_shard(rt, worker, &strand, next, p);
-        let Some(held) = &mut slot.held else {
+        let Some(counted) = &mut slot.content else {
             unreachable!();
         };
-        match held.step(&mut strand, design, next) {
+        match counted.step(&mut strand, design, next) {
             Ok(Step::Heard) => Turn::Goes(strand),
             Ok(Step::Holds) => Turn::Goes(strand),
             Ok(Step::Refused) => Turn::Goes(strand),
             Ok(Step::Filled(woken)) => Turn::Wakes(strand, woken),
             Ok(Step::Dropped(woken)) => Turn::Wakes(strand, woken),
-            Ok(Step::Taken) => match held.park(strand, p) {
+            Ok(Step::Taken) => match counted.park(strand, p) {
                 Ok(()) => Turn::Rests,
                 Err(_) => Turn::NoMemory,
             },

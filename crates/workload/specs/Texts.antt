@@ -1,6 +1,6 @@
 -- The texts of workload number n. Its draws are used in order: one for each gate, then one for each setting, then two for each
 -- query.
-use Rattle.std.specs.Prelude.{ℕ, ◌+◌, ◌-◌, ◌*◌, ◌/◌, ◌%◌, ◌==◌, List, [], ◌∷◌, ◌++◌, get_or, flat_map, codes, decimal, if◌then◌else◌}
+use Rattle.std.specs.Prelude.{ℕ, ◌+◌, ◌-◌, ◌*◌, ◌/◌, ◌%◌, ◌==◌, List, [], ◌∷◌, ◌++◌, slice_index_or, flat_map, codes, decimal, if◌then◌else◌}
 use Rattle.std.specs.List.{range_with_len}
 use Rattle.workload.specs.Draws.{draw}
 
@@ -12,8 +12,8 @@ unfoldable pub lines_of : (ℕ → List ℕ) → ℕ → List ℕ
 lines_of line many = flat_map line (range_with_len 0 many)
 
 -- the name of an input
-abbrev pub input : ℕ → List ℕ
-input i = codes "i" ++ decimal i
+abbrev pub input_name : ℕ → List ℕ
+input_name i = codes "i" ++ decimal i
 
 -- the name of the gate at this place of this layer
 abbrev pub gate : ℕ → ℕ → List ℕ
@@ -21,14 +21,14 @@ gate layer place = codes "g" ++ decimal layer ++ codes "_" ++ decimal place
 
 -- a signal of the layer below this one, at this place modulo the size of that layer; the 16 inputs lie below layer 0
 abbrev pub below : ℕ → ℕ → List ℕ
-below layer place = if layer == 0 then input (place % 16) else gate (layer - 1) (place % 2000)
+below layer place = if layer == 0 then input_name (place % 16) else gate (layer - 1) (place % 2000)
 
 -- the kind with this number
 abbrev pub kind : ℕ → List ℕ
-kind k = get_or (codes "AND" ∷ codes "NAND" ∷ codes "OR" ∷ codes "NOR" ∷ codes "XOR" ∷ codes "XNOR" ∷ []) k []
+kind k = slice_index_or (codes "AND" ∷ codes "NAND" ∷ codes "OR" ∷ codes "NOR" ∷ codes "XOR" ∷ codes "XNOR" ∷ []) k []
 
 abbrev pub input_line : ℕ → List ℕ
-input_line i = codes "INPUT(" ++ input i ++ codes ")" ++ line_feed
+input_line i = codes "INPUT(" ++ input_name i ++ codes ")" ++ line_feed
 
 -- the two neighbours below a gate
 abbrev pub pins_text : ℕ → ℕ → List ℕ
@@ -55,7 +55,7 @@ timing_text = codes "default 1" ++ line_feed
 
 -- this input takes this value at this time
 abbrev pub setting_text : ℕ → ℕ → ℕ → List ℕ
-setting_text i time value = codes "set " ++ input i ++ codes " " ++ decimal time ++ codes " " ++ decimal value ++ line_feed
+setting_text i time value = codes "set " ++ input_name i ++ codes " " ++ decimal time ++ codes " " ++ decimal value ++ line_feed
 
 -- the settings are numbered time by time: all inputs are set at each multiple of 10
 abbrev pub setting_line : ℕ → ℕ → List ℕ

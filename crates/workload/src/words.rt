@@ -3,7 +3,7 @@
 //! returned.
 
 ghost use Rattle.std.specs.Prelude.{◌≡◌, ◌+◌, ◌<◌, ◌≤◌, ◌++◌, length, drop};
-ghost use Rattle.workload.specs.Texts.{input, gate, below, kind};
+ghost use Rattle.workload.specs.Texts.{input_name, gate, below, kind};
 
 use text_fields::write_number;
 
@@ -23,7 +23,7 @@ pub fn write_word(word: &[u8], line: &mut [u8], end: usize) -> usize
 pub fn write_input(number: u32, line: &mut [u8], end: usize) -> usize
     requires { (11 ≤ end) × (end ≤ length line.old) }
     ensures room { (result ≤ end) × (end ≤ result + 11) }
-    ensures written { drop result line.new ≡ input number ++ drop end line.old }
+    ensures written { drop result line.new ≡ input_name number ++ drop end line.old }
 {
     write_number(b'i', number, line, end)
 }

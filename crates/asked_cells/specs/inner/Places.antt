@@ -1,5 +1,5 @@
 -- Where the entries of a journal stand that say cells: in chains, by a hash of the points for which they were recorded.
-use Rattle.std.specs.Prelude.{◌≡◌, ◌≢◌, ℕ, zero, suc, ◌+◌, ◌-◌, ◌*◌, ◌/◌, ◌^◌, ◌<◌, ◌≤◌, ◌⊎◌, bit_and, List, [], ◌∷◌, length, take, get_or, Option, Some, None}
+use Rattle.std.specs.Prelude.{◌≡◌, ◌≢◌, ℕ, zero, suc, ◌+◌, ◌-◌, ◌*◌, ◌/◌, ◌^◌, ◌<◌, ◌≤◌, ◌⊎◌, bit_and, List, [], ◌∷◌, length, take, slice_index_or, Option, Some, None}
 use Rattle.std.specs.List.{AllByRecursion}
 use Rattle.valid_intervals.specs.declared.Point.{Point}
 use Rattle.journal_meaning.specs.declared.Entry.{Entry}
@@ -22,7 +22,7 @@ chain_of p chains = bit_and (p.signal * 2654435761 / 65536 + p.time) (chains - 1
 -- The places of a chain that ends with this number: a number is a place and 1, and 0 is none. `before` has the number before each place.
 abbrev pub IsChain : List ℕ → ℕ → List ℕ → Type 0
 IsChain before number [] = number ≡ 0
-IsChain before number (place ∷ places) = (number ≡ place + 1) × IsChain before (get_or before place 0) places
+IsChain before number (place ∷ places) = (number ≡ place + 1) × IsChain before (slice_index_or before place 0) places
 
 -- the entry in one of the places was recorded for the point
 abbrev pub HasPoint : List Entry → Point → List ℕ → Type 0
@@ -57,11 +57,11 @@ pub record IsChainOf (journal : List Entry) (noted chains chain : ℕ) (before :
 
 -- the chain of a point
 abbrev pub IsChainFor : List Entry → ℕ → List ℕ → List ℕ → Point → Type 0
-IsChainFor journal noted last before p = IsChainOf journal noted (length last) (chain_of p (length last)) before (get_or last (chain_of p (length last)) 0)
+IsChainFor journal noted last before p = IsChainOf journal noted (length last) (chain_of p (length last)) before (slice_index_or last (chain_of p (length last)) 0)
 
 -- each chain, by its last number
 abbrev pub AreNoted : List Entry → ℕ → List ℕ → List ℕ → Type 0
-AreNoted journal noted last before = (chain : ℕ) → IsChainOf journal noted (length last) chain before (get_or last chain 0)
+AreNoted journal noted last before = (chain : ℕ) → IsChainOf journal noted (length last) chain before (slice_index_or last chain 0)
 
 -- so many chains, a power of two, are enough for so many entries: at least one for three
 pub record AreEnough (entries chains : ℕ) : Type 0 where

@@ -77,7 +77,7 @@ fn failing(alloc: Global, object: Object, faulty: Object, call: u64) -> Result<V
 
 /// What was written into the created file at this place; nothing where there is none.
 pub fn bytes_in(alloc: Global, files: &MemFiles, place: u32) -> Result<Vec<u8>, Fail> {
-    match files.made(place) {
+    match files.made_file(place) {
         Some(bytes) => Ok(bytes.to_vec(alloc)?),
         None => Ok(Vec::new(alloc)),
     }

@@ -4,8 +4,8 @@ use Rattle.owned_text.specs.Made.{Made}
 use Rattle.backsim_io.specs.KeptBytes.{Kept}
 
 -- the first 255 bytes of a file's name, and the first bytes of the file that the room allows
-abbrev pub cut : ℕ → Made → Made
-cut room file = record { name = take 255 file.name; bytes = take room file.bytes }
+abbrev pub front_of : ℕ → Made → Made
+front_of room file = record { name = take 255 file.name; bytes = take room file.bytes }
 
 -- the kept part of a created file
 pub record KeptFile : Type 0 where

@@ -1,26 +1,26 @@
 -- Names in buckets, by a hash, and in chains through each bucket.
-use Rattle.std.specs.Prelude.{◌≡◌, ℕ, zero, suc, ◌-◌, ◌*◌, ◌/◌, ◌%◌, ◌^◌, ◌<◌, ◌≤◌, ◌==◌, nat_lt, nat_le, List, [], length, take, drop, get_or, fold, bit_xor, if◌then◌else◌}
+use Rattle.std.specs.Prelude.{◌≡◌, ℕ, zero, suc, ◌-◌, ◌*◌, ◌/◌, ◌%◌, ◌^◌, ◌<◌, ◌≤◌, ◌==◌, nat_lt, nat_le, List, [], length, take, drop, slice_index_or, fold, bit_xor, if◌then◌else◌}
 use Rattle.std.specs.Int.{w32, w64, from_le_bytes}
 use Rattle.bench_reader.specs.Netlists.{place}
 
 -- the hash with one more word
-abbrev pub mixed : ℕ → ℕ → ℕ
-mixed hash word = (bit_xor hash word * 11400714819323198485) % 2 ^ 64
+abbrev pub mixed_hash : ℕ → ℕ → ℕ
+mixed_hash hash word = (bit_xor hash word * 11400714819323198485) % 2 ^ 64
 
 -- by the first four bytes and the last four
 abbrev pub by_fours : List ℕ → ℕ
-by_fours name = mixed (mixed 0 (from_le_bytes w32 (take 4 name))) (from_le_bytes w32 (drop (length name - 4) name))
+by_fours name = mixed_hash (mixed_hash 0 (from_le_bytes w32 (take 4 name))) (from_le_bytes w32 (drop (length name - 4) name))
 
 -- by the first eight bytes and the last eight
 abbrev pub by_eights : List ℕ → ℕ
-by_eights name = mixed (mixed 0 (from_le_bytes w64 (take 8 name))) (from_le_bytes w64 (drop (length name - 8) name))
+by_eights name = mixed_hash (mixed_hash 0 (from_le_bytes w64 (take 8 name))) (from_le_bytes w64 (drop (length name - 8) name))
 
 -- the hash of a name
 unfoldable pub hash_of : List ℕ → ℕ
 hash_of name =
-    if nat_lt (length name) 4 then fold mixed 0 name else (
+    if nat_lt (length name) 4 then fold mixed_hash 0 name else (
     if nat_le (length name) 8 then by_fours name else (
-    if nat_le (length name) 16 then by_eights name else fold mixed 0 name))
+    if nat_le (length name) 16 then by_eights name else fold mixed_hash 0 name))
 
 -- the bucket of a hash, of so many
 unfoldable pub bucket_in : ℕ → ℕ → ℕ
@@ -32,7 +32,7 @@ bucket_of count name = bucket_in count (hash_of name)
 
 -- the bucket of the name with this number
 abbrev pub bucket_at : List (List ℕ) → ℕ → ℕ → ℕ
-bucket_at names count number = bucket_of count (get_or names number [])
+bucket_at names count number = bucket_of count (slice_index_or names number [])
 
 -- of the first n names the last that lies in this bucket, numbered from 1; 0 where none does
 abbrev pub last_in : (ℕ → ℕ) → ℕ → ℕ → ℕ
@@ -41,8 +41,8 @@ last_in bucket b (suc n) = if bucket n == b then suc n else last_in bucket b n
 
 -- for each bucket its last name, and for each name the one before it there, of the first n
 pub record IsChained (bucket : ℕ → ℕ) (n : ℕ) (latest earlier : List ℕ) : Type 0 where
-  pub heads : (b : ℕ) → b < length latest → get_or latest b 0 ≡ last_in bucket b n
-  pub links : (i : ℕ) → i < n → get_or earlier i 0 ≡ last_in bucket (bucket i) i
+  pub heads : (b : ℕ) → b < length latest → slice_index_or latest b 0 ≡ last_in bucket b n
+  pub links : (i : ℕ) → i < n → slice_index_or earlier i 0 ≡ last_in bucket (bucket i) i
 
 -- all these names are in chains
 pub record AreChained (names : List (List ℕ)) (latest earlier : List ℕ) : Type 0 where
@@ -54,19 +54,19 @@ pub record AreChained (names : List (List ℕ)) (latest earlier : List ℕ) : Ty
 -- the chain of a name's bucket begins here
 pub record BeginsChain (names : List (List ℕ)) (earlier : List ℕ) (name : List ℕ) (last : ℕ) : Type 0 where
   pub begins : last ≡ last_in (bucket_at names (length earlier)) (bucket_of (length earlier) name) (length names)
-  pub links : (i : ℕ) → i < length names → get_or earlier i 0 ≡ last_in (bucket_at names (length earlier)) (bucket_at names (length earlier) i) i
+  pub links : (i : ℕ) → i < length names → slice_index_or earlier i 0 ≡ last_in (bucket_at names (length earlier)) (bucket_at names (length earlier) i) i
   pub room : length names ≤ length earlier
 
 -- no name has this number and these bytes
 abbrev pub IsNowhere : List (List ℕ) → List ℕ → Type 0
-IsNowhere names name = (i : ℕ) → i < length names → get_or names i [] ≡ name → ⊥
+IsNowhere names name = (i : ℕ) → i < length names → slice_index_or names i [] ≡ name → ⊥
 
 -- the name has this number
 pub record HasNumber (names : List (List ℕ)) (name : List ℕ) (number : ℕ) : Type 0 where
   pub within : number < length names
-  pub there : get_or names number [] ≡ name
+  pub there : slice_index_or names number [] ≡ name
 
 -- no name stands twice, and all are in chains
 pub record AreNumbered (names : List (List ℕ)) (latest earlier : List ℕ) : Type 0 where
   pub chains : AreChained names latest earlier
-  pub distinct : (i : ℕ) → i < length names → place names (get_or names i []) ≡ i
+  pub distinct : (i : ℕ) → i < length names → place names (slice_index_or names i []) ≡ i

@@ -1,5 +1,5 @@
 -- What the reader knows between two lines.
-use Rattle.std.specs.Prelude.{◌≡◌, ℕ, ◌+◌, ◌-◌, ◌<◌, ◌≤◌, Bool, true, false, nat_eq, List, [], ◌∷◌, ◌++◌, length, map, take, drop, replicate, find, Option, Some, None, Result, get_or}
+use Rattle.std.specs.Prelude.{◌≡◌, ℕ, ◌+◌, ◌-◌, ◌<◌, ◌≤◌, Bool, true, false, nat_eq, List, [], ◌∷◌, ◌++◌, length, map, take, drop, replicate, find, Option, Some, None, Result, slice_index_or}
 use Rattle.std.specs.List.{flat_map, list_all, list_any}
 use Rattle.indexmap.specs.IndexSet.{insert_all}
 use Rattle.gate_values.specs.declared.Kind.{Kind}
@@ -31,14 +31,14 @@ is_defined (Gate kind count start) = true
 
 -- where there is no definition yet, it is missing
 abbrev pub is_gate_at : List Definition → ℕ → Bool
-is_gate_at rows i = is_gate (get_or rows i (Missing 0))
+is_gate_at rows i = is_gate (slice_index_or rows i (Missing 0))
 
 abbrev pub is_defined_at : List Definition → ℕ → Bool
-is_defined_at rows i = is_defined (get_or rows i (Missing 0))
+is_defined_at rows i = is_defined (slice_index_or rows i (Missing 0))
 
 -- rows for so many names, where the names without a row yet are first named on this line
-abbrev pub padded : List Definition → ℕ → ℕ → List Definition
-padded rows count number = rows ++ replicate (count - length rows) (Missing number)
+abbrev pub padded_rows : List Definition → ℕ → ℕ → List Definition
+padded_rows rows count number = rows ++ replicate (count - length rows) (Missing number)
 
 -- the line of the first that is missing
 abbrev pub first_missing : List Definition → Option ℕ
@@ -90,7 +90,7 @@ Tells before i (Gate kind count start) name = IsGate before kind start count nam
 -- the reader's lists are what these lines say
 pub record Knows (before : List Line) (ks : List (List ℕ)) (rows : List Definition) (pins outputs : List ℕ) : Type 0 where
   pub names_are : ks ≡ names before
-  pub told : (i : ℕ) → i < length ks → Tells before i (get_or rows i (Missing 0)) (get_or ks i [])
+  pub told : (i : ℕ) → i < length ks → Tells before i (slice_index_or rows i (Missing 0)) (slice_index_or ks i [])
   pub pins_are : Numbered ks pins (flat_map pins_in before)
   pub ids : List ℕ
   pub ids_are : Numbered ks ids (flat_map outputs_in before)

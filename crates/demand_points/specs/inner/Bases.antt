@@ -14,8 +14,8 @@ abbrev pub left_after : Circuit → Point → ℕ → List Point
 left_after c p n = filter (is_evaluable c) (somes (drop n (looked_at c p)))
 
 -- as contracts see it: a claimed point, and the children that it still waits for
-abbrev pub shown : Circuit → PinWalk → strands.Frame
-shown c w = record { point = w.point; left = left_after c w.point w.looked }
+abbrev pub shown_frame : Circuit → PinWalk → strands.Frame
+shown_frame c w = record { point = w.point; left = left_after c w.point w.looked }
 
 -- it has looked at all that it looks at, or asks for a point that has no base answer
 abbrev pub IsReady : Circuit → PinWalk → Type 0

@@ -13,7 +13,7 @@ use Rattle.pin_walks.specs.declared.walk.PinWalk.{PinWalk}
 use Rattle.demand_points.specs.declared.parts.Parts.{Parts}
 use Rattle.demand_points.specs.inner.Stacks.{IsTop, with_top}
 use Rattle.pin_walks.specs.PinWalks.{IsPinWalk, IsLooking, next_point}
-use Rattle.demand_points.specs.inner.Bases.{IsReady, shown}
+use Rattle.demand_points.specs.inner.Bases.{IsReady, shown_frame}
 use Rattle.demand_points.specs.Demands.{Demand, IsLastHeard, roots_left}
 
 abbrev pub window_in : Parts → Window
@@ -27,7 +27,7 @@ strand_of c s = record {
   query = s.query;
   budget = s.budget;
   roots = roots_left c (window_in s) s.root;
-  stack = map (shown c) s.stack;
+  stack = map (shown_frame c) s.stack;
   charged = s.charged;
   filled = s.filled;
   spent = s.spent;

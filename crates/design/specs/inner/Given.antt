@@ -1,7 +1,7 @@
 -- The cells that need no evaluation, from what is kept of a signal.
 use Rattle.std.specs.Prelude.{ℕ, zero, suc, List, Option, Some, None, slice_get}
 use Rattle.std.specs.Option.{option_map_or}
-use Rattle.valid_intervals.specs.Spans.{Span, from_to, moved}
+use Rattle.valid_intervals.specs.Spans.{Span, from_to, moved_span}
 use Rattle.circuit_meaning.specs.declared.Setting.{Setting}
 
 -- the last of the first n settings
@@ -16,4 +16,4 @@ next_of settings n limit = option_map_or (λ (s : Setting). s.time) (slice_get s
 -- what a pin with this delay sees, from the interval of its source
 abbrev pub later_of : ℕ → Option Span → Span
 later_of delay None = from_to 0 delay
-later_of delay (Some heard) = moved delay heard
+later_of delay (Some heard) = moved_span delay heard

@@ -4,7 +4,7 @@ use Rattle.std.specs.List.{find}
 use Rattle.gate_values.specs.declared.Value.{Value}
 use Rattle.circuit_meaning.specs.declared.Setting.{Setting}
 use Rattle.circuit_meaning.specs.Circuit.{Circuit}
-use Rattle.circuit_meaning.specs.Forced.{forced}
+use Rattle.circuit_meaning.specs.Forced.{forced_circuit}
 use Rattle.design.specs.declared.held.HeldSignal.{HeldSignal}
 use Rattle.design.specs.Joined.{Joined, IsDesign}
 use Rattle.design.specs.inner.Walk.{AreReaders}
@@ -17,7 +17,7 @@ held_settings w = record { time = 0; value = w } ∷ []
 -- list to the first.
 abbrev pub held_circuit : Circuit → List HeldSignal → Circuit
 held_circuit c [] = c
-held_circuit c (h ∷ earlier) = forced (held_circuit c earlier) h.site h.value
+held_circuit c (h ∷ earlier) = forced_circuit (held_circuit c earlier) h.site h.value
 
 -- the value at which a signal is held: that of its first entry
 abbrev pub value_of : List HeldSignal → ℕ → Option Value

@@ -1,5 +1,5 @@
 -- Definitions for proofs and private functions, beside `KeptDesigns`.
-use Rattle.std.specs.Prelude.{◌≡◌, ℕ, ◌+◌, ◌<◌, ◌≤◌, List, [], ◌∷◌, length, map, take, drop, get_or, AllPairs, None}
+use Rattle.std.specs.Prelude.{◌≡◌, ℕ, ◌+◌, ◌<◌, ◌≤◌, List, [], ◌∷◌, length, map, take, drop, slice_index_or, AllPairs, None}
 use Rattle.std.specs.List.{range_with_len}
 use Rattle.bench_reader.specs.Netlists.{Primary, Content, pins_of}
 use Rattle.gate_values.specs.declared.Value.TheVariants.{X}
@@ -32,10 +32,10 @@ abbrev pub delays_at : KeptDesign → ℕ → ℕ → List ℕ
 delays_at k start pins = take pins (drop start k.delays)
 
 abbrev pub flop_at : KeptDesign → ℕ → FlipFlop
-flop_at k place = get_or k.flops place (record { pin = 0; delay = 1; clock = None; initial = X })
+flop_at k place = slice_index_or k.flops place (record { pin = 0; delay = 1; clock = None; initial = X })
 
 abbrev pub settings_at : KeptDesign → ℕ → List Setting
-settings_at k place = get_or k.settings place []
+settings_at k place = slice_index_or k.settings place []
 
 -- the driver with this row, which reads these signals
 abbrev pub driver_of : KeptDesign → List ℕ → Row → Driver
@@ -50,10 +50,10 @@ FitsRow k signals (row.Gate kind least start) = (start + length signals ≤ leng
 FitsRow k signals (row.Flop place) = (place < length k.flops) × (signals ≡ (flop_at k place).pin ∷ [])
 
 abbrev pub signals_of : KeptDesign → ℕ → List ℕ
-signals_of k s = pins_of (get_or k.netlist.rows s Primary)
+signals_of k s = pins_of (slice_index_or k.netlist.rows s Primary)
 
 abbrev pub row_at : KeptDesign → ℕ → Row
-row_at k s = get_or k.rows s (row.Input 0)
+row_at k s = slice_index_or k.rows s (row.Input 0)
 
 abbrev pub driver_at : KeptDesign → ℕ → Driver
 driver_at k s = driver_of k (signals_of k s) (row_at k s)

@@ -1,5 +1,5 @@
 -- What is kept of the rows of the two files while they are read.
-use Rattle.std.specs.Prelude.{◌≡◌, ℕ, zero, suc, Bool, ◌&&◌, nat_eq, List, [], ◌∷◌, ◌++◌, length, map, filter, get_or, Option, Some, None, Result, Ok, Err, if◌then◌else◌, ◌⊎◌, ◌<◌, true, false, fold, min}
+use Rattle.std.specs.Prelude.{◌≡◌, ℕ, zero, suc, Bool, ◌&&◌, nat_eq, List, [], ◌∷◌, ◌++◌, length, map, filter, slice_index_or, Option, Some, None, Result, Ok, Err, if◌then◌else◌, ◌⊎◌, ◌<◌, true, false, fold, min}
 use Rattle.std.specs.Option.{ok_or}
 use Rattle.std.specs.Global.{Vec}
 use Rattle.std.specs.Str.{bytes_eq}
@@ -80,7 +80,7 @@ place_of netlist s = if is_input (driver_at netlist s) then Some (length (inputs
 -- the rows tell which signals are inputs, and their places
 pub record KnowsInputs (netlist : netlists.Content) (rows : List Row) : Type 0 where
   pub long : length rows ≡ length netlist.names
-  pub each : (s : ℕ) → s < length netlist.names → place_in (get_or rows s (row.Input 0)) ≡ place_of netlist s
+  pub each : (s : ℕ) → s < length netlist.names → place_in (slice_index_or rows s (row.Input 0)) ≡ place_of netlist s
 
 -- the place of the input with this number, or why it is none
 abbrev pub input_numbered : netlists.Content → Option ℕ → Result ℕ JoinCause
@@ -100,7 +100,7 @@ lists_in buckets = map (λ b. b.items) buckets
 -- the settings of each input in the order of the file
 pub record HasSets (netlist : netlists.Content) (rows : List SetRow) (buckets : List (Vec Setting)) : Type 0 where
   pub long : length buckets ≡ length (inputs_of netlist)
-  pub each : (k : ℕ) → k < length (inputs_of netlist) → get_or (lists_in buckets) k [] ≡ bucket_of netlist rows (get_or (inputs_of netlist) k 0)
+  pub each : (k : ℕ) → k < length (inputs_of netlist) → slice_index_or (lists_in buckets) k [] ≡ bucket_of netlist rows (slice_index_or (inputs_of netlist) k 0)
 
 abbrev pub TakesSet : netlists.Content → ℕ → List SetRow → SetRow → List (Vec Setting) → Result (Unit {0}) JoinFault → Type 0
 TakesSet netlist horizon before row buckets (Ok x) = (set_fault netlist horizon row ≡ None) × HasSets netlist (before ++ row ∷ []) buckets

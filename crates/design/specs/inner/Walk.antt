@@ -1,5 +1,5 @@
 -- A walk from signal to signal: which signals are marked, which of them are still to be visited, and which signals read which.
-use Rattle.std.specs.Prelude.{◌≡◌, ℕ, ◌+◌, ◌<◌, Bool, false, not, ◌&&◌, ◌||◌, nat_eq, nat_lt, List, [], length, get_or, count_by, All}
+use Rattle.std.specs.Prelude.{◌≡◌, ℕ, ◌+◌, ◌<◌, Bool, false, not, ◌&&◌, ◌||◌, nat_eq, nat_lt, List, [], length, slice_index_or, count_by, All}
 use Rattle.std.specs.List.{list_any}
 use Rattle.circuit_meaning.specs.Circuit.{Circuit, driver, read_by}
 
@@ -7,7 +7,7 @@ abbrev pub has : List ℕ → ℕ → Bool
 has signals x = list_any (nat_eq x) signals
 
 abbrev pub is_marked : List Bool → ℕ → Bool
-is_marked marks x = get_or marks x false
+is_marked marks x = slice_index_or marks x false
 
 -- These signals are marked, and those that were not are to be visited.
 pub record Marks (signals : List ℕ) (marks marks' : List Bool) (ahead ahead' : List ℕ) : Type 0 where
@@ -18,7 +18,7 @@ pub record Marks (signals : List ℕ) (marks marks' : List Bool) (ahead ahead' :
 
 -- the list at a place
 abbrev pub list_at : List (List ℕ) → ℕ → List ℕ
-list_at lists u = get_or lists u []
+list_at lists u = slice_index_or lists u []
 
 -- The reader is added to the lists of these signals.
 pub record AddsReader (reader : ℕ) (reads : List ℕ) (lists lists' : List (List ℕ)) : Type 0 where

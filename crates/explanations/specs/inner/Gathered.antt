@@ -1,5 +1,5 @@
 -- Lines that are gathered: what was asked for, which lines were taken, and which cells wait.
-use Rattle.std.specs.Prelude.{◌≡◌, ◌+◌, ◌*◌, ◌⊎◌, ℕ, List, [], ◌∷◌, length, get_or, All, Contains, AllPairs, Option, Some, None, option_map}
+use Rattle.std.specs.Prelude.{◌≡◌, ◌+◌, ◌*◌, ◌⊎◌, ℕ, List, [], ◌∷◌, length, slice_index_or, All, Contains, AllPairs, Option, Some, None, option_map}
 use Rattle.std.specs.List.{AllByRecursion}
 use Rattle.valid_intervals.specs.Spans.{IsIn}
 use Rattle.valid_intervals.specs.declared.Point.{Point}
@@ -58,7 +58,7 @@ IsSourceKept c lines now (Some p) = (IsEvaluable c p.signal p.time → ⊥) ⊎ 
 
 -- so are all sources that a line looks at where it begins
 abbrev pub AreSourcesKept : Circuit → List SignalCell → Places → SignalCell → Type 0
-AreSourcesKept c lines now x = (n : ℕ) → IsSourceKept c lines now (get_or (looked_points c x.signal x.cell.span.start) n None)
+AreSourcesKept c lines now x = (n : ℕ) → IsSourceKept c lines now (slice_index_or (looked_points c x.signal x.cell.span.start) n None)
 
 -- While lines are gathered, the last taken first: what was asked for is a line or waits, and each that waits comes before each line.
 pub record AreGathered (b : Batch) (q : Query) (es : List Entry) (lines : List SignalCell) (now : Places) : Type 0 where

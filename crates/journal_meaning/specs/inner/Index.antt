@@ -19,7 +19,7 @@ cell_said (Claimed q p) = None
 cell_said (Filled q p x) = Some (record { point = p; cell = x })
 cell_said (Evicted signal start) = None
 cell_said (Dropped q p) = None
-cell_said (Spent q p held) = None
+cell_said (Spent q p claims) = None
 
 -- what the entries say
 abbrev pub cells_said : List Entry → List SaidCell

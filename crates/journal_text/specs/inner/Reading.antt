@@ -66,9 +66,9 @@ unfoldable pub spent_at : List ℕ → Option (Entry × List ℕ)
 spent_at text = do
   q ← field_at text
   p ← point_at q.1
-  held ← field_at p.1
-  rest ← after_word (10 ∷ []) held.1
-  Some (Spent q.0 p.0 held.0, rest)
+  claims ← field_at p.1
+  rest ← after_word (10 ∷ []) claims.1
+  Some (Spent q.0 p.0 claims.0, rest)
 
 -- by the word at the front
 abbrev pub behind : {A : Type 0} → Option (List ℕ) → (List ℕ → Option A) → Option A → Option A

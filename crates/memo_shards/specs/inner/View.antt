@@ -17,8 +17,8 @@ use Rattle.memo_shards.specs.KeptShards.{KeptShard, shard_at}
 use Rattle.memo_shards.specs.inner.KeptShards.{waits_in}
 use Rattle.memo_shards.specs.declared.shard.Shard.TheInside.{Inside}
 
-abbrev pub kept : {X : Type 0} → List SignalCell → Inside X → KeptShard
-kept opening s = record { number = s.number; shard = shard_at opening s.journal.items; waiting = waits_in s.claims }
+abbrev pub kept_shard : {X : Type 0} → List SignalCell → Inside X → KeptShard
+kept_shard opening s = record { number = s.number; shard = shard_at opening s.journal.items; waiting = waits_in s.claims }
 
 -- each strand that waits at a claim asks for its point
 abbrev pub AsksThere : Point × WaitedClaim Demand → Type 0

@@ -8,7 +8,7 @@ use Rattle.strand_meaning.specs.declared.Next.TheVariants.{Ask}
 use Rattle.strand_meaning.specs.Strands.{Strand, next, next_in}
 use Rattle.valid_intervals.specs.Cells.{stored_at}
 use Rattle.plan_machine.specs.Plans.{Plan, shard_of, claim_of}
-use Rattle.plan_machine.specs.Alone.{refused}
+use Rattle.plan_machine.specs.Alone.{plan_refusing}
 use Rattle.demand_points.specs.Demands.{Demand}
 use Rattle.memo_shards.specs.KeptShards.{KeptShard}
 use Rattle.plan_core.specs.inner.Turns.{IsSeen}
@@ -25,7 +25,7 @@ pub record IsRefusedAt (plan : Plan) (n : ℕ) (p : Point) : Type 0 where
 
 -- what recording the refusal changes of the parts
 abbrev pub OfRefusal : Batch → (ℕ → List SignalCell) → Plan → ℕ → Point → List (Option Demand) → List KeptShard → Result Unit OutOfMemory → Type 0
-OfRefusal b opening plan n p places shards (Ok u) = (s : Strand) × ((slice_get plan.strands n ≡ Some s) × IsSeen b opening places shards (refused plan s (Ask p)))
+OfRefusal b opening plan n p places shards (Ok u) = (s : Strand) × ((slice_get plan.strands n ≡ Some s) × IsSeen b opening places shards (plan_refusing plan s (Ask p)))
 OfRefusal b opening plan n p places shards (Err e) = IsSeen b opening places shards plan
 
 -- strand n asks for the point

@@ -9,7 +9,7 @@ use Rattle.strand_meaning.specs.Strands.{next}
 use Rattle.plan_machine.specs.Plans.{Plan}
 use Rattle.plan_machine.specs.declared.Turned.{Turned}
 use Rattle.plan_machine.specs.declared.Turned.TheVariants as comes
-use Rattle.plan_machine.specs.Steps.{turned}
+use Rattle.plan_machine.specs.Steps.{turn_outcome}
 use Rattle.plan_machine.specs.Turns.{turn}
 use Rattle.demand_points.specs.Demands.{Demand, TakesStep, itself}
 use Rattle.memo_shards.specs.KeptShards.{KeptShard}
@@ -36,5 +36,5 @@ pub record IsSeen (b : Batch) (opening : ℕ → List SignalCell) (places : List
 
 -- what a turn of strand n changes of the parts
 abbrev pub OfTurn : Batch → (ℕ → List SignalCell) → Plan → ℕ → List (Option Demand) → List KeptShard → Result Turned OutOfMemory → Type 0
-OfTurn b opening plan n places shards (Ok t) = IsSeen b opening places shards (turn b plan n) × (t ≡ turned plan n)
+OfTurn b opening plan n places shards (Ok t) = IsSeen b opening places shards (turn b plan n) × (t ≡ turn_outcome plan n)
 OfTurn b opening plan n places shards (Err e) = IsSeen b opening places shards plan

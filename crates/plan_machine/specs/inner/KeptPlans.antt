@@ -1,5 +1,5 @@
 -- A plan as code keeps it: places for the strands, and shards that hold the waiting ones.
-use Rattle.std.specs.Prelude.{◌≡◌, ℕ, ◌≤◌, ◌<◌, if◌then◌else◌, List, [], ◌∷◌, ◌++◌, length, map, get_or, Option}
+use Rattle.std.specs.Prelude.{◌≡◌, ℕ, ◌≤◌, ◌<◌, if◌then◌else◌, List, [], ◌∷◌, ◌++◌, length, map, slice_index_or, Option}
 use Rattle.std.specs.List.{AllByRecursion}
 use Rattle.valid_intervals.specs.declared.Point.{Point}
 use Rattle.valid_intervals.specs.Cells.{same_point}
@@ -26,7 +26,7 @@ waiting_at [] p = []
 waiting_at (k ∷ ks) p = if same_point k.point p then k.waiter ∷ waiting_at ks p else waiting_at ks p
 
 abbrev pub waited_shard_at : List WaitedShard → Point → WaitedShard
-waited_shard_at memos p = get_or memos (shard_number p.signal (length memos)) no_waited_shard
+waited_shard_at memos p = slice_index_or memos (shard_number p.signal (length memos)) no_waited_shard
 
 abbrev pub waiters : List WaitedShard → Point → List NumberedStrand
 waiters memos p = waiting_at (waited_shard_at memos p).parked p
@@ -46,4 +46,4 @@ plan_of blank places memos = record { strands = strands_from (all_waiters memos)
 pub record IsKeptPlan (places : List (Option Strand)) (memos : List WaitedShard) (xs : List Strand) : Type 0 where
   pub some : 1 ≤ length memos
   pub parts : AreParts places (waiters memos) xs
-  pub homes : (n : ℕ) → n < length memos → AllByRecursion (λ (k : Parked). shard_number k.point.signal (length memos) ≡ n) (get_or memos n no_waited_shard).parked
+  pub homes : (n : ℕ) → n < length memos → AllByRecursion (λ (k : Parked). shard_number k.point.signal (length memos) ≡ n) (slice_index_or memos n no_waited_shard).parked

@@ -10,7 +10,7 @@ use Rattle.journal_meaning.specs.declared.Entry.{Entry}
 use Rattle.journal_meaning.specs.declared.Entry.TheVariants.{Filled, Dropped}
 use Rattle.batch_meaning.specs.declared.Query.{Query}
 use Rattle.batch_meaning.specs.Batches.{Batch}
-use Rattle.journal_meaning.specs.Answers.{IsCovered, filled, IsSpent}
+use Rattle.journal_meaning.specs.Answers.{IsCovered, fill_count, IsSpent}
 use Rattle.journal_meaning.specs.Grown.{IsFor, refusals, GrowsBy, AreAdded}
 use Rattle.journal_meaning.specs.inner.Grown.{AreTimesCovered}
 use Rattle.batch_meaning.specs.Pieces.{Start}
@@ -48,7 +48,7 @@ pub record IsAskedFor (q : Query) (es : List Entry) (x : Point) (a : Start) : Ty
   pub point : record { signal = a.query.signal; time = a.start } ≡ x
   pub number : a.query.number ≡ q.number
   pub budget : a.budget ≡ q.budget
-  pub charged : a.charged ≤ filled es q.number
+  pub charged : a.charged ≤ fill_count es q.number
   pub stop : a.stop ≡ a.start + 1
 
 abbrev pub StandsAs : Circuit → Query → List Entry → List Entry → Bool → Type 0

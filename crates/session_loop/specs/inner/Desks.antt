@@ -72,8 +72,8 @@ abbrev pub refused_last : Option LastBatch → ℕ → Option VcdReply
 refused_last None made = Some replies.NoBatch
 refused_last (Some last) made = if nat_le 3 made then Some replies.Full else None
 
-abbrev pub refused : Dumps → List ℕ → Option VcdReply
-refused dumps file = if list_any (bytes_eq file) dumps.own.items || list_any (bytes_eq file) dumps.made.items
+abbrev pub refused_reply : Dumps → List ℕ → Option VcdReply
+refused_reply dumps file = if list_any (bytes_eq file) dumps.own.items || list_any (bytes_eq file) dumps.made.items
     then Some replies.Taken
     else refused_last dumps.last (length dumps.made.items)
 

@@ -4,7 +4,7 @@ use Rattle.text_fields.specs.Spelling.{field}
 use Rattle.journal_text.specs.Spelling.{line_feed}
 use Rattle.backsim_io.specs.Counts.{Grows}
 use Rattle.owned_text.specs.Made.{Made}
-use Rattle.backsim_io.specs.Held.{FileGrows}
+use Rattle.backsim_io.specs.FilesInMemory.{FileGrows}
 use Rattle.session_meaning.specs.Broken.{IsPrefix}
 use Rattle.session_loop.specs.Halting.{session_files}
 

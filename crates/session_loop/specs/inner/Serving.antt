@@ -1,5 +1,5 @@
 -- What only the proofs and the private functions of this crate speak of, beside `Serving`.
-use Rattle.std.specs.Prelude.{◌≡◌, ℕ, ◌+◌, ◌<◌, ◌⊎◌, List, [], ◌∷◌, ◌++◌, length, get_or, Option}
+use Rattle.std.specs.Prelude.{◌≡◌, ℕ, ◌+◌, ◌<◌, ◌⊎◌, List, [], ◌∷◌, ◌++◌, length, slice_index_or, Option}
 use Rattle.std.specs.Io.KnownBytes.{Consumes}
 use Rattle.owned_text.specs.Made.{Made}
 use Rattle.cell_store.specs.Recency.{Contents}
@@ -13,7 +13,7 @@ use Rattle.journal_text.specs.declared.sections.SectionKind.TheVariants.{Held}
 use Rattle.query_lines.specs.declared.unit.Unit.{Unit as ScriptUnit}
 use Rattle.query_lines.specs.Reading.{script_units}
 use Rattle.query_lines.specs.Readers.{Reader, HasRead}
-use Rattle.session_meaning.specs.Session.{Setup, Course, IsServed, Session, opened, with_section, with_sections}
+use Rattle.session_meaning.specs.Session.{Setup, Course, IsServed, Session, first_course, with_section, with_sections}
 use Rattle.session_meaning.specs.Broken.{IsPrefix, journal_of, IsBroken, IsBrokenInDump}
 use Rattle.unit_answers.specs.Stores.{cells_of}
 use Rattle.session_loop.specs.declared.desk.Desk.{Desk}
@@ -73,9 +73,9 @@ held_text number (es ∷ lists) = section_lines (record { kind = Held; number = 
 
 -- A question with a batch of its own was answered by this text and these lists, whatever was served before, and by those of a memo of its
 -- own, if it had one. The stores are as the lists leave them.
-pub record IsAnswered (setup : Setup) (desk : Desk) (unit : ScriptUnit) (batch own : Batch) (text : List ℕ) (lists held : List (List Entry)) (left : List Contents) : Type 0 where
-  pub serves : (now : Course) → Keeps setup desk now → IsServed setup now unit (with_sections (with_section now (Asks batch) lists text) (forced_sections own held))
-  pub leaves : (shard : ℕ) → shard < setup.shards → cells_of left shard ≡ (replay (fresh (cells_of desk.stores.items shard)) (get_or lists shard [])).cells
+pub record IsAnswered (setup : Setup) (desk : Desk) (unit : ScriptUnit) (batch own : Batch) (text : List ℕ) (lists own_lists : List (List Entry)) (left : List Contents) : Type 0 where
+  pub serves : (now : Course) → Keeps setup desk now → IsServed setup now unit (with_sections (with_section now (Asks batch) lists text) (forced_sections own own_lists))
+  pub leaves : (shard : ℕ) → shard < setup.shards → cells_of left shard ≡ (replay (fresh (cells_of desk.stores.items shard)) (slice_index_or lists shard [])).cells
 
 -- the reader has taken so many bytes of a script, for a simulation up to this horizon
 abbrev pub HasTaken : ℕ → ℕ → Reader → Type 0
@@ -135,5 +135,5 @@ pub record Wrote (setup : Setup) (such : List ℕ → List ℕ → List Made →
   pub dumps : List Made
   pub are : such replies journal dumps
   pub replied : GoesOn out new_out [] replies
-  pub recorded : FilesGoOn made new_made (journal_of setup opened) [] journal dumps
+  pub recorded : FilesGoOn made new_made (journal_of setup first_course) [] journal dumps
   pub count : files ≡ length dumps + 1

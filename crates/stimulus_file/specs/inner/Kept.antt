@@ -1,5 +1,5 @@
 -- What is kept of the settings that were read.
-use Rattle.std.specs.Prelude.{◌≡◌, ℕ, ◌<◌, Bool, true, false, not, ◌&&◌, nat_eq, List, [], ◌∷◌, ◌++◌, length, get_or, Option, Some, None, ⊤}
+use Rattle.std.specs.Prelude.{◌≡◌, ℕ, ◌<◌, Bool, true, false, not, ◌&&◌, nat_eq, List, [], ◌∷◌, ◌++◌, length, slice_index_or, Option, Some, None, ⊤}
 use Rattle.std.specs.List.{list_any}
 use Rattle.std.specs.Str.{bytes_eq}
 use Rattle.std.specs.Borrow.{Bor}
@@ -9,7 +9,7 @@ use Rattle.gate_values.specs.declared.Value.{Value}
 use Rattle.stimulus_file.specs.declared.NumberedSet.{NumberedSet}
 use Rattle.stimulus_file.specs.declared.names.Found.{Found}
 use Rattle.stimulus_file.specs.declared.names.Names.{Names}
-use Rattle.stimulus_file.specs.Named.{named, HavePlaces}
+use Rattle.stimulus_file.specs.Named.{named_rows, HavePlaces}
 
 -- a setting of the name at this place, at this time
 abbrev pub is_at : ℕ → ℕ → NumberedSet → Bool
@@ -18,16 +18,16 @@ is_at place time set = nat_eq place set.name && nat_eq time set.time
 -- the name stands at this place, and at no other
 pub record IsPlace (names : List (List ℕ)) (name : List ℕ) (place : ℕ) : Type 0 where
   pub within : place < length names
-  pub there : get_or names place [] ≡ name
-  pub only : (i : ℕ) → i < length names → get_or names i [] ≡ name → i ≡ place
+  pub there : slice_index_or names place [] ≡ name
+  pub only : (i : ℕ) → i < length names → slice_index_or names i [] ≡ name → i ≡ place
 
 -- the name at a place is set at no time after its latest
 abbrev pub AreLatest : List ℕ → List NumberedSet → Type 0
-AreLatest latest sets = (place time : ℕ) → get_or latest place 0 < time → list_any (is_at place time) sets ≡ false
+AreLatest latest sets = (place time : ℕ) → slice_index_or latest place 0 < time → list_any (is_at place time) sets ≡ false
 
 -- where a name stands, if anywhere
 abbrev pub StandsAt : List (List ℕ) → List ℕ → Option ℕ → Type 0
-StandsAt names name None = (i : ℕ) → i < length names → get_or names i [] ≡ name → ⊥
+StandsAt names name None = (i : ℕ) → i < length names → slice_index_or names i [] ≡ name → ⊥
 StandsAt names name (Some place) = IsPlace names name place
 
 abbrev pub same_bytes : Bor (List ℕ) → Bor (List ℕ) → Bool
@@ -50,7 +50,7 @@ then_at sets place time P = (line : ℕ) (value : Value) → P (sets ++ record {
 
 -- a name was found that is now set at this time, after these settings
 pub record Finds (old new : Names) (sets : List NumberedSet) (name : List ℕ) (time : ℕ) (found : Found) : Type 0 where
-  pub same : named new.texts.items sets ≡ named old.texts.items sets
+  pub same : named_rows new.texts.items sets ≡ named_rows old.texts.items sets
   pub placed : HavePlaces new.texts.items sets
   pub place : IsPlace new.texts.items name found.place
   pub later : found.is_later ≡ true → list_any (is_at found.place time) sets ≡ false

@@ -9,8 +9,8 @@ use Rattle.stimulus_file.specs.declared.form.Form.{Form}
 use Rattle.stimulus_file.specs.declared.form.Form.TheVariants as forms
 use Rattle.stimulus_file.specs.declared.reader.Reader.{Reader}
 use Rattle.stimulus_file.specs.Forms.{Line, Blank, Other, Horizon, Setting}
-use Rattle.stimulus_file.specs.Stimulus.{is_blank, is_horizon, cause_of, stated, rows_of}
-use Rattle.stimulus_file.specs.Named.{named}
+use Rattle.stimulus_file.specs.Stimulus.{is_blank, is_horizon, cause_of, stated_horizon, rows_of}
+use Rattle.stimulus_file.specs.Named.{named_rows}
 use Rattle.stimulus_file.specs.inner.Kept.{HasNames, HasSeen}
 
 -- a form that was read, without where its name lies in memory
@@ -22,10 +22,10 @@ line_seen (forms.Setting name time value) = Setting name.now time value
 
 -- the reader has read these lines, none of which is at fault
 pub record HasRead (before : List Line) (r : Reader) : Type 0 where
-  pub horizon : flat_map stated before ≡ option_to_list r.horizon
+  pub horizon : flat_map stated_horizon before ≡ option_to_list r.horizon
   pub blank : list_all is_blank before ≡ is_none r.horizon
   pub horizon_line : list_any is_horizon before ≡ is_some r.horizon
-  pub rows : named r.names.texts.items r.sets.items ≡ rows_of before
+  pub rows : named_rows r.names.texts.items r.sets.items ≡ rows_of before
   pub names : HasNames r.names r.sets.items
   pub seen : HasSeen r.seen r.sets.items
 

@@ -13,10 +13,10 @@ use Rattle.batch_meaning.specs.Lawful.{IsLawful}
 use Rattle.batch_meaning.specs.Pieces.{Start}
 use Rattle.journal_meaning.specs.declared.Entry.{Entry}
 use Rattle.journal_meaning.specs.declared.Entry.TheVariants.{Told, Filled}
-use Rattle.journal_meaning.specs.Answers.{ChildrenCovered, IsSpent, filled}
+use Rattle.journal_meaning.specs.Answers.{ChildrenCovered, IsSpent, fill_count}
 use Rattle.journal_meaning.specs.Grown.{IsSaid, IsFor}
 use Rattle.journal_meaning.specs.States.{holder}
-use Rattle.strand_meaning.specs.Strands.{Strand, IsHeld}
+use Rattle.strand_meaning.specs.Strands.{Strand, IsOnStack}
 use Rattle.plan_machine.specs.Shards.{Shard}
 use Rattle.plan_machine.specs.Alone.{AreFed, IsUnspent, IsUnderWay, IsGivingUp}
 use Rattle.plan_machine.specs.inner.Settle.{IsStanding}
@@ -55,7 +55,7 @@ IsHeardThere c site es e = ⊥
 
 -- The entries of the memo of its own, and among them one for each cell that was heard from the session's memo.
 pub record Mirrors (c : Circuit) (site : Site) (es own mirror : List Entry) : Type 0 where
-  pub fills : (q : ℕ) → filled mirror q ≡ filled own q
+  pub fills : (q : ℕ) → fill_count mirror q ≡ fill_count own q
   pub has : (e : Entry) → Contains own e → Contains mirror e
   pub only : (e : Entry) → Contains mirror e → Contains own e ⊎ IsHeardThere c site es e
 
@@ -75,7 +75,7 @@ pub record Rests (b : Batch) (opening : ℕ → List SignalCell) (question : Que
   pub going : AllByRecursion IsUnspent mirror
   pub number : m.number ≡ 0
   pub idle : m.shard.state.claims ≡ []
-  pub charged : filled m.shard.journal question.query.number ≡ charge
+  pub charged : fill_count m.shard.journal question.query.number ≡ charge
   pub few : charge ≤ question.query.budget
   pub reached : NoneIsFree b.circuit (site_in question) m.shard.journal
 
@@ -88,8 +88,8 @@ pub record IsRefused (b : Batch) (question : Question) (ms : List KeptShard) (m 
 
 -- what is claimed is what the strand holds
 pub record HoldsAll (question : Question) (m : KeptShard) (s : Demand) : Type 0 where
-  pub held : (p : Point) → IsHeld s.strand.stack p → holder m.shard.state.claims p ≡ Some question.query.number
-  pub holder : (p : Point) (q : ℕ) → holder m.shard.state.claims p ≡ Some q → IsHeld s.strand.stack p
+  pub held : (p : Point) → IsOnStack s.strand.stack p → holder m.shard.state.claims p ≡ Some question.query.number
+  pub holder : (p : Point) (q : ℕ) → holder m.shard.state.claims p ≡ Some q → IsOnStack s.strand.stack p
 
 -- a strand of the question for this one time
 abbrev pub start_at : Question → ℕ → Start
@@ -116,7 +116,7 @@ nothing = record { horizon = 0; drivers = [] }
 -- most its budget.
 pub record LeavesOwn (c : Circuit) (question : Question) (time : ℕ) (es own : List Entry) (who : RefusedBy) : Type 0 where
   pub ours : AllByRecursion (IsFor question.query.number) own
-  pub few : filled own question.query.number ≤ question.query.budget
+  pub few : fill_count own question.query.number ≤ question.query.budget
   pub outcome : IsOutcomeOf c (site_in question) (start_at question time) es own own who
 
 -- why a strand gives up: the session's memo refused it, or its own did at a point

@@ -21,6 +21,6 @@ left_by Unknown answers = answers
 left_by Past answers = answers
 left_by Bad answers = answers
 
-abbrev pub placed : List Verdict → List Reply → List Reply
-placed [] answers = []
-placed (verdict ∷ verdicts) answers = reply_to verdict answers ∷ placed verdicts (left_by verdict answers)
+abbrev pub placed_replies : List Verdict → List Reply → List Reply
+placed_replies [] answers = []
+placed_replies (verdict ∷ verdicts) answers = reply_to verdict answers ∷ placed_replies verdicts (left_by verdict answers)

@@ -1,5 +1,5 @@
 -- The queries of a batch, run over the stores under the batch's name.
-use Rattle.std.specs.Prelude.{◌≡◌, ℕ, ◌<◌, List, [], length, get_or, map, All, Option, None}
+use Rattle.std.specs.Prelude.{◌≡◌, ℕ, ◌<◌, List, [], length, slice_index_or, map, All, Option, None}
 use Rattle.std.specs.List.{AllByRecursion}
 use Rattle.valid_intervals.specs.declared.SignalCell.{SignalCell}
 use Rattle.cell_store.specs.Recency.{Contents, contents}
@@ -32,7 +32,7 @@ asks setup queries = asks_at setup None queries
 -- The batch begins with these stores: one for each shard, with its room and its opening cells.
 pub record AreOpened (b : Batch) (opening : ℕ → List SignalCell) (stores : List Contents) : Type 0 where
   pub count : length stores ≡ b.shards
-  pub stored : (n : ℕ) → n < b.shards → get_or stores n (contents 0 []) ≡ contents b.capacity (opening n)
+  pub stored : (n : ℕ) → n < b.shards → slice_index_or stores n (contents 0 []) ≡ contents b.capacity (opening n)
   pub right : (n : ℕ) → n < b.shards → AllByRecursion (IsRight b.circuit) (opening n)
 
 -- the shards over these stores, at the start of a batch

@@ -10,8 +10,8 @@ abbrev pub eviction_of : Key → Entry
 eviction_of key = Evicted key.signal key.start
 
 -- the first cells of the store are left
-abbrev pub trimmed : ℕ → Contents → Contents
-trimmed most store = with_cells store (take most store.cells)
+abbrev pub trimmed_store : ℕ → Contents → Contents
+trimmed_store most store = with_cells store (take most store.cells)
 
 -- the entries that evict the others
 abbrev pub entries_at : ℕ → Contents → List Entry

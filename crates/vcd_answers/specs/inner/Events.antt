@@ -4,7 +4,7 @@ use Rattle.std.specs.List.{range_with_len}
 use Rattle.circuit_meaning.specs.declared.Run.{Run}
 use Rattle.vcd_answers.specs.declared.writing.Event.{Event}
 use Rattle.vcd_answers.specs.Wires.{Wire, last_time}
-use Rattle.vcd_answers.specs.Dumps.{is_at, first_code, change_line, time_line, ended}
+use Rattle.vcd_answers.specs.Dumps.{is_at, first_code, change_line, time_line, with_line_feed}
 
 abbrev pub event : ℕ → Run → Event
 event code run = record { time = run.time; code = code; value = run.value }
@@ -28,7 +28,7 @@ by_time wires = flat_map (events_at first_code wires) (range_with_len 0 (last_ti
 
 -- the text of a change, after a line of this time
 abbrev pub event_line : ℕ → Event → List ℕ
-event_line last e = (if e.time == last then [] else ended (time_line e.time)) ++ ended (change_line e.code (run_of e))
+event_line last e = (if e.time == last then [] else with_line_feed (time_line e.time)) ++ with_line_feed (change_line e.code (run_of e))
 
 abbrev pub event_text : ℕ → List Event → List ℕ
 event_text last [] = []

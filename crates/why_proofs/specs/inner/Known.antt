@@ -1,5 +1,5 @@
 -- The cells of accepted lines, found by their signals and first times, and the cells that they answer for.
-use Rattle.std.specs.Prelude.{◌≡◌, ℕ, ◌≤◌, ◌<◌, Bool, true, false, List, [], ◌∷◌, ◌++◌, get_or, Contains, Option, Some, None, IsSome, MatchOption}
+use Rattle.std.specs.Prelude.{◌≡◌, ℕ, ◌≤◌, ◌<◌, Bool, true, false, List, [], ◌∷◌, ◌++◌, slice_index_or, Contains, Option, Some, None, IsSome, MatchOption}
 use Rattle.valid_intervals.specs.declared.Cell.{Cell}
 use Rattle.valid_intervals.specs.declared.Point.{Point}
 use Rattle.valid_intervals.specs.declared.SignalCell.{SignalCell}
@@ -41,7 +41,7 @@ IsKnown a (Some p) = IsSome (a p.signal p.time)
 
 -- the first n pins that are looked at have answers
 abbrev pub AreKnown : Circuit → Answers → Point → ℕ → Type 0
-AreKnown c a p n = (k : ℕ) → k < n → IsKnown a (get_or (looked_at c p) k None)
+AreKnown c a p n = (k : ℕ) → k < n → IsKnown a (slice_index_or (looked_at c p) k None)
 
 -- the next pin is heard exactly where its source has an answer
 abbrev pub Hears : Circuit → Answers → PinWalk → Option PinWalk → Type 0

@@ -22,11 +22,11 @@ last_field_at text = do
 abbrev pub is_space : ℕ → Bool
 is_space b = b == 32
 
-abbrev pub named : List ℕ → ℕ → Option (List ℕ × List ℕ)
-named text n = if is_name (take n text) then Some (take n text, drop n text) else None
+abbrev pub name_before : List ℕ → ℕ → Option (List ℕ × List ℕ)
+name_before text n = if is_name (take n text) then Some (take n text, drop n text) else None
 
 unfoldable pub name_at : List ℕ → Option (List ℕ × List ℕ)
-name_at text = position is_space text >>= named text
+name_at text = position is_space text >>= name_before text
 
 abbrev pub words_are : Option (Bor (List ℕ) × Bor (List ℕ)) → Option (List ℕ × List ℕ)
 words_are (Some read) = Some (read.0.now, read.1.now)

@@ -4,7 +4,7 @@ use Rattle.std.specs.List.{AllByRecursion}
 use Rattle.circuit_meaning.specs.Circuit.{Circuit}
 use Rattle.journal_meaning.specs.declared.Entry.{Entry}
 use Rattle.batch_meaning.specs.declared.Query.{Query}
-use Rattle.journal_meaning.specs.Answers.{filled}
+use Rattle.journal_meaning.specs.Answers.{fill_count}
 use Rattle.batch_meaning.specs.Batches.{Batch}
 use Rattle.journal_meaning.specs.Grown.{IsFor, AreAdded}
 use Rattle.plan_machine.specs.Shards.{Shard}
@@ -46,7 +46,7 @@ pub record IsFeeding (b : Batch) (start : List Entry) (first now : List Shard) (
   pub journals : AreAdded (journals_of first) added (journals_of now)
   pub all : AreAllFed b.circuit start (entries_in now) done fed
   pub opens : AllByRecursion (λ q. IsOpen b.circuit q start (entries_in now)) left
-  pub fills : AllByRecursion (λ q. filled (entries_in now) q.number ≡ filled start q.number) left
+  pub fills : AllByRecursion (λ q. fill_count (entries_in now) q.number ≡ fill_count start q.number) left
 
 -- between two queries of the second phase
 pub record IsWalking (b : Batch) (start : List Entry) (first now : List Shard) (done : List Query) (replies : List Reply) (left : List Query) (fed : List Fed) : Type 0 where

@@ -1,7 +1,7 @@
 use Rattle.std.proofs.Common.{◌≡◌, ◌≤◌, ◌<◌, ◌+◌, ◌++◌, min, ℕ, List, length, get_or, IfSome, sym, ap, ap₂, subst, ◌∙◌}
 use Rattle.std.specs.BTreeMap.{get}
 use Rattle.journal_meaning.specs.declared.Entry.{Entry}
-use Rattle.journal_meaning.specs.Answers.{filled}
+use Rattle.journal_meaning.specs.Answers.{fill_count}
 use Rattle.journal_meaning.specs.inner.Grown.{IsRightEntry}
 use Rattle.journal_meaning.specs.inner.Index.{cells_said, IsCellIndex}
 use Rattle.valid_intervals.specs.Cells.{point_cmp}
@@ -61,5 +61,5 @@ returns-clause-asking g c =
     let same : tails c.deref-4.result.now c.deref-3.result.now ≡ tails (lengths_of old) new = ap₂ tails lens c.deref-3.ensures.value in
     let is : old ≡ c.args.memo.now = c.shards.view_is ∙ c.replace.ensures.value in
     let asking : IsChargedMemo b opening old c.args.query c.args.charge.now = subst (λ (ms : List KeptShard). IsChargedMemo b opening ms c.args.query c.args.charge.now) (sym is) c.requires.asking in
-    let counts = subst (λ (l : List Entry). c.read_new.new.charge ≡ min (c.args.charge.now + filled l c.args.query.number) c.args.query.budget) same c.in_ok-read_new.ensures.charge in
+    let counts = subst (λ (l : List Entry). c.read_new.new.charge ≡ min (c.args.charge.now + fill_count l c.args.query.number) c.args.query.budget) same c.in_ok-read_new.ensures.charge in
     charged-on b c.requires.lawful opening old new k.added k.journals c.args.query c.args.charge.now c.read_new.new.charge asking c.in_ok-shards.ensures.numbers k.fresh counts

@@ -1,7 +1,7 @@
 use Rattle.std.proofs.Common.{◌≡◌, ◌<◌, ◌+◌, ◌++◌, List, get_or, length, take, drop, sym, ap, ap₂, subst, ◌∙◌, arith, append_assoc, append-nil}
 use Rattle.std.specs.BTreeMap.{get}
 use Rattle.journal_meaning.specs.declared.Entry.{Entry}
-use Rattle.journal_meaning.specs.Answers.{filled}
+use Rattle.journal_meaning.specs.Answers.{fill_count}
 use Rattle.journal_meaning.specs.inner.Grown.{IsRightEntry}
 use Rattle.journal_meaning.specs.inner.Index.{cells_said, IsCellIndex}
 use Rattle.valid_intervals.specs.Cells.{point_cmp}
@@ -36,7 +36,7 @@ loop-k-preserved g c =
       counts =
           let a = c.loop-k.invariant.counts in
           let b = c.in_ok-read_tail.ensures.charge in
-          let e : filled (tails (take (k + 1) ns) (take (k + 1) ms)) c.args.query.number ≡ filled (tails (take k ns) (take k ms)) c.args.query.number + filled es c.args.query.number = ap (λ l. filled l c.args.query.number) more ∙ filled-append (tails (take k ns) (take k ms)) es c.args.query.number in
+          let e : fill_count (tails (take (k + 1) ns) (take (k + 1) ms)) c.args.query.number ≡ fill_count (tails (take k ns) (take k ms)) c.args.query.number + fill_count es c.args.query.number = ap (λ l. fill_count l c.args.query.number) more ∙ filled-append (tails (take k ns) (take k ms)) es c.args.query.number in
           omega arith;
     }
 
@@ -58,5 +58,5 @@ returns-clause-charge g c =
     let count = c.requires.count in
     let t = c.loop-k-test.false in
     let a = c.loop-k.invariant.counts in
-    let all : filled (tails (take k ns) (take k ms)) c.args.query.number ≡ filled (tails ns ms) c.args.query.number = ap (λ l. filled l c.args.query.number) (ap₂ tails (take-all ns k (omega arith)) (take-all ms k (omega arith))) in
+    let all : fill_count (tails (take k ns) (take k ms)) c.args.query.number ≡ fill_count (tails ns ms) c.args.query.number = ap (λ l. fill_count l c.args.query.number) (ap₂ tails (take-all ns k (omega arith)) (take-all ms k (omega arith))) in
     omega arith

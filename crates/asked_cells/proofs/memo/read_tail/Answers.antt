@@ -1,6 +1,6 @@
 use Rattle.std.proofs.Common.{◌≡◌, ◌++◌, ◌+◌, ◌-◌, min, List, length, take, drop, ap, subst, ◌∙◌, arith}
 use Rattle.std.proofs.lemmas.List.{length-drop}
-use Rattle.journal_meaning.specs.Answers.{filled}
+use Rattle.journal_meaning.specs.Answers.{fill_count}
 use Rattle.asked_cells.proofs.Lists.{take-all}
 use Rattle.std.specs.BTreeMap.{get}
 use Rattle.std.specs.List.{AllByRecursion}
@@ -22,4 +22,4 @@ returns-clause-charge g c =
     let js = c.journal.result.now in
     let whole : take (length js - c.args.from) (drop c.args.from js) ≡ drop c.args.from js = take-all (drop c.args.from js) (length js - c.args.from) (let l = length-drop c.args.from js in omega arith) in
     let same = whole ∙ ap (drop c.args.from) c.journal.ensures in
-    c.charged.ensures ∙ ap (λ (l : List Entry). min (c.args.charge.now + filled l c.args.query.number) c.args.query.budget) same
+    c.charge_after.ensures ∙ ap (λ (l : List Entry). min (c.args.charge.now + fill_count l c.args.query.number) c.args.query.budget) same

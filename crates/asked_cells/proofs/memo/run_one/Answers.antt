@@ -38,7 +38,7 @@ returns-clause-asked g c =
     let made : Plan = new_plan b (a ∷ []) old in
     let strand = c.start-strand.result in
     let items : c.push.new.self.items ≡ strand ∷ [] = c.in_ok-push.ensures.items ∙ ap (λ (l : List Demand). l ++ strand ∷ []) c.new-strands.ensures.items in
-    let alone : strands_in c.push.new.self.items ≡ strands.started b.circuit a ∷ [] = ap strands_in items ∙ ap (λ s. s ∷ []) c.start-strand.ensures.strand in
+    let alone : strands_in c.push.new.self.items ≡ strands.started_strand b.circuit a ∷ [] = ap strands_in items ∙ ap (λ s. s ∷ []) c.start-strand.ensures.strand in
     let is : c.in_ok-plan.plan ≡ made = c.in_ok-plan.ensures.ok ∙ ap (λ ss. record { strands = ss; shards = old }) alone in
     let o : Option Point = point_of c.in_ok-alone.alone in
     let ran = c.in_ok-alone.ensures.ran a (subst (BeginsAlone b opening 0 a) (sym is) (begins b c.requires.lawful opening old c.requires.fresh a c.requires.start)) in

@@ -1,10 +1,10 @@
 use Rattle.text_rules.specs.Text.{line_tokens}
-use Rattle.bench_reader.specs.Lines.{listed}
+use Rattle.bench_reader.specs.Lines.{pin_list}
 use Rattle.bench_reader.proofs.Forms.{list_begun, list_longer}
 use Rattle.bench_reader.proofs.form.read_list.Goals as goal
 
 pub names-init : goal.names-init
-names-init c = list_begun c.clear.new.self.items (listed (line_tokens c.args.bytes.now)) c.clear.ensures.items
+names-init c = list_begun c.clear.new.self.items (pin_list (line_tokens c.args.bytes.now)) c.clear.ensures.items
 
 pub names-preserved : goal.names-preserved
 names-preserved c =

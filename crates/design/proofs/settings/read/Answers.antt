@@ -2,7 +2,7 @@ use Rattle.std.proofs.Common.{◌≡◌, ap, ◌∙◌, sym, subst, Err, length,
 use Rattle.std.specs.Prelude.{vec_len, All, IfOk, ◌<◌}
 use Rattle.std.proofs.lemmas.List.{length-map}
 use Rattle.std.proofs.lemmas.Result.{err_from_is_err_and}
-use Rattle.stimulus_file.specs.Named.{named}
+use Rattle.stimulus_file.specs.Named.{named_rows}
 use Rattle.design.specs.Join.{set_fault}
 use Rattle.design.specs.inner.Said.{HasSets, TakesSets, input_of}
 use Rattle.design.proofs.Named.{inputs-within, named-refused, named-passed, named-taken, below-same}
@@ -26,7 +26,7 @@ returns-in_err-take c =
     let sets = c.args.stimulus.sets.now in
     let p = err_from_is_err_and c.from_residual-in_err-take.result c.from_residual-in_err-take.ensures.1 in
     let step = c.in_err-take.ensures netlist names _ (c.deref-in-loop-row.ensures.value ∙ c.in_ok-inputs.ensures) c.loop-row.invariant.has in
-    subst (TakesSets netlist c.args.horizon (named names sets)) (sym (p.1 ∙ ap Err p.2))
+    subst (TakesSets netlist c.args.horizon (named_rows names sets)) (sym (p.1 ∙ ap Err p.2))
     (named-refused names sets c.loop-row.row-index _ c.loop-row-test.true (set_fault netlist c.args.horizon) _ c.loop-row.invariant.fault step)
 
 pub loop-row-preserved : goal.loop-row-preserved

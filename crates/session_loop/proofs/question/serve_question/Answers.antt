@@ -19,10 +19,10 @@ pub write_answered-requires-clause-few : goal.write_answered-requires-clause-few
 write_answered-requires-clause-few g c = let count = c.in_ok-done.ensures.count in let most = c.requires.shards.1 in omega (arith, count, most)
 
 -- and one of the memo of its own at most
-pub write_answered-requires-clause-few_held : goal.write_answered-requires-clause-few_held
-write_answered-requires-clause-few_held g c =
+pub write_answered-requires-clause-few_own : goal.write_answered-requires-clause-few_own
+write_answered-requires-clause-few_own g c =
     let question = c.args.question.now in
-    let few = held-few c.args.setting.now.design.now question.line question.asks c.in_ok-done.done.held.items c.in_ok-done.ensures.memo in
+    let few = held-few c.args.setting.now.design.now question.line question.asks c.in_ok-done.done.own_lists.items c.in_ok-done.ensures.memo in
     omega (arith, few)
 
 -- no journals were made
@@ -42,9 +42,9 @@ returns-clause-served g c names =
     let batch = question_batch setup question.line question.asks in
     let own = own-batch setup question.line question.asks in
     c.write_answered.ensures.served setup c.args.desk (Question question) batch own refl refl
-    (subst (λ (text : List ℕ). IsAnswered setup c.args.desk (Question question) batch own text done.lists.items done.held.items done.stores.items) (sym c.in_ok-question_text.ensures)
-    (question-answered setup question c.args.desk done.reply done.lists.items done.held.items done.stores.items
-    (question-named (setup_of c.args.setting.now.design.now c.args.setting.now.sizes) names question.line question.asks c.args.desk.stores.items done.reply done.lists.items done.held.items done.stores.items c.in_ok-done.ensures)))
+    (subst (λ (text : List ℕ). IsAnswered setup c.args.desk (Question question) batch own text done.lists.items done.own_lists.items done.stores.items) (sym c.in_ok-question_text.ensures)
+    (question-answered setup question c.args.desk done.reply done.lists.items done.own_lists.items done.stores.items
+    (question-named (setup_of c.args.setting.now.design.now c.args.setting.now.sizes) names question.line question.asks c.args.desk.stores.items done.reply done.lists.items done.own_lists.items done.stores.items c.in_ok-done.ensures)))
 
 pub returns-clause-stopped : goal.returns-clause-stopped
 returns-clause-stopped g c names =
@@ -54,9 +54,9 @@ returns-clause-stopped g c names =
     let batch = question_batch setup question.line question.asks in
     let own = own-batch setup question.line question.asks in
     c.write_answered.ensures.stopped setup c.args.desk (Question question) batch own refl refl
-    (subst (λ (text : List ℕ). IsAnswered setup c.args.desk (Question question) batch own text done.lists.items done.held.items done.stores.items) (sym c.in_ok-question_text.ensures)
-    (question-answered setup question c.args.desk done.reply done.lists.items done.held.items done.stores.items
-    (question-named (setup_of c.args.setting.now.design.now c.args.setting.now.sizes) names question.line question.asks c.args.desk.stores.items done.reply done.lists.items done.held.items done.stores.items c.in_ok-done.ensures)))
+    (subst (λ (text : List ℕ). IsAnswered setup c.args.desk (Question question) batch own text done.lists.items done.own_lists.items done.stores.items) (sym c.in_ok-question_text.ensures)
+    (question-answered setup question c.args.desk done.reply done.lists.items done.own_lists.items done.stores.items
+    (question-named (setup_of c.args.setting.now.design.now c.args.setting.now.sizes) names question.line question.asks c.args.desk.stores.items done.reply done.lists.items done.own_lists.items done.stores.items c.in_ok-done.ensures)))
 
 -- nothing was written
 pub returns-in_err-done-clause-state : goal.returns-in_err-done-clause-state

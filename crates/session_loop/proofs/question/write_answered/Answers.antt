@@ -1,6 +1,6 @@
 use Rattle.std.proofs.Common.{◌≡◌, ◌+◌, length, refl, sym, ap, subst, ◌∙◌}
 use Rattle.backsim_io.specs.Counts.{Grows}
-use Rattle.backsim_io.specs.Held.{FileGrows}
+use Rattle.backsim_io.specs.FilesInMemory.{FileGrows}
 use Rattle.journal_text.specs.Spelling.{section_lines}
 use Rattle.journal_text.specs.declared.sections.SectionKind.TheVariants.{Batch}
 use Rattle.session_meaning.proofs.Journals.{prefix-more}
@@ -26,7 +26,7 @@ returns-in_err-write_reply-clause-stopped g c setup desk unit b own same dumps d
     let answered = c.args.answered in
     let lists = answered.lists.items in
     err-is _ _ c.from_residual.result c.from_residual.ensures.1
-    (question-stopped setup unit b own desk answered.text.items lists answered.held.items answered.stores.items done
+    (question-stopped setup unit b own desk answered.text.items lists answered.own_lists.items answered.stores.items done
     c.in-Some.counts (subst (λ k. IsCounted k Batch lists c.in-Some.counts) (sym same) (subst (λ l. IsCounted c.args.counts Batch l c.in-Some.counts) c.deref.ensures.value c.in-Some.ensures))
     (W c.args.out.now) (W c.write_reply.new.out) (M c.args.files.now) (M c.args.files.now)
     (g.F.Files.state c.args.files.now).created c.in_err-write_reply.field-0.0 (subst (λ d. (g.F.Files.state c.args.files.now).created ≡ length d.made.items + 1) (sym dumps) c.requires.files) (replies-of-unit _ _ _ c.in_err-write_reply.ensures.state)
@@ -42,14 +42,14 @@ returns-in_err-write_section-clause-stopped g c setup desk unit b own same dumps
     let lists = answered.lists.items in
     let number = c.in-Some.counts.sections in
     err-is _ _ c.from_residual-in_err-write_section.result c.from_residual-in_err-write_section.ensures.1
-    (question-stopped setup unit b own desk answered.text.items lists answered.held.items answered.stores.items done
+    (question-stopped setup unit b own desk answered.text.items lists answered.own_lists.items answered.stores.items done
     c.in-Some.counts (subst (λ k. IsCounted k Batch lists c.in-Some.counts) (sym same) (subst (λ l. IsCounted c.args.counts Batch l c.in-Some.counts) c.deref.ensures.value c.in-Some.ensures))
     (W c.args.out.now) (W c.write_reply.new.out) (M c.args.files.now) (M c.write_section.new.files)
     (g.F.Files.state c.write_section.new.files).created c.in_err-write_section.field-0.0 (subst (λ d. (g.F.Files.state c.write_section.new.files).created ≡ length d.made.items + 1) (sym dumps) (journal-created _ _ _ c.in_err-write_section.ensures.state ∙ c.requires.files)) (journal-of-unit _ _ _ c.in_err-write_section.ensures.state)
     (lines-begun (W c.args.out.now) (W c.write_reply.new.out) (M c.args.files.now) (M c.write_section.new.files) answered.text.items _
     (subst (Grows (W c.args.out.now) (W c.write_reply.new.out)) c.deref-2.ensures.value c.in_ok-write_reply.ensures.written)
     (file-part-longer (M c.args.files.now) (M c.write_section.new.files) 0 (section_lines (record { kind = Batch; number = number; shards = lists })) _
-    (prefix-more (section_lines (record { kind = Batch; number = number; shards = lists })) (held_text (number + 1) answered.held.items))
+    (prefix-more (section_lines (record { kind = Batch; number = number; shards = lists })) (held_text (number + 1) answered.own_lists.items))
     (subst (λ l. FileGrowsPart (M c.args.files.now) (M c.write_section.new.files) 0 (section_lines (record { kind = Batch; number = number; shards = l }))) c.deref-3.ensures.value c.in_err-write_section.ensures.begun))))
 
 -- the section of the memo of its own was begun
@@ -61,14 +61,14 @@ returns-in_err-counts-clause-stopped g c setup desk unit b own same dumps done =
     let lists = answered.lists.items in
     let number = c.in-Some.counts.sections in
     err-is _ _ c.from_residual-in_err-counts.result c.from_residual-in_err-counts.ensures.1
-    (question-stopped setup unit b own desk answered.text.items lists answered.held.items answered.stores.items done
+    (question-stopped setup unit b own desk answered.text.items lists answered.own_lists.items answered.stores.items done
     c.in-Some.counts (subst (λ k. IsCounted k Batch lists c.in-Some.counts) (sym same) (subst (λ l. IsCounted c.args.counts Batch l c.in-Some.counts) c.deref.ensures.value c.in-Some.ensures))
     (W c.args.out.now) (W c.write_reply.new.out) (M c.args.files.now) (M c.write_held.new.files)
     (g.F.Files.state c.write_held.new.files).created c.in_err-counts.field-0.0
     (subst (λ d. (g.F.Files.state c.write_held.new.files).created ≡ length d.made.items + 1) (sym dumps) (journal-created _ _ _ c.in_err-counts.ensures.state ∙ ap (λ f. f.created) c.in_ok-write_section.ensures.state ∙ c.requires.files)) (journal-of-unit _ _ _ c.in_err-counts.ensures.state)
     (lines-begun (W c.args.out.now) (W c.write_reply.new.out) (M c.args.files.now) (M c.write_held.new.files) answered.text.items _
     (subst (Grows (W c.args.out.now) (W c.write_reply.new.out)) c.deref-2.ensures.value c.in_ok-write_reply.ensures.written)
-    (file-part-after (M c.args.files.now) (M c.write_section.new.files) (M c.write_held.new.files) 0 (section_lines (record { kind = Batch; number = number; shards = lists })) (held_text (number + 1) answered.held.items)
+    (file-part-after (M c.args.files.now) (M c.write_section.new.files) (M c.write_held.new.files) 0 (section_lines (record { kind = Batch; number = number; shards = lists })) (held_text (number + 1) answered.own_lists.items)
     (subst (λ l. FileGrows (M c.args.files.now) (M c.write_section.new.files) 0 (section_lines (record { kind = Batch; number = number; shards = l }))) c.deref-3.ensures.value c.in_ok-write_section.ensures.written)
     (subst (λ l. FileGrowsPart (M c.write_section.new.files) (M c.write_held.new.files) 0 (held_text (number + 1) l)) c.deref-4.ensures.value c.in_err-counts.ensures.begun))))
 
@@ -80,13 +80,13 @@ returns-clause-served g c setup desk unit b own same dumps done =
     let answered = c.args.answered in
     let lists = answered.lists.items in
     let number = c.in-Some.counts.sections in
-    question-served setup unit b own desk answered.text.items lists answered.held.items answered.stores.items done
+    question-served setup unit b own desk answered.text.items lists answered.own_lists.items answered.stores.items done
     c.in-Some.counts (subst (λ k. IsCounted k Batch lists c.in-Some.counts) (sym same) (subst (λ l. IsCounted c.args.counts Batch l c.in-Some.counts) c.deref.ensures.value c.in-Some.ensures))
     (W c.args.out.now) (W c.write_reply.new.out) (M c.args.files.now) (M c.write_held.new.files)
     (record { stores = answered.stores; counts = c.in_ok-counts.counts; dumps = c.args.dumps })
     (subst (λ l. IsHeldCounted c.in-Some.counts l c.in_ok-counts.counts) c.deref-4.ensures.value c.in_ok-counts.ensures.counted) refl (sym dumps)
     (subst (Grows (W c.args.out.now) (W c.write_reply.new.out)) c.deref-2.ensures.value c.in_ok-write_reply.ensures.written)
-    (file-more (M c.args.files.now) (M c.write_section.new.files) (M c.write_held.new.files) 0 (section_lines (record { kind = Batch; number = number; shards = lists })) (held_text (number + 1) answered.held.items)
+    (file-more (M c.args.files.now) (M c.write_section.new.files) (M c.write_held.new.files) 0 (section_lines (record { kind = Batch; number = number; shards = lists })) (held_text (number + 1) answered.own_lists.items)
     (subst (λ l. FileGrows (M c.args.files.now) (M c.write_section.new.files) 0 (section_lines (record { kind = Batch; number = number; shards = l }))) c.deref-3.ensures.value c.in_ok-write_section.ensures.written)
     (subst (λ l. FileGrows (M c.write_section.new.files) (M c.write_held.new.files) 0 (held_text (number + 1) l)) c.deref-4.ensures.value c.in_ok-counts.ensures.written))
 

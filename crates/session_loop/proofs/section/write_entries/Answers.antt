@@ -1,6 +1,6 @@
 use Rattle.std.proofs.Common.{refl, ap, subst, ◌∙◌, take, drop, arith}
 use Rattle.std.specs.Prelude.{flat_map}
-use Rattle.backsim_io.specs.Held.{FileGrows}
+use Rattle.backsim_io.specs.FilesInMemory.{FileGrows}
 use Rattle.journal_text.specs.Spelling.{entry_line}
 use Rattle.session_loop.specs.inner.Growing.{FileGrowsPart}
 use Rattle.session_loop.specs.declared.stop.Stop.TheVariants.{OutOfMemory}

@@ -1,7 +1,7 @@
 -- What was written so far met no fault.
 use Rattle.std.proofs.Common.{◌≡◌, ◌≤◌, ◌-◌, length, take}
 use Rattle.std.specs.Prelude.{flat_map}
-use Rattle.backsim_io.specs.Held.{FileGrows}
+use Rattle.backsim_io.specs.FilesInMemory.{FileGrows}
 use Rattle.journal_text.specs.Spelling.{entry_line}
 use Rattle.session_loop.proofs.section.write_entries.Given as goal
 

@@ -1,7 +1,7 @@
 use Rattle.std.proofs.Common.{◌≡◌, refl, subst, sym, ◌∙◌, ◌++◌, arith}
 use Rattle.std.proofs.lemmas.Grind.{common_steps}
 use Rattle.std.specs.Prelude.{codes, OnOk, OnErr}
-use Rattle.backsim_io.specs.Held.{FileGrows}
+use Rattle.backsim_io.specs.FilesInMemory.{FileGrows}
 use Rattle.journal_text.specs.Spelling.{shard_lines}
 use Rattle.session_loop.specs.inner.Growing.{FileGrowsPart}
 use Rattle.session_loop.specs.declared.stop.Stop.TheVariants.{OutOfMemory}

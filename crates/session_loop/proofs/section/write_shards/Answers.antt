@@ -1,6 +1,6 @@
 use Rattle.std.proofs.Common.{refl, subst, ◌∙◌, ◌++◌, arith}
 use Rattle.std.specs.Prelude.{flat_map}
-use Rattle.backsim_io.specs.Held.{FileGrows}
+use Rattle.backsim_io.specs.FilesInMemory.{FileGrows}
 use Rattle.journal_text.specs.Spelling.{entry_line}
 use Rattle.session_loop.specs.inner.Growing.{FileGrowsPart, shard_line}
 use Rattle.session_loop.specs.Outside.{JournalStops}

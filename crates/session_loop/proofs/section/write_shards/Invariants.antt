@@ -1,6 +1,6 @@
 -- What was written so far met no fault.
 use Rattle.std.proofs.Common.{◌≡◌, take}
-use Rattle.backsim_io.specs.Held.{FileGrows}
+use Rattle.backsim_io.specs.FilesInMemory.{FileGrows}
 use Rattle.journal_text.specs.Spelling.{shard_lines}
 use Rattle.session_loop.proofs.section.write_shards.Given as goal
 

@@ -1,6 +1,6 @@
 use Rattle.std.proofs.Common.{Some, refl, ap, subst, ◌∙◌}
 use Rattle.backsim_io.specs.Counts.{Grows}
-use Rattle.backsim_io.specs.Held.{FileGrows}
+use Rattle.backsim_io.specs.FilesInMemory.{FileGrows}
 use Rattle.journal_text.specs.Spelling.{section_lines}
 use Rattle.journal_text.specs.declared.sections.SectionKind.TheVariants.{Batch}
 use Rattle.session_meaning.specs.Replies.{replies_text}

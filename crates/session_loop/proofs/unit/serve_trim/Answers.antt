@@ -1,6 +1,6 @@
 use Rattle.std.proofs.Common.{refl, subst, ap, length, sum_by, ◌∙◌}
 use Rattle.backsim_io.specs.Counts.{Grows}
-use Rattle.backsim_io.specs.Held.{FileGrows}
+use Rattle.backsim_io.specs.FilesInMemory.{FileGrows}
 use Rattle.journal_text.specs.Spelling.{section_lines}
 use Rattle.journal_text.specs.declared.sections.SectionKind.TheVariants.{Trim}
 use Rattle.reply_lines.specs.Replies.{trimmed_line}

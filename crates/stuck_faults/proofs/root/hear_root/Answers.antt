@@ -9,7 +9,7 @@ use Rattle.asked_cells.proofs.Alone.{none-of}
 use Rattle.asked_cells.proofs.Asking.{asks-then}
 use Rattle.stuck_faults.specs.Asks.{Neither, is_session}
 use Rattle.stuck_faults.specs.inner.Both.{Rests}
-use Rattle.strand_meaning.specs.Strands.{started}
+use Rattle.strand_meaning.specs.Strands.{started_strand}
 use Rattle.stuck_faults.specs.inner.Turns.{OfTurn}
 use Rattle.stuck_faults.proofs.Resting.{asks-begin, ends-rest, ends-covered, ends-heard, leaves-heard, hears, gives-flag}
 use Rattle.stuck_faults.proofs.Turns.{session-kept, extends-none, extends-then}
@@ -31,7 +31,7 @@ turns-init g c = record {
   session = c.requires.session;
   asks = asks-begin g.B.BatchName.batch g.B.BatchName.opening c.args.question c.args.time c.args.memos.now.session c.args.memos.now.own c.args.memos.now.filled c.requires.rests c.start-strand.result
       c.start-strand.ensures.from c.start-strand.ensures.to
-      (c.start-strand.ensures.strand ∙ ap (λ (z : Batch). started z.circuit (record { query = c.args.question.query; start = c.args.time; stop = c.args.time + 1; budget = c.args.question.query.budget; charged = c.args.memos.now.filled })) c.requires.asked.own_is);
+      (c.start-strand.ensures.strand ∙ ap (λ (z : Batch). started_strand z.circuit (record { query = c.args.question.query; start = c.args.time; stop = c.args.time + 1; budget = c.args.question.query.budget; charged = c.args.memos.now.filled })) c.requires.asked.own_is);
   kept_session = λ e h. h;
   extends = extends-none c.args.memos.now.own.shard.journal;
   session_asks = Nothing;
@@ -70,7 +70,7 @@ pub returns-in-Ended-clause-rests : goal.returns-in-Ended-clause-rests
 returns-in-Ended-clause-rests g c =
     let b = g.B.BatchName.batch in
     let ended = (subst (OfTurn b g.B.BatchName.opening g.H.BatchName.batch c.args.question c.args.time c.turns.memos.session c.take_turn.new.memos.session c.take_turn.new.memos.own c.turns.strand) c.in-Ended.is c.in_ok-next.ensures.turn).1 in
-    subst (Rests b g.B.BatchName.opening c.args.question c.take_turn.new.memos.session c.take_turn.new.memos.own) (sym c.charged-memos.ensures.charged)
+    subst (Rests b g.B.BatchName.opening c.args.question c.take_turn.new.memos.session c.take_turn.new.memos.own) (sym c.charge-memos.ensures.charged)
     (ends-rest b g.B.BatchName.opening c.args.question c.args.time c.take_turn.new.memos.session c.take_turn.new.memos.own c.in-Ended.ended ended.asks c.facts.ensures.charge ended.done)
 
 pub returns-in-Ended-clause-covered : goal.returns-in-Ended-clause-covered

@@ -32,8 +32,8 @@ reach-requires-clause-start g c =
     c.args.time c.args.memos.now.session c.args.memos.now.own c.args.strand c.requires.asks c.facts.ensures c.args.p c.requires.next c.requires.free c.args.memos.now.charge c.requires.session.counts
     (let n = c.requires.session.counts in omega arith)
 
-pub heard-requires-clause-answer : goal.heard-requires-clause-answer
-heard-requires-clause-answer g c = (
+pub hear-requires-clause-answer : goal.hear-requires-clause-answer
+hear-requires-clause-answer g c = (
   c.args.p,
   c.requires.next,
   some-of (λ (x : Cell). x ≡ cell_at g.B.BatchName.batch.circuit c.args.p) c.in_ok-cell.field-0 c.in-Some.cell c.in_ok-cell.ensures.cell c.in-Some.is
@@ -50,7 +50,7 @@ returns-in-Some-clause-turn g c = (
   turn-heard g.B.BatchName.batch g.H.BatchName.batch g.B.BatchName.opening c.args.question c.args.design.now.circuit c.args.held.now.design.circuit c.args.held.now.reached c.requires.asked
       c.args.time c.args.memos.now.session c.args.memos.now.own c.args.strand c.requires.asks c.facts.ensures c.args.p c.requires.next c.requires.free c.args.memos.now.charge c.requires.session.counts
       c.reach.new.memo (is_missing c.in_ok-cell.field-0) c.in_ok-cell.ensures.asked
-      (ap is_missing c.in-Some.is) c.heard.new.self c.heard.ensures,
+      (ap is_missing c.in-Some.is) c.hear.new.self c.hear.ensures,
 )
 
 pub returns-in-None-clause-turn : goal.returns-in-None-clause-turn

@@ -44,9 +44,9 @@ returns-clause-done g c =
     let rs = c.in_ok-ran.ran.replies.items in
     let ran : HasRun (asks setup (queries_of d c.args.items.now)) (cells_of c.args.stores.items) rs c.in_ok-ran.ran.lists.items c.in_ok-ran.ran.stores.items =
     subst (λ (qs : List Query). HasRun (asks setup qs) (cells_of c.args.stores.items) rs c.in_ok-ran.ran.lists.items c.in_ok-ran.ran.stores.items) queries c.in_ok-ran.ensures.run in
-    let placed : c.in_ok-replies.replies.items ≡ places.placed (map (verdict_of d) c.args.items.now) rs =
-    subst (λ (vs : List Verdict). c.in_ok-replies.replies.items ≡ places.placed vs rs) c.in_ok-verdicts.ensures
-    (subst (λ (vs : List Verdict). c.in_ok-replies.replies.items ≡ places.placed vs rs) c.deref-4.ensures.value c.in_ok-replies.ensures) in
+    let placed : c.in_ok-replies.replies.items ≡ places.placed_replies (map (verdict_of d) c.args.items.now) rs =
+    subst (λ (vs : List Verdict). c.in_ok-replies.replies.items ≡ places.placed_replies vs rs) c.in_ok-verdicts.ensures
+    (subst (λ (vs : List Verdict). c.in_ok-replies.replies.items ≡ places.placed_replies vs rs) c.deref-4.ensures.value c.in_ok-replies.ensures) in
     batch-done setup c.args.items.now c.args.stores.items rs c.in_ok-ran.ran.lists.items c.in_ok-ran.ran.stores.items ran c.in_ok-replies.replies.items placed
 
 pub returns-clause-crewed : goal.returns-clause-crewed

@@ -1,6 +1,6 @@
 use Rattle.std.proofs.Common.{◌≡◌, ◌≤◌, length, map, refl, ap, ◌∙◌, arith}
 use Rattle.unit_answers.specs.Stores.{setup_of}
-use Rattle.unit_answers.specs.inner.Trims.{trimmed, entries_at}
+use Rattle.unit_answers.specs.inner.Trims.{trimmed_store, entries_at}
 use Rattle.unit_answers.proofs.Trimming.{trims-more, trims-stores, trims-entries, written-back}
 use Rattle.unit_answers.proofs.Done.{trim-done}
 use Rattle.unit_answers.proofs.trim.trim_stores.Goals as goal
@@ -24,4 +24,4 @@ returns c =
     let end : length c.deref_mut-store-items.result.now ≤ c.loop-store.store-index = omega (arith, c.loop-store-test.false) in
     let stores = trims-stores most c.loop-store.store-index c.deref_mut-store-items.result.now now c.loop-store.lists.items c.loop-store.invariant end in
     let entries = trims-entries most c.loop-store.store-index c.deref_mut-store-items.result.now now c.loop-store.lists.items c.loop-store.invariant end in
-    trim-done (setup_of c.args.design.now c.args.sizes) most old c.requires.stores c.loop-store.lists.items _ (entries ∙ ap (map (entries_at most)) value) (whole ∙ stores ∙ ap (map (trimmed most)) value)
+    trim-done (setup_of c.args.design.now c.args.sizes) most old c.requires.stores c.loop-store.lists.items _ (entries ∙ ap (map (entries_at most)) value) (whole ∙ stores ∙ ap (map (trimmed_store most)) value)

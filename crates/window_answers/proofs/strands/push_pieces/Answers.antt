@@ -1,7 +1,7 @@
 use Rattle.std.proofs.Common.{◌≡◌, ◌+◌, ◌/◌, ◌++◌, ◌∷◌, [], List, map, sym, ap, subst, ◌∙◌, arith}
 use Rattle.std.specs.List.{AllByRecursion}
 use Rattle.batch_meaning.specs.Pieces.{Start, IsStart, pieces}
-use Rattle.strand_meaning.specs.Strands.{started}
+use Rattle.strand_meaning.specs.Strands.{started_strand}
 use Rattle.batch_meaning.proofs.Pieces.{pieces-lawful}
 use Rattle.plan_core.specs.Parts.{strands_in}
 use Rattle.window_answers.specs.inner.Starts.{piece_start}
@@ -20,7 +20,7 @@ cuts-init g c =
         q.to / 65536 + 1,
         omega arith,
         subst (AllByRecursion (IsStart b)) (sym e) (pieces-lawful b c.requires.site q c.requires.known),
-        ap (λ (l : List Start). strands_in c.args.strands.now.items ++ map (started b.circuit) l) e,
+        ap (λ (l : List Start). strands_in c.args.strands.now.items ++ map (started_strand b.circuit) l) e,
       );
     }
 
@@ -41,7 +41,7 @@ cuts-preserved g c =
     record {
       order = c.in_ok-push_piece.ensures.order;
       left = next-left b q c.cuts.budget (q.budget / c.count_pieces-count.result) i.0 c.cuts.t (omega arith) i.1 c.next_cut-next.result c.next_cut-next.ensures
-          (started b.circuit) (strands_in c.cuts.strands.items) (strands_in c.push_piece.new.strands.items) (strands_in c.args.strands.now.items ++ map (started b.circuit) (pieces q)) i.2 i.3 c.in_ok-push_piece.ensures.strands;
+          (started_strand b.circuit) (strands_in c.cuts.strands.items) (strands_in c.push_piece.new.strands.items) (strands_in c.args.strands.now.items ++ map (started_strand b.circuit) (pieces q)) i.2 i.3 c.in_ok-push_piece.ensures.strands;
     }
 
 pub push_piece-requires-2-clause-start : goal.push_piece-requires-2-clause-start
@@ -58,7 +58,7 @@ returns-clause-strands g c =
     let i = c.cuts.invariant.left in
     let e = c.next_cut.ensures in
     let t = c.cuts-test.false in
-    let f = started b.circuit in
+    let f = started_strand b.circuit in
     let old = strands_in c.cuts.strands.items in
     let new = strands_in c.push_piece-2.new.strands.items in
     let all = strands_in c.args.strands.now.items ++ map f (pieces q) in

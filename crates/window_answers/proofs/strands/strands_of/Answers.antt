@@ -1,5 +1,5 @@
 use Rattle.std.proofs.Common.{map, flat_map, ap, ◌∙◌, arith}
-use Rattle.strand_meaning.specs.Strands.{started}
+use Rattle.strand_meaning.specs.Strands.{started_strand}
 use Rattle.batch_meaning.specs.Pieces.{pieces}
 use Rattle.plan_core.specs.Parts.{strands_in}
 use Rattle.asked_cells.proofs.Lists.{take-all}
@@ -11,8 +11,8 @@ loop-q-preserved g c =
     let k = c.in_ok-push_pieces.ensures in
     record {
       order = k.order;
-      strands = strands-next (started g.B.BatchName.batch.circuit) c.args.queries.now c.loop-q.q-index _ (strands_in c.loop-q.strands.items) (strands_in c.push_pieces.new.strands.items) c.loop-q-test.true c.loop-q.invariant.strands k.strands;
+      strands = strands-next (started_strand g.B.BatchName.batch.circuit) c.args.queries.now c.loop-q.q-index _ (strands_in c.loop-q.strands.items) (strands_in c.push_pieces.new.strands.items) c.loop-q-test.true c.loop-q.invariant.strands k.strands;
     }
 
 pub returns-clause-strands : goal.returns-clause-strands
-returns-clause-strands g c = c.loop-q.invariant.strands ∙ ap (λ l. map (started g.B.BatchName.batch.circuit) (flat_map pieces l)) (take-all c.args.queries.now c.loop-q.q-index (let t = c.loop-q-test.false in omega arith))
+returns-clause-strands g c = c.loop-q.invariant.strands ∙ ap (λ l. map (started_strand g.B.BatchName.batch.circuit) (flat_map pieces l)) (take-all c.args.queries.now c.loop-q.q-index (let t = c.loop-q-test.false in omega arith))

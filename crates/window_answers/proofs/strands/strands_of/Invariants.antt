@@ -1,5 +1,5 @@
 use Rattle.std.proofs.Common.{◌≡◌, map, flat_map, take}
-use Rattle.strand_meaning.specs.Strands.{started}
+use Rattle.strand_meaning.specs.Strands.{started_strand}
 use Rattle.batch_meaning.specs.Pieces.{pieces}
 use Rattle.plan_core.specs.Parts.{strands_in}
 use Rattle.window_answers.specs.Strands.{IsInOrder}
@@ -8,5 +8,5 @@ use Rattle.window_answers.proofs.strands.strands_of.Given as goal
 abbrev pub invariant-loop-q : goal.invariant-loop-q
 invariant-loop-q g l = record {
   order : IsInOrder l.strands.items;
-  strands : strands_in l.strands.items ≡ map (started g.B.BatchName.batch.circuit) (flat_map pieces (take l.q-index l.queries));
+  strands : strands_in l.strands.items ≡ map (started_strand g.B.BatchName.batch.circuit) (flat_map pieces (take l.q-index l.queries));
 }

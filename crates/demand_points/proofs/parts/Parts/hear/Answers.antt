@@ -1,5 +1,5 @@
 use Rattle.std.proofs.Common.{ℕ, Some, sym, subst}
-use Rattle.strand_meaning.specs.Strands.{heard}
+use Rattle.strand_meaning.specs.Strands.{after_answer}
 use Rattle.demand_points.specs.declared.parts.Parts.{Parts}
 use Rattle.demand_points.specs.inner.Demands.{TakesStepTo}
 use Rattle.demand_points.proofs.PartLemmas.{asked, hears-root}
@@ -12,4 +12,4 @@ returns-in-None c =
     let p = c.requires.answer.0 in
     let a = asked d c.facts.ensures.circuit s c.requires.running p c.requires.ready c.requires.answer.1 in
     let at : ℕ → Parts = λ t. record s { root = t; last = Some c.args.cell.now } in
-    subst (λ t. TakesStepTo d heard s (at t)) (sym c.end-self.ensures.end) (hears-root d c.facts.ensures.circuit s c.requires.running c.args.cell.now p c.in-None.ensures a c.requires.answer.2)
+    subst (λ t. TakesStepTo d after_answer s (at t)) (sym c.end-self.ensures.end) (hears-root d c.facts.ensures.circuit s c.requires.running c.args.cell.now p c.in-None.ensures a c.requires.answer.2)

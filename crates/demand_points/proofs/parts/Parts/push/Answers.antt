@@ -1,5 +1,5 @@
 use Rattle.std.proofs.Common.{◌+◌, List, sym, subst, refl}
-use Rattle.strand_meaning.specs.Strands.{claimed}
+use Rattle.strand_meaning.specs.Strands.{after_claim}
 use Rattle.pin_walks.specs.declared.walk.PinWalk.{PinWalk}
 use Rattle.demand_points.specs.declared.parts.Parts.{Parts}
 use Rattle.demand_points.specs.inner.Demands.{TakesStepTo}
@@ -20,5 +20,5 @@ returns-clause-ok c =
     let s = c.args.self.now in
     let p = c.args.p in
     let at : List PinWalk → Parts = λ st. record s { stack = st; charged = s.charged + 1 } in
-    subst (λ st. TakesStepTo d (λ x. claimed d x p) s (at st)) (sym c.in_ok-push.ensures.ok)
+    subst (λ st. TakesStepTo d (λ x. after_claim d x p) s (at st)) (sym c.in_ok-push.ensures.ok)
     (claims d c.facts.ensures.circuit s c.requires.running c.new.result p (s.charged + 1) (asked d c.facts.ensures.circuit s c.requires.running p c.requires.ready c.requires.asks) c.new.ensures.walk c.new.ensures.point c.new.ensures.looked refl)

@@ -1,6 +1,6 @@
 use Rattle.std.proofs.Common.{ap, ◌∙◌, sym, subst, Err}
 use Rattle.std.proofs.lemmas.Result.{err_from_is_err_and}
-use Rattle.stimulus_file.specs.Named.{named}
+use Rattle.stimulus_file.specs.Named.{named_rows}
 use Rattle.design.specs.Join.{AnswersDesign, design_of}
 use Rattle.design.specs.inner.Said.{HasSets, lists_in}
 use Rattle.design.proofs.Finished.{refused-timing, refused-set, none-at, accepted}
@@ -21,14 +21,14 @@ pub returns-in_err-settings : goal.returns-in_err-settings
 returns-in_err-settings c =
     let p = err_from_is_err_and c.from_residual-in_err-settings.result c.from_residual-in_err-settings.ensures.1 in
     subst (λ r. AnswersDesign r (design_of c.args.netlist c.args.timing.now c.args.stimulus.now)) (sym (p.1 ∙ ap Err p.2))
-    (refused-set c.args.netlist c.args.timing.now c.args.stimulus.now c.horizon-horizon.result (named c.sets.result.names.now c.sets.result.sets.now) c.in_err-settings.field-0.0 c.horizon-horizon.ensures c.sets.ensures.named c.in_ok-stated.ensures.0 c.in_err-settings.ensures)
+    (refused-set c.args.netlist c.args.timing.now c.args.stimulus.now c.horizon-horizon.result (named_rows c.sets.result.names.now c.sets.result.sets.now) c.in_err-settings.field-0.0 c.horizon-horizon.ensures c.sets.ensures.named c.in_ok-stated.ensures.0 c.in_err-settings.ensures)
 
 pub invariant_of-origin : goal.invariant_of-origin
 invariant_of-origin c =
     let netlist = c.args.netlist in
     let stimulus = c.args.stimulus.now in
     let kept = c.in_ok-kept.ensures in
-    let none = none-at netlist c.args.timing.now stimulus c.horizon-horizon.result (named c.sets.result.names.now c.sets.result.sets.now) c.horizon-horizon.ensures c.sets.ensures.named c.in_ok-settings.ensures.0 in
+    let none = none-at netlist c.args.timing.now stimulus c.horizon-horizon.result (named_rows c.sets.result.names.now c.sets.result.sets.now) c.horizon-horizon.ensures c.sets.ensures.named c.in_ok-settings.ensures.0 in
     let has = subst (λ sets. HasSets netlist sets c.in_ok-settings.settings.items) c.sets.ensures.named c.in_ok-settings.ensures.1 in
     is-kept netlist c.args.timing.now stimulus c.facts.ensures c.facts-2.ensures c.facts-3.ensures none
     c.horizon-horizon.result c.in_ok-kept.kept.rows.items c.in_ok-kept.kept.delays.items c.in_ok-kept.kept.flops.items (lists_in c.in_ok-settings-2.settings.items)
@@ -40,7 +40,7 @@ returns c =
     let timing = c.args.timing.now in
     let stimulus = c.args.stimulus.now in
     let kept = c.in_ok-kept.ensures in
-    let none = none-at netlist timing stimulus c.horizon-horizon.result (named c.sets.result.names.now c.sets.result.sets.now) c.horizon-horizon.ensures c.sets.ensures.named c.in_ok-settings.ensures.0 in
+    let none = none-at netlist timing stimulus c.horizon-horizon.result (named_rows c.sets.result.names.now c.sets.result.sets.now) c.horizon-horizon.ensures c.sets.ensures.named c.in_ok-settings.ensures.0 in
     let has = subst (λ sets. HasSets netlist sets c.in_ok-settings.settings.items) c.sets.ensures.named c.in_ok-settings.ensures.1 in
     accepted netlist timing stimulus c.in_ok-of.field-0 c.in_ok-stated.ensures.0 none
     (c.in_ok-of.ensures ∙ joined-is netlist timing stimulus c.facts.ensures c.facts-2.ensures c.facts-3.ensures none

@@ -26,7 +26,7 @@ invariant_of-self g c =
     let p = c.args.p in
     let w = c.args.strand.now in
     let q = w.strand.query.number in
-    let held : holder (shard_at o es).state.claims p ≡ Some q = subst (λ (v : KeptShard). holder v.shard.state.claims p ≡ Some q) (sym c.self.view_is) c.requires.held in
+    let held : holder (shard_at o es).state.claims p ≡ Some q = subst (λ (v : KeptShard). holder v.shard.state.claims p ≡ Some q) (sym c.self.view_is) c.requires.claimed in
     let items : c.push_reserved.new.self.items ≡ es ++ entry.Dropped q p ∷ [] = c.push_reserved.ensures.items ∙ ap (λ (x : Query). es ++ entry.Dropped x.number p ∷ []) c.query-q.ensures in
     let fewer : length c.take-woken.new.self + 1 ≡ length s.claims = ap (λ (l : Claims Demand). length l + 1) c.take-woken.ensures.rest ∙ length-removed (is_at (point_cmp p)) s.claims (some-held b o s.number s.store s.claims es a p q held) in
     record {
@@ -45,7 +45,7 @@ returns g c =
     let p = c.args.p in
     let w = c.args.strand.now in
     let q = w.strand.query.number in
-    let held : holder (shard_at o es).state.claims p ≡ Some q = subst (λ (v : KeptShard). holder v.shard.state.claims p ≡ Some q) (sym c.self.view_is) c.requires.held in
+    let held : holder (shard_at o es).state.claims p ≡ Some q = subst (λ (v : KeptShard). holder v.shard.state.claims p ≡ Some q) (sym c.self.view_is) c.requires.claimed in
     let items : c.push_reserved.new.self.items ≡ es ++ entry.Dropped q p ∷ [] = c.push_reserved.ensures.items ∙ ap (λ (x : Query). es ++ entry.Dropped x.number p ∷ []) c.query-q.ensures in (
       refl,
       subst (λ (v : KeptShard). DropsIt v (record { number = s.number; shard = shard_at o c.push_reserved.new.self.items; waiting = waits_in c.take-woken.new.self }) p w c.drop_top.new.self c.take-woken.result.items) c.self.view_is

@@ -31,7 +31,7 @@ record_fill-requires-clause-fits g c =
     let p = c.args.p in
     let w = c.args.strand.now in
     let q = w.strand.query.number in
-    let held : holder (shard_at o es).state.claims p ≡ Some q = subst (λ (v : KeptShard). holder v.shard.state.claims p ≡ Some q) (sym c.self.view_is) c.requires.held in
+    let held : holder (shard_at o es).state.claims p ≡ Some q = subst (λ (v : KeptShard). holder v.shard.state.claims p ≡ Some q) (sym c.self.view_is) c.requires.claimed in
     let right : c.top_cell-cell.result ≡ cell_at b.circuit p = c.top_cell-cell.ensures p c.requires.fills in
     filled-fits b o s.number s.store s.claims es a q p held c.top_cell-cell.result right
 
@@ -45,7 +45,7 @@ hear_all-requires g c =
     let p = c.args.p in
     let w = c.args.strand.now in
     let q = w.strand.query.number in
-    let held : holder (shard_at o es).state.claims p ≡ Some q = subst (λ (v : KeptShard). holder v.shard.state.claims p ≡ Some q) (sym c.self.view_is) c.requires.held in
+    let held : holder (shard_at o es).state.claims p ≡ Some q = subst (λ (v : KeptShard). holder v.shard.state.claims p ≡ Some q) (sym c.self.view_is) c.requires.claimed in
     let right : c.top_cell-cell.result ≡ cell_at b.circuit p = c.top_cell-cell.ensures p c.requires.fills in
     record {
       design = c.requires.design;
@@ -62,7 +62,7 @@ invariant_of-self-2 g c =
     let p = c.args.p in
     let w = c.args.strand.now in
     let q = w.strand.query.number in
-    let held : holder (shard_at o es).state.claims p ≡ Some q = subst (λ (v : KeptShard). holder v.shard.state.claims p ≡ Some q) (sym c.self.view_is) c.requires.held in
+    let held : holder (shard_at o es).state.claims p ≡ Some q = subst (λ (v : KeptShard). holder v.shard.state.claims p ≡ Some q) (sym c.self.view_is) c.requires.claimed in
     let right : c.top_cell-cell.result ≡ cell_at b.circuit p = c.top_cell-cell.ensures p c.requires.fills in
     let items : c.record_fill.new.journal.items ≡ (filled_shard b.capacity q p (cell_at b.circuit p) (shard_at o es)).journal =
     filled-items b o s.number s.store s.claims es a q p held c.facts.ensures c.record_fill.new.journal.items
@@ -87,7 +87,7 @@ returns g c =
     let p = c.args.p in
     let w = c.args.strand.now in
     let q = w.strand.query.number in
-    let held : holder (shard_at o es).state.claims p ≡ Some q = subst (λ (v : KeptShard). holder v.shard.state.claims p ≡ Some q) (sym c.self.view_is) c.requires.held in
+    let held : holder (shard_at o es).state.claims p ≡ Some q = subst (λ (v : KeptShard). holder v.shard.state.claims p ≡ Some q) (sym c.self.view_is) c.requires.claimed in
     let right : c.top_cell-cell.result ≡ cell_at b.circuit p = c.top_cell-cell.ensures p c.requires.fills in
     let items : c.record_fill.new.journal.items ≡ (filled_shard b.capacity q p (cell_at b.circuit p) (shard_at o es)).journal =
     filled-items b o s.number s.store s.claims es a q p held c.facts.ensures c.record_fill.new.journal.items

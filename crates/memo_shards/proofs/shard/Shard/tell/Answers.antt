@@ -9,8 +9,8 @@ use Rattle.memo_shards.specs.Asks.{IsHere, Tells}
 use Rattle.memo_shards.proofs.Entries.{told, told-agrees, told-shown}
 use Rattle.memo_shards.proofs.shard.Shard.tell.Goals as goal
 
-pub heard-requires-clause-answer : goal.heard-requires-clause-answer
-heard-requires-clause-answer g c =
+pub hear-requires-clause-answer : goal.hear-requires-clause-answer
+hear-requires-clause-answer g c =
     let b = g.B.BatchName.batch in
     let s = c.self.inside in
     let o = g.B.BatchName.opening s.number in
@@ -55,5 +55,5 @@ returns-in-Some g c =
     let items : c.push_reserved.new.self.items ≡ es ++ entry.Told w.strand.query.number p c.in-Some.cell ∷ [] =
     c.push_reserved.ensures.items ∙ ap (λ (l : List Entry). l ++ c.told.result ∷ []) c.make_room.ensures.items
     ∙ ap (λ (e : Entry). es ++ e ∷ []) (c.told.ensures ∙ ap (λ (x : Query). entry.Told x.number p c.in-Some.cell) c.query-q.ensures) in
-    subst (λ (v : KeptShard). Tells v (record { number = s.number; shard = shard_at o c.push_reserved.new.self.items; waiting = waits_in s.claims }) p w c.heard.new.self) c.self.view_is
-    (told-shown b o s.number s.store s.claims es a w c.heard.new.self p c.in-Some.cell t c.heard.ensures c.push_reserved.new.self.items items)
+    subst (λ (v : KeptShard). Tells v (record { number = s.number; shard = shard_at o c.push_reserved.new.self.items; waiting = waits_in s.claims }) p w c.hear.new.self) c.self.view_is
+    (told-shown b o s.number s.store s.claims es a w c.hear.new.self p c.in-Some.cell t c.hear.ensures c.push_reserved.new.self.items items)

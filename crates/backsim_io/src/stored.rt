@@ -1,13 +1,13 @@
 ghost use Rattle.std.specs.Prelude.{◌≡◌, [], ◌++◌, length, take, drop, Some, None, OnSome, IfNone, ◌+◌, ◌<◌, ◌≤◌};
-ghost use Rattle.backsim_io.specs.Held.{bytes_under};
-ghost use Rattle.backsim_io.specs.inner.Held.{bytes_at};
+ghost use Rattle.backsim_io.specs.FilesInMemory.{bytes_under};
+ghost use Rattle.backsim_io.specs.inner.FilesInMemory.{bytes_at};
 
 use crate::copies::copy_next;
 use owned_text::Text;
 
 /// Files in memory, by name. One of them is being read.
 #[derive(Drop)]
-pub(crate) struct HeldFiles {
+pub(crate) struct StoredFiles {
     files: Vec<(Text, Vec<u8>)>,
     reading: Option<usize>,
     at: usize,
@@ -15,13 +15,13 @@ pub(crate) struct HeldFiles {
     ghost within: { at ≤ length (bytes_at files.items reading) },
 }
 
-impl HeldFiles {
-    pub(crate) fn new(files: Vec<(Text, Vec<u8>)>) -> HeldFiles
+impl StoredFiles {
+    pub(crate) fn new(files: Vec<(Text, Vec<u8>)>) -> StoredFiles
         ensures files { result.files ≡ files }
         ensures none { drop result.at (bytes_at result.files.items result.reading) ≡ [] }
         ensures started { result.started ≡ 0 }
     {
-        HeldFiles {
+        StoredFiles {
             files,
             reading: None,
             at: 0,

@@ -1,4 +1,4 @@
--- Definitions for proofs and private functions, beside `Held`.
+-- Definitions for proofs and private functions, beside `FilesInMemory`.
 use Rattle.std.specs.Prelude.{ℕ, List, Option, Some, None, [], map, slice_get, option_map, unwrap_or, Vec, ◌+◌, ◌≤◌, IfSome, vec_len, vec_capacity}
 use Rattle.std.specs.Global.{Global}
 use Rattle.owned_text.specs.Made.{Made}

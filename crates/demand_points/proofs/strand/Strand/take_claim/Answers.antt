@@ -5,7 +5,7 @@ use Rattle.strand_meaning.specs.Strands.{next}
 use Rattle.demand_points.specs.Demands.{Demand}
 use Rattle.demand_points.specs.inner.Demands.{strand_of}
 use Rattle.demand_points.proofs.Keeps.{claimed-demand}
-use Rattle.demand_points.proofs.strand.Strand.claimed.Goals as goal
+use Rattle.demand_points.proofs.strand.Strand.take_claim.Goals as goal
 
 pub invariant_of-self-2 : goal.invariant_of-self-2
 invariant_of-self-2 g c =

@@ -2,7 +2,7 @@ use Rattle.std.proofs.Common.{rules, ◌≡◌, arith, true}
 use Rattle.std.specs.Str.{bytes_eq}
 use Rattle.std.proofs.lemmas.Grind.{common_steps}
 use Rattle.backsim_io.proofs.Under.{under_from, bytes_at_place}
-use Rattle.backsim_io.proofs.held.HeldFiles.place_of.Goals as goal
+use Rattle.backsim_io.proofs.stored.StoredFiles.place_of.Goals as goal
 
 -- the file at this place has the name, and none before it
 pub returns-then-eq-clause-bytes : goal.returns-then-eq-clause-bytes

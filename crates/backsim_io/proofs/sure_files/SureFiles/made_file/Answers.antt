@@ -1,7 +1,7 @@
 use Rattle.std.proofs.Common.{rules, ◌≡◌, ◌<◌, ◌≤◌, ◌∙◌, ap, Some, length, get_or}
 use Rattle.backsim_io.specs.inner.SureFiles.{KeptFile}
 use Rattle.backsim_io.proofs.KeptFiles.{kept_at, kept_past}
-use Rattle.backsim_io.proofs.sure_files.SureFiles.made.Goals as goal
+use Rattle.backsim_io.proofs.sure_files.SureFiles.made_file.Goals as goal
 
 pub returns-in-Some-clause-bytes : goal.returns-in-Some-clause-bytes
 returns-in-Some-clause-bytes c = λ files told.
