@@ -17,8 +17,8 @@ use Rattle.design.specs.declared.rows.SignalView.{SignalView as View}
 use Rattle.design.specs.declared.rows.SignalView.TheVariants as view
 use Rattle.design.specs.Joined.{IsDesign, Joined}
 use Rattle.design.specs.inner.KeptDesigns.{IsViewOf, InTimeOrder, FitsFrom, driver_seen}
-use Rattle.design.specs.inner.HeldSignals.{held_settings, held_circuit, value_of, held_design, IsHeldDesign}
-use Rattle.design.specs.inner.Walk.{has, list_at, AreReaders, ReadIt}
+use Rattle.design.specs.inner.HeldSignals.{held_settings, held_circuit, value_of, held_design, open_readers, AreOpenReaders, IsHeldDesign}
+use Rattle.design.specs.inner.Walk.{has, list_at, AreReaders}
 use Rattle.design.proofs.Walked.{nat_eq-true}
 use Rattle.design.proofs.Reading.{read-it}
 
@@ -102,12 +102,15 @@ module _ (c : Circuit) where
       within m (Some w) e = sym (ap (λ d. has (read_by d) u) (driver-held held x w m e))
 
   -- those readers of a signal that are not held
-  pub open-readers : (held : List HeldSignal) (lists : List (List ℕ)) (u : ℕ) (found : List ℕ) → AreReaders c lists → u < length c.drivers → found ≡ filter (λ x. is_none (value_of held x)) (list_at lists u)
-      → ReadIt (held_circuit c held) u found
-  open-readers held lists u found r l e =
-      read-it (held_circuit c held) u found (λ x. ap (λ xs. has xs x) e ∙ has-filter (λ y. is_none (value_of held y)) (list_at lists u) x ∙ reads-open held lists u r l x)
+  pub open-readers : (held : List HeldSignal) (lists : List (List ℕ)) → AreReaders c lists → AreOpenReaders (held_circuit c held) lists held
+  open-readers held lists r = record {
+    long = r.long ∙ sym (held-long held);
+    each = λ u l.
+        read-it (held_circuit c held) u (open_readers lists held u) (λ x. has-filter (λ y. is_none (value_of held y)) (list_at lists u) x
+        ∙ reads-open held lists u r (let n = held-long held in omega (arith, n, l)) x);
+  }
 
-module _ (j : Joined) (readers : List (List ℕ)) (held : List HeldSignal) (ok : IsHeldDesign j readers held) (d : Joined) (e : held_design j held ≡ d) where
+module _ (j : Joined) (made : Option (List (List ℕ))) (held : List HeldSignal) (ok : IsHeldDesign j made held) (d : Joined) (e : held_design j held ≡ d) where
   abbrev c : Circuit
   c = held_circuit j.circuit held
 
@@ -123,16 +126,13 @@ module _ (j : Joined) (readers : List (List ℕ)) (held : List HeldSignal) (ok :
   pub is-design : IsDesign d
   is-design = subst IsDesign e ok.design
 
+  -- the readers that are not held
+  pub readers-are : (lists : List (List ℕ)) → AreReaders j.circuit lists → AreOpenReaders d.circuit lists held
+  readers-are lists r = subst (λ (k : Joined). AreOpenReaders k.circuit lists held) e (open-readers j.circuit held lists r)
+
   module _ (s : ℕ) (l : s < length d.circuit.drivers) where
     pub below : s < length j.circuit.drivers
     below = let n = signals-are in omega (arith, n, l)
-
-    -- the readers that are not held read it
-    pub readers-are : (found : List ℕ) → found ≡ filter (λ x. is_none (value_of held x)) (list_at readers s) → ReadIt d.circuit s found
-    readers-are found is = subst (λ (k : Joined). ReadIt k.circuit s found) e (open-readers j.circuit held readers s found ok.readers below is)
-
-    pub among-readers : s < length readers
-    among-readers = let n = ok.readers.long in let b = below in omega (arith, n, b)
 
     seen : (r : View) → driver c s ≡ driver_seen r → AreDriverLimits (driver_seen r) → FitsFrom r → IsViewOf d.circuit s r
     seen r is within fits = subst (λ (k : Joined). IsViewOf k.circuit s r) e (record {
@@ -156,7 +156,7 @@ module _ (j : Joined) (readers : List (List ℕ)) (held : List HeldSignal) (ok :
     here = let n = held-long j.circuit held in let b = below s l in omega (arith, n, b)
 
     -- the same with one signal more
-    pub held-more : IsHeldDesign j readers (record { site = s; value = w } ∷ held)
+    pub held-more : IsHeldDesign j made (record { site = s; value = w } ∷ held)
     held-more = record {
       design = record {
         circuit = held-fits c s w ok.design.circuit;

@@ -70,25 +70,27 @@ impl Design {
     /// For each signal whether it reads `site`, however far back. The site counts as one of them. All other signals are free of the
     /// site.
     ///
-    /// The call takes a flag for each signal, and the time to look once at each pin that reads a marked signal.
+    /// The call takes a flag for each signal, and the time to look once at each pin that reads a marked signal. Without the links of
+    /// [`Design::with_readers`] it makes them first, one for each pin, and gives them up in the end.
     pub fn reached(&self, alloc: Global, site: u32) -> Result<FlagList, OutOfMemory>
         requires { site < length self.now.circuit.drivers }
         ensures length { IfOk result (λ flags. length flags ≡ length self.now.circuit.drivers) }
         ensures flags { IfOk result (λ flags. (x : ℕ) → x < length self.now.circuit.drivers
             → IsTrue (slice_index_or flags x false) ↔ IsInCone self.now.circuit x site) }
     {
+        let readers = self.readers(alloc)?;
         let mut walk = Walk {
             marks: vec![in alloc; false; self.signals() as usize]?,
             ahead: Vec::new(alloc),
         };
-        let mut readers = Vec::new(alloc);
+        let mut found = Vec::new(alloc);
         walk.mark(site)?;
         'signals: loop {
             match walk.ahead.pop() {
                 None => break,
                 Some(next) => {
-                    self.find_readers(next, &mut readers)?;
-                    walk.mark_all(&readers)?;
+                    readers.find(next, &mut found)?;
+                    walk.mark_all(&found)?;
                 }
             }
         }

@@ -1,6 +1,7 @@
 //! A design, and what it says of its points.
 
-ghost use Rattle.std.specs.Prelude.{◌≡◌, ◌+◌, ◌<◌, ◌≤◌, length, All, slice_get, Some, IfSome, OnSome, IfNone, IfOk, OnOk, option_map};
+ghost use Rattle.std.specs.Prelude.{◌≡◌, ◌+◌, ◌<◌, ◌≤◌, length, All, slice_get, Some, IfSome, OnSome, IfNone, IfOk, option_map};
+ghost use Rattle.std.specs.Arc.{arc_value};
 ghost use Rattle.circuit_meaning.specs.Circuit.{driver, read_by};
 ghost use Rattle.circuit_meaning.specs.Cells.{span};
 ghost use Rattle.circuit_meaning.specs.Need.{IsEvaluable};
@@ -11,13 +12,13 @@ ghost use Rattle.design.specs.Joined.{IsDesign};
 ghost use Rattle.circuit_meaning.specs.Cells.{cell_at, point_at};
 ghost use Rattle.design.specs.Pins.{pin_at, heard_of};
 ghost use Rattle.design.specs.inner.KeptDesigns.{IsViewOf};
-ghost use Rattle.design.specs.inner.Walk.{ReadIt};
+ghost use Rattle.design.specs.inner.HeldSignals.{AreOpenReaders};
 
 use crate::cells::{early_gate, flop_span, idle_flop, input_cell, later_span, shown_edge, span_of};
 use crate::fault::JoinFault;
-use crate::held::{HeldSignal, drop_held, held_settings, value_of, with_first};
+use crate::held::{HeldSignal, held_settings, value_of, with_first};
 use crate::origin::{Origin, reads_of};
-use crate::readers::{Readers, readers_in};
+use crate::readers::{OpenReaders, Readers, shared_readers};
 use crate::rows::SignalView;
 use crate::settings;
 use crate::stated::Stated;
@@ -31,17 +32,12 @@ use stimulus_file::Stimulus;
 use timing_file::Timing;
 use valid_intervals::{Cell, Span};
 
-/// The part of a design that it shares with the designs made of it by holding signals.
-#[derive(Drop)]
-struct Common {
-    origin: Origin,
-    readers: Readers,
-}
-
-/// A netlist joined with delays, clocks and settings.
+/// A netlist joined with delays, clocks and settings. What it is made of it shares with the designs that are made of it.
 #[derive(Drop)]
 pub struct Design {
-    common: Arc<Common>,
+    origin: Arc<Origin>,
+    /// The readers of each signal, as long as none is held; `None` if they were not made yet.
+    readers: Option<Arc<Readers>>,
     /// The held signals, the last one first.
     held: Vec<HeldSignal>,
 }
@@ -51,12 +47,13 @@ impl Model for Design {
 
     ghost Value = { Joined };
 
+    ghost use Rattle.std.specs.Prelude.{option_map};
     ghost use Rattle.std.specs.Arc.{arc_value};
     ghost use Rattle.design.specs.inner.HeldSignals.{held_design, IsHeldDesign};
 
-    ghost view = { λ d. held_design (arc_value d.common).origin d.held.items };
+    ghost view = { λ d. held_design (arc_value d.origin) d.held.items };
 
-    ghost invariant = { λ d. IsHeldDesign (arc_value d.common).origin (arc_value d.common).readers
+    ghost invariant = { λ d. IsHeldDesign (arc_value d.origin) (option_map arc_value d.readers)
         d.held.items };
 }
 
@@ -95,9 +92,9 @@ impl Design {
         ensures { IfOk result (λ design. design ≡ origin) }
     {
         origin.facts();
-        let readers = readers_in(alloc, &origin)?;
         Ok(Design {
-            common: Arc::new(alloc, Common { origin, readers })?,
+            origin: Arc::new(alloc, origin)?,
+            readers: None,
             held: Vec::new(alloc),
         })
     }
@@ -113,8 +110,22 @@ impl Design {
         ensures netlist { IfOk result (λ held. held.netlist ≡ self.now.netlist) }
     {
         Ok(Design {
-            common: Arc::try_clone(&self.common)?,
+            origin: Arc::try_clone(&self.origin)?,
+            readers: self.readers.clone()?,
             held: with_first(alloc, HeldSignal { site, value }, &self.held)?,
+        })
+    }
+
+    /// The same design, with the links from its signals to their readers. Without them, `reached` makes them at each call.
+    ///
+    /// Links that this design has are not made again. Only the list of the held signals is copied. The two designs share the rest.
+    pub fn with_readers(&self, alloc: Global) -> Result<Design, OutOfMemory>
+        ensures { IfOk result (λ design. design ≡ self.now) }
+    {
+        Ok(Design {
+            origin: Arc::try_clone(&self.origin)?,
+            readers: Some(shared_readers(alloc, &self.origin, &self.readers)?),
+            held: self.held.to_vec(alloc)?,
         })
     }
 
@@ -129,7 +140,7 @@ impl Design {
     pub fn netlist(&self) -> &Netlist
         ensures { result.now ≡ self.now.netlist }
     {
-        self.common.origin.netlist()
+        self.origin.netlist()
     }
 
     /// The last time.
@@ -137,7 +148,7 @@ impl Design {
         ensures horizon { result ≡ self.now.circuit.horizon }
         ensures limit { result ≤ 1000000 }
     {
-        self.common.origin.horizon()
+        self.origin.horizon()
     }
 
     /// The first time after the last.
@@ -156,7 +167,7 @@ impl Design {
         ensures design { IsDesign self.now }
     {
         match value_of(&self.held, signal) {
-            None => self.common.origin.view(signal),
+            None => self.origin.view(signal),
             Some(value) => SignalView::Input(held_settings(value)),
         }
     }
@@ -165,7 +176,7 @@ impl Design {
     pub(crate) fn signals(&self) -> u32
         ensures { result ≡ length self.now.circuit.drivers }
     {
-        self.common.origin.signals()
+        self.origin.signals()
     }
 
     /// The signals that a signal reads.
@@ -177,14 +188,15 @@ impl Design {
         reads_of(self.view(signal))
     }
 
-    /// Replaces the content of `found` by the signals that read a signal.
-    pub(crate) fn find_readers(&self, signal: u32, found: &mut Vec<u32>) -> Result<(), AllocError>
-        requires { signal < length self.now.circuit.drivers }
-        ensures { OnOk result (ReadIt self.now.circuit signal found.new.items) }
+    /// The readers of each signal: those that were made before, or else new ones.
+    pub(crate) fn readers(&self, alloc: Global) -> Result<OpenReaders<'_>, OutOfMemory>
+        ensures { IfOk result (λ readers. AreOpenReaders self.now.circuit (arc_value readers.all)
+            readers.held.now) }
     {
-        self.common.readers.find(signal, found)?;
-        drop_held(&self.held, found);
-        Ok(())
+        Ok(OpenReaders {
+            all: shared_readers(alloc, &self.origin, &self.readers)?,
+            held: &self.held,
+        })
     }
 
     /// The cell at a point, if it needs no evaluation.

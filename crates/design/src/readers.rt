@@ -1,11 +1,17 @@
 //! The readers of each signal.
 
 ghost use Rattle.std.specs.Prelude.{◌≡◌, ◌∷◌, ◌<◌, [], length, slice_set, All, OnOk, IfOk, replicate};
+ghost use Rattle.std.specs.Option.{ForSome};
+ghost use Rattle.std.specs.Arc.{arc_value};
+ghost use Rattle.design.specs.inner.HeldSignals.{open_readers};
 ghost use Rattle.design.specs.inner.Walk.{list_at, AddsReader, AreReaders};
 
+use crate::held::{HeldSignal, drop_held};
 use crate::origin::Origin;
+use owned_text::OutOfMemory;
 use std::alloc::{AllocError, Global};
 use std::marker::Model;
+use std::sync::Arc;
 
 /// A reader of a signal, and the number of the link before it; 0 if there is none.
 #[derive(Clone, Copy)]
@@ -88,7 +94,7 @@ impl Readers {
 }
 
 /// The readers of each signal.
-pub fn readers_in(alloc: Global, origin: &Origin) -> Result<Readers, AllocError>
+fn readers_in(alloc: Global, origin: &Origin) -> Result<Readers, AllocError>
     ensures { IfOk result (λ readers. AreReaders origin.now.circuit readers) }
 {
     let signals = origin.signals();
@@ -98,4 +104,40 @@ pub fn readers_in(alloc: Global, origin: &Origin) -> Result<Readers, AllocError>
         readers.add_to_all(origin.reads(signal), signal)?;
     }
     Ok(readers)
+}
+
+/// The readers of each signal: those that were made before, if they were, or else new ones.
+pub fn shared_readers(
+    alloc: Global,
+    origin: &Origin,
+    made: &Option<Arc<Readers>>,
+) -> Result<Arc<Readers>, OutOfMemory>
+    requires { ForSome made.now (λ readers. AreReaders origin.now.circuit (arc_value readers)) }
+    ensures { IfOk result (λ readers. AreReaders origin.now.circuit (arc_value readers)) }
+{
+    match made {
+        Some(readers) => Ok(Arc::try_clone(readers)?),
+        None => Ok(Arc::new(alloc, readers_in(alloc, origin)?)?),
+    }
+}
+
+/// The readers of each signal where some signals are held, which read nothing.
+#[derive(Drop)]
+pub struct OpenReaders<'a> {
+    /// The readers where none is held.
+    pub all: Arc<Readers>,
+    pub held: &'a [HeldSignal],
+}
+
+impl OpenReaders<'_> {
+    /// Replaces the content of `found` by the signals that read a signal.
+    pub fn find(&self, signal: u32, found: &mut Vec<u32>) -> Result<(), AllocError>
+        requires { signal < length (arc_value self.now.all) }
+        ensures { OnOk result (found.new.items ≡ open_readers (arc_value self.now.all)
+            self.now.held.now signal) }
+    {
+        self.all.find(signal, found)?;
+        drop_held(self.held, found);
+        Ok(())
+    }
 }

@@ -11,7 +11,8 @@
 //!
 //! The design in which the site is stuck has all but that in common with the session's (`Design::hold`), so no line copies the circuit. A
 //! question takes a flag for each signal, looks once at each pin that reads what the site reaches (`Design::reached`), and makes the store
-//! of its own memo. Each point that it evaluates costs what it costs elsewhere: O(log n) steps with n stored cells and entries.
+//! of its own memo. Where the design has no links from signals to their readers (`Design::with_readers`), it makes one for each pin. Each
+//! point that it evaluates costs what it costs elsewhere: O(log n) steps with n stored cells and entries.
 #![tactic(auto)]
 
 mod both;
