@@ -62,33 +62,54 @@ fn by_eights(name: &[u8]) -> u64
     mixed(mixed(0, first), last)
 }
 
-/// The hash of a name. Names of 4 to 16 bytes, as most are, take two steps.
+/// The hash of what stands before a name's last two bytes. Of 4 to 16 bytes, as most have, it takes two steps.
+#[inline(always)]
+#[tactic(auto, unfolding(crate::specs::inner::Chains::stem_hash))]
+fn stem_hash(stem: &[u8]) -> u64
+    ensures { result ≡ chains.stem_hash stem.now }
+{
+    let len = stem.len();
+    if len < 4 {
+        by_bytes(stem)
+    } else if len <= 8 {
+        by_fours(stem)
+    } else if len <= 16 {
+        by_eights(stem)
+    } else {
+        by_bytes(stem)
+    }
+}
+
+/// The hash of a name. That of its stem stands in the upper half, and in the lower its last two bytes, read as two digits.
 #[inline(always)]
 #[tactic(auto, unfolding(crate::specs::inner::Chains::hash_of))]
 pub fn hash_of(name: &[u8]) -> u64
     ensures { result ≡ chains.hash_of name.now }
 {
-    let len = name.len();
-    if len < 4 {
-        by_bytes(name)
-    } else if len <= 8 {
-        by_fours(name)
-    } else if len <= 16 {
-        by_eights(name)
-    } else {
-        by_bytes(name)
+    match name.split_last_chunk::<2>() {
+        None => by_bytes(name),
+        Some((stem, digits)) => {
+            stem_hash(stem) / HALF_WORD * HALF_WORD + 10 * digits[0] as u64 + digits[1] as u64
+        }
     }
 }
 
-/// The bucket of a hash, of so many, by the hash's upper half.
+/// The bucket of a hash, of so many: the one that the upper half says, and from there as many on as the lower half says, around the end.
+/// So names that differ in their last two digits alone, which often follow one another, have buckets beside one another.
+#[tactic(auto, unfolding(crate::specs::inner::Chains::bucket_in))]
 pub fn bucket_of(hash: u64, count: usize) -> usize
     requires some { 0 < count }
     requires few { count < 4294967296 }
     ensures bucket { result ≡ chains.bucket_in count hash }
     ensures within { result < count }
 {
-    let upper = hash / HALF_WORD;
-    (upper * count as u64 / HALF_WORD) as usize
+    let first = (hash / HALF_WORD * count as u64 / HALF_WORD) as usize;
+    let bucket = first + (hash % HALF_WORD) as usize;
+    if bucket < count {
+        bucket
+    } else {
+        bucket % count
+    }
 }
 
 impl Chains {

@@ -1,5 +1,5 @@
 -- Names in buckets, by a hash, and in chains through each bucket.
-use Rattle.std.specs.Prelude.{◌≡◌, ℕ, zero, suc, ◌-◌, ◌*◌, ◌/◌, ◌%◌, ◌^◌, ◌<◌, ◌≤◌, ◌==◌, nat_lt, nat_le, List, [], length, take, drop, slice_index_or, fold, bit_xor, if◌then◌else◌}
+use Rattle.std.specs.Prelude.{◌≡◌, ℕ, zero, suc, ◌+◌, ◌-◌, ◌*◌, ◌/◌, ◌%◌, ◌^◌, ◌<◌, ◌≤◌, ◌==◌, nat_lt, nat_le, List, [], length, take, drop, slice_index_or, fold, bit_xor, if◌then◌else◌}
 use Rattle.std.specs.Int.{w32, w64, from_le_bytes}
 use Rattle.bench_reader.specs.Netlists.{place}
 
@@ -15,16 +15,30 @@ by_fours name = mixed_hash (mixed_hash 0 (from_le_bytes w32 (take 4 name))) (fro
 abbrev pub by_eights : List ℕ → ℕ
 by_eights name = mixed_hash (mixed_hash 0 (from_le_bytes w64 (take 8 name))) (from_le_bytes w64 (drop (length name - 8) name))
 
--- the hash of a name
+-- the hash of what stands before a name's last two bytes
+unfoldable pub stem_hash : List ℕ → ℕ
+stem_hash stem =
+    if nat_lt (length stem) 4 then fold mixed_hash 0 stem else (
+    if nat_le (length stem) 8 then by_fours stem else (
+    if nat_le (length stem) 16 then by_eights stem else fold mixed_hash 0 stem))
+
+-- two bytes, read as two digits
+abbrev pub digits_of : List ℕ → ℕ
+digits_of bytes = 10 * slice_index_or bytes 0 0 + slice_index_or bytes 1 0
+
+-- the hash of a name: its stem's in the upper half, its last two digits in the lower
 unfoldable pub hash_of : List ℕ → ℕ
 hash_of name =
-    if nat_lt (length name) 4 then fold mixed_hash 0 name else (
-    if nat_le (length name) 8 then by_fours name else (
-    if nat_le (length name) 16 then by_eights name else fold mixed_hash 0 name))
+    if nat_lt (length name) 2 then fold mixed_hash 0 name
+    else stem_hash (take (length name - 2) name) / 4294967296 * 4294967296 + digits_of (drop (length name - 2) name)
+
+-- the bucket with this number, of so many, counted on around the end
+abbrev pub around : ℕ → ℕ → ℕ
+around count bucket = if nat_lt bucket count then bucket else bucket % count
 
 -- the bucket of a hash, of so many
 unfoldable pub bucket_in : ℕ → ℕ → ℕ
-bucket_in count hash = (hash / 4294967296 * count) / 4294967296
+bucket_in count hash = around count (hash / 4294967296 * count / 4294967296 + hash % 4294967296)
 
 -- the bucket of a name, of so many
 abbrev pub bucket_of : ℕ → List ℕ → ℕ
