@@ -15,6 +15,7 @@ use Rattle.std.proofs.lemmas.Map.Keys.{IsDistinct-from_sorted}
 use Rattle.valid_intervals.specs.declared.Point.{Point}
 use Rattle.valid_intervals.specs.Cells.{same_point, point_cmp}
 use Rattle.claim_waiters.specs.Claims.{WaitedClaim, Claims, IsInOrder, claim_at, holder_in, waiting_in, waiters_at, with_claim, without_claim, add_waiter, with_waiter}
+use Rattle.claim_waiters.specs.inner.View.{at}
 
 pub point_total : IsTotalOrder point_cmp
 point_total = then_total (on_total (λ (p : Point). p.signal) nat_cmp_total) (on_total (λ (p : Point). p.time) nat_cmp_total)
@@ -47,9 +48,6 @@ later-apart p x y g h k =
     grind (arith, nat_tests, e)
 
 module _ {X : Type 0} where
-  abbrev at : List (Point × X) → Point → Option X
-  at es p = lookup (is_at (point_cmp p)) es
-
   pub at-inserted : (es : List (Point × X)) (p : Point) (v : X) (x : Point) → at es p ≡ None → at (insert_entry point_cmp es p v) x ≡ cond (same_point p x) (Some v) (at es x)
   at-inserted [] p v x n = ap (λ b. cond b (Some v) None) (at-back p x)
   at-inserted (e ∷ es) p v x n =

@@ -10,7 +10,9 @@
 //! a room with its first waiter, and most never have one; `take` then hands out an empty one.
 //!
 //! With n claims each call takes O(log n) steps. `wait` also puts one waiter into a room, and `take` moves the room out.
-//! `claim` and `wait` may allocate; on failure they leave the table as it was. `take`, `holder` and `first` do not allocate.
+//! The rooms lie in a map of their own, so that a claim for which nothing waits takes 12 bytes of the map of the claims: its
+//! point and its query. `claim` and `wait` may allocate; on failure they leave the table as it was, but that `wait` may have
+//! made the claim's room, which serves the next waiter. `take`, `holder` and `first` do not allocate.
 //!
 //! ```text
 //! let mut claims: ClaimTable<Strand> = ClaimTable::new(alloc);

@@ -1,6 +1,5 @@
 ghost use Rattle.std.specs.Prelude.{◌≡◌, ◌↔◌, ◌++◌, ◌∷◌, length, IsTrue, All, IfErr, IfSome, IsSome, None, OnErr, OnOk, Some, []};
 ghost use Rattle.claim_waiters.specs.Claims.{claim_at, first_of, holder_in, waiters_of, with_claim, with_waiter, without_claim, IsAtMost, IsInOrder};
-ghost use Rattle.claim_waiters.specs.inner.View.{those_in};
 
 use crate::waiter::Waiter;
 use owned_text::OutOfMemory;
@@ -9,41 +8,13 @@ use std::collections::BTreeMap;
 use std::marker::Model;
 use valid_intervals::Point;
 
-/// A claim: its query, and the room of its waiters, which is made for the first waiter.
-#[derive(Drop)]
-pub struct Holding<R: Drop> {
-    pub q: u32,
-    pub room: Option<Box<R>>,
-}
-
-// Appends a waiter to a room, which is made for the first waiter. On failure hands it back.
-fn wait_in<W: Waiter>(
-    alloc: Global,
-    room: &mut Option<Box<W::Room>>,
-    waiter: W,
-) -> Result<(), (W, OutOfMemory)>
-    ensures ok { OnOk result (those_in W.items room.new ≡ those_in W.items
-        room.old ++ waiter ∷ []) }
-    ensures err { OnErr result (those_in W.items room.new ≡ those_in W.items room.old) }
-    ensures back { IfErr result (λ refused. refused.0 ≡ waiter) }
-{
-    match room {
-        Some(room) => W::wait(room.as_mut(), waiter),
-        None => {
-            let Ok(mut made) = Box::new(alloc, W::none(alloc)) else {
-                return Err((waiter, OutOfMemory));
-            };
-            W::wait(made.as_mut(), waiter)?;
-            *room = Some(made);
-            Ok(())
-        }
-    }
-}
-
 /// The claims, by their points.
 #[derive(Drop)]
 pub struct ClaimTable<W: Waiter> {
-    map: BTreeMap<Point, Holding<W::Room>>,
+    // The query that has claimed each point.
+    holders: BTreeMap<Point, u32>,
+    // The waiters of the claimed points for which some wait. A room is empty where there was no memory for the first.
+    rooms: BTreeMap<Point, W::Room>,
     alloc: Global,
 }
 
@@ -52,9 +23,11 @@ impl<W: Waiter> Model for ClaimTable<W> {
 
     ghost Value = { Claims W };
 
-    ghost use Rattle.claim_waiters.specs.inner.View.{claims_of};
+    ghost use Rattle.claim_waiters.specs.inner.View.{claims_of, IsKept};
 
-    ghost view = { λ t. claims_of W.items t.map.entries };
+    ghost view = { λ t. claims_of W.items t.holders.entries t.rooms.entries };
+
+    ghost invariant = { λ t. IsKept t.holders.entries t.rooms.entries };
 }
 
 impl<W: Waiter> ClaimTable<W> {
@@ -63,7 +36,8 @@ impl<W: Waiter> ClaimTable<W> {
         ensures { result ≡ [] }
     {
         ClaimTable {
-            map: BTreeMap::new(alloc),
+            holders: BTreeMap::new(alloc),
+            rooms: BTreeMap::new(alloc),
             alloc,
         }
     }
@@ -72,21 +46,21 @@ impl<W: Waiter> ClaimTable<W> {
     pub fn facts(&self)
         ensures { IsInOrder self.now }
     {
-        let _len = self.map.len();
+        let _len = self.holders.len();
     }
 
     /// The number of claimed points.
     pub fn len(&self) -> usize
         ensures { result ≡ length self.now }
     {
-        self.map.len()
+        self.holders.len()
     }
 
     /// Whether no point is claimed.
     pub fn is_empty(&self) -> bool
         ensures { IsTrue result ↔ (self.now ≡ []) }
     {
-        self.map.is_empty()
+        self.holders.is_empty()
     }
 
     /// Claims a point for a query. The claim has no waiter yet.
@@ -95,7 +69,7 @@ impl<W: Waiter> ClaimTable<W> {
         ensures ok { OnOk result (self.new ≡ with_claim self.old q p) }
         ensures err { OnErr result (self.new ≡ self.old) }
     {
-        let Ok(_) = self.map.insert(p, Holding { q, room: None }) else {
+        let Ok(_) = self.holders.insert(p, q) else {
             return Err(OutOfMemory);
         };
         Ok(())
@@ -105,8 +79,8 @@ impl<W: Waiter> ClaimTable<W> {
     pub fn holder(&self, p: Point) -> Option<u32>
         ensures { result ≡ holder_in self.now p }
     {
-        let claim = self.map.get(&p)?;
-        Some(claim.q)
+        let q = self.holders.get(&p)?;
+        Some(*q)
     }
 
     /// Appends a waiter at a claimed point. On failure hands it back.
@@ -116,10 +90,10 @@ impl<W: Waiter> ClaimTable<W> {
         ensures err { OnErr result (self.new ≡ self.old) }
         ensures back { IfErr result (λ refused. refused.0 ≡ waiter) }
     {
-        match self.map.get_mut(&p) {
-            Some(claim) => wait_in(self.alloc, &mut claim.room, waiter),
-            None => unreachable!(),
-        }
+        let Ok(room) = self.rooms.entry(p) else {
+            return Err((waiter, OutOfMemory));
+        };
+        W::wait(room.or_insert(W::none(self.alloc)), waiter)
     }
 
     /// Ends a claim, and returns its waiters in the order of their arrival.
@@ -128,15 +102,10 @@ impl<W: Waiter> ClaimTable<W> {
         ensures waiters { waiters_of self.old p ≡ Some (W.items result) }
         ensures rest { self.new ≡ without_claim self.old p }
     {
-        match self.map.remove(&p) {
-            Some(claim) => {
-                let Holding { q: _, room } = claim;
-                match room {
-                    Some(room) => Box::into_inner(room),
-                    None => W::none(self.alloc),
-                }
-            }
-            None => unreachable!(),
+        self.holders.remove(&p);
+        match self.rooms.remove(&p) {
+            Some(room) => room,
+            None => W::none(self.alloc),
         }
     }
 
@@ -146,7 +115,7 @@ impl<W: Waiter> ClaimTable<W> {
         ensures least { IfSome result (λ first. All (λ claimed. IsAtMost first.1 claimed.0)
             self.now) }
     {
-        let (p, claim) = self.map.first_key_value()?;
-        Some((claim.q, *p))
+        let (p, q) = self.holders.first_key_value()?;
+        Some((*q, *p))
     }
 }

@@ -62,5 +62,11 @@ fn waiters_come_back_in_their_order(rt: HostRuntime) -> Result<(), Fail> {
     }
     assert_eq!(rt; claims.holder(point(3, 4)), None);
     assert_eq!(rt; claims.first(), Some((5, point(2, 9))));
+    if claims.holder(point(3, 4)).is_none() {
+        claims.claim(6, point(3, 4))?;
+    }
+    if claims.holder(point(3, 4)).is_some() {
+        assert!(rt; claims.take(point(3, 4)).is_empty(), "claimed anew");
+    }
     Ok(())
 }

@@ -1,17 +1,27 @@
-use Rattle.std.specs.Prelude.{List, [], map, Option, Some, None}
-use Rattle.std.specs.declared.boxed.Box.{Box}
-use Rattle.std.specs.declared.alloc.Global.{Global}
+use Rattle.std.specs.Prelude.{ℕ, List, [], map, Option, Some, None, IsSome}
+use Rattle.std.specs.BTreeMap.{is_at}
+use Rattle.std.specs.List.Sorted.{IsStrictlySortedBy}
+use Rattle.std.specs.Map.{keys_of, lookup}
 use Rattle.claim_waiters.specs.Claims.{WaitedClaim, Claims}
-use Rattle.claim_waiters.specs.declared.table.Holding.{Holding}
 use Rattle.valid_intervals.specs.declared.Point.{Point}
+use Rattle.valid_intervals.specs.Cells.{point_cmp}
 
--- the waiters in a room; none if there is no room yet
-abbrev pub those_in : {W R : Type 0} → (R → List W) → Option (Box R Global) → List W
+-- the value at a point
+abbrev pub at : {X : Type 0} → List (Point × X) → Point → Option X
+at es p = lookup (is_at (point_cmp p)) es
+
+-- the points are in order, and each that has a room is claimed
+abbrev pub IsKept : {R : Type 0} → List (Point × ℕ) → List (Point × R) → Type 0
+IsKept holders rooms = IsStrictlySortedBy point_cmp (keys_of holders) × ((p : Point) → IsSome (at rooms p) → IsSome (at holders p))
+
+-- the waiters in a room; none if there is no room
+abbrev pub those_in : {W R : Type 0} → (R → List W) → Option R → List W
 those_in items None = []
-those_in items (Some b) = items b.value
+those_in items (Some room) = items room
 
-abbrev pub claim_of : {W R : Type 0} → (R → List W) → Holding R → WaitedClaim W
-claim_of items h = record { q = h.q; waiters = those_in items h.room }
+-- the claims, where those that wait at each point are known
+abbrev pub claims_with : {W : Type 0} → (Point → List W) → List (Point × ℕ) → Claims W
+claims_with waiting holders = map (λ e. (e.0, record { q = e.1; waiters = waiting e.0 })) holders
 
-abbrev pub claims_of : {W R : Type 0} → (R → List W) → List (Point × Holding R) → Claims W
-claims_of items es = map (λ e. (e.0, claim_of items e.1)) es
+abbrev pub claims_of : {W R : Type 0} → (R → List W) → List (Point × ℕ) → List (Point × R) → Claims W
+claims_of items holders rooms = claims_with (λ p. those_in items (at rooms p)) holders

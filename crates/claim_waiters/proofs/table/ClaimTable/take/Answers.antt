@@ -1,23 +1,32 @@
-use Rattle.std.proofs.Common.{◌≡◌, sym, ◌∙◌, ap, Some, None, subst, option_map, rules}
-use Rattle.std.specs.BTreeMap.{is_at}
-use Rattle.claim_waiters.specs.Claims.{Claims, claim_at, without_claim}
-use Rattle.valid_intervals.specs.Cells.{point_cmp}
-use Rattle.claim_waiters.specs.inner.View.{claim_of, claims_of}
-use Rattle.claim_waiters.proofs.ClaimLemmas.{lookup-claims, remove-claims}
+use Rattle.std.proofs.Common.{◌≡◌, sym, ◌∙◌, ap, Some, IsSome, subst}
+use Rattle.valid_intervals.specs.declared.Point.{Point}
+use Rattle.claim_waiters.specs.Claims.{Claims, claim_at, waiters_of, without_claim}
+use Rattle.claim_waiters.specs.inner.View.{at, claims_of, those_in}
+use Rattle.claim_waiters.proofs.ClaimLemmas.{waiters-claims, remove-claims, those-taken, kept-taken}
 use Rattle.claim_waiters.proofs.table.ClaimTable.take.Goals as goal
+use Rattle.claim_waiters.proofs.table.ClaimTable.take.Goals.{in-Some, in-None}
 
-pub unreachable-requires : goal.unreachable-requires
-unreachable-requires g c =
-    let e : claim_at c.args.self.now c.args.p ≡ None = subst (λ (v : Claims g.row.W.Denot). claim_at v c.args.p ≡ None) c.self.view_is (lookup-claims g.W.Waiter.items (is_at (point_cmp c.args.p)) c.self.inside.map.entries ∙ ap (option_map (claim_of g.W.Waiter.items)) (sym c.remove.ensures.value ∙ c.in-None.is)) in
-    let h = rw e at c.requires in
-    cc h
+pub invariant_of-self : goal.invariant_of-self
+invariant_of-self g c =
+    kept-taken c.self.inside.holders.entries c.remove.new.self.entries c.self.inside.rooms.entries c.remove-2.new.self.entries c.args.p
+    c.remove.ensures.ordered c.remove.ensures.updates.0 c.remove-2.ensures.updates.0 c.self.invariant
 
 pub returns-clause-waiters : goal.returns-clause-waiters
 returns-clause-waiters g c =
-    let e : claim_at c.args.self.now c.args.p ≡ Some (claim_of g.W.Waiter.items c.in-Some.claim) = subst (λ (v : Claims g.row.W.Denot). claim_at v c.args.p ≡ Some (claim_of g.W.Waiter.items c.in-Some.claim)) c.self.view_is (lookup-claims g.W.Waiter.items (is_at (point_cmp c.args.p)) c.self.inside.map.entries ∙ ap (option_map (claim_of g.W.Waiter.items)) (sym c.remove.ensures.value ∙ c.in-Some.is)) in
-    rw e (search rules)
+    let items = g.W.Waiter.items in
+    let waiting = λ (p : Point). those_in items (at c.self.inside.rooms.entries p) in
+    let claimed = subst (λ (v : Claims g.row.W.Denot). IsSome (claim_at v c.args.p)) (sym c.self.view_is) c.requires in
+    let room : those_in items (at c.self.inside.rooms.entries c.args.p) ≡ items c.match-remove.result = elim c.match-remove.branch [
+      | in-Some w ↦ ap (those_in items) (sym c.remove-2.ensures.value ∙ w.in-Some.is) ∙ ap items (sym w.result-is)
+      | in-None w ↦ ap (those_in items) (sym c.remove-2.ensures.value ∙ w.in-None.is) ∙ sym w.none.ensures ∙ ap items (sym w.result-is)
+    ] in
+    sym (ap (λ (v : Claims g.row.W.Denot). waiters_of v c.args.p) c.self.view_is) ∙ waiters-claims waiting c.args.p c.self.inside.holders.entries claimed ∙ ap Some room
 
 pub returns-clause-rest : goal.returns-clause-rest
 returns-clause-rest g c =
-    let e : claims_of g.W.Waiter.items c.remove.new.self.entries ≡ without_claim (claims_of g.W.Waiter.items c.self.inside.map.entries) c.args.p = ap (claims_of g.W.Waiter.items) c.remove.ensures.entries ∙ remove-claims g.W.Waiter.items (is_at (point_cmp c.args.p)) c.self.inside.map.entries in
-    e ∙ ap (λ (v : Claims g.row.W.Denot). without_claim v c.args.p) c.self.view_is
+    let items = g.W.Waiter.items in
+    let old = c.self.inside.rooms.entries in
+    let new = c.remove-2.new.self.entries in
+    ap (λ es. claims_of items es new) c.remove.ensures.entries
+    ∙ remove-claims (λ (p : Point). those_in items (at old p)) (λ (p : Point). those_in items (at new p)) c.args.p c.self.inside.holders.entries c.self.invariant.0 (those-taken items old new c.args.p c.remove-2.ensures.updates.0)
+    ∙ ap (λ (v : Claims g.row.W.Denot). without_claim v c.args.p) c.self.view_is

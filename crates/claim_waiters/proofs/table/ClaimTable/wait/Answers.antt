@@ -1,21 +1,33 @@
-use Rattle.std.proofs.Common.{◌≡◌, List, sym, ◌∙◌, ap, None, subst, option_map}
-use Rattle.std.specs.BTreeMap.{is_at}
+use Rattle.std.proofs.Common.{◌∙◌, ◌++◌, ◌∷◌, [], ap, sym, subst, IsSome, unwrap_or, rules}
+use Rattle.std.specs.BTreeMap.Entry.{map_with_value}
+use Rattle.valid_intervals.specs.declared.Point.{Point}
 use Rattle.claim_waiters.specs.Claims.{Claims, claim_at, with_waiter}
-use Rattle.valid_intervals.specs.Cells.{point_cmp}
-use Rattle.claim_waiters.specs.inner.View.{claim_of, claims_of}
-use Rattle.claim_waiters.proofs.ClaimLemmas.{lookup-claims, write-claims, write-alike, by_case_ok, by_case_err}
+use Rattle.claim_waiters.specs.inner.View.{at, those_in}
+use Rattle.claim_waiters.proofs.ClaimLemmas.{by_case_ok, by_case_err, claimed-claims, same-claims, wait-claims, those-lent, those-same, those-waited, kept-waited}
 use Rattle.claim_waiters.proofs.table.ClaimTable.wait.Goals as goal
 
-pub unreachable-requires : goal.unreachable-requires
-unreachable-requires g c =
-    let e : claim_at c.args.self.now c.args.p ≡ None = subst (λ (v : Claims g.row.W.Denot). claim_at v c.args.p ≡ None) c.self.view_is (lookup-claims g.W.Waiter.items (is_at (point_cmp c.args.p)) c.self.inside.map.entries ∙ ap (option_map (claim_of g.W.Waiter.items)) (sym c.in-None.ensures.value)) in
-    let h = rw e at c.requires in
-    cc h
+pub invariant_of-self-2 : goal.invariant_of-self-2
+invariant_of-self-2 g c =
+    let waiting = λ (p : Point). those_in g.W.Waiter.items (at c.self.inside.rooms.entries p) in
+    let claimed = claimed-claims waiting c.args.p c.self.inside.holders.entries (subst (λ (v : Claims g.row.W.Denot). IsSome (claim_at v c.args.p)) (sym c.self.view_is) c.requires) in
+    kept-waited c.self.inside.holders.entries c.self.inside.rooms.entries _ (map_with_value c.in-Ok.room c.wait.new.room).entries c.args.p c.wait.new.room (search rules) (c.in-Ok.ensures.update.0 c.wait.new.room).0 claimed c.self.invariant
 
 pub returns-clause-ok : goal.returns-clause-ok
 returns-clause-ok g c =
-    by_case_ok c.wait_in.result _ _ c.wait_in.ensures.ok (λ e. ap (claims_of g.W.Waiter.items) (c.get_mut.follows.holds (record { q = c.in-Some.claim.now.q; room = c.wait_in.new.room })).0 ∙ write-claims g.W.Waiter.items (is_at (point_cmp c.args.p)) c.self.inside.map.entries c.in-Some.claim.now (record { q = c.in-Some.claim.now.q; room = c.wait_in.new.room }) c.args.waiter (sym c.in-Some.ensures.value) (ap (λ (l : List g.row.W.Denot). record { q = c.in-Some.claim.now.q; waiters = l }) e) ∙ ap (λ (v : Claims g.row.W.Denot). with_waiter v c.args.p c.args.waiter) c.self.view_is)
+    let items = g.W.Waiter.items in
+    let old = c.self.inside.rooms.entries in
+    let lent = those-lent items (at old c.args.p) c.none.result c.or_insert.result.now c.none.ensures (c.or_insert.ensures.value ∙ ap (λ o. unwrap_or o c.none.result) c.in-Ok.ensures.value) in
+    by_case_ok c.wait.result _ _ c.wait.ensures.ok (λ e.
+    wait-claims (λ (p : Point). those_in items (at old p)) _ c.args.p c.args.waiter c.self.inside.holders.entries c.self.invariant.0
+    (those-waited items old _ (map_with_value c.in-Ok.room c.wait.new.room).entries c.args.p c.wait.new.room c.args.waiter (search rules) (c.in-Ok.ensures.update.0 c.wait.new.room).0 (e ∙ ap (λ l. l ++ c.args.waiter ∷ []) lent))
+    ∙ ap (λ (v : Claims g.row.W.Denot). with_waiter v c.args.p c.args.waiter) c.self.view_is)
 
 pub returns-clause-err : goal.returns-clause-err
 returns-clause-err g c =
-    by_case_err c.wait_in.result _ _ c.wait_in.ensures.err (λ e. ap (claims_of g.W.Waiter.items) (c.get_mut.follows.holds (record { q = c.in-Some.claim.now.q; room = c.wait_in.new.room })).0 ∙ write-alike g.W.Waiter.items (is_at (point_cmp c.args.p)) c.self.inside.map.entries c.in-Some.claim.now (record { q = c.in-Some.claim.now.q; room = c.wait_in.new.room }) (sym c.in-Some.ensures.value) (ap (λ (l : List g.row.W.Denot). record { q = c.in-Some.claim.now.q; waiters = l }) e) ∙ c.self.view_is)
+    let items = g.W.Waiter.items in
+    let old = c.self.inside.rooms.entries in
+    let lent = those-lent items (at old c.args.p) c.none.result c.or_insert.result.now c.none.ensures (c.or_insert.ensures.value ∙ ap (λ o. unwrap_or o c.none.result) c.in-Ok.ensures.value) in
+    by_case_err c.wait.result _ _ c.wait.ensures.err (λ e.
+    same-claims (λ (p : Point). those_in items (at old p)) _ c.self.inside.holders.entries
+    (those-same items old _ (map_with_value c.in-Ok.room c.wait.new.room).entries c.args.p c.wait.new.room (search rules) (c.in-Ok.ensures.update.0 c.wait.new.room).0 (e ∙ lent))
+    ∙ c.self.view_is)
