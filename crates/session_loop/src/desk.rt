@@ -1,6 +1,7 @@
 //! What a session keeps from one unit to the next.
 
 use cell_store::CellStore;
+use design::Design;
 use owned_text::Text;
 use query_lines::ItemList;
 use reply_lines::Reply;
@@ -31,10 +32,12 @@ pub struct Dumps {
     pub made: Vec<Text>,
 }
 
-/// The stores of the shards, the counts so far, and what dumps need.
+/// The stores of the shards, the counts so far, and what dumps and questions need.
 #[derive(Drop)]
 pub struct Desk {
     pub stores: Vec<CellStore>,
     pub counts: Counts,
     pub dumps: Dumps,
+    /// The design with the links that a stuck signal needs, once one was asked for.
+    pub linked: Option<Design>,
 }

@@ -1,6 +1,6 @@
 //! Questions that are batches of their own.
 
-ghost use Rattle.std.specs.Prelude.{◌≡◌, ◌+◌, ◌<◌, ◌≤◌, ◌∷◌, [], ℕ, List, length, Contains, IfErr, IfOk, OnErr, OnOk};
+ghost use Rattle.std.specs.Prelude.{◌≡◌, ◌+◌, ◌<◌, ◌≤◌, ◌∷◌, [], ℕ, List, length, Contains, IfErr, IfOk, IfSome, OnErr, OnOk};
 ghost use Rattle.backsim_io.specs.FilesInMemory.{FileGrows};
 ghost use Rattle.batch_meaning.specs.Batches.{Batch as BatchRecord};
 ghost use Rattle.query_lines.specs.declared.unit.Unit.{Unit as UnitRecord};
@@ -22,19 +22,46 @@ use crate::setting::Setting;
 use crate::stop::Stop;
 use backsim_io::{Files, Sink};
 use cell_store::CellStore;
+use design::Design;
 use journal_text::{EntryList, SectionKind};
-use query_lines::Question;
+use owned_text::OutOfMemory;
+use query_lines::{Asks, Question};
 use reply_lines::question_text;
 use std::alloc::Global;
 use unit_answers::answer_question;
 
-/// The text of the reply to a question, the journal of each shard, that of a memo of its own if it had one, and the stores that are left.
+/// The text of the reply to a question, the journal of each shard, that of a memo of its own if it had one, the stores that are left, and
+/// the design with its links, if they were made.
 #[derive(Drop)]
 struct Answered {
     text: Vec<u8>,
     lists: Vec<EntryList>,
     own_lists: Vec<EntryList>,
     stores: Vec<CellStore>,
+    linked: Option<Design>,
+}
+
+/// The design with its links, if they were made before or the question needs them.
+fn linked_for(
+    setting: &Setting<'_>,
+    question: &Question,
+    linked: Option<Design>,
+) -> Result<Option<Design>, OutOfMemory>
+    requires { IfSome linked (λ design. design ≡ setting.now.design.now) }
+    ensures { IfOk result (λ linked. IfSome linked (λ design. design ≡ setting.now.design.now)) }
+{
+    match (&question.asks, linked) {
+        (Asks::Stuck(_), None) => Ok(Some(setting.design.with_readers(setting.alloc)?)),
+        (_, linked) => Ok(linked),
+    }
+}
+
+/// The design that a question is asked of: that with its links, if they were made.
+fn asked_design<'a>(linked: &'a Option<Design>, design: &'a Design) -> &'a Design
+    requires { IfSome linked.now (λ linked. linked ≡ design.now) }
+    ensures { result.now ≡ design.now }
+{
+    linked.as_ref().unwrap_or(design)
 }
 
 /// Writes the section of a memo of its own, if a question had one.
@@ -85,6 +112,7 @@ fn write_answered<F: Files, S: Sink>(
     requires unfinished { Contains (F.state files.old).unfinished 0 }
     ensures stores { IfOk result (λ later. later.stores.items ≡ answered.stores.items) }
     ensures kept { IfOk result (λ later. later.dumps ≡ dumps) }
+    ensures linked { IfOk result (λ later. later.linked ≡ answered.linked) }
     ensures served { (setup : Setup) (desk : DeskRecord)
         (unit : UnitRecord) (batch own : BatchRecord)
         → desk.counts ≡ counts → desk.dumps ≡ dumps
@@ -121,6 +149,7 @@ fn write_answered<F: Files, S: Sink>(
         stores: answered.stores,
         counts,
         dumps,
+        linked: answered.linked,
     })
 }
 
@@ -156,19 +185,22 @@ pub fn serve_question<F: Files, S: Sink>(
         result }
 {
     let alloc = setting.alloc;
-    let design = setting.design;
     let sizes = setting.sizes;
     let Desk {
         stores,
         counts,
         dumps,
+        linked,
     } = desk;
+    let linked = linked_for(setting, question, linked)?;
+    let design = asked_design(&linked, setting.design);
     let done = answer_question(alloc, design, question, sizes, stores)?;
     let answered = Answered {
         text: question_text(alloc, &question.asks, &done.reply)?,
         lists: done.lists,
         own_lists: done.own_lists,
         stores: done.stores,
+        linked,
     };
     write_answered(alloc, answered, counts, dumps, files, out)
 }

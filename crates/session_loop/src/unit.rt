@@ -67,6 +67,7 @@ pub fn serve_batch<C: Crew, F: Files, S: Sink>(
         stores,
         counts,
         mut dumps,
+        linked,
     } = desk;
     // The last batch is given up before the next one is answered.
     dumps.last = None;
@@ -91,6 +92,7 @@ pub fn serve_batch<C: Crew, F: Files, S: Sink>(
         stores: done.stores,
         counts,
         dumps,
+        linked,
     })
 }
 
@@ -132,6 +134,7 @@ pub fn serve_trim<F: Files, S: Sink>(
         stores,
         counts,
         dumps,
+        linked,
     } = desk;
     let done = trim_stores(alloc, design, most, sizes, stores)?;
     let (Some(counts), Some(removed)) = (
@@ -154,6 +157,7 @@ pub fn serve_trim<F: Files, S: Sink>(
         stores: done.stores,
         counts,
         dumps,
+        linked,
     })
 }
 

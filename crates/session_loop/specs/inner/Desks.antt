@@ -1,5 +1,5 @@
 -- What a session keeps from one unit to the next.
-use Rattle.std.specs.Prelude.{◌≡◌, ⊤, ℕ, ◌+◌, ◌<◌, List, [], ◌∷◌, length, map, filter, sum_by, nat_le, ◌||◌, if◌then◌else◌, Option, Some, None}
+use Rattle.std.specs.Prelude.{◌≡◌, ⊤, ℕ, ◌+◌, ◌<◌, List, [], ◌∷◌, length, map, filter, sum_by, nat_le, ◌||◌, if◌then◌else◌, Option, Some, None, IfSome}
 use Rattle.std.specs.List.{list_any}
 use Rattle.std.specs.Str.{bytes_eq}
 use Rattle.journal_meaning.specs.declared.Entry.{Entry}
@@ -82,10 +82,11 @@ abbrev pub IsShowable : Joined → Option LastBatch → Type 0
 IsShowable d None = ⊤
 IsShowable d (Some last) = AreReplied d last.items last.replies.items
 
--- what the next unit can be served over: stores for the shards, and a last batch that can be shown
+-- what the next unit can be served over: stores for the shards, a last batch that can be shown, and the design again, if it was linked
 pub record IsDesk (setup : Setup) (desk : Desk) : Type 0 where
   pub stores : AreStores setup desk.stores.items
   pub shown : IsShowable setup.design desk.dumps.last
+  pub linked : IfSome desk.linked (λ design. design ≡ setup.design)
 
 -- what is kept is what the session has come to
 pub record Keeps (setup : Setup) (desk : Desk) (now : Course) : Type 0 where
