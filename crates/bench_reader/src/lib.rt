@@ -40,7 +40,9 @@
 //! bytes takes 16 bytes, and the bytes of longer names lie in one list. The two
 //! lists by which names are found take 4 bytes each for each 24 bytes of the
 //! text, or 4 to 8 for each name where there are more names. `id_of` is one
-//! look-up, and the other calls read one place each. The hash is fixed: a text
+//! look-up, and the other calls read one place each. Names that differ in their
+//! last two digits alone are looked up beside one another, so numbered names
+//! that follow one another seldom wait for memory. The hash is fixed: a text
 //! whose names were chosen to share a hash is read slowly.
 //!
 //! ```text

@@ -20,7 +20,7 @@ use reply_lines::{Reply, reply_text};
 use std::alloc::Global;
 
 /// How many entries are written at a time.
-const PIECE: usize = 512;
+const PIECE: usize = 2048;
 
 /// Writes a reply, by one `write_all`.
 pub fn write_reply<S: Sink>(text: &[u8], out: &mut S) -> Result<(), Stop>
