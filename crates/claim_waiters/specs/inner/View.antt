@@ -2,7 +2,7 @@ use Rattle.std.specs.Prelude.{ℕ, List, [], map, Option, Some, None, IsSome}
 use Rattle.std.specs.BTreeMap.{is_at}
 use Rattle.std.specs.List.Sorted.{IsStrictlySortedBy}
 use Rattle.std.specs.Map.{keys_of, lookup}
-use Rattle.claim_waiters.specs.Claims.{WaitedClaim, Claims}
+use Rattle.claim_waiters.specs.Claims.{Claims}
 use Rattle.valid_intervals.specs.declared.Point.{Point}
 use Rattle.valid_intervals.specs.Cells.{point_cmp}
 
