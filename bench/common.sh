@@ -30,3 +30,20 @@ in_turn() {
         "$2"
     done
 }
+
+# timed NAME INPUT COMMAND..: runs the command, whose output goes to $copy/NAME.out, and keeps the shortest of its times so far, in
+# microseconds, in ${least[NAME]}. Commands that are compared take turns, so that what else the machine does comes to all of them.
+declare -A least
+timed() {
+    local name=$1 input=$2 start taken
+    shift 2
+    start=${EPOCHREALTIME/./}
+    "$@" <"$input" >"$copy/$name.out" 2>/dev/null
+    taken=$((${EPOCHREALTIME/./} - start))
+    if [ -z "${least[$name]:-}" ] || [ "$taken" -lt "${least[$name]}" ]; then least[$name]=$taken; fi
+}
+
+# ratio TIME OTHER: how many times as long the one takes as the other.
+ratio() {
+    awk -v one="$1" -v other="$2" 'BEGIN { printf "%.2f", one / other }'
+}

@@ -3,7 +3,8 @@
 # reads back as the program does (texts.rs). With one worker all write the same journal and the same line. More workers share the
 # queries in an order of their own, so that their journals differ, and only the line is compared.
 #
-# The table has the shortest of five times each, and how many times as long as plain Rust without and with texts it takes.
+# All take fifteen turns, one after another. The table has the shortest time of each, and how many times as long as plain Rust without
+# and with texts it takes.
 #
 #     bench/work/run.sh [NUMBER..]
 set -euo pipefail
@@ -12,23 +13,6 @@ here=$(cd "$(dirname "$0")" && pwd)
 begin "$here"
 own=$("$top/tools/program" backsim)
 [ $# -gt 0 ] || set -- 7
-
-# best COMMAND..: the shortest of five times, in microseconds; what the command writes goes to $copy/line.
-best() {
-    local least= start taken
-    for _ in 1 2 3 4 5; do
-        start=${EPOCHREALTIME/./}
-        "$@" </dev/null >"$copy/line" 2>/dev/null
-        taken=$((${EPOCHREALTIME/./} - start))
-        if [ -z "$least" ] || [ "$taken" -lt "$least" ]; then least=$taken; fi
-    done
-    echo "$least"
-}
-
-# ratio TIME OTHER: how many times as long the one takes as the other.
-ratio() {
-    awk -v one="$1" -v other="$2" 'BEGIN { printf "%.2f", one / other }'
-}
 
 # compare_journals FILE FILE: says whether they agree byte for byte, or in the lines alone.
 compare_journals() {
@@ -45,23 +29,25 @@ echo "| workload | program | ms | times plain Rust | times that with texts | lin
 echo "|---|---|---|---|---|---|---|"
 failed=0
 for number in "$@"; do
-    plain=$(best "$copy/plain" "$number" "$copy/plain.journal")
-    line=$(cat "$copy/line")
-    echo "| $number | plain Rust | $((plain / 1000)) | 1 | | $line | |"
-    texts=$(best "$copy/plain" "$number" "$copy/texts.journal" texts)
-    said=$(cat "$copy/line")
-    journals=$(compare_journals "$copy/plain.journal" "$copy/texts.journal")
-    echo "| $number | plain Rust with texts | $((texts / 1000)) | $(ratio "$texts" "$plain") | 1 | $said | $journals |"
-    if [ "$said" != "$line" ] || [ "$journals" = different ]; then failed=1; fi
-    for workers in 1 2 4; do
-        time=$(best "$own" --work "$number" "$copy/own.journal" --workers "$workers")
-        said=$(cat "$copy/line")
-        journals=
-        if [ "$workers" = 1 ]; then
-            journals=$(compare_journals "$copy/plain.journal" "$copy/own.journal")
-        fi
-        ratios="$(ratio "$time" "$plain") | $(ratio "$time" "$texts")"
-        echo "| $number | backsim, workers: $workers | $((time / 1000)) | $ratios | $said | $journals |"
+    least=()
+    for _ in {1..15}; do
+        timed plain /dev/null "$copy/plain" "$number" "$copy/plain.journal"
+        timed texts /dev/null "$copy/plain" "$number" "$copy/texts.journal" texts
+        for workers in 1 2 4; do
+            timed "$workers" /dev/null "$own" --work "$number" "$copy/$workers.journal" --workers "$workers"
+        done
+    done
+    line=$(cat "$copy/plain.out")
+    for name in plain texts 1 2 4; do
+        said=$(cat "$copy/$name.out")
+        case $name in
+        plain) program="plain Rust" journals= ;;
+        texts) program="plain Rust with texts" journals=$(compare_journals "$copy/plain.journal" "$copy/texts.journal") ;;
+        1) program="backsim, workers: 1" journals=$(compare_journals "$copy/plain.journal" "$copy/1.journal") ;;
+        *) program="backsim, workers: $name" journals= ;;
+        esac
+        ratios="$(ratio "${least[$name]}" "${least[plain]}") | $(ratio "${least[$name]}" "${least[texts]}")"
+        echo "| $number | $program | $((least[$name] / 1000)) | $ratios | $said | $journals |"
         if [ "$said" != "$line" ] || [ "$journals" = different ]; then failed=1; fi
     done
 done

@@ -5,8 +5,8 @@
 # - workload: its sixteen questions, 82,730 evaluations.
 # - apart: sixteen windows of 100 instants, of outputs whose fan-in cones share no gate.
 #
-# A time is the shortest of five, without the time that an empty script takes: that of reading and joining the files. SHARDS is the
-# number of shards of both programs, 8 if it is not set.
+# All take nine turns, one after another. A time is the shortest, without that of an empty script, which is for reading and joining the
+# files. SHARDS is the number of shards of both programs, 8 if it is not set.
 #
 #     [SHARDS=64] bench/workers/run.sh
 set -euo pipefail
@@ -22,35 +22,29 @@ for i in $(seq 0 15); do
 done >"$copy/apart.script"
 : >"$copy/empty.script"
 
-# best SCRIPT COMMAND..: the shortest of five times, in microseconds; the replies go to $copy/replies.
-best() {
-    local script=$1 least= start taken
-    shift
-    for _ in 1 2 3 4 5; do
-        start=${EPOCHREALTIME/./}
-        "$@" <"$copy/$script.script" >"$copy/replies" 2>/dev/null
-        taken=$((${EPOCHREALTIME/./} - start))
-        if [ -z "$least" ] || [ "$taken" -lt "$least" ]; then least=$taken; fi
-    done
-    echo "$least"
-}
-
 plain() { "$copy/plain" "$copy/workload.bench" "$copy/workload.stim" "$copy/journal" "$1" "$shards"; }
 backsim() { "$own" "$copy"/workload.{bench,timing,stim} "$copy/journal" --workers "$1" --shards "$shards"; }
+
+for _ in {1..9}; do
+    for program in plain backsim; do
+        timed "$program-empty-1" "$copy/empty.script" $program 1
+        for script in workload apart; do
+            for workers in 1 2 4; do
+                timed "$program-$script-$workers" "$copy/$script.script" $program $workers
+            done
+        done
+    done
+done
 
 echo "| script | workers | plain Rust, ms | backsim, ms | backsim / plain Rust |"
 echo "|---|---|---|---|---|"
 failed=0
-reading_plain=$(best empty plain 1)
-reading_own=$(best empty backsim 1)
 for script in workload apart; do
     for workers in 1 2 4; do
-        taken_plain=$(($(best $script plain $workers) - reading_plain))
-        cp "$copy/replies" "$copy/replies.plain"
-        taken_own=$(($(best $script backsim $workers) - reading_own))
-        cmp "$copy/replies" "$copy/replies.plain" || failed=1
-        ratio=$(awk -v own=$taken_own -v plain=$taken_plain 'BEGIN { printf "%.2f", own / plain }')
-        echo "| $script | $workers | $((taken_plain / 1000)) | $((taken_own / 1000)) | $ratio |"
+        plain=$((least[plain-$script-$workers] - least[plain-empty-1]))
+        own=$((least[backsim-$script-$workers] - least[backsim-empty-1]))
+        cmp "$copy"/{plain,backsim}-$script-$workers.out || failed=1
+        echo "| $script | $workers | $((plain / 1000)) | $((own / 1000)) | $(ratio $own $plain) |"
     done
 done
 exit $failed
