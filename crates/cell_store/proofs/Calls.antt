@@ -1,288 +1,202 @@
--- What each call of a store does to its cache and its index.
-use Rattle.std.proofs.Common.{◌≡◌, ℕ, zero, suc, ◌+◌, ◌-◌, ◌<◌, ◌≤◌, Bool, true, false, cond, not, List, [], ◌∷◌, ◌++◌, length, take, filter, All, Option, Some, None, option_map, is_some, find, refl, sym, ap, subst, ◌∙◌, true≢false, arith}
-use Rattle.std.proofs.lemmas.List.{length-map, length-take, take_all, take-map}
+-- What each call of a store does to its cache, its index and its free slots.
+use Rattle.std.proofs.Common.{◌≡◌, ℕ, zero, suc, eq-eqb, ◌+◌, ◌-◌, ◌<◌, ◌≤◌, Bool, true, cond, nat_eq, List, [], ◌∷◌, ◌++◌, length, take, All, Option, Some, None, option_map, find, refl, sym, ap, subst, ◌∙◌, arith}
+use Rattle.std.proofs.lemmas.List.{length-append, length-take, take_all, take-map}
+use Rattle.std.proofs.lemmas.List.Elements.{All-cons}
 use Rattle.std.proofs.lemmas.Option.{slice_get_within}
 use Rattle.std.specs.List.{slice_get}
-use Rattle.std.specs.Map.{lookup}
+use Rattle.std.specs.Map.{lookup_entry, remove_entry}
+use Rattle.std.specs.Option.{option_map_or}
 use Rattle.std.specs.Ordering.{is_eq}
-use Rattle.lru.specs.LruCache.{LruCache, lru_cache, promoted, put_entries}
+use Rattle.lru.specs.LruCache.{lru_cache, promoted, put_entries, last_entry}
 use Rattle.valid_intervals.specs.Spans.{IsSpan}
-use Rattle.valid_intervals.specs.declared.Cell.{Cell}
 use Rattle.valid_intervals.specs.declared.Point.{Point}
 use Rattle.valid_intervals.specs.declared.SignalCell.{SignalCell}
-use Rattle.valid_intervals.specs.Cells.{same_stored, covers, cell_for, to_front, all_but_last, is_stored, stored_at}
+use Rattle.valid_intervals.specs.Cells.{covers, cell_for, stored_at, to_front, all_but_last}
 use Rattle.cell_store.specs.declared.Key.{Key}
-use Rattle.cell_store.specs.Recency.{Contents, contents, with_cells, key_of, last_key, IsApart, FitsStore}
-use Rattle.cell_store.specs.inner.Index.{key_cmp, key_eq, has_key, entry_of, entries_of, cells_of, IsStoreIndex, IsSoundStore}
-use Rattle.cell_store.proofs.Same.{same_stored-itself}
+use Rattle.cell_store.specs.declared.store.Place.{Place}
+use Rattle.cell_store.specs.Recency.{key_of, last_key, IsApart}
+use Rattle.cell_store.specs.inner.Index.{key_cmp, place_at, end_in, cells_of, uses_of, IsStoreIndex, IsPlaced, IsSoundStore}
 use Rattle.cell_store.proofs.Keys.{covers_true}
-use Rattle.cell_store.proofs.Found.{some_same, none_some, found_true, found_at_key}
-use Rattle.cell_store.proofs.Cached.{cells_of-entries_of, lookup-entries_of, promoted-entries_of, promoted-none, put-entries_of, found_if_stored, not_stored, all_apart}
-use Rattle.cell_store.proofs.Kept.{same_index, used, added, dropped}
+use Rattle.cell_store.proofs.Found.{found_true, found_all}
+use Rattle.cell_store.proofs.Kept.{used, taken_back}
+use Rattle.cell_store.proofs.Entries.{Entry, split_last, length-cells_of, times-append, uses_of-append, absent, IsTaken, taken, All-remove_entry, IsMoved, moved, same_slots, IsAtEnd, at_end, IsFresh, fresh, new_slot, still_free}
+use Rattle.cell_store.proofs.Placed.{IsAt, same_placed, added_place, dropped_place, IsLocated, IsFoundIn, cell_found, no_place}
 
--- ---- lengths
-no_longer : (p : SignalCell → Bool) (cells : List SignalCell) → length (filter p cells) ≤ length cells
-no_longer p [] = omega arith
-no_longer p (y ∷ cells) =
-    elim (p y) as (λ b. length (cond b (y ∷ filter p cells) (filter p cells)) ≤ length (y ∷ cells)) [
-      | true ↦ omega (arith, no_longer p cells)
-      | false ↦ omega (arith, no_longer p cells)
-    ]
+-- ---- a cell that is stored is used
+pub record IsUsed (place_of : Key → Option Place) (entries : List Entry) (free : List ℕ) (capacity slot : ℕ) (x : SignalCell) : Type 0 where
+  pub first : slice_get (promoted (nat_eq slot) entries) 0 ≡ Some (slot, x)
+  pub cells : cells_of (promoted (nat_eq slot) entries) ≡ to_front x (cells_of entries)
+  pub sound : IsSoundStore place_of (promoted (nat_eq slot) entries) free capacity
 
-pub shorter : (f : SignalCell → Bool) (x : SignalCell) (cells : List SignalCell) → find f cells ≡ Some x → length (filter (λ y. not (same_stored x y)) cells) < length cells
-shorter f x [] h = none_some x h
-shorter f x (y ∷ cells) h =
-    let others : List SignalCell = filter (λ z. not (same_stored x z)) cells in
-    (elim (f y) as (λ b. cond b (Some y) (find f cells) ≡ Some x → length (cond (not (same_stored x y)) (y ∷ others) others) < length (y ∷ cells)) [
-      | true ↦ λ e.
-          let itself : same_stored x y ≡ true = subst (λ (z : SignalCell). same_stored z y ≡ true) (some_same y x e) (same_stored-itself y) in
-          subst (λ b. length (cond (not b) (y ∷ others) others) < length (y ∷ cells)) (sym itself) (omega (arith, no_longer (λ z. not (same_stored x z)) cells))
-      | false ↦ λ e.
-          elim (same_stored x y) as (λ b. length (cond (not b) (y ∷ others) others) < length (y ∷ cells)) [
-            | true ↦ omega (arith, shorter f x cells e)
-            | false ↦ omega (arith, shorter f x cells e)
-          ]
-    ]) h
-
-pub past_end : {X : Type 0} (xs : List X) (n : ℕ) → slice_get xs n ≡ None → length xs ≤ n
-past_end [] n h = omega arith
-past_end (y ∷ ys) zero h = none_some y (sym h)
-past_end (y ∷ ys) (suc n) h = omega (arith, past_end ys n h)
-
-slice_get-entries_of : (n : ℕ) (cells : List SignalCell) → slice_get (entries_of cells) n ≡ option_map entry_of (slice_get cells n)
-slice_get-entries_of n [] = refl
-slice_get-entries_of zero (x ∷ cells) = refl
-slice_get-entries_of (suc n) (x ∷ cells) = slice_get-entries_of n cells
-
-split_last : {X : Type 0} (xs : List X) (n : ℕ) (x : X) → length xs ≡ n + 1 → slice_get xs n ≡ Some x → xs ≡ take n xs ++ x ∷ []
-split_last [] n x many h = none_some x h
-split_last (y ∷ z ∷ zs) zero x many h = absurd (omega arith)
-split_last {X = X} (y ∷ []) zero x many h = ap (λ (u : X). u ∷ []) (some_same y x h)
-split_last {X = X} (y ∷ ys) (suc n) x many h = ap (λ (l : List X). y ∷ l) (split_last ys n x (omega arith) h)
-
--- the last cell, as the cache has it
-pub record IsLastOf (cells : List SignalCell) (e : Key × Cell) : Type 0 where
-  pub cell : SignalCell
-  pub entry : e ≡ entry_of cell
-  pub split : cells ≡ all_but_last cells ++ cell ∷ []
-  pub key : last_key cells ≡ Some e.0
-
-pub last_of : (cells : List SignalCell) (n : ℕ) (e : Key × Cell) → length cells ≡ n + 1 → slice_get (entries_of cells) n ≡ Some e → IsLastOf cells e
-last_of cells n e many h =
-    let place : length cells - 1 ≡ n = omega arith in
-    (elim (slice_get cells n) as (λ o. slice_get cells n ≡ o → option_map entry_of o ≡ Some e → IsLastOf cells e) [
-      | None ↦ λ at d. none_some e d
-      | Some y ↦ λ at d.
-          let is : entry_of y ≡ e = some_same (entry_of y) e d in
-          let there : slice_get cells (length cells - 1) ≡ Some y = ap (slice_get cells) place ∙ at in
-          record {
-            cell = y;
-            entry = sym is;
-            split = subst (λ m. cells ≡ take m cells ++ y ∷ []) (sym place) (split_last cells n y many at);
-            key = ap (option_map key_of) there ∙ ap (λ (f : Key × Cell). Some f.0) is;
-          }
-    ]) refl (sym (slice_get-entries_of n cells) ∙ h)
-
--- ---- what is sound after a change of the cells
-sound_of : (end_of : Key → Option ℕ) (entries : List (Key × Cell)) (cells : List SignalCell) (capacity : ℕ) → entries ≡ entries_of cells → IsStoreIndex end_of cells → length cells ≤ capacity → 0 < capacity → capacity ≤ 65536
-    → IsSoundStore end_of entries capacity
-sound_of end_of entries cells capacity is index within some most =
-    let same : cells_of entries ≡ cells = ap cells_of is ∙ cells_of-entries_of cells in
+pub is_used : (place_of : Key → Option Place) (entries : List Entry) (free : List ℕ) (capacity : ℕ) (f : SignalCell → Bool) (x : SignalCell) → IsSoundStore place_of entries free capacity → find f (cells_of entries) ≡ Some x
+    → (l : IsLocated place_of entries f x) → IsUsed place_of entries free capacity l.slot x
+is_used place_of entries free capacity f x sound h l =
+    let index : IsStoreIndex (end_in place_of) (cells_of entries) = sound.found.indexed in
+    let rest : List Entry = remove_entry (nat_eq l.slot) entries in
+    let few : uses_of l.slot entries ≤ 1 = omega (arith, sound.slots.once l.slot) in
+    let is : IsTaken entries l.slot x = taken entries f l.slot x index.spans index.apart few l.found in
+    let list : promoted (nat_eq l.slot) entries ≡ (l.slot, x) ∷ rest = ap (λ o. option_map_or (λ (e : Entry). e ∷ rest) o entries) is.entry in
+    let cells : cells_of ((l.slot, x) ∷ rest) ≡ to_front x (cells_of entries) = ap (λ (r : List SignalCell). x ∷ r) is.rest in
+    let move : IsMoved entries ((l.slot, x) ∷ rest) = moved (nat_eq l.slot) entries (l.slot, x) is.entry in
+    let after : IsSoundStore place_of ((l.slot, x) ∷ rest) free capacity = record {
+      found = record {
+        indexed = subst (λ (c : List SignalCell). IsStoreIndex (end_in place_of) c) (sym cells) (used (end_in place_of) (cells_of entries) f x index h);
+        placed = All-cons (IsAt place_of) (l.slot, x) rest l.at (All-remove_entry (IsAt place_of) (nat_eq l.slot) entries sound.found.placed);
+      };
+      slots = same_slots entries ((l.slot, x) ∷ rest) free free (λ s. omega (arith, move.uses s)) (omega (arith, move.many)) sound.slots;
+      within = omega (arith, move.many, sound.within);
+      some = sound.some;
+      most = sound.most;
+    } in
     record {
-      keyed = is ∙ ap entries_of (sym same);
-      indexed = subst (λ (l : List SignalCell). IsStoreIndex end_of l) (sym same) index;
-      within = let many = ap (λ (l : List (Key × Cell)). length l) is ∙ length-map cells entry_of in omega arith;
-      some = some;
-      most = most;
+      first = ap (λ (es : List Entry). slice_get es 0) list;
+      cells = ap cells_of list ∙ cells;
+      sound = subst (λ (es : List Entry). IsSoundStore place_of es free capacity) (sym list) after;
     }
 
-cells_within : (end_of : Key → Option ℕ) (entries : List (Key × Cell)) (capacity : ℕ) → IsSoundStore end_of entries capacity → length (cells_of entries) ≤ capacity
-cells_within end_of entries capacity sound = let many = ap (λ (l : List (Key × Cell)). length l) sound.keyed ∙ length-map (cells_of entries) entry_of in let i = sound.within in omega arith
-
--- a cell whose key the cache has is used
-pub record IsUsed (end_of : Key → Option ℕ) (entries : List (Key × Cell)) (capacity : ℕ) (k : Key) (x : SignalCell) : Type 0 where
-  pub list : promoted (key_eq k) entries ≡ entries_of (to_front x (cells_of entries))
-  pub sound : IsSoundStore end_of (promoted (key_eq k) entries) capacity
-
-pub is_used : (end_of : Key → Option ℕ) (entries : List (Key × Cell)) (capacity : ℕ) (k : Key) (x : SignalCell) → IsSoundStore end_of entries capacity → find (has_key k) (cells_of entries) ≡ Some x → IsUsed end_of entries capacity k x
-is_used end_of entries capacity k x sound h =
-    let cells : List SignalCell = cells_of entries in
-    let after : promoted (key_eq k) entries ≡ entries_of (to_front x cells) =
-    subst (λ (es : List (Key × Cell)). promoted (key_eq k) es ≡ entries_of (to_front x cells)) (sym sound.keyed) (promoted-entries_of k cells x sound.indexed.spans sound.indexed.apart h) in
-    record {
-      list = after;
-      sound = sound_of end_of (promoted (key_eq k) entries) (to_front x cells) capacity after (used end_of cells (has_key k) x sound.indexed h)
-          (omega (arith, shorter (has_key k) x cells h, cells_within end_of entries capacity sound)) sound.some sound.most;
-    }
-
--- ---- find
-pub record IsFound (end_of : Key → Option ℕ) (entries : List (Key × Cell)) (capacity : ℕ) (k : Key) (p : Point) : Type 0 where
-  pub cell : SignalCell
-  pub found : stored_at (cells_of entries) p ≡ Some cell
-  pub for_point : cell_for p cell.cell ≡ cell
-  pub used : IsUsed end_of entries capacity k cell
-
-pub is_found : (end_of : Key → Option ℕ) (entries : List (Key × Cell)) (capacity : ℕ) (k : Key) (p : Point) → IsSoundStore end_of entries capacity → Some k ≡ option_map key_of (stored_at (cells_of entries) p) → IsFound end_of entries capacity k p
-is_found end_of entries capacity k p sound h =
-    let cells : List SignalCell = cells_of entries in
-    (elim (stored_at cells p) as (λ o. stored_at cells p ≡ o → Some k ≡ option_map key_of o → IsFound end_of entries capacity k p) [
-      | None ↦ λ e d. none_some k (sym d)
-      | Some x ↦ λ e d.
-          let is : k ≡ key_of x = some_same k (key_of x) d in
-          record {
-            cell = x;
-            found = e;
-            for_point = ap (λ (s : ℕ). record { signal = s; cell = x.cell }) (sym (covers_true p x (found_true (covers p) cells x e)).signal);
-            used = is_used end_of entries capacity k x sound (subst (λ (j : Key). find (has_key j) cells ≡ Some x) (sym is) (found_at_key (covers p) cells x sound.indexed.spans sound.indexed.apart e));
-          }
-    ]) refl h
-
-pub used_shows : (end_of : Key → Option ℕ) (entries : List (Key × Cell)) (capacity : ℕ) (k : Key) (p : Point) (cache : LruCache Key Cell) (s : Contents) (f : IsFound end_of entries capacity k p)
-    → cache ≡ lru_cache (promoted (key_eq k) entries) capacity → contents capacity (cells_of entries) ≡ s → contents cache.cap (cells_of cache.entries) ≡ with_cells s (to_front (cell_for p f.cell.cell) s.cells)
-used_shows end_of entries capacity k p cache s f after view =
-    ap (λ (l : LruCache Key Cell). contents l.cap (cells_of l.entries)) after
-    ∙ ap (λ (l : List (Key × Cell)). contents capacity (cells_of l)) f.used.list
-    ∙ ap (λ (l : List SignalCell). contents capacity l) (cells_of-entries_of (to_front f.cell (cells_of entries)))
-    ∙ ap (λ (x : SignalCell). contents capacity (to_front x (cells_of entries))) (sym f.for_point)
-    ∙ ap (λ (t : Contents). with_cells t (to_front (cell_for p f.cell.cell) t.cells)) view
-
--- ---- put
-pub record IsStored (end_of : Key → Option ℕ) (entries : List (Key × Cell)) (capacity : ℕ) (x : SignalCell) : Type 0 where
-  pub stored : is_stored x (cells_of entries) ≡ true
-  pub used : IsUsed end_of entries capacity (key_of x) x
-
-looked_up : (entries : List (Key × Cell)) (k : Key) → entries ≡ entries_of (cells_of entries) → lookup (key_eq k) entries ≡ option_map (λ (x : SignalCell). x.cell) (find (has_key k) (cells_of entries))
-looked_up entries k keyed = subst (λ (es : List (Key × Cell)). lookup (key_eq k) es ≡ option_map (λ (x : SignalCell). x.cell) (find (has_key k) (cells_of entries))) (sym keyed) (lookup-entries_of k (cells_of entries))
-
-pub is_stored_again : (end_of : Key → Option ℕ) (entries : List (Key × Cell)) (capacity : ℕ) (x : SignalCell) → IsSoundStore end_of entries capacity → IsSpan x.cell.span → FitsStore x (cells_of entries) → is_some (lookup (key_eq (key_of x)) entries) ≡ true
-    → IsStored end_of entries capacity x
-is_stored_again end_of entries capacity x sound s fits h =
-    let cells : List SignalCell = cells_of entries in
-    (elim (find (has_key (key_of x)) cells) as (λ o. find (has_key (key_of x)) cells ≡ o → is_some (option_map (λ (x : SignalCell). x.cell) o) ≡ true → IsStored end_of entries capacity x) [
-      | None ↦ λ e d. absurd (true≢false (sym d))
-      | Some y ↦ λ e d.
-          let is = found_if_stored x cells s sound.indexed.spans fits y e in
-          record {
-            stored = is.1;
-            used = is_used end_of entries capacity (key_of x) x sound (e ∙ ap (λ (z : SignalCell). Some z) (sym is.0));
-          }
-    ]) refl (ap is_some (sym (looked_up entries (key_of x) sound.keyed)) ∙ h)
-
--- a cell whose key the cache does not have
-pub record IsNew (end_of : Key → Option ℕ) (entries : List (Key × Cell)) (x : SignalCell) : Type 0 where
-  pub new : is_stored x (cells_of entries) ≡ false
-  pub apart : All (IsApart x) (cells_of entries)
-  pub absent : find (has_key (key_of x)) (cells_of entries) ≡ None
-  pub no_end : end_of (key_of x) ≡ None
-  pub no_value : lookup (key_eq (key_of x)) entries ≡ None
-  pub same : promoted (key_eq (key_of x)) entries ≡ entries
-
-pub is_new : (end_of : Key → Option ℕ) (entries : List (Key × Cell)) (capacity : ℕ) (x : SignalCell) → IsSoundStore end_of entries capacity → FitsStore x (cells_of entries) → is_some (lookup (key_eq (key_of x)) entries) ≡ false
-    → IsNew end_of entries x
-is_new end_of entries capacity x sound fits h =
-    let cells : List SignalCell = cells_of entries in
-    let k : Key = key_of x in
-    (elim (find (has_key k) cells) as (λ o. find (has_key k) cells ≡ o → is_some (option_map (λ (x : SignalCell). x.cell) o) ≡ false → IsNew end_of entries x) [
-      | Some y ↦ λ e d. absurd (true≢false d)
-      | None ↦ λ e d.
-          let new : is_stored x cells ≡ false = not_stored x cells e in
-          record {
-            new = new;
-            apart = all_apart x cells fits new;
-            absent = e;
-            no_end = sound.indexed.ends k ∙ ap (option_map (λ (y : SignalCell). y.cell.span.stop)) e;
-            no_value = looked_up entries k sound.keyed ∙ ap (option_map (λ (x : SignalCell). x.cell)) e;
-            same = subst (λ (es : List (Key × Cell)). promoted (key_eq k) es ≡ es) (sym sound.keyed) (promoted-none k cells e);
-          }
-    ]) refl (ap is_some (sym (looked_up entries k sound.keyed)) ∙ h)
-
--- the ends with that of x
-abbrev pub with_end : (Key → Option ℕ) → SignalCell → Key → Option ℕ
-with_end end_of x q = cond (is_eq (key_cmp (key_of x) q)) (Some x.cell.span.stop) (end_of q)
-
--- the ends without that at a key
-abbrev pub without_end : (Key → Option ℕ) → Key → Key → Option ℕ
-without_end end_of k q = cond (is_eq (key_cmp k q)) None (end_of q)
-
-put_list : (end_of : Key → Option ℕ) (entries : List (Key × Cell)) (capacity : ℕ) (x : SignalCell) → IsSoundStore end_of entries capacity → IsNew end_of entries x
-    → put_entries key_eq (lru_cache entries capacity) (key_of x) x.cell ≡ entries_of (x ∷ take (capacity - 1) (cells_of entries))
-put_list end_of entries capacity x sound new =
-    subst (λ (es : List (Key × Cell)). put_entries key_eq (lru_cache es capacity) (key_of x) x.cell ≡ entries_of (x ∷ take (capacity - 1) (cells_of entries))) (sym sound.keyed)
-    (put-entries_of x (cells_of entries) capacity new.absent)
-
--- it comes where there is room
-pub record HasCome (end_of : Key → Option ℕ) (entries : List (Key × Cell)) (capacity : ℕ) (x : SignalCell) : Type 0 where
-  pub room : length (cells_of entries) < capacity
-  pub list : put_entries key_eq (lru_cache entries capacity) (key_of x) x.cell ≡ entries_of (x ∷ cells_of entries)
-  pub sound : IsSoundStore (with_end end_of x) (put_entries key_eq (lru_cache entries capacity) (key_of x) x.cell) capacity
-
-pub has_come : (end_of : Key → Option ℕ) (entries : List (Key × Cell)) (capacity : ℕ) (x : SignalCell) → IsSoundStore end_of entries capacity → IsNew end_of entries x → IsSpan x.cell.span → slice_get entries (capacity - 1) ≡ None
-    → HasCome end_of entries capacity x
-has_come end_of entries capacity x sound new s h =
-    let cells : List SignalCell = cells_of entries in
-    let many : length entries ≡ length cells = ap (λ (l : List (Key × Cell)). length l) sound.keyed ∙ length-map cells entry_of in
-    let below : length entries ≤ capacity - 1 = past_end entries (capacity - 1) h in
-    let room : length cells < capacity = let i = sound.some in omega arith in
-    let after : put_entries key_eq (lru_cache entries capacity) (key_of x) x.cell ≡ entries_of (x ∷ cells) =
-    put_list end_of entries capacity x sound new ∙ ap (λ (l : List SignalCell). entries_of (x ∷ l)) (take_all (capacity - 1) cells (omega arith)) in
-    record {
-      room = room;
-      list = after;
-      sound = sound_of (with_end end_of x) (put_entries key_eq (lru_cache entries capacity) (key_of x) x.cell) (x ∷ cells) capacity after (added end_of cells x sound.indexed s new.apart) (omega arith) sound.some sound.most;
-    }
-
--- it takes the place of the last
-pub record HasPushed (end_of : Key → Option ℕ) (entries : List (Key × Cell)) (capacity : ℕ) (x : SignalCell) (e : Key × Cell) : Type 0 where
-  pub full : length (cells_of entries) ≡ capacity
-  pub last : last_key (cells_of entries) ≡ Some e.0
-  pub list : put_entries key_eq (lru_cache entries capacity) (key_of x) x.cell ≡ entries_of (x ∷ all_but_last (cells_of entries))
-  pub sound : IsSoundStore (without_end (with_end end_of x) e.0) (put_entries key_eq (lru_cache entries capacity) (key_of x) x.cell) capacity
-
-pub has_pushed : (end_of : Key → Option ℕ) (entries : List (Key × Cell)) (capacity : ℕ) (x : SignalCell) (e : Key × Cell) → IsSoundStore end_of entries capacity → IsNew end_of entries x → IsSpan x.cell.span → slice_get entries (capacity - 1) ≡ Some e
-    → HasPushed end_of entries capacity x e
-has_pushed end_of entries capacity x e sound new s h =
-    let cells : List SignalCell = cells_of entries in
-    let many : length entries ≡ length cells = ap (λ (l : List (Key × Cell)). length l) sound.keyed ∙ length-map cells entry_of in
-    let within : capacity - 1 < length entries = slice_get_within entries (capacity - 1) e h in
-    let full : length cells ≡ capacity = let i = sound.within in let j = sound.some in omega arith in
-    let there : slice_get (entries_of cells) (capacity - 1) ≡ Some e = subst (λ (es : List (Key × Cell)). slice_get es (capacity - 1) ≡ Some e) sound.keyed h in
-    let last : IsLastOf cells e = last_of cells (capacity - 1) e (let j = sound.some in omega arith) there in
-    let after : put_entries key_eq (lru_cache entries capacity) (key_of x) x.cell ≡ entries_of (x ∷ all_but_last cells) =
-    put_list end_of entries capacity x sound new ∙ ap (λ (n : ℕ). entries_of (x ∷ take (n - 1) cells)) (sym full) in
-    let grown : IsStoreIndex (with_end end_of x) (x ∷ cells) = added end_of cells x sound.indexed s new.apart in
-    let cut : IsStoreIndex (without_end (with_end end_of x) (key_of last.cell)) (x ∷ all_but_last cells) =
-    dropped (with_end end_of x) (x ∷ all_but_last cells) last.cell (subst (λ (l : List SignalCell). IsStoreIndex (with_end end_of x) (x ∷ l)) last.split grown) in
-    record {
-      full = full;
-      last = last.key;
-      list = after;
-      sound = sound_of (without_end (with_end end_of x) e.0) (put_entries key_eq (lru_cache entries capacity) (key_of x) x.cell) (x ∷ all_but_last cells) capacity after
-          (subst (λ (k : Key). IsStoreIndex (without_end (with_end end_of x) k) (x ∷ all_but_last cells)) (sym (ap (λ (f : Key × Cell). f.0) last.entry)) cut)
-          (let j = sound.some in omega (arith, length-take (length cells - 1) cells)) sound.some sound.most;
-    }
-
--- ---- trim
-pub popped : (end_of : Key → Option ℕ) (entries : List (Key × Cell)) (capacity : ℕ) (e : Key × Cell) → IsSoundStore end_of entries capacity → slice_get entries (length entries - 1) ≡ Some e
-    → IsSoundStore (without_end end_of e.0) (take (length entries - 1) entries) capacity
-popped end_of entries capacity e sound h =
-    let cells : List SignalCell = cells_of entries in
-    let many : length entries ≡ length cells = ap (λ (l : List (Key × Cell)). length l) sound.keyed ∙ length-map cells entry_of in
-    let within : length entries - 1 < length entries = slice_get_within entries (length entries - 1) e h in
-    let there : slice_get (entries_of cells) (length entries - 1) ≡ Some e = subst (λ (es : List (Key × Cell)). slice_get es (length entries - 1) ≡ Some e) sound.keyed h in
-    let last : IsLastOf cells e = last_of cells (length entries - 1) e (omega arith) there in
-    let after : take (length entries - 1) entries ≡ entries_of (all_but_last cells) =
-    ap (take (length entries - 1)) sound.keyed ∙ take-map entry_of (length entries - 1) cells ∙ ap (λ (n : ℕ). entries_of (take (n - 1) cells)) many in
-    let cut : IsStoreIndex (without_end end_of (key_of last.cell)) (all_but_last cells) =
-    dropped end_of (all_but_last cells) last.cell (subst (λ (l : List SignalCell). IsStoreIndex end_of l) last.split sound.indexed) in
-    sound_of (without_end end_of e.0) (take (length entries - 1) entries) (all_but_last cells) capacity after
-    (subst (λ (k : Key). IsStoreIndex (without_end end_of k) (all_but_last cells)) (sym (ap (λ (f : Key × Cell). f.0) last.entry)) cut)
-    (let i = sound.within in omega (arith, length-take (length cells - 1) cells)) sound.some sound.most
-
-pub same_sound : (f g : Key → Option ℕ) (entries : List (Key × Cell)) (capacity : ℕ) → ((q : Key) → f q ≡ g q) → IsSoundStore g entries capacity → IsSoundStore f entries capacity
-same_sound f g entries capacity same sound = record {
-  keyed = sound.keyed;
-  indexed = same_index f g (cells_of entries) same sound.indexed;
+pub same_sound : (f g : Key → Option Place) (entries : List Entry) (free : List ℕ) (capacity : ℕ) → ((q : Key) → f q ≡ g q) → IsSoundStore g entries free capacity → IsSoundStore f entries free capacity
+same_sound f g entries free capacity same sound = record {
+  found = same_placed f g entries same sound.found;
+  slots = sound.slots;
   within = sound.within;
   some = sound.some;
   most = sound.most;
 }
+
+-- ---- a new cell
+pub refused : (f g h : Key → Option Place) (entries : List Entry) (free : List ℕ) (capacity : ℕ) (x : SignalCell) (p : Place) → IsSoundStore f entries free capacity → IsSpan x.cell.span → All (IsApart x) (cells_of entries)
+    → ((q : Key) → g q ≡ cond (is_eq (key_cmp (key_of x) q)) (Some p) (f q)) → ((q : Key) → h q ≡ cond (is_eq (key_cmp (key_of x) q)) None (g q)) → IsSoundStore h entries free capacity
+refused f g h entries free capacity x p sound span apart came went =
+    same_sound h f entries free capacity
+    (λ q. went q ∙ ap (cond (is_eq (key_cmp (key_of x) q)) None) (came q) ∙ taken_back f x p (no_place f entries x sound.found span apart) q) sound
+
+-- it comes where there is room
+pub record HasCome (g : Key → Option Place) (entries : List Entry) (free : List ℕ) (capacity slot : ℕ) (x : SignalCell) : Type 0 where
+  pub list : put_entries nat_eq (lru_cache entries capacity) slot x ≡ (slot, x) ∷ entries
+  pub sound : IsSoundStore g ((slot, x) ∷ entries) (still_free free) capacity
+
+pub has_come : (f g : Key → Option Place) (entries : List Entry) (free : List ℕ) (capacity slot : ℕ) (x : SignalCell) → IsSoundStore f entries free capacity → IsSpan x.cell.span → All (IsApart x) (cells_of entries)
+    → length (cells_of entries) < capacity → slot ≡ new_slot entries free
+    → ((q : Key) → g q ≡ cond (is_eq (key_cmp (key_of x) q)) (Some (place_at (slot, x))) (f q)) → HasCome g entries free capacity slot x
+has_come f g entries free capacity slot x sound span apart short is came =
+    let room : length entries < capacity = omega (arith, length-cells_of entries, short) in
+    let new : IsFresh entries free slot x = subst (λ (n : ℕ). IsFresh entries free n x) (sym is) (fresh entries free x sound.slots) in
+    record {
+      list = ap (λ o. option_map_or (λ (e : Entry). (e.0, x) ∷ remove_entry (nat_eq slot) entries) o ((slot, x) ∷ take (capacity - 1) entries)) (absent slot entries new.unused)
+          ∙ ap (λ (l : List Entry). (slot, x) ∷ l) (take_all (capacity - 1) entries (omega arith));
+      sound = record {
+        found = added_place f g entries slot x sound.found span apart came;
+        slots = new.slots;
+        within = omega (arith, room);
+        some = sound.some;
+        most = sound.most;
+      };
+    }
+
+-- ---- the least recently used cell
+pub record IsLast (entries : List Entry) (slot : ℕ) (y : SignalCell) : Type 0 where
+  pub init : List Entry
+  pub before : init ≡ take (length entries - 1) entries
+  pub split : entries ≡ init ++ (slot, y) ∷ []
+  pub many : length entries ≡ length init + 1
+  pub cells : cells_of init ≡ all_but_last (cells_of entries)
+  pub key : last_key (cells_of entries) ≡ Some (key_of y)
+
+take-cells_of : (n : ℕ) (es : List Entry) → cells_of (take n es) ≡ take n (cells_of es)
+take-cells_of n es = sym (take-map (λ (e : Entry). e.1) n es)
+
+slice_get-cells_of : (n : ℕ) (es : List Entry) → slice_get (cells_of es) n ≡ option_map (λ (e : Entry). e.1) (slice_get es n)
+slice_get-cells_of n [] = refl
+slice_get-cells_of zero (e ∷ es) = refl
+slice_get-cells_of (suc n) (e ∷ es) = slice_get-cells_of n es
+
+pub is_last : (entries : List Entry) (slot : ℕ) (y : SignalCell) → last_entry entries ≡ Some (slot, y) → IsLast entries slot y
+is_last entries slot y h =
+    let within : length entries - 1 < length entries = slice_get_within entries (length entries - 1) (slot, y) h in
+    let same : length (cells_of entries) ≡ length entries = length-cells_of entries in
+    record {
+      init = take (length entries - 1) entries;
+      before = refl;
+      split = split_last entries (length entries - 1) (slot, y) (omega arith) h;
+      many = omega (arith, within, length-take (length entries - 1) entries);
+      cells = take-cells_of (length entries - 1) entries ∙ ap (λ (n : ℕ). take (n - 1) (cells_of entries)) (sym same);
+      key = ap (option_map key_of) (ap (λ (n : ℕ). slice_get (cells_of entries) (n - 1)) same ∙ slice_get-cells_of (length entries - 1) entries ∙ ap (option_map (λ (e : Entry). e.1)) h);
+    }
+
+-- the new cell takes its slot
+pub record HasReplaced (h : Key → Option Place) (entries : List Entry) (free : List ℕ) (capacity slot : ℕ) (x : SignalCell) : Type 0 where
+  pub list : put_entries nat_eq (lru_cache entries capacity) slot x ≡ (slot, x) ∷ take (length entries - 1) entries
+  pub cells : cells_of ((slot, x) ∷ take (length entries - 1) entries) ≡ x ∷ all_but_last (cells_of entries)
+  pub sound : IsSoundStore h ((slot, x) ∷ take (length entries - 1) entries) free capacity
+
+-- the slot of the last is in the cache, so that a push of it does not fail
+pub last_at : (f : Key → Option Place) (entries : List Entry) (free : List ℕ) (capacity slot : ℕ) (y : SignalCell) → IsSoundStore f entries free capacity → (l : IsLast entries slot y) → IsAtEnd l.init slot y
+last_at f entries free capacity slot y sound l =
+    let itself : nat_eq slot slot ≡ true = eq-eqb slot slot refl in
+    let one : uses_of slot ((slot, y) ∷ []) ≡ 1 = ap (λ b. cond b 1 0 + 0) itself in
+    let all : uses_of slot entries ≡ uses_of slot l.init + uses_of slot ((slot, y) ∷ []) = ap (uses_of slot) l.split ∙ uses_of-append slot l.init ((slot, y) ∷ []) in
+    at_end l.init slot y (omega (arith, one, all, sound.slots.once slot))
+
+pub last_entry_at : (f : Key → Option Place) (entries : List Entry) (free : List ℕ) (capacity slot : ℕ) (y : SignalCell) → IsSoundStore f entries free capacity → last_entry entries ≡ Some (slot, y) → lookup_entry (nat_eq slot) entries ≡ Some (slot, y)
+last_entry_at f entries free capacity slot y sound h =
+    let l : IsLast entries slot y = is_last entries slot y h in
+    ap (lookup_entry (nat_eq slot)) l.split ∙ (last_at f entries free capacity slot y sound l).entry
+
+pub has_replaced : (f g h : Key → Option Place) (entries : List Entry) (free : List ℕ) (capacity slot : ℕ) (x y : SignalCell) → IsSoundStore f entries free capacity → IsSpan x.cell.span → All (IsApart x) (cells_of entries)
+    → last_entry entries ≡ Some (slot, y)
+    → ((q : Key) → g q ≡ cond (is_eq (key_cmp (key_of x) q)) (Some (place_at (slot, x))) (f q))
+    → ((q : Key) → h q ≡ cond (is_eq (key_cmp (key_of y) q)) None (g q)) → HasReplaced h entries free capacity slot x
+has_replaced f g h entries free capacity slot x y sound span apart at came went =
+    let l : IsLast entries slot y = is_last entries slot y at in
+    let end : IsAtEnd l.init slot y = last_at f entries free capacity slot y sound l in
+    let grown : IsPlaced g ((slot, x) ∷ entries) = added_place f g entries slot x sound.found span apart came in
+    let cut : IsPlaced h ((slot, x) ∷ l.init) = dropped_place g h ((slot, x) ∷ l.init) slot y (subst (λ (es : List Entry). IsPlaced g ((slot, x) ∷ es)) l.split grown) went in
+    let after : IsSoundStore h ((slot, x) ∷ l.init) free capacity = record {
+      found = cut;
+      slots = same_slots entries ((slot, x) ∷ l.init) free free
+          (λ s. omega (arith, ap (uses_of s) l.split, uses_of-append s l.init ((slot, y) ∷ []))) (omega (arith, l.many)) sound.slots;
+      within = omega (arith, l.many, sound.within);
+      some = sound.some;
+      most = sound.most;
+    } in
+    record {
+      list = ap (λ o. option_map_or (λ (e : Entry). (e.0, x) ∷ remove_entry (nat_eq slot) entries) o ((slot, x) ∷ take (capacity - 1) entries)) (ap (lookup_entry (nat_eq slot)) l.split ∙ end.entry)
+          ∙ ap (λ (es : List Entry). (slot, x) ∷ es) (ap (remove_entry (nat_eq slot)) l.split ∙ end.rest ∙ l.before);
+      cells = ap (λ (es : List Entry). x ∷ cells_of es) (sym l.before) ∙ ap (λ (r : List SignalCell). x ∷ r) l.cells;
+      sound = subst (λ (es : List Entry). IsSoundStore h ((slot, x) ∷ es) free capacity) l.before after;
+    }
+
+-- it goes, and its slot is free
+pub popped : (f g : Key → Option Place) (entries : List Entry) (free : List ℕ) (capacity slot : ℕ) (y : SignalCell) → IsSoundStore f entries free capacity → last_entry entries ≡ Some (slot, y)
+    → ((q : Key) → g q ≡ cond (is_eq (key_cmp (key_of y) q)) None (f q)) → IsSoundStore g (take (length entries - 1) entries) (free ++ slot ∷ []) capacity
+popped f g entries free capacity slot y sound at went =
+    let l : IsLast entries slot y = is_last entries slot y at in
+    let cut : IsPlaced g l.init = dropped_place f g l.init slot y (subst (IsPlaced f) l.split sound.found) went in
+    let after : IsSoundStore g l.init (free ++ slot ∷ []) capacity = record {
+      found = cut;
+      slots = same_slots entries l.init free (free ++ slot ∷ [])
+          (λ s. omega (arith, ap (uses_of s) l.split, uses_of-append s l.init ((slot, y) ∷ []), times-append s free (slot ∷ []))) (omega (arith, l.many, length-append free (slot ∷ []))) sound.slots;
+      within = omega (arith, l.many, sound.within);
+      some = sound.some;
+      most = sound.most;
+    } in
+    subst (λ (es : List Entry). IsSoundStore g es (free ++ slot ∷ []) capacity) l.before after
+
+-- ---- find
+pub record IsFound (place_of : Key → Option Place) (entries : List Entry) (free : List ℕ) (capacity slot : ℕ) (p : Point) : Type 0 where
+  pub x : SignalCell
+  pub found : stored_at (cells_of entries) p ≡ Some x
+  pub for_point : cell_for p x.cell ≡ x
+  pub used : IsUsed place_of entries free capacity slot x
+
+pub is_found : (place_of : Key → Option Place) (entries : List Entry) (free : List ℕ) (capacity slot : ℕ) (p : Point) → IsSoundStore place_of entries free capacity
+    → Some slot ≡ option_map (λ (e : Entry). e.0) (find (λ (e : Entry). covers p e.1) entries) → IsFound place_of entries free capacity slot p
+is_found place_of entries free capacity slot p sound h =
+    let is : IsFoundIn entries (covers p) slot = cell_found entries (covers p) slot h in
+    let l : IsLocated place_of entries (covers p) is.x = record { slot = slot; found = is.entry; at = found_all (IsAt place_of) (λ (e : Entry). covers p e.1) entries (slot, is.x) sound.found.placed is.entry } in
+    record {
+      x = is.x;
+      found = is.cell;
+      for_point = ap (λ (s : ℕ). record { signal = s; cell = is.x.cell }) (sym (covers_true p is.x (found_true (covers p) (cells_of entries) is.x is.cell)).signal);
+      used = is_used place_of entries free capacity (covers p) is.x sound is.cell l;
+    }

@@ -1,7 +1,6 @@
 -- What a search among cells that are apart finds.
-use Rattle.std.proofs.Common.{◌≡◌, ◌⊎◌, inl, inr, ⊎_elim, ℕ, ◌<◌, ◌≤◌, Bool, true, false, cond, List, [], ◌∷◌, All, Option, Some, None, IsSome, is_some, ◌||◌, option_map, find, refl, sym, ap, subst, ◌∙◌, true≢false, arith}
+use Rattle.std.proofs.Common.{◌≡◌, ◌⊎◌, inl, inr, ⊎_elim, ℕ, ◌<◌, ◌≤◌, Bool, true, false, cond, List, [], ◌∷◌, All, Option, Some, None, IsSome, option_map, find, refl, sym, ap, subst, ◌∙◌, true≢false, arith}
 use Rattle.std.proofs.lemmas.List.Elements.{All-head, All-tail}
-use Rattle.std.specs.List.{list_any}
 use Rattle.valid_intervals.specs.Spans.{IsSpan}
 use Rattle.valid_intervals.specs.declared.Point.{Point}
 use Rattle.valid_intervals.specs.declared.SignalCell.{SignalCell}
@@ -168,8 +167,3 @@ none_before end_of cells p index none =
           let c : IsCovered p y = covers_true p y (found_true (covers p) cells y e) in
           none_some y.cell.span.stop (sym (none (key_of y) (inr (c.signal, c.low))) ∙ has_end end_of cells (covers p) y index e)
     ]) refl
-
--- whether a search finds
-pub is_some-find : {X Y : Type 0} (g : X → Y) (f : X → Bool) (xs : List X) → is_some (option_map g (find f xs)) ≡ list_any f xs
-is_some-find g f [] = refl
-is_some-find g f (x ∷ xs) = elim (f x) as (λ b. is_some (option_map g (cond b (Some x) (find f xs))) ≡ (b || list_any f xs)) [ true ↦ refl | false ↦ is_some-find g f xs ]

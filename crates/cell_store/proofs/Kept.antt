@@ -87,11 +87,11 @@ added end_of cells x index s apart = record {
       ]);
 }
 
-All-front : {X : Type 0} (P : X → Type 0) (xs : List X) (y : X) → All P (xs ++ y ∷ []) → All P xs
+pub All-front : {X : Type 0} (P : X → Type 0) (xs : List X) (y : X) → All P (xs ++ y ∷ []) → All P xs
 All-front P [] y all = All-nil P
 All-front P (x ∷ xs) y all = All-cons P x xs (All-head P x (xs ++ y ∷ []) all) (All-front P xs y (All-tail P x (xs ++ y ∷ []) all))
 
-All-back : {X : Type 0} (P : X → Type 0) (xs : List X) (y : X) → All P (xs ++ y ∷ []) → P y
+pub All-back : {X : Type 0} (P : X → Type 0) (xs : List X) (y : X) → All P (xs ++ y ∷ []) → P y
 All-back P [] y all = All-head P y [] all
 All-back P (x ∷ xs) y all = All-back P xs y (All-tail P x (xs ++ y ∷ []) all)
 
@@ -138,12 +138,12 @@ dropped end_of cells y index =
     or_none None = refl
     or_none (Some x) = refl
 
--- a new end that is taken back
-pub taken_back : (end_of : Key → Option ℕ) (x : SignalCell) → end_of (key_of x) ≡ None
-    → (q : Key) → cond (is_eq (key_cmp (key_of x) q)) None (cond (is_eq (key_cmp (key_of x) q)) (Some x.cell.span.stop) (end_of q)) ≡ end_of q
-taken_back end_of x none q =
-    subst (λ b. cond b None (cond b (Some x.cell.span.stop) (end_of q)) ≡ end_of q) (sym (key_eq-is q x))
-    ((elim (has_key q x) as (λ b. has_key q x ≡ b → cond b None (cond b (Some x.cell.span.stop) (end_of q)) ≡ end_of q) [
-      | true ↦ λ t. sym none ∙ ap end_of (sym (has_key-true q x t))
+-- what comes at a new key is taken back
+pub taken_back : {V : Type 0} (f : Key → Option V) (x : SignalCell) (v : V) → f (key_of x) ≡ None
+    → (q : Key) → cond (is_eq (key_cmp (key_of x) q)) None (cond (is_eq (key_cmp (key_of x) q)) (Some v) (f q)) ≡ f q
+taken_back f x v none q =
+    subst (λ b. cond b None (cond b (Some v) (f q)) ≡ f q) (sym (key_eq-is q x))
+    ((elim (has_key q x) as (λ b. has_key q x ≡ b → cond b None (cond b (Some v) (f q)) ≡ f q) [
+      | true ↦ λ t. sym none ∙ ap f (sym (has_key-true q x t))
       | false ↦ λ t. refl
     ]) refl)

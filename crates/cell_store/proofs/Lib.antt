@@ -2,7 +2,9 @@ pub mod Same
 pub mod Keys
 pub mod Found
 pub mod Cached
+pub mod Entries
 pub mod Kept
+pub mod Placed
 pub mod Calls
 pub mod Puts
 pub mod Trims

@@ -10,8 +10,7 @@ use Rattle.cell_store.specs.Recency.{Contents, contents, with_cells, pushes_out,
 use Rattle.cell_store.proofs.Same.{same_stored-true, same_stored-itself}
 use Rattle.cell_store.proofs.Keys.{covers_true}
 use Rattle.cell_store.proofs.Found.{some_same, none_some, found_true}
-use Rattle.cell_store.proofs.Cached.{passes, all_kept}
-use Rattle.cell_store.proofs.Calls.{shorter}
+use Rattle.cell_store.proofs.Cached.{passes, all_kept, shorter}
 
 -- a stored cell is found
 found_stored : (x : SignalCell) (cells : List SignalCell) → is_stored x cells ≡ true → find (same_stored x) cells ≡ Some x

@@ -6,9 +6,11 @@
 //! names. [`CellStore::trim`] removes cells from the end until few enough are left.
 //!
 //! The model of a store is its capacity and the list of its cells (`specs/Recency.antt`). Contracts say exactly which list
-//! a call leaves. Inside, the kit's `lru` cache keeps the cells by their [`Key`], and an ordered index has the end of each
-//! cell. Of the cells of a signal that begin no later than a point, only the last can cover it. The cell in front is tried
-//! before the index. A call that fails for lack of memory leaves the store as it was. `find` and `covers` do not allocate.
+//! a call leaves. Inside, each cell has a slot, a small number, and the kit's `lru` cache keeps the cells by their slots. An
+//! ordered index has the end and the slot of each cell by its [`Key`]. Of the cells of a signal that begin no later than a
+//! point, only the last can cover it. The cell in front is tried before the index. A new cell takes a free slot, or the next
+//! number, or in a full store the slot of the cell that it evicts. Slots that follow one another lie beside one another in the
+//! cache's hash map. A call that fails for lack of memory leaves the store as it was. `find` and `covers` do not allocate.
 //!
 //! With n cells, `find`, `covers` and `put` take O(log n) steps. `len`, `capacity`, and a `find` of the most recently used
 //! cell take constant time. `trim` takes O(log n) steps for each cell that it removes. The store allocates about 100 bytes
@@ -22,6 +24,7 @@
 //! ```
 #![tactic(auto)]
 
+mod slots;
 mod store;
 
 pub use store::CellStore;

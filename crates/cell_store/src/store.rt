@@ -1,31 +1,46 @@
-ghost use Rattle.std.specs.Prelude.{◌≡◌, ◌<◌, ◌≤◌, ◌↔◌, [], IsTrue, List, not, map, drop, reverse, take, option_map, IfNone, IfOk, IfSome, None, OnErr, OnOk, length, slice_get, if◌then◌else◌};
+ghost use Rattle.std.specs.Prelude.{◌≡◌, ℕ, ◌-◌, ◌<◌, ◌≤◌, ◌↔◌, [], ◌∷◌, IsTrue, List, All, not, map, find, drop, reverse, take, option_map, unwrap_or, IfNone, IfOk, IfSome, None, OnErr, OnOk, length, nat_eq, slice_get, if◌then◌else◌};
 ghost use Rattle.std.specs.List.{list_any};
 ghost use Rattle.std.specs.BTreeMap.{get};
 ghost use Rattle.valid_intervals.specs.declared.SignalCell.{SignalCell};
+ghost use Rattle.valid_intervals.specs.Spans.{IsSpan};
 ghost use Rattle.valid_intervals.specs.Cells as cells;
-ghost use Rattle.valid_intervals.specs.Cells.{cell_for, to_front};
-ghost use Rattle.cell_store.specs.Recency.{contents, with_cells, key_of, last_key, pushes_out, after_put, FitsStore, AreApart};
+ghost use Rattle.valid_intervals.specs.Cells.{all_but_last, cell_for, to_front};
+ghost use Rattle.cell_store.specs.Recency.{contents, with_cells, key_of, last_key, pushes_out, after_put, FitsStore, AreApart, IsApart};
 ghost use Rattle.valid_intervals.specs.Cells.{stored_at, is_stored};
-ghost use Rattle.cell_store.specs.inner.Index.{key_cmp, key_eq, IsInFront, IsStoreIndex};
-ghost use Rattle.lru.specs.LruCache.{lru_cache, promoted};
+ghost use Rattle.cell_store.specs.inner.Index.{key_cmp, IsInFront, IsPlaced};
+ghost use Rattle.lru.specs.LruCache.{lru_cache, promoted, last_entry as last_of};
 
+use crate::slots::SlotHasher;
 use crate::{Key, Put};
 use lru::LruCache;
 use owned_text::OutOfMemory;
 use std::alloc::Global;
 use std::collections::BTreeMap;
+use std::hash::BuildHasherDefault;
 use std::marker::Model;
 use std::num::NonZeroUsize;
 use valid_intervals::{Cell, Point, SignalCell};
 
+// The cells by their slots, which are small numbers.
+type Cache = LruCache<u32, SignalCell, BuildHasherDefault<SlotHasher>>;
+
 /// The greatest capacity of a store.
 pub const MOST_CELLS: u32 = 65_536;
+
+// Where the index says that a cell is: its end, and its slot in the cache.
+#[derive(Clone, Copy)]
+struct Place {
+    end: u32,
+    slot: u32,
+}
 
 /// Cells of signals, the most recently used first, at most as many as the capacity. Two cells of a signal have no common time.
 #[derive(Drop)]
 pub struct CellStore {
-    cache: LruCache<Key, Cell>,
-    index: BTreeMap<Key, u32>,
+    cache: Cache,
+    index: BTreeMap<Key, Place>,
+    // slots that no cell has, left by trims
+    free: Vec<u32>,
 }
 
 impl Model for CellStore {
@@ -37,7 +52,7 @@ impl Model for CellStore {
 
     ghost view = { λ s. contents s.cache.cap (cells_of s.cache.entries) };
 
-    ghost invariant = { λ s. IsSoundStore (get key_cmp s.index) s.cache.entries s.cache.cap };
+    ghost invariant = { λ s. IsSoundStore (get key_cmp s.index) s.cache.entries s.free.items s.cache.cap };
 }
 
 impl CellStore {
@@ -48,9 +63,12 @@ impl CellStore {
         ensures { IfOk result (λ store. store ≡ contents capacity []) }
     {
         let cells = NonZeroUsize::new(capacity as usize).unwrap();
+        let mut cache = LruCache::unbounded_with_hasher(alloc, BuildHasherDefault::new())?;
+        cache.resize(cells);
         Ok(CellStore {
-            cache: LruCache::sparse(alloc, cells)?,
+            cache,
             index: BTreeMap::new(alloc),
+            free: Vec::new(alloc),
         })
     }
 
@@ -89,15 +107,15 @@ impl CellStore {
         if let Some(cell) = front_covering(&self.cache, p) {
             return Some(cell);
         }
-        let key = covering_key(&self.index, p)?;
-        use_cell(&mut self.cache, key)
+        let slot = covering_slot(&self.index, p)?;
+        use_slot(&mut self.cache, slot)
     }
 
     /// Whether a stored cell covers the point. The order of use stays.
     pub fn covers(&self, p: Point) -> bool
         ensures { result ≡ list_any (cells.covers p) self.now.cells }
     {
-        covering_key(&self.index, p).is_some()
+        covering_slot(&self.index, p).is_some()
     }
 
     /// Puts a cell in front. A cell that is stored already moves there. A new cell in a full store replaces the least recently used one.
@@ -112,35 +130,72 @@ impl CellStore {
             else None)) }
         ensures err { OnErr result (self.new ≡ self.old) }
     {
-        let key = Key {
-            signal,
-            start: cell.span.start(),
-        };
-        if self.cache.promote(&key) {
+        let x = SignalCell { signal, cell };
+        if let Some(slot) = slot_of(&self.index, &x) {
+            self.cache.promote(&slot);
             return Ok(Put {
                 evicted: None,
                 fresh: false,
             });
         }
-        self.index.insert(key, cell.span.end())?;
-        match self.cache.push(key, cell) {
-            Ok(pushed_out) => match pushed_out {
-                None => Ok(Put {
-                    evicted: None,
-                    fresh: true,
-                }),
-                Some((last, _)) => {
-                    self.index.remove(&last);
-                    Ok(Put {
-                        evicted: Some(last),
-                        fresh: true,
-                    })
-                }
-            },
+        if self.cache.len() < self.cache.cap().get() {
+            self.add(&x)?;
+            return Ok(Put {
+                evicted: None,
+                fresh: true,
+            });
+        }
+        let evicted = self.replace_last(&x)?;
+        Ok(Put {
+            evicted,
+            fresh: true,
+        })
+    }
+
+    // Puts a new cell in front, in a free slot. There is room.
+    fn add(&mut self, x: &SignalCell) -> Result<(), OutOfMemory>
+        requires room { length self.old.cells < self.old.capacity }
+        requires apart { All (IsApart x.now) self.old.cells }
+        ensures cells { OnOk result (self.new ≡ with_cells self.old (x.now ∷ self.old.cells)) }
+        ensures err { OnErr result (self.new ≡ self.old) }
+    {
+        let slot = next_slot(&self.free, self.cache.len() as u32);
+        let key = cell_key(x);
+        let end = x.cell.span.end();
+        self.index.insert(key, Place { end, slot })?;
+        match self.cache.push(slot, *x) {
+            Ok(_) => {
+                self.free.pop();
+                Ok(())
+            }
             Err(_) => {
                 self.index.remove(&key);
                 Err(OutOfMemory)
             }
+        }
+    }
+
+    // Puts a new cell in front, in the slot of the least recently used one, and returns the key of that. There is no room.
+    fn replace_last(&mut self, x: &SignalCell) -> Result<Option<Key>, OutOfMemory>
+        requires full { length self.old.cells ≡ self.old.capacity }
+        requires apart { All (IsApart x.now) self.old.cells }
+        ensures cells { OnOk result (self.new ≡ with_cells self.old (x.now ∷ all_but_last self.old.cells)) }
+        ensures key { IfOk result (λ key. key ≡ last_key self.old.cells) }
+        ensures err { OnErr result (self.new ≡ self.old) }
+    {
+        let Some((slot, last)) = last_entry(&self.cache) else {
+            unreachable!()
+        };
+        let key = cell_key(x);
+        let end = x.cell.span.end();
+        self.index.insert(key, Place { end, slot })?;
+        match self.cache.push(slot, *x) {
+            Ok(_) => {
+                let evicted = cell_key(&last);
+                self.index.remove(&evicted);
+                Ok(Some(evicted))
+            }
+            Err(_) => unreachable!(),
         }
     }
 
@@ -154,59 +209,96 @@ impl CellStore {
         let left = n as usize;
         let extra = self.cache.len().saturating_sub(left);
         let mut keys = Vec::with_capacity(*self.cache.allocator(), extra)?;
+        self.free.reserve(extra)?;
         while self.cache.len() > left {
-            let Some((oldest, _)) = self.cache.pop_lru() else {
+            let Some((slot, oldest)) = self.cache.pop_lru() else {
                 unreachable!()
             };
-            self.index.remove(&oldest);
-            let Ok(()) = keys.push(oldest) else {
-                unreachable!()
-            };
+            let gone = cell_key(&oldest);
+            self.index.remove(&gone);
+            keys.push_reserved(gone);
+            self.free.push_reserved(slot);
         }
         Ok(keys)
     }
 }
 
 // The most recently used cell, if it covers the point. Its use leaves the order as it is.
-fn front_covering(cache: &LruCache<Key, Cell>, p: Point) -> Option<Cell>
+fn front_covering(cache: &Cache, p: Point) -> Option<Cell>
     ensures { IfSome result (IsInFront cache.now.entries p) }
 {
     match cache.peek_mru() {
         None => None,
-        Some((key, cell)) => {
-            let x = SignalCell {
-                signal: key.signal,
-                cell: *cell,
-            };
-            if x.covers(p) { Some(x.cell) } else { None }
-        }
+        Some((_, x)) => { if x.covers(p) { Some(x.cell) } else { None } }
     }
 }
 
-// The key of the cell that covers the point. Of the cells of its signal that begin no later, only the last can cover it.
-fn covering_key(index: &BTreeMap<Key, u32>, p: Point) -> Option<Key>
-    ensures { (cells : List SignalCell) → IsStoreIndex (get key_cmp index.now) cells
-        → result ≡ option_map key_of (stored_at cells p) }
+// The slot of the cell that covers the point. Of the cells of its signal that begin no later, only the last can cover it.
+fn covering_slot(index: &BTreeMap<Key, Place>, p: Point) -> Option<u32>
+    ensures { (entries : List (ℕ × SignalCell)) → IsPlaced (get key_cmp index.now) entries
+        → result ≡ option_map (λ e. e.0) (find (λ e. cells.covers p e.1) entries) }
 {
     let at = Key {
         signal: p.signal,
         start: p.time,
     };
-    let (key, end) = index.range(..=at).next_back()?;
-    if key.signal == p.signal && p.time < *end {
-        Some(*key)
+    let (key, place) = index.range(..=at).next_back()?;
+    if key.signal == p.signal && p.time < place.end {
+        Some(place.slot)
     } else {
         None
     }
 }
 
-// Makes the cell with this key the most recently used, and returns the most recently used cell.
-fn use_cell(cache: &mut LruCache<Key, Cell>, key: Key) -> Option<Cell>
-    ensures cache { cache.new ≡ lru_cache (promoted (key_eq key) cache.old.entries) cache.old.cap }
-    ensures cell { result ≡ option_map (λ e. e.1) (slice_get cache.new.entries 0) }
+// Makes the cell in this slot the most recently used, and returns the most recently used cell.
+fn use_slot(cache: &mut Cache, slot: u32) -> Option<Cell>
+    ensures cache { cache.new ≡ lru_cache (promoted (nat_eq slot) cache.old.entries) cache.old.cap }
+    ensures cell { result ≡ option_map (λ e. e.1.cell) (slice_get cache.new.entries 0) }
 {
-    cache.promote(&key);
-    cache.peek_mru().map(|(_, cell)| *cell)
+    cache.promote(&slot);
+    cache.peek_mru().map(|(_, x)| x.cell)
+}
+
+// The slot that the index has at the cell's key.
+fn slot_of(index: &BTreeMap<Key, Place>, x: &SignalCell) -> Option<u32>
+    ensures slot { result ≡ option_map (λ place. place.slot) (get key_cmp index.now (key_of x.now)) }
+    ensures span { IsSpan x.now.cell.span }
+{
+    let key = cell_key(x);
+    match index.get(&key) {
+        Some(place) => Some(place.slot),
+        None => None,
+    }
+}
+
+// The last of the free slots, and the first that was never used where none is free.
+fn next_slot(free: &[u32], many: u32) -> u32
+    ensures { result ≡ unwrap_or (slice_get free.now (length free.now - 1)) many }
+{
+    match free.last() {
+        Some(slot) => *slot,
+        None => many,
+    }
+}
+
+// The least recently used cell, and its slot.
+fn last_entry(cache: &Cache) -> Option<(u32, SignalCell)>
+    ensures { result ≡ last_of cache.now.entries }
+{
+    match cache.peek_lru() {
+        None => None,
+        Some((slot, x)) => Some((*slot, *x)),
+    }
+}
+
+fn cell_key(x: &SignalCell) -> Key
+    ensures key { result ≡ key_of x.now }
+    ensures span { IsSpan x.now.cell.span }
+{
+    Key {
+        signal: x.signal,
+        start: x.cell.span.start(),
+    }
 }
 
 #[cfg(test)]
