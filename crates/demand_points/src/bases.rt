@@ -26,7 +26,7 @@ fn hear_base(design: &Design, walk: &PinWalk) -> Option<PinWalk>
 }
 
 /// The walk after it has heard base answers, up to the next pin that has none.
-pub fn hear_bases(design: &Design, walk: PinWalk) -> PinWalk
+fn hear_bases(design: &Design, walk: PinWalk) -> PinWalk
     requires { IsPinWalk design.now.circuit walk }
     ensures hears { HearsBases design.now.circuit walk result }
     ensures ready { IsReady design.now.circuit result }
@@ -38,4 +38,15 @@ pub fn hear_bases(design: &Design, walk: PinWalk) -> PinWalk
             Some(next) => heard = next,
         }
     }
+}
+
+/// The same; none where the walk has no base answer to hear.
+pub fn heard_bases(design: &Design, walk: &PinWalk) -> Option<PinWalk>
+    requires { IsPinWalk design.now.circuit walk.now }
+    ensures { MatchOption result (IsReady design.now.circuit walk.now)
+        (λ heard. HearsBases design.now.circuit walk.now heard
+        × IsReady design.now.circuit heard) }
+{
+    let next = hear_base(design, walk)?;
+    Some(hear_bases(design, next))
 }

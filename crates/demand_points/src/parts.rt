@@ -8,7 +8,7 @@ ghost use Rattle.valid_intervals.specs.declared.Point.{Point};
 ghost use Rattle.demand_points.specs.inner.Demands.{strand_of, IsRunning, IsReadyAt, IsRootReady, IsRootKnown, IsUndone, StaysAtRoot, TakesStepTo};
 ghost use Rattle.demand_points.specs.Demands.{itself, IsAskedCell, IsFilling};
 
-use crate::bases::hear_bases;
+use crate::bases::heard_bases;
 use crate::stack::Stack;
 use batch_meaning::Query;
 use design::Design;
@@ -87,7 +87,11 @@ impl Parts {
     {
         design.facts();
         match self.stack.top() {
-            Some(walk) => self.stack.set_top(hear_bases(design, walk)),
+            Some(walk) => {
+                if let Some(heard) = heard_bases(design, walk) {
+                    self.stack.set_top(heard);
+                }
+            }
             None => self.skip_roots(design),
         }
     }
@@ -147,7 +151,10 @@ impl Parts {
     {
         design.facts();
         match self.stack.top() {
-            Some(walk) => self.stack.set_top(walk.see(design, Some(*cell))),
+            Some(walk) => {
+                let seen = walk.see(design, Some(*cell));
+                self.stack.set_top(seen);
+            }
             None => {
                 self.root = cell.span.end();
                 self.last = Some(*cell);
@@ -182,7 +189,7 @@ impl Parts {
     {
         let root = self.root;
         let last = self.last;
-        let top = self.stack.top();
+        let top = self.stack.top().copied();
         self.settle(design);
         match self.push(design, p) {
             Ok(()) => Ok(()),
@@ -226,7 +233,10 @@ impl Parts {
     {
         design.facts();
         match self.stack.top() {
-            Some(walk) => hear_bases(design, walk).cell(design),
+            Some(walk) => match heard_bases(design, walk) {
+                Some(heard) => heard.cell(design),
+                None => walk.cell(design),
+            },
             None => unreachable!(),
         }
     }

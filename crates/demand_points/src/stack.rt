@@ -37,10 +37,10 @@ impl Stack {
         self.items.len()
     }
 
-    pub fn top(&self) -> Option<PinWalk>
-        ensures { MatchOption result (self.now ≡ []) (IsTop self.now) }
+    pub fn top(&self) -> Option<&PinWalk>
+        ensures { MatchOption result (self.now ≡ []) (λ w. IsTop self.now w.now) }
     {
-        self.items.last().copied()
+        self.items.last()
     }
 
     pub fn push(&mut self, walk: PinWalk) -> Result<(), AllocError>
@@ -62,8 +62,8 @@ impl Stack {
     pub fn set_top(&mut self, walk: PinWalk)
         ensures { self.new ≡ with_top walk self.old }
     {
-        if self.items.pop().is_some() {
-            self.items.push_reserved(walk);
+        if let Some(top) = self.items.last_mut() {
+            *top = walk;
         }
     }
 }

@@ -236,7 +236,7 @@ module _ (c : Circuit) (ok : IsCircuit c) (f : PinWalk) (is : IsPinWalk c f) whe
   pub looks-on : IsLooking c f → (e : Evaluation) (v : Value) (x : Span) (d : Bool) (o : Option Point) → v ≡ sees c (next_point c f) → e.kind ≡ f.evaluation.kind
       → e.value ≡ gate_value e.kind (map (sees c) (take f.looked (all_points c f.point)) ++ v ∷ []) → x ≡ meet f.interval (pin_interval c f.point.signal f.point.time f.looked)
       → d ≡ nat_eq (f.looked + 1) (length (looked_at c f.point)) → o ≡ get_or (looked_at c f.point) (f.looked + 1) None → IfSome o (IsPoint c)
-      → LooksOn c f (record { point = f.point; looked = f.looked + 1; interval = x; evaluation = e; done = d; source = o })
+      → LooksOn c f (record { point = f.point; interval = x; source = o; looked = f.looked + 1; evaluation = e; done = d })
   looks-on looking e v x d o seen kind value met done source reads =
       let xs = all_points c f.point in
       let n = f.looked in
@@ -326,7 +326,7 @@ cut-some test (x ∷ xs) h = omega arith
 -- a walk that has looked at nothing
 pub new-walk : (c : Circuit) → IsCircuit c → (p : Point) (e : Evaluation) (o : Option Point) → IsPoint c p → IsEvaluable c p.signal p.time → e.kind ≡ kind_at c p → e.value ≡ gate_value e.kind []
     → o ≡ get_or (all_points c p) 0 None → IfSome o (IsPoint c)
-    → IsPinWalk c (record { point = p; looked = 0; interval = from_to 0 2000002; evaluation = e; done = false; source = o })
+    → IsPinWalk c (record { point = p; interval = from_to 0 2000002; source = o; looked = 0; evaluation = e; done = false })
 new-walk c ok p e o here evaluable kind value source reads =
     let none : take 0 (all_points c p) ≡ [] = take-none (all_points c p) in
     let test : Option Point → Bool = λ s. decides (kind_at c p) (sees c s) in

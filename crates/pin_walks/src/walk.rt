@@ -14,15 +14,16 @@ use gate_values::{Evaluation, Value};
 use valid_intervals::{Cell, LATEST, Point, Span};
 
 /// A point, how many of its pins were looked at, and what these come to: the times that their intervals have in common, their
-/// value, and whether the look is over. Beside it, the point that the next pin reads.
+/// value, and whether the look is over. Beside it, the point that the next pin reads. In this order no pair of numbers lies across
+/// a boundary of 16 bytes, counted from where the walk begins.
 #[derive(Clone, Copy)]
 pub struct PinWalk {
     pub point: Point,
-    pub looked: u32,
     pub interval: Span,
+    pub source: Option<Point>,
+    pub looked: u32,
     pub evaluation: Evaluation,
     pub done: bool,
-    pub source: Option<Point>,
 }
 
 /// Every time.
@@ -96,11 +97,11 @@ impl PinWalk {
         let (kind, pins) = design.gate_of(point.signal);
         PinWalk {
             point,
-            looked: 0,
             interval: always(),
+            source: source_of(design, point, pins, 0),
+            looked: 0,
             evaluation: Evaluation::new(kind),
             done: false,
-            source: source_of(design, point, pins, 0),
         }
     }
 
@@ -146,11 +147,11 @@ impl PinWalk {
         };
         PinWalk {
             point: self.point,
-            looked,
             interval: common(self.interval, interval),
+            source,
+            looked,
             evaluation: self.evaluation.see(value),
             done,
-            source,
         }
     }
 
