@@ -18,9 +18,9 @@ use Rattle.cell_store.specs.Recency.{key_of, last_key, IsApart}
 use Rattle.cell_store.specs.inner.Index.{key_cmp, place_at, end_in, cells_of, uses_of, IsStoreIndex, IsPlaced, IsSoundStore}
 use Rattle.cell_store.proofs.Keys.{covers_true}
 use Rattle.cell_store.proofs.Found.{found_true, found_all}
-use Rattle.cell_store.proofs.Kept.{used, taken_back}
+use Rattle.cell_store.proofs.Kept.{used}
 use Rattle.cell_store.proofs.Entries.{Entry, split_last, length-cells_of, times-append, uses_of-append, absent, IsTaken, taken, All-remove_entry, IsMoved, moved, same_slots, IsAtEnd, at_end, IsFresh, fresh, new_slot, still_free}
-use Rattle.cell_store.proofs.Placed.{IsAt, same_placed, added_place, dropped_place, IsLocated, IsFoundIn, cell_found, no_place}
+use Rattle.cell_store.proofs.Placed.{IsAt, same_placed, added_place, dropped_place, IsLocated, IsFoundIn, cell_found}
 
 -- ---- a cell that is stored is used
 pub record IsUsed (place_of : Key → Option Place) (entries : List Entry) (free : List ℕ) (capacity slot : ℕ) (x : SignalCell) : Type 0 where
@@ -64,12 +64,6 @@ same_sound f g entries free capacity same sound = record {
 }
 
 -- ---- a new cell
-pub refused : (f g h : Key → Option Place) (entries : List Entry) (free : List ℕ) (capacity : ℕ) (x : SignalCell) (p : Place) → IsSoundStore f entries free capacity → IsSpan x.cell.span → All (IsApart x) (cells_of entries)
-    → ((q : Key) → g q ≡ cond (is_eq (key_cmp (key_of x) q)) (Some p) (f q)) → ((q : Key) → h q ≡ cond (is_eq (key_cmp (key_of x) q)) None (g q)) → IsSoundStore h entries free capacity
-refused f g h entries free capacity x p sound span apart came went =
-    same_sound h f entries free capacity
-    (λ q. went q ∙ ap (cond (is_eq (key_cmp (key_of x) q)) None) (came q) ∙ taken_back f x p (no_place f entries x sound.found span apart) q) sound
-
 -- it comes where there is room
 pub record HasCome (g : Key → Option Place) (entries : List Entry) (free : List ℕ) (capacity slot : ℕ) (x : SignalCell) : Type 0 where
   pub list : put_entries nat_eq (lru_cache entries capacity) slot x ≡ (slot, x) ∷ entries
@@ -129,18 +123,13 @@ pub record HasReplaced (h : Key → Option Place) (entries : List Entry) (free :
   pub cells : cells_of ((slot, x) ∷ take (length entries - 1) entries) ≡ x ∷ all_but_last (cells_of entries)
   pub sound : IsSoundStore h ((slot, x) ∷ take (length entries - 1) entries) free capacity
 
--- the slot of the last is in the cache, so that a push of it does not fail
+-- the slot of the last
 pub last_at : (f : Key → Option Place) (entries : List Entry) (free : List ℕ) (capacity slot : ℕ) (y : SignalCell) → IsSoundStore f entries free capacity → (l : IsLast entries slot y) → IsAtEnd l.init slot y
 last_at f entries free capacity slot y sound l =
     let itself : nat_eq slot slot ≡ true = eq-eqb slot slot refl in
     let one : uses_of slot ((slot, y) ∷ []) ≡ 1 = ap (λ b. cond b 1 0 + 0) itself in
     let all : uses_of slot entries ≡ uses_of slot l.init + uses_of slot ((slot, y) ∷ []) = ap (uses_of slot) l.split ∙ uses_of-append slot l.init ((slot, y) ∷ []) in
     at_end l.init slot y (omega (arith, one, all, sound.slots.once slot))
-
-pub last_entry_at : (f : Key → Option Place) (entries : List Entry) (free : List ℕ) (capacity slot : ℕ) (y : SignalCell) → IsSoundStore f entries free capacity → last_entry entries ≡ Some (slot, y) → lookup_entry (nat_eq slot) entries ≡ Some (slot, y)
-last_entry_at f entries free capacity slot y sound h =
-    let l : IsLast entries slot y = is_last entries slot y h in
-    ap (lookup_entry (nat_eq slot)) l.split ∙ (last_at f entries free capacity slot y sound l).entry
 
 pub has_replaced : (f g h : Key → Option Place) (entries : List Entry) (free : List ℕ) (capacity slot : ℕ) (x y : SignalCell) → IsSoundStore f entries free capacity → IsSpan x.cell.span → All (IsApart x) (cells_of entries)
     → last_entry entries ≡ Some (slot, y)

@@ -3,7 +3,7 @@ use Rattle.std.proofs.Common.{◌≡◌, ℕ, zero, suc, ◌+◌, ◌-◌, ◌�
 use Rattle.std.proofs.lemmas.List.{length-append}
 use Rattle.std.proofs.lemmas.List.Elements.{All-head, All-tail, All-cons}
 use Rattle.std.specs.List.{slice_get}
-use Rattle.std.specs.Map.{lookup, lookup_entry, remove_entry}
+use Rattle.std.specs.Map.{lookup_entry, remove_entry}
 use Rattle.valid_intervals.specs.Spans.{IsSpan}
 use Rattle.valid_intervals.specs.declared.SignalCell.{SignalCell}
 use Rattle.valid_intervals.specs.Cells.{same_stored}
@@ -214,12 +214,3 @@ fresh es (y ∷ ys) x slots =
           let both : (uses_of slot es ≡ 0) × AreSlots ((slot, x) ∷ es) (still_free free) = fresh_freed es (still_free free) slot x (subst (λ (l : List ℕ). AreSlots es l) split slots) in
           record { unused = both.0; slots = both.1 }
     ]) refl
-
--- the value of an entry that is found
-pub looked_up : {K V : Type 0} (test : K → Bool) (es : List (K × V)) (e : K × V) → lookup_entry test es ≡ Some e → lookup test es ≡ Some e.1
-looked_up test [] e h = none_some e h
-looked_up {K = K} {V = V} test (d ∷ ds) e h =
-    (elim (test d.0) as (λ b. cond b (Some d) (lookup_entry test ds) ≡ Some e → cond b (Some d.1) (lookup test ds) ≡ Some e.1) [
-      | true ↦ λ t. ap (λ (c : K × V). Some c.1) (some_same d e t)
-      | false ↦ λ t. looked_up test ds e t
-    ]) h

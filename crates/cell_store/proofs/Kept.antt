@@ -11,7 +11,7 @@ use Rattle.cell_store.specs.declared.Key.{Key}
 use Rattle.cell_store.specs.Recency.{key_of, IsApart, AreApart}
 use Rattle.cell_store.specs.inner.Index.{key_cmp, has_key, IsStoreIndex}
 use Rattle.cell_store.proofs.Same.{same_stored-true, same_stored-itself}
-use Rattle.cell_store.proofs.Keys.{first_point, covers_first, shares_first, has_key-true, key_eq-is}
+use Rattle.cell_store.proofs.Keys.{first_point, covers_first, shares_first, has_key-true, key_eq-is, equal_keys}
 use Rattle.cell_store.proofs.Found.{some_same, none_some, found_true, found_all, found_at_key}
 
 abbrev stop_of : SignalCell → ℕ
@@ -138,12 +138,12 @@ dropped end_of cells y index =
     or_none None = refl
     or_none (Some x) = refl
 
--- what comes at a new key is taken back
-pub taken_back : {V : Type 0} (f : Key → Option V) (x : SignalCell) (v : V) → f (key_of x) ≡ None
-    → (q : Key) → cond (is_eq (key_cmp (key_of x) q)) None (cond (is_eq (key_cmp (key_of x) q)) (Some v) (f q)) ≡ f q
-taken_back f x v none q =
-    subst (λ b. cond b None (cond b (Some v) (f q)) ≡ f q) (sym (key_eq-is q x))
-    ((elim (has_key q x) as (λ b. has_key q x ≡ b → cond b None (cond b (Some v) (f q)) ≡ f q) [
-      | true ↦ λ t. sym none ∙ ap f (sym (has_key-true q x t))
-      | false ↦ λ t. refl
-    ]) refl)
+-- a key gets another value, and then what it had
+pub put_back : {V : Type 0} (f g h : Key → Option V) (k : Key) (o had : Option V) → had ≡ f k → ((q : Key) → g q ≡ cond (is_eq (key_cmp k q)) o (f q)) → ((q : Key) → h q ≡ cond (is_eq (key_cmp k q)) had (g q))
+    → (q : Key) → h q ≡ f q
+put_back f g h k o had was came back q =
+    back q ∙ ap (cond (is_eq (key_cmp k q)) had) (came q)
+    ∙ (elim (is_eq (key_cmp k q)) as (λ b. is_eq (key_cmp k q) ≡ b → cond b had (cond b o (f q)) ≡ f q) [
+      | true ↦ λ e. was ∙ ap f (equal_keys k q e)
+      | false ↦ λ e. refl
+    ]) refl

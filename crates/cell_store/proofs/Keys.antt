@@ -90,3 +90,8 @@ key_not_lt-numbers a b h = grind (arith, nat_tests)
 
 pub key_eq-is : (k : Key) (x : SignalCell) → is_eq (key_cmp (key_of x) k) ≡ has_key k x
 key_eq-is k x = grind (arith, nat_tests)
+
+pub equal_keys : (a b : Key) → is_eq (key_cmp a b) ≡ true → a ≡ b
+equal_keys a b h =
+    let both : (a.signal ≡ b.signal) × (a.start ≡ b.start) = grind (arith, nat_tests) in
+    ap₂ key both.0 both.1

@@ -1,6 +1,6 @@
 -- What each change of the cells and the index keeps: the index has the place of each cell.
 use Rattle.std.specs.List.{list_any}
-use Rattle.std.proofs.Common.{◌≡◌, ℕ, ◌||◌, is_some, IsSome, Bool, true, false, cond, List, [], ◌∷◌, ◌++◌, All, Option, Some, None, option_map, find, refl, sym, ap, subst, ◌∙◌, true≢false}
+use Rattle.std.proofs.Common.{◌≡◌, ℕ, ◌||◌, is_some, IsSome, Bool, true, false, cond, List, [], ◌∷◌, ◌++◌, All, Option, Some, None, option_map, find, refl, sym, ap, subst, ◌∙◌}
 use Rattle.std.proofs.lemmas.List.Elements.{All-head, All-tail, All-cons, All-nil}
 use Rattle.std.specs.Ordering.{is_eq}
 use Rattle.valid_intervals.specs.Spans.{IsSpan}
@@ -10,7 +10,7 @@ use Rattle.cell_store.specs.declared.store.Place.{Place}
 use Rattle.cell_store.specs.Recency.{key_of, IsApart, AreApart}
 use Rattle.cell_store.specs.inner.Index.{key_cmp, has_key, place_at, end_in, cells_of, IsStoreIndex, IsPlaced}
 use Rattle.cell_store.proofs.Keys.{keys_differ, key_eq-is, has_key-itself}
-use Rattle.cell_store.proofs.Found.{some_same, none_some, found_true, found_all}
+use Rattle.cell_store.proofs.Found.{some_same, none_some, found_all}
 use Rattle.cell_store.proofs.Kept.{same_index, added, dropped, All-front, All-back}
 use Rattle.cell_store.proofs.Entries.{Entry, find-cells_of, cells_of-append}
 
@@ -96,21 +96,6 @@ located place_of es f x placed h =
 -- the slot that the index has is that of the cell
 pub same_slot : (place_of : Key → Option Place) (slot : ℕ) (x : SignalCell) (p : Place) → IsAt place_of (slot, x) → place_of (key_of x) ≡ Some p → slot ≡ p.slot
 same_slot place_of slot x p at is = ap (λ (q : Place). q.slot) (some_same (place_at (slot, x)) p (sym at ∙ is))
-
--- no place at the key of a new cell
-pub no_place : (place_of : Key → Option Place) (es : List Entry) (x : SignalCell) → IsPlaced place_of es → IsSpan x.cell.span → All (IsApart x) (cells_of es) → place_of (key_of x) ≡ None
-no_place place_of es x placed span apart =
-    (elim (place_of (key_of x)) as (λ o. place_of (key_of x) ≡ o → o ≡ None) [
-      | None ↦ λ at. refl
-      | Some p ↦ λ at.
-          (elim (find (has_key (key_of x)) (cells_of es)) as (λ o. find (has_key (key_of x)) (cells_of es) ≡ o → option_map (λ (z : SignalCell). z.cell.span.stop) o ≡ Some p.end → Some p ≡ None) [
-            | None ↦ λ t d. none_some p.end d
-            | Some y ↦ λ t d.
-                let s : IsSpan y.cell.span = found_all (λ z. IsSpan z.cell.span) (has_key (key_of x)) (cells_of es) y placed.indexed.spans t in
-                let a : IsApart x y = found_all (IsApart x) (has_key (key_of x)) (cells_of es) y apart t in
-                absurd (true≢false (sym (found_true (has_key (key_of x)) (cells_of es) y t) ∙ keys_differ x y span s a))
-          ]) refl (sym (placed.indexed.ends (key_of x)) ∙ ap (option_map (λ (q : Place). q.end)) at)
-    ]) refl
 
 -- where there is no place, there is no cell
 pub no_cell : (place_of : Key → Option Place) (es : List Entry) (k : Key) → IsPlaced place_of es → place_of k ≡ None → find (has_key k) (cells_of es) ≡ None

@@ -1,5 +1,5 @@
 -- The content of a bounded store: cells of signals, the most recently used first.
-use Rattle.std.specs.Prelude.{◌≡◌, ℕ, ◌-◌, ◌==◌, Bool, true, not, ◌&&◌, ◌⊎◌, ⊤, List, [], ◌∷◌, length, All, Option, option_map, if◌then◌else◌}
+use Rattle.std.specs.Prelude.{◌≡◌, ℕ, ◌==◌, Bool, true, not, ◌&&◌, ◌⊎◌, ⊤, List, [], ◌∷◌, length, All, Option, option_map, if◌then◌else◌}
 use Rattle.valid_intervals.specs.declared.Point.{Point}
 use Rattle.valid_intervals.specs.declared.SignalCell.{SignalCell}
 use Rattle.valid_intervals.specs.Cells.{same_stored, covers, is_stored, last_cell, to_front, all_but_last}

@@ -12,9 +12,10 @@
 //! number, or in a full store the slot of the cell that it evicts. Slots that follow one another lie beside one another in the
 //! cache's hash map. A call that fails for lack of memory leaves the store as it was. `find` and `covers` do not allocate.
 //!
-//! With n cells, `find`, `covers` and `put` take O(log n) steps. `len`, `capacity`, and a `find` of the most recently used
-//! cell take constant time. `trim` takes O(log n) steps for each cell that it removes. The store allocates about 100 bytes
-//! a cell, as cells come.
+//! With n cells, `find`, `covers` and `put` take O(log n) steps. A `put` of a new cell searches the index once for its key,
+//! and once for the key of a cell that it evicts. `len`, `capacity`, and a `find` of the most recently used cell take
+//! constant time. `trim` takes O(log n) steps for each cell that it removes. The store allocates about 100 bytes a cell, as
+//! cells come.
 //!
 //! ```text
 //! let mut store = CellStore::new(alloc, 3)?;

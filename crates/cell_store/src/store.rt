@@ -1,13 +1,13 @@
-ghost use Rattle.std.specs.Prelude.{◌≡◌, ℕ, ◌-◌, ◌<◌, ◌≤◌, ◌↔◌, [], ◌∷◌, IsTrue, List, All, not, map, find, drop, reverse, take, option_map, unwrap_or, IfNone, IfOk, IfSome, None, OnErr, OnOk, length, nat_eq, slice_get, if◌then◌else◌};
+ghost use Rattle.std.specs.Prelude.{◌≡◌, ℕ, ◌-◌, ◌<◌, ◌≤◌, ◌↔◌, [], ◌∷◌, IsTrue, List, All, not, map, find, drop, reverse, take, option_map, unwrap_or, IfNone, IfOk, IfSome, None, OnErr, OnOk, length, nat_eq, nat_lt, slice_get, if◌then◌else◌};
 ghost use Rattle.std.specs.List.{list_any};
-ghost use Rattle.std.specs.BTreeMap.{get};
+ghost use Rattle.std.specs.BTreeMap.{get, Updates, IsUnchanged};
 ghost use Rattle.valid_intervals.specs.declared.SignalCell.{SignalCell};
 ghost use Rattle.valid_intervals.specs.Spans.{IsSpan};
 ghost use Rattle.valid_intervals.specs.Cells as cells;
 ghost use Rattle.valid_intervals.specs.Cells.{all_but_last, cell_for, to_front};
 ghost use Rattle.cell_store.specs.Recency.{contents, with_cells, key_of, last_key, pushes_out, after_put, FitsStore, AreApart, IsApart};
 ghost use Rattle.valid_intervals.specs.Cells.{stored_at, is_stored};
-ghost use Rattle.cell_store.specs.inner.Index.{key_cmp, IsInFront, IsPlaced};
+ghost use Rattle.cell_store.specs.inner.Index.{key_cmp, place_at, IsInFront, IsPlaced};
 ghost use Rattle.lru.specs.LruCache.{lru_cache, promoted, last_entry as last_of};
 
 use crate::slots::SlotHasher;
@@ -131,71 +131,35 @@ impl CellStore {
         ensures err { OnErr result (self.new ≡ self.old) }
     {
         let x = SignalCell { signal, cell };
-        if let Some(slot) = slot_of(&self.index, &x) {
-            self.cache.promote(&slot);
+        let key = cell_key(&x);
+        let last = last_if_full(&self.cache);
+        let slot = slot_for_new(last, &self.free, self.cache.len() as u32);
+        if let Some(stored) = insert_if_absent(&mut self.index, key, cell_place(&x, slot))? {
+            self.cache.promote(&stored.slot);
             return Ok(Put {
                 evicted: None,
                 fresh: false,
             });
         }
-        if self.cache.len() < self.cache.cap().get() {
-            self.add(&x)?;
-            return Ok(Put {
-                evicted: None,
-                fresh: true,
-            });
-        }
-        let evicted = self.replace_last(&x)?;
-        Ok(Put {
-            evicted,
-            fresh: true,
-        })
-    }
-
-    // Puts a new cell in front, in a free slot. There is room.
-    fn add(&mut self, x: &SignalCell) -> Result<(), OutOfMemory>
-        requires room { length self.old.cells < self.old.capacity }
-        requires apart { All (IsApart x.now) self.old.cells }
-        ensures cells { OnOk result (self.new ≡ with_cells self.old (x.now ∷ self.old.cells)) }
-        ensures err { OnErr result (self.new ≡ self.old) }
-    {
-        let slot = next_slot(&self.free, self.cache.len() as u32);
-        let key = cell_key(x);
-        let end = x.cell.span.end();
-        self.index.insert(key, Place { end, slot })?;
-        match self.cache.push(slot, *x) {
-            Ok(_) => {
-                self.free.pop();
-                Ok(())
-            }
-            Err(_) => {
-                self.index.remove(&key);
-                Err(OutOfMemory)
-            }
-        }
-    }
-
-    // Puts a new cell in front, in the slot of the least recently used one, and returns the key of that. There is no room.
-    fn replace_last(&mut self, x: &SignalCell) -> Result<Option<Key>, OutOfMemory>
-        requires full { length self.old.cells ≡ self.old.capacity }
-        requires apart { All (IsApart x.now) self.old.cells }
-        ensures cells { OnOk result (self.new ≡ with_cells self.old (x.now ∷ all_but_last self.old.cells)) }
-        ensures key { IfOk result (λ key. key ≡ last_key self.old.cells) }
-        ensures err { OnErr result (self.new ≡ self.old) }
-    {
-        let Some((slot, last)) = last_entry(&self.cache) else {
-            unreachable!()
+        let Ok(_) = self.cache.push(slot, x) else {
+            self.index.remove(&key);
+            return Err(OutOfMemory);
         };
-        let key = cell_key(x);
-        let end = x.cell.span.end();
-        self.index.insert(key, Place { end, slot })?;
-        match self.cache.push(slot, *x) {
-            Ok(_) => {
-                let evicted = cell_key(&last);
+        match last {
+            Some((_, evicted)) => {
                 self.index.remove(&evicted);
-                Ok(Some(evicted))
+                Ok(Put {
+                    evicted: Some(evicted),
+                    fresh: true,
+                })
             }
-            Err(_) => unreachable!(),
+            None => {
+                self.free.pop();
+                Ok(Put {
+                    evicted: None,
+                    fresh: true,
+                })
+            }
         }
     }
 
@@ -259,36 +223,45 @@ fn use_slot(cache: &mut Cache, slot: u32) -> Option<Cell>
     cache.peek_mru().map(|(_, x)| x.cell)
 }
 
-// The slot that the index has at the cell's key.
-fn slot_of(index: &BTreeMap<Key, Place>, x: &SignalCell) -> Option<u32>
-    ensures slot { result ≡ option_map (λ place. place.slot) (get key_cmp index.now (key_of x.now)) }
-    ensures span { IsSpan x.now.cell.span }
+// The slot and the key of the least recently used cell of a full cache. Where there is room, none.
+fn last_if_full(cache: &Cache) -> Option<(u32, Key)>
+    ensures { result ≡ (if nat_lt (length cache.now.entries) cache.now.cap then None
+        else option_map (λ e. (e.0, key_of e.1)) (last_of cache.now.entries)) }
 {
-    let key = cell_key(x);
-    match index.get(&key) {
-        Some(place) => Some(place.slot),
-        None => None,
+    if cache.len() < cache.cap().get() {
+        return None;
+    }
+    let (slot, x) = cache.peek_lru()?;
+    Some((*slot, cell_key(x)))
+}
+
+// The slot of a new cell: that of the last cell, where one is given, or else the last of the free slots, or else the first that was never used.
+fn slot_for_new(last: Option<(u32, Key)>, free: &[u32], many: u32) -> u32
+    ensures { result ≡ unwrap_or (option_map (λ e. e.0) last) (unwrap_or (slice_get free.now (length free.now - 1)) many) }
+{
+    match (last, free.last()) {
+        (Some((slot, _)), _) => slot,
+        (None, Some(slot)) => *slot,
+        (None, None) => many,
     }
 }
 
-// The last of the free slots, and the first that was never used where none is free.
-fn next_slot(free: &[u32], many: u32) -> u32
-    ensures { result ≡ unwrap_or (slice_get free.now (length free.now - 1)) many }
+// Gives a key this place, in one search. A key that has a place keeps it, by a second search, and its place is returned.
+fn insert_if_absent(
+    index: &mut BTreeMap<Key, Place>,
+    key: Key,
+    place: Place,
+) -> Result<Option<Place>, OutOfMemory>
+    ensures had { IfOk result (λ had. had ≡ get key_cmp index.old key) }
+    ensures new { IfOk result (λ had. IfNone had (Updates key_cmp index.old index.new key (Some place))) }
+    ensures stays { IfOk result (λ had. IfSome had (λ _. (k : Key) → get key_cmp index.new k ≡ get key_cmp index.old k)) }
+    ensures err { OnErr result (IsUnchanged index.old index.new) }
 {
-    match free.last() {
-        Some(slot) => *slot,
-        None => many,
-    }
-}
-
-// The least recently used cell, and its slot.
-fn last_entry(cache: &Cache) -> Option<(u32, SignalCell)>
-    ensures { result ≡ last_of cache.now.entries }
-{
-    match cache.peek_lru() {
-        None => None,
-        Some((slot, x)) => Some((*slot, *x)),
-    }
+    let Some(had) = index.insert(key, place)? else {
+        return Ok(None);
+    };
+    index.insert(key, had)?;
+    Ok(Some(had))
 }
 
 fn cell_key(x: &SignalCell) -> Key
@@ -298,6 +271,15 @@ fn cell_key(x: &SignalCell) -> Key
     Key {
         signal: x.signal,
         start: x.cell.span.start(),
+    }
+}
+
+fn cell_place(x: &SignalCell, slot: u32) -> Place
+    ensures { result ≡ place_at (slot, x.now) }
+{
+    Place {
+        end: x.cell.span.end(),
+        slot,
     }
 }
 

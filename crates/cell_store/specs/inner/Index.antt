@@ -15,10 +15,6 @@ use Rattle.cell_store.specs.Recency.{key_of, AreApart}
 abbrev pub key_cmp : Key → Key → Ordering
 key_cmp a b = ordering_then (nat_cmp a.signal b.signal) (nat_cmp a.start b.start)
 
--- whether two keys are equal
-abbrev pub key_eq : Key → Key → Bool
-key_eq k j = nat_eq k.signal j.signal && nat_eq k.start j.start
-
 abbrev pub has_key : Key → SignalCell → Bool
 has_key k x = nat_eq k.signal x.signal && nat_eq k.start x.cell.span.start
 

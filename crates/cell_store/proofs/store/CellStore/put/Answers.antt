@@ -1,67 +1,104 @@
-use Rattle.std.proofs.Common.{◌≡◌, ℕ, ◌<◌, true, not, cond, length, None, sym, ap, subst, ◌∙◌, arith}
-use Rattle.std.specs.BTreeMap.{get}
+use Rattle.std.proofs.Common.{◌≡◌, ℕ, ◌-◌, true, false, List, length, take, Option, None, Some, IfNone, IfSome, cond, option_map, unwrap_or, sym, ap, ap₂, subst, ◌∙◌}
+use Rattle.std.specs.List.{slice_get}
+use Rattle.std.specs.BTreeMap.{get, is_at, Updates}
+use Rattle.std.specs.Map.{lookup}
+use Rattle.std.specs.Ordering.{is_eq}
 use Rattle.lru.specs.LruCache.{LruCache}
 use Rattle.valid_intervals.specs.declared.SignalCell.{SignalCell}
-use Rattle.valid_intervals.specs.Cells.{to_front, is_stored}
-use Rattle.cell_store.specs.Recency.{Contents, contents, with_cells, last_key, FitsStore}
-use Rattle.cell_store.specs.inner.Index.{key_cmp, cells_of, IsSoundStore}
-use Rattle.cell_store.proofs.Entries.{length-cells_of}
-use Rattle.cell_store.proofs.Puts.{IsStored, stored_in_slot, new_cell, stays_in, goes_out, again_shows, come_shows, replaced_shows}
+use Rattle.cell_store.specs.declared.Key.{Key}
+use Rattle.cell_store.specs.declared.store.Place.{Place}
+use Rattle.cell_store.specs.inner.Index.{key_cmp, IsSoundStore}
+use Rattle.cell_store.proofs.Kept.{put_back}
+use Rattle.cell_store.proofs.Entries.{new_slot}
+use Rattle.cell_store.proofs.Calls.{same_sound}
+use Rattle.cell_store.proofs.Puts.{IsPut, put_again, put_in_room, put_in_full, at_slot}
+use Rattle.cell_store.proofs.store.CellStore.put.Goals.{After-push}
 use Rattle.cell_store.proofs.store.CellStore.put.Goals as goal
 
-again : (c : goal.After-promote) → IsStored (get key_cmp c.self.inside.index) c.self.inside.cache.entries c.self.inside.free.items c.self.inside.cache.cap c.in-Some.slot (record { signal = c.args.signal; cell = c.args.cell })
-again c =
-    stored_in_slot (get key_cmp c.self.inside.index) c.self.inside.cache.entries c.self.inside.free.items c.self.inside.cache.cap (record { signal = c.args.signal; cell = c.args.cell })
-    c.self.invariant c.in-Some.ensures.span (subst (λ (s : Contents). FitsStore (record { signal = c.args.signal; cell = c.args.cell }) s.cells) (sym c.self.view_is) c.requires) c.in-Some.slot c.in-Some.ensures.slot
-
-was_stored : (c : goal.After-promote) → is_stored (record { signal = c.args.signal; cell = c.args.cell }) c.args.self.now.cells ≡ true
-was_stored c = subst (λ (s : Contents). is_stored (record { signal = c.args.signal; cell = c.args.cell }) s.cells ≡ true) c.self.view_is (again c).stored
-
 pub invariant_of-self : goal.invariant_of-self
-invariant_of-self c = subst (λ (l : LruCache ℕ SignalCell). IsSoundStore (get key_cmp c.self.inside.index) l.entries c.self.inside.free.items l.cap) (sym c.promote.ensures.entries) (again c).used.sound
+invariant_of-self c =
+    same_sound (get key_cmp c.insert_if_absent.new.index) (get key_cmp c.self.inside.index) c.self.inside.cache.entries c.self.inside.free.items c.self.inside.cache.cap
+    (λ q. ap (λ (es : List (Key × Place)). lookup (is_at (key_cmp q)) es) c.in_err-stored.ensures.err) c.self.invariant
+
+-- ---- the cell is stored already
+again : (c : goal.After-promote) → IsPut (get key_cmp c.insert_if_absent.new.index) c.promote.new.self c.self.inside.free.items c.args.self.now (record { signal = c.args.signal; cell = c.args.cell }) false None
+again c =
+    put_again (get key_cmp c.self.inside.index) c.self.inside.cache c.self.inside.free.items c.args.self.now (record { signal = c.args.signal; cell = c.args.cell }) c.cell_key-key.result
+    c.self.invariant c.self.view_is c.requires c.cell_key-key.ensures.key c.cell_key-key.ensures.span (get key_cmp c.insert_if_absent.new.index) c.promote.new.self c.in-Some.stored
+    (sym c.in-Some.is ∙ c.in_ok-stored.ensures.had)
+    (subst (λ o. IfSome o (λ _. (q : Key) → get key_cmp c.insert_if_absent.new.index q ≡ get key_cmp c.self.inside.index q)) c.in-Some.is c.in_ok-stored.ensures.stays) c.promote.ensures.entries
+
+pub invariant_of-self-in-Some : goal.invariant_of-self-in-Some
+invariant_of-self-in-Some c = (again c).sound
 
 pub returns-in-Some-clause-cells : goal.returns-in-Some-clause-cells
-returns-in-Some-clause-cells c =
-    ap (λ (l : LruCache ℕ SignalCell). contents l.cap (cells_of l.entries)) c.promote.ensures.entries
-    ∙ ap (contents c.self.inside.cache.cap) (again c).used.cells
-    ∙ ap (λ (s : Contents). with_cells s (to_front (record { signal = c.args.signal; cell = c.args.cell }) s.cells)) c.self.view_is
-    ∙ again_shows c.args.self.now (record { signal = c.args.signal; cell = c.args.cell }) (was_stored c)
+returns-in-Some-clause-cells c = (again c).cells
 
 pub returns-in-Some-clause-fresh : goal.returns-in-Some-clause-fresh
-returns-in-Some-clause-fresh c = sym (ap not (was_stored c))
+returns-in-Some-clause-fresh c = (again c).is_fresh
 
 pub returns-in-Some-clause-evicted : goal.returns-in-Some-clause-evicted
-returns-in-Some-clause-evicted c = sym (ap (λ b. cond b (last_key c.args.self.now.cells) None) (stays_in c.args.self.now (record { signal = c.args.signal; cell = c.args.cell }) (was_stored c)))
+returns-in-Some-clause-evicted c = (again c).is_evicted
 
-pub add-requires-clause-apart : goal.add-requires-clause-apart
-add-requires-clause-apart c = (new_cell (get key_cmp c.self.inside.index) c.self.inside.cache.entries c.self.inside.free.items c.self.inside.cache.cap (record { signal = c.args.signal; cell = c.args.cell }) c.args.self.now c.self.invariant c.slot_of.ensures.span c.self.view_is c.requires (sym c.in_default.is ∙ c.slot_of.ensures.slot)).1
+-- ---- the cell is new
+none : (c : After-push) → None ≡ get key_cmp c.self.inside.index c.cell_key-key.result
+none c = sym c.in_default.is ∙ c.in_ok-stored.ensures.had
 
-pub returns-then-len-get-clause-cells : goal.returns-then-len-get-clause-cells
-returns-then-len-get-clause-cells c =
-    let new = (new_cell (get key_cmp c.self.inside.index) c.self.inside.cache.entries c.self.inside.free.items c.self.inside.cache.cap (record { signal = c.args.signal; cell = c.args.cell }) c.args.self.now c.self.invariant c.slot_of.ensures.span c.self.view_is c.requires (sym c.in_default.is ∙ c.slot_of.ensures.slot)) in
-    let room : length c.args.self.now.cells < c.args.self.now.capacity =
-    subst (λ (s : Contents). length s.cells < s.capacity) c.self.view_is (omega (arith, length-cells_of c.self.inside.cache.entries, c.len.ensures.len, c.get.ensures.value, c.cap.ensures, c.if-len-get.true)) in
-    c.in_ok-add.ensures.cells ∙ come_shows c.args.self.now (record { signal = c.args.signal; cell = c.args.cell }) c.slot_of.ensures.span new.1 new.0 room
+came : (c : After-push) → (q : Key) → get key_cmp c.insert_if_absent.new.index q ≡ cond (is_eq (key_cmp c.cell_key-key.result q)) (Some c.cell_place.result) (get key_cmp c.self.inside.index q)
+came c = (subst (λ o. IfNone o (Updates key_cmp c.self.inside.index c.insert_if_absent.new.index c.cell_key-key.result (Some c.cell_place.result))) c.in_default.is c.in_ok-stored.ensures.new).0
 
-pub returns-then-len-get-clause-fresh : goal.returns-then-len-get-clause-fresh
-returns-then-len-get-clause-fresh c = sym (ap not (new_cell (get key_cmp c.self.inside.index) c.self.inside.cache.entries c.self.inside.free.items c.self.inside.cache.cap (record { signal = c.args.signal; cell = c.args.cell }) c.args.self.now c.self.invariant c.slot_of.ensures.span c.self.view_is c.requires (sym c.in_default.is ∙ c.slot_of.ensures.slot)).0)
+slot : (c : After-push) → (last : Option (ℕ × Key)) → c.last_if_full-last.result ≡ last → c.slot_for_new-slot.result ≡ unwrap_or (option_map (λ e. e.0) last) (new_slot c.self.inside.cache.entries c.self.inside.free.items)
+slot c last is =
+    c.slot_for_new-slot.ensures
+    ∙ ap (λ (o : Option (ℕ × Key)). unwrap_or (option_map (λ e. e.0) o) (unwrap_or (slice_get c.deref.result.now (length c.deref.result.now - 1)) c.len.result)) is
+    ∙ ap₂ (λ (l : List ℕ) (n : ℕ). unwrap_or (option_map (λ e. e.0) last) (unwrap_or (slice_get l (length l - 1)) n)) c.deref.ensures.value c.len.ensures.len
 
-pub replace_last-requires-clause-apart : goal.replace_last-requires-clause-apart
-replace_last-requires-clause-apart c = (new_cell (get key_cmp c.self.inside.index) c.self.inside.cache.entries c.self.inside.free.items c.self.inside.cache.cap (record { signal = c.args.signal; cell = c.args.cell }) c.args.self.now c.self.invariant c.slot_of.ensures.span c.self.view_is c.requires (sym c.in_default.is ∙ c.slot_of.ensures.slot)).1
+-- the cache refuses it
+pub invariant_of-self-in_default-push : goal.invariant_of-self-in_default-push
+invariant_of-self-in_default-push c =
+    let new : After-push = (goal.at.invariant_of-self-in_default-push c).After-push in
+    subst (λ (l : LruCache ℕ SignalCell). IsSoundStore (get key_cmp c.remove.new.self) l.entries c.self.inside.free.items l.cap) (sym c.in_default-push.ensures.err)
+    (same_sound (get key_cmp c.remove.new.self) (get key_cmp c.self.inside.index) c.self.inside.cache.entries c.self.inside.free.items c.self.inside.cache.cap
+    (put_back (get key_cmp c.self.inside.index) (get key_cmp c.insert_if_absent.new.index) (get key_cmp c.remove.new.self) c.cell_key-key.result (Some c.cell_place.result) None (none new) (came new) c.remove.ensures.updates.0) c.self.invariant)
 
-pub returns-clause-cells : goal.returns-clause-cells
-returns-clause-cells c =
-    let new = (new_cell (get key_cmp c.self.inside.index) c.self.inside.cache.entries c.self.inside.free.items c.self.inside.cache.cap (record { signal = c.args.signal; cell = c.args.cell }) c.args.self.now c.self.invariant c.slot_of.ensures.span c.self.view_is c.requires (sym c.in_default.is ∙ c.slot_of.ensures.slot)) in
-    let full : length c.args.self.now.cells ≡ c.args.self.now.capacity =
-    subst (λ (s : Contents). length s.cells ≡ s.capacity) c.self.view_is (omega (arith, length-cells_of c.self.inside.cache.entries, c.self.invariant.within, c.len.ensures.len, c.get.ensures.value, c.cap.ensures, c.if-len-get.false)) in
-    c.in_ok-evicted.ensures.cells ∙ replaced_shows c.args.self.now (record { signal = c.args.signal; cell = c.args.cell }) c.slot_of.ensures.span new.1 new.0 full
+-- ---- it takes the slot of the least recently used cell
+full : (c : goal.After-remove-in-Some-last) → IsPut (get key_cmp c.remove-in-Some-last.new.self) c.push.new.self c.self.inside.free.items c.args.self.now (record { signal = c.args.signal; cell = c.args.cell }) true (Some c.in-Some-last.evicted)
+full c =
+    let new : After-push = (goal.at.invariant_of-self-in-Some-last c).After-push in
+    put_in_full (get key_cmp c.self.inside.index) c.self.inside.cache c.self.inside.free.items c.args.self.now (record { signal = c.args.signal; cell = c.args.cell }) c.cell_key-key.result
+    c.self.invariant c.self.view_is c.requires c.cell_key-key.ensures.key c.cell_key-key.ensures.span (get key_cmp c.insert_if_absent.new.index) (get key_cmp c.remove-in-Some-last.new.self) c.push.new.self c.cell_place.result c.slot_for_new-slot.result c.in-Some-last.evicted
+    (none new) (at_slot c.slot_for_new-slot.result c.in-Some-last.field-0-0 c.in-Some-last.evicted c.self.inside.cache.entries c.self.inside.cache.cap (slot new (Some (c.in-Some-last.field-0-0, c.in-Some-last.evicted)) c.in-Some-last.is) c.in-Some-last.ensures)
+    c.cell_place.ensures (came new) c.in-Ok.ensures.entries c.remove-in-Some-last.ensures.updates.0
 
-pub returns-clause-fresh : goal.returns-clause-fresh
-returns-clause-fresh c = sym (ap not (new_cell (get key_cmp c.self.inside.index) c.self.inside.cache.entries c.self.inside.free.items c.self.inside.cache.cap (record { signal = c.args.signal; cell = c.args.cell }) c.args.self.now c.self.invariant c.slot_of.ensures.span c.self.view_is c.requires (sym c.in_default.is ∙ c.slot_of.ensures.slot)).0)
+pub invariant_of-self-in-Some-last : goal.invariant_of-self-in-Some-last
+invariant_of-self-in-Some-last c = (full c).sound
 
-pub returns-clause-evicted : goal.returns-clause-evicted
-returns-clause-evicted c =
-    let new = (new_cell (get key_cmp c.self.inside.index) c.self.inside.cache.entries c.self.inside.free.items c.self.inside.cache.cap (record { signal = c.args.signal; cell = c.args.cell }) c.args.self.now c.self.invariant c.slot_of.ensures.span c.self.view_is c.requires (sym c.in_default.is ∙ c.slot_of.ensures.slot)) in
-    let full : length c.args.self.now.cells ≡ c.args.self.now.capacity =
-    subst (λ (s : Contents). length s.cells ≡ s.capacity) c.self.view_is (omega (arith, length-cells_of c.self.inside.cache.entries, c.self.invariant.within, c.len.ensures.len, c.get.ensures.value, c.cap.ensures, c.if-len-get.false)) in
-    c.in_ok-evicted.ensures.key ∙ sym (ap (λ b. cond b (last_key c.args.self.now.cells) None) (goes_out c.args.self.now (record { signal = c.args.signal; cell = c.args.cell }) new.0 full))
+pub returns-in-Some-last-clause-cells : goal.returns-in-Some-last-clause-cells
+returns-in-Some-last-clause-cells c = (full c).cells
+
+pub returns-in-Some-last-clause-fresh : goal.returns-in-Some-last-clause-fresh
+returns-in-Some-last-clause-fresh c = (full c).is_fresh
+
+pub returns-in-Some-last-clause-evicted : goal.returns-in-Some-last-clause-evicted
+returns-in-Some-last-clause-evicted c = (full c).is_evicted
+
+-- ---- it takes a free slot
+room : (c : goal.After-pop) → IsPut (get key_cmp c.insert_if_absent.new.index) c.push.new.self c.pop.new.self.items c.args.self.now (record { signal = c.args.signal; cell = c.args.cell }) true None
+room c =
+    let new : After-push = (goal.at.invariant_of-self-in-None c).After-push in
+    put_in_room (get key_cmp c.self.inside.index) c.self.inside.cache c.self.inside.free.items c.args.self.now (record { signal = c.args.signal; cell = c.args.cell }) c.cell_key-key.result
+    c.self.invariant c.self.view_is c.requires c.cell_key-key.ensures.key c.cell_key-key.ensures.span (get key_cmp c.insert_if_absent.new.index) c.push.new.self c.pop.new.self.items c.cell_place.result c.slot_for_new-slot.result
+    (none new) c.in-None.ensures (slot new None c.in-None.is) c.cell_place.ensures (came new) c.in-Ok.ensures.entries
+    (c.pop.ensures.rest ∙ ap (λ (n : ℕ). take (n - 1) c.self.inside.free.items) (sym c.deref.ensures.len ∙ ap (λ (l : List ℕ). length l) c.deref.ensures.value))
+
+pub invariant_of-self-in-None : goal.invariant_of-self-in-None
+invariant_of-self-in-None c = (room c).sound
+
+pub returns-in-None-clause-cells : goal.returns-in-None-clause-cells
+returns-in-None-clause-cells c = (room c).cells
+
+pub returns-in-None-clause-fresh : goal.returns-in-None-clause-fresh
+returns-in-None-clause-fresh c = (room c).is_fresh
+
+pub returns-in-None-clause-evicted : goal.returns-in-None-clause-evicted
+returns-in-None-clause-evicted c = (room c).is_evicted
