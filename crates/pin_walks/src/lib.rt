@@ -18,12 +18,12 @@
 //!         None => None, // the pin reads a time before 0
 //!         Some(source) => Some(cell_at(source)),
 //!     };
-//!     walk = walk.see(&design, heard);
+//!     walk.see(&design, heard);
 //! }
 //! let cell = walk.cell(&design);
 //! ```
 //!
-//! A walk takes 36 bytes and no other memory. Each call takes constant time.
+//! A walk takes 36 bytes and no other memory, and is changed in its place. Each call takes constant time.
 #![tactic(auto)]
 
 mod walk;

@@ -47,23 +47,14 @@ fn common(a: Span, b: Span) -> Span
     }
 }
 
-/// The interval of what was heard.
-fn span_there(heard: &Option<Cell>) -> Option<Span>
-    ensures { result ≡ span_there heard.now }
+/// The value and the interval of what was heard; before time 0 the value is x, and there is no interval.
+fn heard_there(heard: Option<Cell>) -> (Value, Option<Span>)
+    ensures value { result.0 ≡ value_there heard }
+    ensures span { result.1 ≡ span_there heard }
 {
     match heard {
-        Some(cell) => Some(cell.span),
-        None => None,
-    }
-}
-
-/// The value of what was heard; before time 0 it is x.
-fn value_there(heard: &Option<Cell>) -> Value
-    ensures { result ≡ value_there heard.now }
-{
-    match heard {
-        Some(cell) => cell.value,
-        None => Value::X,
+        Some(cell) => (cell.value, Some(cell.span)),
+        None => (Value::X, None),
     }
 }
 
@@ -121,22 +112,17 @@ impl PinWalk {
         self.source
     }
 
-    /// The walk after it has looked at the next pin, whose cell is heard; before time 0 there is none.
-    pub fn see(&self, design: &Design, heard: Option<Cell>) -> PinWalk
-        requires walk { IsPinWalk design.now.circuit self.now }
-        requires looking { IsLooking design.now.circuit self.now }
+    /// Looks at the next pin, whose cell is heard; before time 0 there is none.
+    pub fn see(&mut self, design: &Design, heard: Option<Cell>)
+        requires walk { IsPinWalk design.now.circuit self.old }
+        requires looking { IsLooking design.now.circuit self.old }
         requires heard { heard ≡ cell_there design.now.circuit
-            (next_point design.now.circuit self.now) }
-        ensures { LooksOn design.now.circuit self.now result }
+            (next_point design.now.circuit self.old) }
+        ensures { LooksOn design.now.circuit self.old self.new }
     {
         design.facts();
-        let value = value_there(&heard);
-        let interval = design.pin_span(
-            self.point.signal,
-            self.point.time,
-            self.looked,
-            span_there(&heard),
-        );
+        let (value, span) = heard_there(heard);
+        let interval = design.pin_span(self.point.signal, self.point.time, self.looked, span);
         let (_, pins) = design.gate_of(self.point.signal);
         let looked = self.looked + 1;
         let done = self.evaluation.kind.decides(value) || looked as usize == pins.len();
@@ -145,14 +131,11 @@ impl PinWalk {
         } else {
             source_of(design, self.point, pins, looked)
         };
-        PinWalk {
-            point: self.point,
-            interval: common(self.interval, interval),
-            source,
-            looked,
-            evaluation: self.evaluation.see(value),
-            done,
-        }
+        self.interval = common(self.interval, interval);
+        self.source = source;
+        self.looked = looked;
+        self.evaluation = self.evaluation.see(value);
+        self.done = done;
     }
 
     /// The cell of the point, once the look is over.
