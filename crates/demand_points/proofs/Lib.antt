@@ -1,3 +1,4 @@
+pub mod Tops
 pub mod Lists
 pub mod PartLemmas
 pub mod Keeps

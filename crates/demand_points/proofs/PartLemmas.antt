@@ -19,10 +19,10 @@ use Rattle.strand_meaning.specs.Strands as strands
 use Rattle.strand_meaning.specs.Strands.{Strand, ask_or, next, next_in, after_answer, after_claim, after_drop, after_fill, rest, asked_children}
 use Rattle.pin_walks.specs.declared.walk.PinWalk.{PinWalk}
 use Rattle.demand_points.specs.declared.parts.Parts.{Parts}
-use Rattle.demand_points.specs.inner.Stacks.{IsTop}
+use Rattle.demand_points.specs.inner.Stacks.{IsTop, OnTop, ChangesTop, with_top}
 use Rattle.pin_walks.specs.PinWalks.{cell_there, looked_at, next_point, IsPoint, IsPinWalk, IsLooking, LooksOn}
-use Rattle.demand_points.specs.inner.Bases.{left_after, IsReady, HearsBases, shown_frame}
-use Rattle.demand_points.specs.inner.Demands.{window_in, root_point, strand_of, IsReadyIn, IsReadyAt, IsRootReady, WaitsFor, AreWalks, IsRunning, IsRootKnown, TakesStepTo}
+use Rattle.demand_points.specs.inner.Bases.{left_after, IsReady, IsHearing, HearsBases, HearsAllBases, shown_frame}
+use Rattle.demand_points.specs.inner.Demands.{window_in, root_point, strand_of, IsReadyIn, IsReadyAt, IsRootReady, WaitsFor, AreWalks, IsRunning, IsRootKnown, IsUndone, TakesStepTo}
 use Rattle.demand_points.specs.Demands.{roots_left, IsAskedCell, itself}
 use Rattle.pin_walks.proofs.PinWalkLemmas.{looking-below, next-among}
 use Rattle.demand_points.proofs.Lists.{left-done, left-all, left-ask, looked-left, no-roots, root-base, root-ask}
@@ -162,6 +162,42 @@ module _ (c : Circuit) (ok : IsCircuit c) (s : Parts) (r : IsRunning c s) where
     strand = ap (λ x. stacked (x ∷ map (shown_frame c) fs) (roots_left c (window_in s) s.root)) (shown-is c f g a.point a.left) ∙ ap (λ st. stacked (map (shown_frame c) st) (roots_left c (window_in s) s.root)) (sym e);
   }
 
+  pub walks-top : OnTop (IsPinWalk c) s.stack
+  walks-top = go s.stack r.walks
+    where
+      go : (st : List PinWalk) → AreWalks c (root_point s) st → OnTop (IsPinWalk c) st
+      go [] h = tt
+      go (f ∷ fs) h = h.0
+
+  module _ (st : List PinWalk) (f : PinWalk) (top : IsTop s.stack f) (heard : ChangesTop (HearsAllBases c) s.stack st) where
+    abbrev heard-top : Parts
+    heard-top = record s { stack = st }
+
+    pub moves-on-top : TakesStepTo c itself s heard-top
+    moves-on-top = go s.stack refl top heard
+      where
+        go : (old : List PinWalk) → s.stack ≡ old → IsTop old f → ChangesTop (HearsAllBases c) old st → TakesStepTo c itself s heard-top
+        go [] e t h = absurd t
+        go (x ∷ xs) e t h = subst (λ l. TakesStepTo c itself s (record s { stack = l })) (sym h.2) (moves-top x h.0 xs e h.1.0)
+
+    pub ready-on-top : IsReadyAt c heard-top
+    ready-on-top = go s.stack top heard
+      where
+        go : (old : List PinWalk) → IsTop old f → ChangesTop (HearsAllBases c) old st → IsReadyIn c heard-top st
+        go [] t h = absurd t
+        go (x ∷ xs) t h = subst (IsReadyIn c heard-top) (sym h.2) h.1.1
+
+    pub undone-on-top : IsUndone s heard-top
+    undone-on-top = record { empty = go-empty s.stack heard; top = go-top s.stack heard }
+      where
+        go-empty : (old : List PinWalk) → ChangesTop (HearsAllBases c) old st → old ≡ [] → st ≡ []
+        go-empty [] h e = h
+        go-empty (x ∷ xs) h e = absurd (cc e)
+
+        go-top : (old : List PinWalk) → ChangesTop (HearsAllBases c) old st → (g : PinWalk) → IsTop old g → with_top g st ≡ old
+        go-top [] h g t = absurd t
+        go-top (x ∷ xs) h g t = ap (with_top g) h.2 ∙ ap (λ y. y ∷ xs) t
+
   -- the next step, by the parts
   abbrev step_by : Bool → List PinWalk → declared.Next
   step_by b st = next_in b (roots_left c (window_in s) s.root) (map (shown_frame c) st)
@@ -268,15 +304,24 @@ module _ (c : Circuit) (ok : IsCircuit c) (s : Parts) (r : IsRunning c s) where
       }
 
   -- what the top is to hear
-  pub record IsHearing (f : PinWalk) (cell : Cell) : Type 0 where
-    pub walk : IsPinWalk c f
-    pub looking : IsLooking c f
-    pub heard : Some cell ≡ cell_there c (next_point c f)
-
-  pub hearing : (f : PinWalk) (fs : List PinWalk) (p : Point) (cell : Cell) → s.stack ≡ f ∷ fs → IsAsked c s s.stack p → cell ≡ cell_at c p → IsHearing f cell
+  hearing : (f : PinWalk) (fs : List PinWalk) (p : Point) (cell : Cell) → s.stack ≡ f ∷ fs → IsAsked c s s.stack p → cell ≡ cell_at c p → IsHearing c cell f
   hearing f fs p cell e a right =
       let w : WaitsFor c (root_point s) (f ∷ fs) p = subst (λ st. WaitsFor c (root_point s) st p) e a.waits in
       record { walk = top-walk f fs e; looking = w.0; heard = ap Some right ∙ sym (ap (cell_there c) w.1) }
+
+  pub hearing-top : (p : Point) (cell : Cell) → IsAsked c s s.stack p → cell ≡ cell_at c p → OnTop (IsHearing c cell) s.stack
+  hearing-top p cell a right = go s.stack refl
+    where
+      go : (st : List PinWalk) → s.stack ≡ st → OnTop (IsHearing c cell) st
+      go [] e = tt
+      go (f ∷ fs) e = hearing f fs p cell e a right
+
+  pub hears-on-top : (st : List PinWalk) (p : Point) (f : PinWalk) → IsTop s.stack f → IsAsked c s s.stack p → ChangesTop (LooksOn c) s.stack st → TakesStepTo c after_answer s (record s { stack = st })
+  hears-on-top st p f t a h = go s.stack refl t h
+    where
+      go : (old : List PinWalk) → s.stack ≡ old → IsTop old f → ChangesTop (LooksOn c) old st → TakesStepTo c after_answer s (record s { stack = st })
+      go [] e t h = absurd t
+      go (x ∷ xs) e t h = subst (λ l. TakesStepTo c after_answer s (record s { stack = l })) (sym h.2) (hears-top x h.0 xs p e a h.1)
 
   -- the point that is asked for is one of the circuit
   asked-in_circuit : (st : List PinWalk) (p : Point) → AreWalks c (root_point s) st → WaitsFor c (root_point s) st p → (length st ≡ 0 → s.root < s.to) → IsPoint c p

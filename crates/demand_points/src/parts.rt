@@ -8,7 +8,7 @@ ghost use Rattle.valid_intervals.specs.declared.Point.{Point};
 ghost use Rattle.demand_points.specs.inner.Demands.{strand_of, IsRunning, IsReadyAt, IsRootReady, IsRootKnown, IsUndone, StaysAtRoot, TakesStepTo};
 ghost use Rattle.demand_points.specs.Demands.{itself, IsAskedCell, IsFilling};
 
-use crate::bases::heard_bases;
+use crate::bases::hear_bases;
 use crate::stack::Stack;
 use batch_meaning::Query;
 use design::Design;
@@ -87,11 +87,7 @@ impl Parts {
     {
         design.facts();
         match self.stack.top() {
-            Some(walk) => {
-                if let Some(heard) = heard_bases(design, walk) {
-                    self.stack.set_top(heard);
-                }
-            }
+            Some(_) => self.stack.hear_bases(design),
             None => self.skip_roots(design),
         }
     }
@@ -151,10 +147,7 @@ impl Parts {
     {
         design.facts();
         match self.stack.top() {
-            Some(walk) => {
-                let seen = walk.see(design, Some(*cell));
-                self.stack.set_top(seen);
-            }
+            Some(_) => self.stack.see(design, *cell),
             None => {
                 self.root = cell.span.end();
                 self.last = Some(*cell);
@@ -233,10 +226,15 @@ impl Parts {
     {
         design.facts();
         match self.stack.top() {
-            Some(walk) => match heard_bases(design, walk) {
-                Some(heard) => heard.cell(design),
-                None => walk.cell(design),
-            },
+            Some(walk) => {
+                if walk.is_done() {
+                    walk.cell(design)
+                } else {
+                    let mut heard = *walk;
+                    hear_bases(design, &mut heard);
+                    heard.cell(design)
+                }
+            }
             None => unreachable!(),
         }
     }

@@ -1,11 +1,16 @@
 //! A stack of claimed points.
 
 ghost use Rattle.std.specs.Prelude.{◌≡◌, [], ◌∷◌, length, OnOk, OnErr, MatchOption};
-ghost use Rattle.demand_points.specs.inner.Stacks.{IsTop, with_top};
+ghost use Rattle.pin_walks.specs.PinWalks.{IsPinWalk, LooksOn};
+ghost use Rattle.demand_points.specs.inner.Bases.{IsHearing, HearsAllBases};
+ghost use Rattle.demand_points.specs.inner.Stacks.{IsTop, OnTop, ChangesTop, with_top};
 
+use crate::bases::hear_bases;
+use design::Design;
 use pin_walks::PinWalk;
 use std::alloc::{AllocError, Global};
 use std::marker::Model;
+use valid_intervals::Cell;
 
 /// A stack of claimed points, seen as the list from the top down.
 #[derive(Drop)]
@@ -56,6 +61,26 @@ impl Stack {
             (λ f. self.old ≡ f ∷ self.new) }
     {
         self.items.pop()
+    }
+
+    /// The top hears base answers, up to the next pin that has none.
+    pub fn hear_bases(&mut self, design: &Design)
+        requires { OnTop (IsPinWalk design.now.circuit) self.old }
+        ensures { ChangesTop (HearsAllBases design.now.circuit) self.old self.new }
+    {
+        if let Some(top) = self.items.last_mut() {
+            hear_bases(design, top);
+        }
+    }
+
+    /// The top looks at its next pin, whose cell is heard.
+    pub fn see(&mut self, design: &Design, cell: Cell)
+        requires { OnTop (IsHearing design.now.circuit cell) self.old }
+        ensures { ChangesTop (LooksOn design.now.circuit) self.old self.new }
+    {
+        if let Some(top) = self.items.last_mut() {
+            top.see(design, Some(cell));
+        }
     }
 
     /// Changes the top, if there is one.

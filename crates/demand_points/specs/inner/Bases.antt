@@ -1,5 +1,6 @@
 -- What a claimed point still waits for, and the base answers that it hears by itself.
 use Rattle.std.specs.Prelude.{◌≡◌, ℕ, ◌⊎◌, List, length, filter, drop, Some}
+use Rattle.valid_intervals.specs.declared.Cell.{Cell}
 use Rattle.valid_intervals.specs.declared.Point.{Point}
 use Rattle.circuit_meaning.specs.Circuit.{Circuit}
 use Rattle.circuit_meaning.specs.Need.{IsEvaluable}
@@ -7,7 +8,7 @@ use Rattle.circuit_meaning.specs.Looks.{somes}
 use Rattle.strand_meaning.specs.Strands as strands
 use Rattle.strand_meaning.specs.Strands.{is_evaluable}
 use Rattle.pin_walks.specs.declared.walk.PinWalk.{PinWalk}
-use Rattle.pin_walks.specs.PinWalks.{IsPinWalk, IsLooking, LooksOn, looked_at, next_point}
+use Rattle.pin_walks.specs.PinWalks.{IsPinWalk, IsLooking, LooksOn, cell_there, looked_at, next_point}
 
 -- the children that a point still waits for, once its first n pins were looked at
 abbrev pub left_after : Circuit → Point → ℕ → List Point
@@ -31,3 +32,13 @@ pub record HearsBases (c : Circuit) (old new : PinWalk) : Type 0 where
   pub walk : IsPinWalk c new
   pub point : new.point ≡ old.point
   pub left : left_after c new.point new.looked ≡ left_after c old.point old.looked
+
+-- the walk has heard base answers, up to the next pin that has none
+abbrev pub HearsAllBases : Circuit → PinWalk → PinWalk → Type 0
+HearsAllBases c old new = HearsBases c old new × IsReady c new
+
+-- the cell is that of the walk's next pin
+pub record IsHearing (c : Circuit) (cell : Cell) (w : PinWalk) : Type 0 where
+  pub walk : IsPinWalk c w
+  pub looking : IsLooking c w
+  pub heard : Some cell ≡ cell_there c (next_point c w)

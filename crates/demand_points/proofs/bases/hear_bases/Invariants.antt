@@ -4,7 +4,7 @@ use Rattle.demand_points.specs.inner.Bases.{HearsBases}
 use Rattle.demand_points.proofs.bases.hear_bases.Given as goal
 
 abbrev pub invariant-looks : goal.invariant-looks
-invariant-looks l = HearsBases l.design.circuit l.fn.walk l.heard
+invariant-looks l = HearsBases l.design.circuit l.initial.walk l.walk
 
 abbrev pub decreases-looks : goal.decreases-looks
-decreases-looks l = length (looked_at l.design.circuit l.heard.point) - l.heard.looked
+decreases-looks l = length (looked_at l.design.circuit l.walk.point) - l.walk.looked
