@@ -80,13 +80,13 @@ impl KnownCells {
         ensures known { (lines : List SignalCell) → IsIndexOf lines (get point_cmp self.now.cells)
             → Hears design.now.circuit (answer design.now.circuit lines) walk.now result }
     {
-        match walk.next_source() {
-            None => Some(walk.see(design, None)),
-            Some(source) => {
-                let cell = self.answer(design, source)?;
-                Some(walk.see(design, Some(cell)))
-            }
-        }
+        let heard = match walk.next_source() {
+            None => None,
+            Some(source) => Some(self.answer(design, source)?),
+        };
+        let mut next = *walk;
+        next.see(design, heard);
+        Some(next)
     }
 
     /// The cell of the point, by the rules of values and cells; None where a pin that is looked at has no answer.
