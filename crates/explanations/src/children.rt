@@ -103,12 +103,17 @@ fn look<B: BatchName>(
     ensures asks { IfOk result (λ r. AsksOn B.batch B.opening query (shards_in memo.old) false
         (shards_in memo.new) (is_missing r)) }
 {
+    let mut next = *walk;
     let Some(p) = walk.next_source() else {
-        return Ok(Some(walk.see(design, None)));
+        next.see(design, None);
+        return Ok(Some(next));
     };
     match hear(memo, design, query, p, waiting, charge)? {
         None => Ok(None),
-        Some(cell) => Ok(Some(walk.see(design, Some(cell)))),
+        Some(cell) => {
+            next.see(design, Some(cell));
+            Ok(Some(next))
+        }
     }
 }
 

@@ -55,8 +55,10 @@ fn look<B: BatchName>(
     ensures asks { IfOk result (λ r. AsksOn B.batch B.opening q (shards_in memo.old) false
         (shards_in memo.new) (is_missing r)) }
 {
+    let mut next = *walk;
     let Some(x) = walk.next_source() else {
-        return Ok(Some(walk.see(design, None)));
+        next.see(design, None);
+        return Ok(Some(next));
     };
     let query = Query {
         number: q.number,
@@ -67,7 +69,10 @@ fn look<B: BatchName>(
     };
     match reach(memo, design, query, x.time, charge)? {
         None => Ok(None),
-        Some(cell) => Ok(Some(walk.see(design, Some(cell)))),
+        Some(cell) => {
+            next.see(design, Some(cell));
+            Ok(Some(next))
+        }
     }
 }
 
