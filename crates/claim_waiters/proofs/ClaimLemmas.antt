@@ -14,7 +14,7 @@ use Rattle.valid_intervals.specs.declared.Point.{Point}
 use Rattle.valid_intervals.specs.Cells.{point_cmp}
 use Rattle.claim_waiters.specs.Claims.{WaitedClaim, Claims, IsAtMost, claim_at, holder_in, waiters_of, first_of, with_claim, without_claim, with_waiter}
 use Rattle.claim_waiters.specs.inner.View.{at, claims_with, those_in, IsKept}
-use Rattle.claim_waiters.proofs.Tables.{at-is}
+use Rattle.claim_waiters.proofs.Tables.{at-is, at-same, same-itself, put-back}
 
 pub by_case_ok : {X E : Type 0} (r : Result X E) (A P : Type 0) → OnOk r A → (A → P) → OnOk r P
 by_case_ok (Ok x) A P a f = f a
@@ -70,6 +70,13 @@ module _ {W : Type 0} where
 
   pub unclaimed : (f : Point → List W) (p : Point) (es : List (Point × ℕ)) → claim_at (claims_with f es) p ≡ None → at es p ≡ None
   unclaimed f p es none = holder-claims f p es ∙ ap (option_map (λ (c : WaitedClaim W). c.q)) none
+
+  pub free-claims : (f : Point → List W) (p : Point) (es : List (Point × ℕ)) → at es p ≡ None → claim_at (claims_with f es) p ≡ None
+  free-claims f p es none = lookup-claims f p es ∙ ap (option_map (λ q. record { q = q; waiters = f p })) none
+
+  -- no point is both claimed and free
+  pub taken-claims : (f : Point → List W) (p : Point) (q : ℕ) (es : List (Point × ℕ)) → at es p ≡ Some q → claim_at (claims_with f es) p ≡ None → ⊥
+  taken-claims f p q es some none = let free = unclaimed f p es none in cc (some, free)
 
   pub insert-claims : (f : Point → List W) (es : List (Point × ℕ)) (p : Point) (q : ℕ) → at es p ≡ None → f p ≡ [] → claims_with f (insert_entry point_cmp es p q) ≡ with_claim (claims_with f es) q p
   insert-claims f [] p q n none = ap (λ (l : List W). (p, record { q = q; waiters = l }) ∷ []) none
@@ -136,6 +143,14 @@ module _ {W : Type 0} where
 -- es is old, with v at p
 abbrev pub IsSetAt : {X : Type 0} → List (Point × X) → List (Point × X) → Point → Option X → Type 0
 IsSetAt old es p v = (x : Point) → at es x ≡ cond (is_at (point_cmp p) x) v (at old x)
+
+-- the old value is put back, which takes no memory
+pub put-again : {X A E : Type 0} (r : Result A E) (old made new : List (Point × X)) (p : Point) (u v : X) → IsStrictlySortedBy point_cmp (keys_of old) → at old p ≡ Some v
+    → made ≡ insert_entry point_cmp old p u → IsSetAt old made p (Some u) → OnOk r (new ≡ insert_entry point_cmp made p v) → OnErr r (at made p ≡ None) → new ≡ old
+put-again (Ok x) old made new p u v order there is set ok err = ok ∙ ap (λ es. insert_entry point_cmp es p v) is ∙ put-back old p u v order there
+put-again (Err e) old made new p u v order there is set ok err =
+    let some : at made p ≡ Some u = set p ∙ rw (at-same p p ∙ same-itself p) refl in
+    absurd (cc (some, err))
 
 module _ {W R : Type 0} (items : R → List W) where
   -- a room that is lent, or made without waiters

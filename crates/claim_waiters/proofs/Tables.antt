@@ -11,7 +11,7 @@ use Rattle.std.proofs.lemmas.Bool.{cases_Bool}
 use Rattle.std.proofs.lemmas.Bool.Decides.{nat_tests}
 use Rattle.std.proofs.lemmas.Cmp.{then_total, on_total, nat_cmp_total, eq_by_cmp_equiv}
 use Rattle.std.proofs.lemmas.Map.{lookup-remove_entry}
-use Rattle.std.proofs.lemmas.Map.Keys.{IsDistinct-from_sorted}
+use Rattle.std.proofs.lemmas.Map.Keys.{IsDistinct-from_sorted, sorted_head, sorted_tail}
 use Rattle.valid_intervals.specs.declared.Point.{Point}
 use Rattle.valid_intervals.specs.Cells.{same_point, point_cmp}
 use Rattle.claim_waiters.specs.Claims.{WaitedClaim, Claims, IsInOrder, claim_at, holder_in, waiting_in, waiters_at, with_claim, without_claim, add_waiter, with_waiter}
@@ -100,6 +100,25 @@ module _ {X : Type 0} where
         | Equal ↦ λ k m. absurd (cc m)
         | Greater ↦ λ k m. let f : is_at (point_cmp p) e.0 ≡ false = ap is_eq k in rw f (ap (λ l. e ∷ l) (removed-inserted es p v m))
       ]) refl n
+
+  -- no key that comes after k is p, where p comes before k
+  none-before : (es : List (Point × X)) (k p : Point) → AllByRecursion (λ y. point_cmp k y ≡ Less) (keys_of es) → point_cmp p k ≡ Less → at es p ≡ None
+  none-before [] k p all before = refl
+  none-before (e ∷ es) k p all before =
+      let after : point_cmp k e.0 ≡ Less = all.0 in
+      let other : is_at (point_cmp p) e.0 ≡ false = grind (arith, nat_tests, after, before) in
+      rw other (none-before es k p all.1 before)
+
+  -- a value that is put back leaves no trace of another
+  pub put-back : (es : List (Point × X)) (p : Point) (u v : X) → IsStrictlySortedBy point_cmp (keys_of es) → at es p ≡ Some v → insert_entry point_cmp (insert_entry point_cmp es p u) p v ≡ es
+  put-back [] p u v order h = absurd (cc h)
+  put-back (e ∷ es) p u v order h =
+      (elim (point_cmp p e.0) as (λ o. point_cmp p e.0 ≡ o → cond (is_eq o) (Some e.1) (at es p) ≡ Some v
+      → insert_entry point_cmp (match_ordering o ((p, u) ∷ e ∷ es) ((e.0, u) ∷ es) (e ∷ insert_entry point_cmp es p u)) p v ≡ e ∷ es) [
+        | Less ↦ λ k m. let none = none-before es e.0 p (sorted_head point_cmp e.0 (keys_of es) order) k in absurd (cc (none, m))
+        | Equal ↦ λ k m. let same : e.1 ≡ v = cc m in rw k (ap (λ x. (e.0, x) ∷ es) (sym same))
+        | Greater ↦ λ k m. rw k (ap (λ l. e ∷ l) (put-back es p u v (sorted_tail point_cmp e.0 (keys_of es) order) m))
+      ]) refl h
 
   -- what holds of all entries
   pub each-inserted : (P : Point × X → Type 0) (es : List (Point × X)) (p : Point) (v : X) → P (p, v) → at es p ≡ None → AllByRecursion P es → AllByRecursion P (insert_entry point_cmp es p v)

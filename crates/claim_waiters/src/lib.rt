@@ -2,9 +2,10 @@
 //!
 //! The model of a [`ClaimTable`] is the list of the claimed points, ordered by signal and then by time. Each has the query that
 //! claimed it, and its waiters in the order of their arrival. A point is claimed at most once. [`ClaimTable::claim`] begins a
-//! claim. [`ClaimTable::wait`] appends a waiter at a claimed point. [`ClaimTable::take`] ends the claim and hands back all its
-//! waiters in their order. [`ClaimTable::holder`], [`ClaimTable::first`] and [`ClaimTable::len`] only ask. No call drops,
-//! copies or reorders a waiter. A waiter that cannot be added is handed back.
+//! claim where the point is free, and says whether it was. [`ClaimTable::wait`] appends a waiter at a claimed point.
+//! [`ClaimTable::take`] ends the claim and hands back all its waiters in their order. [`ClaimTable::holder`],
+//! [`ClaimTable::first`] and [`ClaimTable::len`] only ask. No call drops, copies or reorders a waiter. A waiter that cannot be
+//! added is handed back.
 //!
 //! The table is generic in its [`Waiter`], whose [`Waiter::Room`], such as a vector, keeps the waiters of a claim. A claim gets
 //! a room with its first waiter, and most never have one; `take` then hands out an empty one.
@@ -16,7 +17,8 @@
 //!
 //! ```text
 //! let mut claims: ClaimTable<Strand> = ClaimTable::new(alloc);
-//! claims.claim(4, p)?;                  // the query of line 4 evaluates p
+//! claims.claim(4, p)?;                  // true: the query of line 4 evaluates p
+//! claims.claim(5, p)?;                  // false: p is claimed already, and nothing has changed
 //! claims.wait(p, strand)?;              // strand needs it too
 //! let woken = claims.take(p);           // p is known: strand may go on
 //! ```

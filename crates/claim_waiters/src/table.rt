@@ -1,4 +1,5 @@
-ghost use Rattle.std.specs.Prelude.{◌≡◌, ◌↔◌, ◌++◌, ◌∷◌, length, IsTrue, All, IfErr, IfSome, IsSome, None, OnErr, OnOk, Some, []};
+ghost use Rattle.std.specs.Prelude.{◌≡◌, ◌↔◌, ◌++◌, ◌∷◌, length, IsTrue, All, IfErr, IfOk, IfSome, IsSome, None, OnErr, OnOk, Some, []};
+ghost use Rattle.std.specs.Bool.{OnFalse, OnTrue};
 ghost use Rattle.claim_waiters.specs.Claims.{claim_at, first_of, holder_in, waiters_of, with_claim, with_waiter, without_claim, IsAtMost, IsInOrder};
 
 use crate::waiter::Waiter;
@@ -63,16 +64,23 @@ impl<W: Waiter> ClaimTable<W> {
         self.holders.is_empty()
     }
 
-    /// Claims a point for a query. The claim has no waiter yet.
-    pub fn claim(&mut self, q: u32, p: Point) -> Result<(), OutOfMemory>
-        requires { claim_at self.old p ≡ None }
-        ensures ok { OnOk result (self.new ≡ with_claim self.old q p) }
+    /// Claims a point for a query, if the point is free, and says whether it was. A new claim has no waiter yet.
+    pub fn claim(&mut self, q: u32, p: Point) -> Result<bool, OutOfMemory>
+        ensures free { IfOk result (λ free. IsTrue free ↔ (claim_at self.old p ≡ None)) }
+        ensures claimed { IfOk result (λ free. OnTrue free (self.new ≡ with_claim self.old q p)) }
+        ensures taken { IfOk result (λ free. OnFalse free (self.new ≡ self.old)) }
+        ensures err_free { OnErr result (claim_at self.old p ≡ None) }
         ensures err { OnErr result (self.new ≡ self.old) }
     {
-        let Ok(_) = self.holders.insert(p, q) else {
-            return Err(OutOfMemory);
-        };
-        Ok(())
+        match self.holders.insert(p, q) {
+            Ok(None) => Ok(true),
+            Ok(Some(holder)) => {
+                // The place is there, so this takes no memory.
+                let _ = self.holders.insert(p, holder);
+                Ok(false)
+            }
+            Err(_) => Err(OutOfMemory),
+        }
     }
 
     /// The query that has claimed the point.

@@ -40,10 +40,9 @@ fn point(signal: u32, time: u32) -> Point
 fn waiters_come_back_in_their_order(rt: HostRuntime) -> Result<(), Fail> {
     let mut claims: ClaimTable<Ticket> = ClaimTable::new(rt.alloc());
     assert!(rt; claims.first().is_none() && claims.is_empty());
-    claims.claim(4, point(3, 4))?;
-    if claims.holder(point(2, 9)).is_none() {
-        claims.claim(5, point(2, 9))?;
-    }
+    assert!(rt; claims.claim(4, point(3, 4))?);
+    assert!(rt; claims.claim(5, point(2, 9))?);
+    assert!(rt; !claims.claim(7, point(3, 4))?, "claimed already");
     assert_eq!(rt; claims.len(), 2);
     assert_eq!(rt; claims.holder(point(3, 4)), Some(4));
     assert_eq!(rt; claims.holder(point(3, 5)), None);
@@ -62,9 +61,8 @@ fn waiters_come_back_in_their_order(rt: HostRuntime) -> Result<(), Fail> {
     }
     assert_eq!(rt; claims.holder(point(3, 4)), None);
     assert_eq!(rt; claims.first(), Some((5, point(2, 9))));
-    if claims.holder(point(3, 4)).is_none() {
-        claims.claim(6, point(3, 4))?;
-    }
+    assert!(rt; claims.claim(6, point(3, 4))?, "free again");
+    assert_eq!(rt; claims.holder(point(3, 4)), Some(6));
     if claims.holder(point(3, 4)).is_some() {
         assert!(rt; claims.take(point(3, 4)).is_empty(), "claimed anew");
     }

@@ -89,6 +89,9 @@ module _ (b : Batch) (opening : List SignalCell) (n : ℕ) where
         mapped None s = s
         mapped (Some c) s = refl
 
+    pub none-claimed : (p : Point) → claim_at claims p ≡ None → holder now.state.claims p ≡ None
+    none-claimed p h = sym (is.holders p) ∙ ap (option_map (λ (c : WaitedClaim Demand). c.q)) h
+
     pub some-held : (p : Point) (q : ℕ) → holder now.state.claims p ≡ Some q → IsSome (claim_at claims p)
     some-held p q h = some-claim p (subst IsSome (sym h) refl)
 

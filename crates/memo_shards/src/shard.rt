@@ -15,7 +15,7 @@ ghost use Rattle.valid_intervals.specs.Cells.{stored_at};
 ghost use Rattle.plan_machine.specs.Shards.{shard_with_entry};
 ghost use Rattle.memo_shards.specs.KeptShards.{shard_at, IsKnownShard};
 ghost use Rattle.memo_shards.specs.Asks.{IsHere, IsUnfound, OfPark};
-ghost use Rattle.memo_shards.specs.inner.Asks.{OfTell, OfClaim};
+ghost use Rattle.memo_shards.specs.inner.Asks.{OfTell};
 ghost use Rattle.memo_shards.specs.Ends.{FreesAll, with_shard};
 ghost use Rattle.memo_shards.specs.Steps.{MayStep, OfStep};
 ghost use Rattle.memo_shards.specs.inner.Ends.{drop_of};
@@ -143,28 +143,30 @@ impl<B: BatchName> Shard<B> {
         }
     }
 
-    // Claims the point for the strand.
+    // Claims the point for the strand, if it is free.
     fn claim(
         &mut self,
         strand: &mut Strand<B>,
         design: &Design,
         p: Point,
-    ) -> Result<(), OutOfMemory>
+    ) -> Result<Step<B>, OutOfMemory>
         requires design { design.now.circuit ≡ B.batch.circuit }
         requires asks { next strand.old.strand ≡ Ask p }
         requires here { IsHere B.batch self.old p }
-        requires unfound { IsUnfound self.old p }
+        requires missed { stored_at self.old.shard.state.cells p ≡ None }
         requires within { strand.old.strand.charged < strand.old.strand.budget }
-        ensures { OfClaim B.batch self.old self.new p strand.old strand.new result }
+        ensures { OfStep B.batch self.old self.new (Ask p) strand.old strand.new result }
     {
         strand.facts();
         let q = strand.query().number;
         make_room(&mut self.journal, self.claims.len(), 3)?;
-        self.claims.claim(q, p)?;
+        if !self.claims.claim(q, p)? {
+            return Ok(Step::Taken);
+        }
         match strand.take_claim(design, p) {
             Ok(()) => {
                 self.journal.push_reserved(Entry::Claimed { q, p });
-                Ok(())
+                Ok(Step::Holds)
             }
             Err(error) => {
                 end_claim(&mut self.claims, p);
@@ -173,8 +175,8 @@ impl<B: BatchName> Shard<B> {
         }
     }
 
-    // Asks for the point that the strand needs next. It is told the stored cell that covers it, claims it where it is neither stored
-    // nor claimed, or is refused it where its budget is spent.
+    // Asks for the point that the strand needs next. It is told the stored cell that covers it. Else it claims the point, if that is
+    // free, or is refused it where its budget is spent.
     fn answer(
         &mut self,
         strand: &mut Strand<B>,
@@ -189,12 +191,11 @@ impl<B: BatchName> Shard<B> {
         if self.tell(strand, design, p)? {
             return Ok(Step::Heard);
         }
+        if strand.charge() < strand.task().budget {
+            return self.claim(strand, design, p);
+        }
         if self.claims.holder(p).is_some() {
             return Ok(Step::Taken);
-        }
-        if strand.charge() < strand.task().budget {
-            self.claim(strand, design, p)?;
-            return Ok(Step::Holds);
         }
         strand.give_up();
         Ok(Step::Refused)

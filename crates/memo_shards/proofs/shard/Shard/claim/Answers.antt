@@ -1,31 +1,28 @@
-use Rattle.std.proofs.Common.{◌≡◌, ◌∷◌, [], ◌++◌, ◌%◌, ◌+◌, List, length, IsSome, sym, ap, ap₂, subst, ◌∙◌, arith}
+use Rattle.std.proofs.Common.{◌≡◌, ◌∷◌, [], ◌++◌, ◌%◌, ◌+◌, List, length, IsSome, None, sym, ap, ap₂, subst, ◌∙◌, refl, arith}
+use Rattle.std.proofs.lemmas.Bool.{OnTrue_at}
 use Rattle.batch_meaning.specs.declared.Query.{Query}
 use Rattle.journal_meaning.specs.declared.Entry.{Entry}
 use Rattle.journal_meaning.specs.declared.Entry.TheVariants as entry
+use Rattle.valid_intervals.specs.Cells.{stored_at}
 use Rattle.claim_waiters.specs.Claims.{Claims, claim_at, with_claim, without_claim}
 use Rattle.claim_waiters.proofs.Tables.{length-inserted, removed-inserted}
 use Rattle.demand_points.specs.Demands.{Demand}
 use Rattle.memo_shards.specs.KeptShards.{KeptShard, shard_at}
 use Rattle.memo_shards.specs.inner.KeptShards.{waits_in}
 use Rattle.memo_shards.specs.inner.View.{Agrees}
-use Rattle.memo_shards.specs.Asks.{IsHere, IsUnfound, ClaimsIt}
-use Rattle.memo_shards.proofs.Entries.{unclaimed, stands-claimed, claimed-agrees, claimed-shown}
+use Rattle.memo_shards.specs.Asks.{IsHere, ClaimsIt}
+use Rattle.memo_shards.proofs.Entries.{none-claimed, stands-claimed, claimed-agrees, claimed-shown}
 use Rattle.memo_shards.proofs.shard.Shard.claim.Goals as goal
 
 pub end_claim-requires : goal.end_claim-requires
 end_claim-requires g c =
-    let b = g.B.BatchName.batch in
     let s = c.self.inside in
-    let o = g.B.BatchName.opening s.number in
-    let es = s.journal.items in
-    let a = c.self.invariant.agrees in
     let p = c.args.p in
     let w = c.args.strand.now in
-    let here : p.signal % b.shards ≡ s.number = subst (λ (v : KeptShard). IsHere b v p) (sym c.self.view_is) c.requires.here in
     let q = w.strand.query.number in
-    let un : IsUnfound (record { number = s.number; shard = shard_at o es; waiting = waits_in s.claims }) p = subst (λ (v : KeptShard). IsUnfound v p) (sym c.self.view_is) c.requires.unfound in
-    let none = unclaimed b o s.number s.store s.claims es a p un.unclaimed in
-    let made : c.claim.new.self ≡ with_claim s.claims q p = c.in_ok-claim.ensures.ok ∙ ap (λ (x : Query). with_claim s.claims x.number p) c.query-q.ensures in
+    let free = c.if-not-branch.false in
+    let none : claim_at s.claims p ≡ None = c.in_ok-claim.ensures.free.0 free in
+    let made : c.claim.new.self ≡ with_claim s.claims q p = OnTrue_at free c.in_ok-claim.ensures.claimed ∙ ap (λ (x : Query). with_claim s.claims x.number p) c.query-q.ensures in
     subst (λ (l : Claims Demand). IsSome (claim_at l p)) (sym made) (stands-claimed s.claims p q none)
 
 pub invariant_of-self-in-Ok : goal.invariant_of-self-in-Ok
@@ -37,18 +34,20 @@ invariant_of-self-in-Ok g c =
     let a = c.self.invariant.agrees in
     let p = c.args.p in
     let w = c.args.strand.now in
-    let here : p.signal % b.shards ≡ s.number = subst (λ (v : KeptShard). IsHere b v p) (sym c.self.view_is) c.requires.here in
     let q = w.strand.query.number in
-    let un : IsUnfound (record { number = s.number; shard = shard_at o es; waiting = waits_in s.claims }) p = subst (λ (v : KeptShard). IsUnfound v p) (sym c.self.view_is) c.requires.unfound in
-    let none = unclaimed b o s.number s.store s.claims es a p un.unclaimed in
-    let made : c.claim.new.self ≡ with_claim s.claims q p = c.in_ok-claim.ensures.ok ∙ ap (λ (x : Query). with_claim s.claims x.number p) c.query-q.ensures in
+    let free = c.if-not-branch.false in
+    let none : claim_at s.claims p ≡ None = c.in_ok-claim.ensures.free.0 free in
+    let made : c.claim.new.self ≡ with_claim s.claims q p = OnTrue_at free c.in_ok-claim.ensures.claimed ∙ ap (λ (x : Query). with_claim s.claims x.number p) c.query-q.ensures in
+    let here : p.signal % b.shards ≡ s.number = subst (λ (v : KeptShard). IsHere b v p) (sym c.self.view_is) c.requires.here in
+    let missed : stored_at (shard_at o es).state.cells p ≡ None = subst (λ (v : KeptShard). stored_at v.shard.state.cells p ≡ None) (sym c.self.view_is) c.requires.missed in
+    let unclaimed = none-claimed b o s.number s.store s.claims es a p none in
     let items : c.push_reserved.new.self.items ≡ es ++ entry.Claimed q p ∷ [] =
     c.push_reserved.ensures.items ∙ ap (λ (l : List Entry). l ++ entry.Claimed c.query-q.result.number p ∷ []) c.make_room.ensures.items
     ∙ ap (λ (x : Query). es ++ entry.Claimed x.number p ∷ []) c.query-q.ensures in
     let more : length c.claim.new.self ≡ length s.claims + 1 = ap length made ∙ length-inserted s.claims p (record { q = q; waiters = [] }) none in
     record {
       agrees = subst (λ (l : List Entry). Agrees b o s.number s.store c.claim.new.self l) (sym items) (subst (λ (l : Claims Demand). Agrees b o s.number s.store l (es ++ entry.Claimed q p ∷ [])) (sym made)
-          (claimed-agrees b o s.number s.store s.claims es a w c.facts.ensures p c.requires.asks here un.missed un.unclaimed));
+          (claimed-agrees b o s.number s.store s.claims es a w c.facts.ensures p c.requires.asks here missed unclaimed));
       room = omega (arith, c.push_reserved.ensures.len, c.push_reserved.ensures.capacity, c.in_ok-make_room.ensures.room, c.len.ensures, more);
     }
 
@@ -61,11 +60,10 @@ invariant_of-self-in-Err g c =
     let a = c.self.invariant.agrees in
     let p = c.args.p in
     let w = c.args.strand.now in
-    let here : p.signal % b.shards ≡ s.number = subst (λ (v : KeptShard). IsHere b v p) (sym c.self.view_is) c.requires.here in
     let q = w.strand.query.number in
-    let un : IsUnfound (record { number = s.number; shard = shard_at o es; waiting = waits_in s.claims }) p = subst (λ (v : KeptShard). IsUnfound v p) (sym c.self.view_is) c.requires.unfound in
-    let none = unclaimed b o s.number s.store s.claims es a p un.unclaimed in
-    let made : c.claim.new.self ≡ with_claim s.claims q p = c.in_ok-claim.ensures.ok ∙ ap (λ (x : Query). with_claim s.claims x.number p) c.query-q.ensures in
+    let free = c.if-not-branch.false in
+    let none : claim_at s.claims p ≡ None = c.in_ok-claim.ensures.free.0 free in
+    let made : c.claim.new.self ≡ with_claim s.claims q p = OnTrue_at free c.in_ok-claim.ensures.claimed ∙ ap (λ (x : Query). with_claim s.claims x.number p) c.query-q.ensures in
     let gone : c.end_claim.new.claims ≡ s.claims = c.end_claim.ensures ∙ ap (λ (l : Claims Demand). without_claim l p) made ∙ removed-inserted s.claims p (record { q = q; waiters = [] }) none in
     let same : length c.end_claim.new.claims ≡ length s.claims = ap length gone in
     record {
@@ -82,31 +80,34 @@ returns-in-Ok g c =
     let a = c.self.invariant.agrees in
     let p = c.args.p in
     let w = c.args.strand.now in
-    let here : p.signal % b.shards ≡ s.number = subst (λ (v : KeptShard). IsHere b v p) (sym c.self.view_is) c.requires.here in
     let q = w.strand.query.number in
-    let un : IsUnfound (record { number = s.number; shard = shard_at o es; waiting = waits_in s.claims }) p = subst (λ (v : KeptShard). IsUnfound v p) (sym c.self.view_is) c.requires.unfound in
-    let none = unclaimed b o s.number s.store s.claims es a p un.unclaimed in
-    let made : c.claim.new.self ≡ with_claim s.claims q p = c.in_ok-claim.ensures.ok ∙ ap (λ (x : Query). with_claim s.claims x.number p) c.query-q.ensures in
+    let free = c.if-not-branch.false in
+    let none : claim_at s.claims p ≡ None = c.in_ok-claim.ensures.free.0 free in
+    let made : c.claim.new.self ≡ with_claim s.claims q p = OnTrue_at free c.in_ok-claim.ensures.claimed ∙ ap (λ (x : Query). with_claim s.claims x.number p) c.query-q.ensures in
+    let here : p.signal % b.shards ≡ s.number = subst (λ (v : KeptShard). IsHere b v p) (sym c.self.view_is) c.requires.here in
+    let missed : stored_at (shard_at o es).state.cells p ≡ None = subst (λ (v : KeptShard). stored_at v.shard.state.cells p ≡ None) (sym c.self.view_is) c.requires.missed in
+    let unclaimed = none-claimed b o s.number s.store s.claims es a p none in
     let items : c.push_reserved.new.self.items ≡ es ++ entry.Claimed q p ∷ [] =
     c.push_reserved.ensures.items ∙ ap (λ (l : List Entry). l ++ entry.Claimed c.query-q.result.number p ∷ []) c.make_room.ensures.items
-    ∙ ap (λ (x : Query). es ++ entry.Claimed x.number p ∷ []) c.query-q.ensures in
-    subst (λ (v : KeptShard). ClaimsIt b v (record { number = s.number; shard = shard_at o c.push_reserved.new.self.items; waiting = waits_in c.claim.new.self }) p w c.take_claim.new.self) c.self.view_is
-    (subst (λ (l : Claims Demand). ClaimsIt b (record { number = s.number; shard = shard_at o es; waiting = waits_in s.claims }) (record { number = s.number; shard = shard_at o c.push_reserved.new.self.items; waiting = waits_in l }) p w c.take_claim.new.self) (sym made)
-    (claimed-shown b o s.number s.store s.claims es a w c.facts.ensures p c.requires.asks here un.missed un.unclaimed c.requires.within c.take_claim.new.self c.in-Ok.ensures.ok c.push_reserved.new.self.items items))
+    ∙ ap (λ (x : Query). es ++ entry.Claimed x.number p ∷ []) c.query-q.ensures in (
+      refl,
+      subst (λ (v : KeptShard). ClaimsIt b v (record { number = s.number; shard = shard_at o c.push_reserved.new.self.items; waiting = waits_in c.claim.new.self }) p w c.take_claim.new.self) c.self.view_is
+          (subst (λ (l : Claims Demand). ClaimsIt b (record { number = s.number; shard = shard_at o es; waiting = waits_in s.claims }) (record { number = s.number; shard = shard_at o c.push_reserved.new.self.items; waiting = waits_in l }) p w c.take_claim.new.self) (sym made)
+          (claimed-shown b o s.number s.store s.claims es a w c.facts.ensures p c.requires.asks here missed unclaimed c.requires.within c.take_claim.new.self c.in-Ok.ensures.ok c.push_reserved.new.self.items items)),
+    )
 
 pub returns-in-Err : goal.returns-in-Err
 returns-in-Err g c =
-    let b = g.B.BatchName.batch in
     let s = c.self.inside in
     let o = g.B.BatchName.opening s.number in
-    let es = s.journal.items in
-    let a = c.self.invariant.agrees in
     let p = c.args.p in
     let w = c.args.strand.now in
-    let here : p.signal % b.shards ≡ s.number = subst (λ (v : KeptShard). IsHere b v p) (sym c.self.view_is) c.requires.here in
     let q = w.strand.query.number in
-    let un : IsUnfound (record { number = s.number; shard = shard_at o es; waiting = waits_in s.claims }) p = subst (λ (v : KeptShard). IsUnfound v p) (sym c.self.view_is) c.requires.unfound in
-    let none = unclaimed b o s.number s.store s.claims es a p un.unclaimed in
-    let made : c.claim.new.self ≡ with_claim s.claims q p = c.in_ok-claim.ensures.ok ∙ ap (λ (x : Query). with_claim s.claims x.number p) c.query-q.ensures in
-    let gone : c.end_claim.new.claims ≡ s.claims = c.end_claim.ensures ∙ ap (λ (l : Claims Demand). without_claim l p) made ∙ removed-inserted s.claims p (record { q = q; waiters = [] }) none in
-    (c.in-Err.ensures.err, ap₂ (λ (l : List Entry) (k : Claims Demand). record { number = s.number; shard = shard_at o l; waiting = waits_in k }) c.make_room.ensures.items gone ∙ c.self.view_is)
+    let free = c.if-not-branch.false in
+    let none : claim_at s.claims p ≡ None = c.in_ok-claim.ensures.free.0 free in
+    let made : c.claim.new.self ≡ with_claim s.claims q p = OnTrue_at free c.in_ok-claim.ensures.claimed ∙ ap (λ (x : Query). with_claim s.claims x.number p) c.query-q.ensures in
+    let gone : c.end_claim.new.claims ≡ s.claims = c.end_claim.ensures ∙ ap (λ (l : Claims Demand). without_claim l p) made ∙ removed-inserted s.claims p (record { q = q; waiters = [] }) none in (
+      λ e. absurd (cc e),
+      c.in-Err.ensures.err,
+      ap₂ (λ (l : List Entry) (k : Claims Demand). record { number = s.number; shard = shard_at o l; waiting = waits_in k }) c.make_room.ensures.items gone ∙ c.self.view_is,
+    )
