@@ -40,7 +40,15 @@ pub fn shard_number(signal: u32, count: usize) -> usize
     ensures number { result ≡ shard_number signal count }
     ensures within { result < count }
 {
-    signal as usize % count
+    let signal = signal as usize;
+    // By a constant power of two the compiler masks; a division takes some thirty times as long.
+    match count {
+        8 => signal % 8,
+        16 => signal % 16,
+        32 => signal % 32,
+        64 => signal % 64,
+        _ => signal % count,
+    }
 }
 
 /// One shard of the memo, in the batch that B names.
