@@ -23,40 +23,41 @@ fn is_eviction(entry: &Entry) -> bool
     matches!(entry, Entry::Evicted { .. })
 }
 
-/// How many of the entries are fills.
-fn fills_in(entries: &[Entry]) -> u64
-    ensures { result ≡ count session.is_fill entries.now }
-{
-    entries.iter().filter(|entry| is_fill(entry)).count() as u64
+/// How many fills there are, and how many evictions.
+#[derive(Clone, Copy)]
+struct Tally {
+    fills: u64,
+    evictions: u64,
 }
 
-/// How many of the entries are evictions.
-fn evictions_in(entries: &[Entry]) -> u64
-    ensures { result ≡ count session.is_eviction entries.now }
-{
-    entries.iter().filter(|entry| is_eviction(entry)).count() as u64
-}
-
-/// How many fills there are in all lists, if that is a number.
-fn all_fills(lists: &[EntryList]) -> Option<u64>
-    ensures { IfSome result (λ n. n ≡ sum_by (count session.is_fill) lists.now) }
+/// The fills and evictions of these entries.
+fn tally_of(entries: &[Entry]) -> Tally
+    ensures fills { result.fills ≡ count session.is_fill entries.now }
+    ensures evictions { result.evictions ≡ count session.is_eviction entries.now }
 {
     let mut fills = 0u64;
-    for list in lists {
-        fills = fills.checked_add(fills_in(list.as_slice()))?;
+    let mut evictions = 0u64;
+    for entry in entries {
+        fills += u64::from(is_fill(entry));
+        evictions += u64::from(is_eviction(entry));
     }
-    Some(fills)
+    Tally { fills, evictions }
 }
 
-/// How many evictions there are in all lists, if that is a number.
-fn all_evictions(lists: &[EntryList]) -> Option<u64>
-    ensures { IfSome result (λ n. n ≡ sum_by (count session.is_eviction) lists.now) }
+/// The fills and evictions of all lists, if their sums are numbers.
+fn tally_all(lists: &[EntryList]) -> Option<Tally>
+    ensures fills { IfSome result (λ all. all.fills ≡ sum_by (count session.is_fill) lists.now) }
+    ensures evictions { IfSome result (λ all. all.evictions ≡ sum_by (count session.is_eviction)
+        lists.now) }
 {
+    let mut fills = 0u64;
     let mut evictions = 0u64;
     for list in lists {
-        evictions = evictions.checked_add(evictions_in(list.as_slice()))?;
+        let more = tally_of(list.as_slice());
+        fills = fills.checked_add(more.fills)?;
+        evictions = evictions.checked_add(more.evictions)?;
     }
-    Some(evictions)
+    Some(Tally { fills, evictions })
 }
 
 fn batches_of(kind: SectionKind) -> u64
@@ -82,12 +83,12 @@ fn counted_lists(kind: SectionKind, lists: &[EntryList]) -> &[EntryList]
 pub fn count_section(counts: Counts, kind: SectionKind, lists: &[EntryList]) -> Option<Counts>
     ensures { IfSome result (λ later. IsCounted counts kind lists.now later) }
 {
-    let lists = counted_lists(kind, lists);
+    let tally = tally_all(counted_lists(kind, lists))?;
     Some(Counts {
         sections: counts.sections.checked_add(1)?,
         batches: counts.batches.checked_add(batches_of(kind))?,
-        fills: counts.fills.checked_add(all_fills(lists)?)?,
-        evictions: counts.evictions.checked_add(all_evictions(lists)?)?,
+        fills: counts.fills.checked_add(tally.fills)?,
+        evictions: counts.evictions.checked_add(tally.evictions)?,
     })
 }
 
