@@ -1,6 +1,6 @@
 -- Texts that grow, piece by piece.
 use Rattle.std.proofs.Common.{◌≡◌, ℕ, zero, suc, List, [], ◌∷◌, ◌++◌, take, drop, Result, Ok, Err, refl, sym, ap, subst, ◌∙◌, append_assoc, append-nil}
-use Rattle.std.specs.Prelude.{OnErr, IfErr, IsErrAnd}
+use Rattle.std.specs.Prelude.{OnOk, OnErr, IfErr, IsErrAnd}
 use Rattle.std.proofs.lemmas.List.{take-append-drop}
 use Rattle.backsim_io.specs.Counts.{Grows, GrowsByPrefix}
 use Rattle.owned_text.specs.Made.{Made}
@@ -8,7 +8,7 @@ use Rattle.backsim_io.specs.FilesInMemory.{files_with, FileGrows, FileGrowsByPre
 use Rattle.session_meaning.specs.Broken.{IsPrefix}
 use Rattle.session_meaning.proofs.Journals.{prefix-same, prefix-again}
 use Rattle.session_loop.specs.Halting.{session_files}
-use Rattle.session_loop.specs.inner.Growing.{GoesOn, FilesGoOn, GrowsPart, FileGrowsPart}
+use Rattle.session_loop.specs.inner.Growing.{GoesOn, FilesGoOn, GrowsPart, FileGrowsPart, KeepsBack}
 
 -- what holds anyhow
 pub on-err : {T E X : Type 0} (result : Result T E) → X → OnErr result X
@@ -72,6 +72,50 @@ file-part-after u v w slot done whole f p = (done ++ p.0, (p.1.0, ap (λ l. done
 
 pub file-part-longer : (u v : List Made → Type 0) (slot : ℕ) (part whole : List ℕ) → IsPrefix part whole → FileGrowsPart u v slot part → FileGrowsPart u v slot whole
 file-part-longer u v slot part whole q p = (p.0, prefix-again p.0 part whole p.1 q, p.2)
+
+-- texts that are kept back
+pub keeps-none : (m : List Made → Type 0) (slot : ℕ) (kept : List ℕ) → KeepsBack m m slot kept [] kept
+keeps-none m slot kept = record { written = []; grows = file-none m slot; same = sym (append-nil kept) }
+
+pub keeps-text : (m : List Made → Type 0) (slot : ℕ) (kept more : List ℕ) → KeepsBack m m slot kept more (kept ++ more)
+keeps-text m slot kept more = record { written = []; grows = file-none m slot; same = refl }
+
+-- a text is kept back, and then some of it is written
+pub keeps-pushed : (u v : List Made → Type 0) (slot : ℕ) (kept more left : List ℕ) → KeepsBack u v slot (kept ++ more) [] left → KeepsBack u v slot kept more left
+keeps-pushed u v slot kept more left f = record { written = f.written; grows = f.grows; same = f.same ∙ append-nil (kept ++ more) }
+
+-- all that is kept back is written
+pub keeps-written : (u v : List Made → Type 0) (slot : ℕ) (kept : List ℕ) → FileGrows u v slot kept → KeepsBack u v slot kept [] []
+keeps-written u v slot kept grows = record { written = kept; grows = grows; same = refl }
+
+module _ (u v w : List Made → Type 0) (slot : ℕ) (a b c d : List ℕ) (f : KeepsBack u v slot a b c) where
+  split : f.written ++ (c ++ d) ≡ a ++ (b ++ d)
+  split = sym (append_assoc f.written c d) ∙ ap (λ l. l ++ d) f.same ∙ append_assoc a b d
+
+  pub keeps-more : (e : List ℕ) → KeepsBack v w slot c d e → KeepsBack u w slot a (b ++ d) e
+  keeps-more e g = record {
+    written = f.written ++ g.written;
+    grows = file-more u v w slot f.written g.written f.grows g.grows;
+    same = append_assoc f.written g.written e ∙ ap (λ l. f.written ++ l) g.same ∙ split;
+  }
+
+  -- all of it is written
+  pub keeps-whole : FileGrows v w slot (c ++ d) → FileGrows u w slot (a ++ (b ++ d))
+  keeps-whole g = subst (FileGrows u w slot) split (file-more u v w slot f.written (c ++ d) f.grows g)
+
+  -- a part of it is written, and nothing of what is left
+  pub keeps-part : (left whole : List ℕ) → whole ≡ (b ++ d) ++ left → FileGrowsPart v w slot (c ++ d) → FileGrowsPart u w slot (a ++ whole)
+  keeps-part left whole is p =
+      file-part-longer u w slot (a ++ (b ++ d)) (a ++ whole) (left, ap (λ l. a ++ l) is ∙ sym (append_assoc a (b ++ d) left))
+      (subst (FileGrowsPart u w slot) split (file-part-after u v w slot f.written (c ++ d) f.grows p))
+
+  pub keeps-ok : {T E : Type 0} (r : Result T E) → OnOk r (FileGrows v w slot (c ++ d)) → OnOk r (FileGrows u w slot (a ++ (b ++ d)))
+  keeps-ok (Ok x) g = keeps-whole g
+  keeps-ok (Err e) g = g
+
+  pub keeps-err : {T E : Type 0} (r : Result T E) → OnErr r (FileGrowsPart v w slot (c ++ d)) → OnErr r (FileGrowsPart u w slot (a ++ (b ++ d)))
+  keeps-err (Ok x) p = p
+  keeps-err (Err e) p = keeps-part [] (b ++ d) (sym (append-nil (b ++ d))) p
 
 -- texts that go on
 pub goes-none : (w : List ℕ → Type 0) (before : List ℕ) → GoesOn w w before before

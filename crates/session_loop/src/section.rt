@@ -1,13 +1,14 @@
 //! Replies and sections are written.
 
-ghost use Rattle.std.specs.Prelude.{◌≡◌, ◌++◌, ◌<◌, ◌≤◌, length, flat_map, Contains, IfOk, OnErr, OnOk};
+ghost use Rattle.std.specs.Prelude.{◌≡◌, ◌++◌, ◌<◌, ◌≤◌, [], length, flat_map, Contains, IfOk, OnErr, OnOk};
 ghost use Rattle.std.specs.List.{AllZip};
 ghost use Rattle.backsim_io.specs.Counts.{Grows};
 ghost use Rattle.backsim_io.specs.FilesInMemory.{FileGrows};
-ghost use Rattle.journal_text.specs.Spelling.{entry_line, kind_word, shard_lines, section_lines};
+ghost use Rattle.journal_text.specs.Spelling.{entry_line, kind_word, line_feed, shard_lines, section_lines};
 ghost use Rattle.reply_lines.specs.Replies.{Suits};
 ghost use Rattle.session_meaning.specs.Replies.{replies_text};
-ghost use Rattle.session_loop.specs.inner.Growing.{GrowsPart, FileGrowsPart, shard_line};
+ghost use Rattle.session_loop.specs.inner.Growing.{GrowsPart, FileGrowsPart, KeepsBack, shard_line};
+ghost use Rattle.text_fields.specs.Spelling.{field};
 ghost use Rattle.session_loop.specs.inner.Outside.{RepliesChanges, JournalChanges};
 
 use crate::stop::Stop;
@@ -18,9 +19,10 @@ use owned_text::OutOfMemory;
 use query_lines::Item;
 use reply_lines::{Reply, reply_text};
 use std::alloc::Global;
+use text_fields::push_field;
 
-/// How many entries are written at a time.
-const PIECE: usize = 2048;
+/// How many bytes of a section are kept back until they are written.
+const PIECE: usize = 32_768;
 
 /// Writes a reply, by one `write_all`.
 pub fn write_reply<S: Sink>(text: &[u8], out: &mut S) -> Result<(), Stop>
@@ -69,79 +71,91 @@ pub fn write_piece<F: Files>(slot: u32, text: &[u8], files: &mut F) -> Result<()
     }
 }
 
-/// The lines of some entries.
-fn entries_text(alloc: Global, entries: &[Entry]) -> Result<Vec<u8>, OutOfMemory>
-    ensures { IfOk result (λ text. text.items ≡ flat_map entry_line entries.now) }
+/// Writes the text to a created file once it is a piece long. Until then it is kept back.
+fn write_full<F: Files>(slot: u32, text: &mut Vec<u8>, files: &mut F) -> Result<(), Stop>
+    requires unfinished { Contains (F.state files.old).unfinished slot }
+    ensures kept { OnOk result (KeepsBack (F.made files.old) (F.made files.new) slot text.old.items []
+        text.new.items) }
+    ensures begun { OnErr result
+        (FileGrowsPart (F.made files.old) (F.made files.new) slot text.old.items) }
+    ensures state { JournalChanges (F.state files.old) (F.state files.new) result }
 {
-    let mut text = Vec::new(alloc);
-    for entry in entries {
-        push_entry(&mut text, entry)?;
+    if text.len() < PIECE {
+        return Ok(());
     }
-    Ok(text)
+    write_piece(slot, text.as_slice(), files)?;
+    text.clear();
+    Ok(())
 }
 
-/// Writes the lines of entries to a created file, so many at a time.
+/// Writes the lines of entries after the text that is kept back.
 fn write_entries<F: Files>(
-    alloc: Global,
     entries: &[Entry],
     slot: u32,
+    text: &mut Vec<u8>,
     files: &mut F,
 ) -> Result<(), Stop>
     requires unfinished { Contains (F.state files.old).unfinished slot }
-    ensures written { let lines = flat_map entry_line entries.now in
-        OnOk result (FileGrows (F.made files.old) (F.made files.new) slot lines) }
+    ensures kept { let lines = flat_map entry_line entries.now in
+        OnOk result (KeepsBack (F.made files.old) (F.made files.new) slot text.old.items lines text.new.items) }
     ensures begun { let lines = flat_map entry_line entries.now in
-        OnErr result (FileGrowsPart (F.made files.old) (F.made files.new) slot lines) }
+        OnErr result (FileGrowsPart (F.made files.old) (F.made files.new) slot (text.old.items ++ lines)) }
     ensures state { JournalChanges (F.state files.old) (F.state files.new) result }
 {
-    let mut done = 0;
-    while done < entries.len() {
-        let n = PIECE.min(entries.len() - done);
-        let text = entries_text(alloc, &entries[done..done + n])?;
-        write_piece(slot, &text, files)?;
-        done += n;
+    for entry in entries {
+        push_entry(text, entry)?;
+        write_full(slot, text, files)?;
     }
     Ok(())
 }
 
-/// Writes the line of a shard, and those of its entries.
+/// Adds the line of a shard.
+fn push_shard(text: &mut Vec<u8>, number: u32) -> Result<(), OutOfMemory>
+    ensures { OnOk result (text.new.items ≡ text.old.items ++ shard_line number) }
+{
+    text.extend_from_slice(b"shard")?;
+    push_field(text, number)?;
+    text.push(b'\n')?;
+    Ok(())
+}
+
+/// Writes the line of a shard, and those of its entries, after the text that is kept back.
 fn write_shard<F: Files>(
-    alloc: Global,
     number: u32,
     entries: &[Entry],
     slot: u32,
+    text: &mut Vec<u8>,
     files: &mut F,
 ) -> Result<(), Stop>
     requires unfinished { Contains (F.state files.old).unfinished slot }
-    ensures written { let lines = shard_line number ++ flat_map entry_line entries.now in
-        OnOk result (FileGrows (F.made files.old) (F.made files.new) slot lines) }
+    ensures kept { let lines = shard_line number ++ flat_map entry_line entries.now in
+        OnOk result (KeepsBack (F.made files.old) (F.made files.new) slot text.old.items lines text.new.items) }
     ensures begun { let lines = shard_line number ++ flat_map entry_line entries.now in
-        OnErr result (FileGrowsPart (F.made files.old) (F.made files.new) slot lines) }
+        OnErr result (FileGrowsPart (F.made files.old) (F.made files.new) slot (text.old.items ++ lines)) }
     ensures state { JournalChanges (F.state files.old) (F.state files.new) result }
 {
-    let line = format!(in alloc; "shard {number}\n")?;
-    write_piece(slot, line.as_bytes(), files)?;
-    write_entries(alloc, entries, slot, files)
+    push_shard(text, number)?;
+    write_entries(entries, slot, text, files)
 }
 
-/// Writes the lines of all shards.
+/// Writes the lines of all shards after the text that is kept back.
 fn write_shards<F: Files>(
-    alloc: Global,
     lists: &[EntryList],
     slot: u32,
+    text: &mut Vec<u8>,
     files: &mut F,
 ) -> Result<(), Stop>
     requires few { length lists.now ≤ 4294967295 }
     requires unfinished { Contains (F.state files.old).unfinished slot }
-    ensures written { let lines = shard_lines 0 lists.now in
-        OnOk result (FileGrows (F.made files.old) (F.made files.new) slot lines) }
+    ensures kept { let lines = shard_lines 0 lists.now in
+        OnOk result (KeepsBack (F.made files.old) (F.made files.new) slot text.old.items lines text.new.items) }
     ensures begun { let lines = shard_lines 0 lists.now in
-        OnErr result (FileGrowsPart (F.made files.old) (F.made files.new) slot lines) }
+        OnErr result (FileGrowsPart (F.made files.old) (F.made files.new) slot (text.old.items ++ lines)) }
     ensures state { JournalChanges (F.state files.old) (F.state files.new) result }
 {
     let mut number = 0u32;
     for list in lists {
-        write_shard(alloc, number, list.as_slice(), slot, files)?;
+        write_shard(number, list.as_slice(), slot, text, files)?;
         number += 1;
     }
     Ok(())
@@ -155,6 +169,16 @@ fn word_of(kind: SectionKind) -> &'static str
         SectionKind::Trim => "trim",
         SectionKind::Held => "held",
     }
+}
+
+/// The first line of a section.
+fn head_line(alloc: Global, kind: SectionKind, number: u32) -> Result<Vec<u8>, OutOfMemory>
+    ensures { IfOk result (λ text. text.items ≡ kind_word kind ++ (field number ++ line_feed)) }
+{
+    let mut text = Vec::from_slice(alloc, word_of(kind).as_bytes())?;
+    push_field(&mut text, number)?;
+    text.push(b'\n')?;
+    Ok(text)
 }
 
 /// Writes a section to a created file, piece by piece, each of bounded size.
@@ -176,9 +200,8 @@ pub fn write_section<F: Files>(
         OnErr result (FileGrowsPart (F.made files.old) (F.made files.new) slot lines) }
     ensures state { JournalChanges (F.state files.old) (F.state files.new) result }
 {
-    let word = word_of(kind);
-    let line = format!(in alloc; "{word} {number}\n")?;
-    write_piece(slot, line.as_bytes(), files)?;
-    write_shards(alloc, lists, slot, files)?;
-    write_piece(slot, b"end\n", files)
+    let mut text = head_line(alloc, kind, number)?;
+    write_shards(lists, slot, &mut text, files)?;
+    text.extend_from_slice(b"end\n")?;
+    write_piece(slot, text.as_slice(), files)
 }

@@ -1,47 +1,42 @@
-use Rattle.std.proofs.Common.{refl, subst, ◌∙◌, ◌++◌, arith}
+use Rattle.std.proofs.Common.{◌+◌, ◌++◌, refl, sym, subst, ◌∙◌, take, drop, arith}
 use Rattle.std.specs.Prelude.{flat_map}
-use Rattle.backsim_io.specs.FilesInMemory.{FileGrows}
-use Rattle.journal_text.specs.Spelling.{entry_line}
-use Rattle.session_loop.specs.inner.Growing.{FileGrowsPart, shard_line}
-use Rattle.session_loop.specs.Outside.{JournalStops}
-use Rattle.session_loop.specs.inner.Outside.{JournalChanges}
-use Rattle.session_loop.proofs.Changes.{handed-on}
-use Rattle.session_loop.proofs.Growing.{on-err, file-none}
-use Rattle.session_loop.proofs.Pieces.{shards-next, shards-part}
+use Rattle.journal_text.specs.Spelling.{entry_line, shard_lines}
+use Rattle.session_loop.specs.inner.Growing.{FileGrowsPart, KeepsBack, shard_line}
+use Rattle.session_loop.proofs.Growing.{on-err, keeps-none, keeps-more, keeps-part}
+use Rattle.session_loop.proofs.Pieces.{shards-next, shards-after}
 use Rattle.session_loop.proofs.section.write_shards.Goals as goal
 
 pub loop-list-init : goal.loop-list-init
 loop-list-init g c = record {
   number = refl;
-  written = file-none (g.F.Files.made c.args.files.now) c.args.slot;
+  kept = keeps-none (g.F.Files.made c.args.files.now) c.args.slot c.args.text.now.items;
   same = refl;
 }
 
 pub loop-list-preserved : goal.loop-list-preserved
 loop-list-preserved g c =
     let M = g.F.Files.made in
+    let i = c.loop-list.list-index in
+    let es = c.list-item.result in
     let held = c.loop-list.invariant in
     let done = c.in_ok-write_shard.ensures in
     record {
       number = omega (arith, held.number);
-      written = shards-next c.args.slot (M c.args.files.now) (M c.loop-list.files) (M c.write_shard.new.files) c.args.lists.now c.loop-list.list-index c.list-item.result c.loop-list-test.true c.list-item.is held.written
-          (subst (λ es. FileGrows (M c.loop-list.files) (M c.write_shard.new.files) c.args.slot (shard_line c.loop-list.list-index ++ flat_map entry_line es)) c.as_slice.ensures
-          (subst (λ n. FileGrows (M c.loop-list.files) (M c.write_shard.new.files) c.args.slot (shard_line n ++ flat_map entry_line c.as_slice.result.now)) held.number done.written));
+      kept = subst (λ l. KeepsBack (M c.args.files.now) (M c.write_shard.new.files) c.args.slot c.args.text.now.items l c.write_shard.new.text.items) (sym (shards-next c.args.lists.now i es c.loop-list-test.true c.list-item.is))
+          (keeps-more (M c.args.files.now) (M c.loop-list.files) (M c.write_shard.new.files) c.args.slot c.args.text.now.items (shard_lines 0 (take i c.args.lists.now)) c.loop-list.text.items (shard_line i ++ flat_map entry_line es) held.kept c.write_shard.new.text.items
+          (subst (λ l. KeepsBack (M c.loop-list.files) (M c.write_shard.new.files) c.args.slot c.loop-list.text.items (shard_line i ++ flat_map entry_line l) c.write_shard.new.text.items) c.as_slice.ensures
+          (subst (λ n. KeepsBack (M c.loop-list.files) (M c.write_shard.new.files) c.args.slot c.loop-list.text.items (shard_line n ++ flat_map entry_line c.as_slice.result.now) c.write_shard.new.text.items) held.number done.kept)));
       same = done.state ∙ held.same;
     }
 
 pub returns-in_err-write_shard-clause-begun : goal.returns-in_err-write_shard-clause-begun
 returns-in_err-write_shard-clause-begun g c =
     let M = g.F.Files.made in
+    let i = c.loop-list.list-index in
+    let es = c.list-item.result in
     let held = c.loop-list.invariant in
     on-err c.from_residual.result
-    (shards-part c.args.slot (M c.args.files.now) (M c.loop-list.files) (M c.write_shard.new.files) c.args.lists.now c.loop-list.list-index c.list-item.result c.loop-list-test.true c.list-item.is held.written
-    (subst (λ es. FileGrowsPart (M c.loop-list.files) (M c.write_shard.new.files) c.args.slot (shard_line c.loop-list.list-index ++ flat_map entry_line es)) c.as_slice.ensures
-    (subst (λ n. FileGrowsPart (M c.loop-list.files) (M c.write_shard.new.files) c.args.slot (shard_line n ++ flat_map entry_line c.as_slice.result.now)) held.number c.in_err-write_shard.ensures.begun)))
-
-pub returns-in_err-write_shard-clause-state : goal.returns-in_err-write_shard-clause-state
-returns-in_err-write_shard-clause-state g c =
-    let F = g.F.Files.state in
-    let stop = c.in_err-write_shard.field-0.0 in
-    handed-on (JournalChanges (F c.args.files.now) (F c.write_shard.new.files)) stop c.from_residual.result c.from_residual.ensures.1
-    (subst (λ f. JournalStops f (F c.write_shard.new.files) stop) c.loop-list.invariant.same c.in_err-write_shard.ensures.state)
+    (keeps-part (M c.args.files.now) (M c.loop-list.files) (M c.write_shard.new.files) c.args.slot c.args.text.now.items (shard_lines 0 (take i c.args.lists.now)) c.loop-list.text.items (shard_line i ++ flat_map entry_line es) held.kept
+    (shard_lines (0 + (i + 1)) (drop (i + 1) c.args.lists.now)) (shard_lines 0 c.args.lists.now) (shards-after c.args.lists.now i es c.loop-list-test.true c.list-item.is)
+    (subst (λ l. FileGrowsPart (M c.loop-list.files) (M c.write_shard.new.files) c.args.slot (c.loop-list.text.items ++ (shard_line i ++ flat_map entry_line l))) c.as_slice.ensures
+    (subst (λ n. FileGrowsPart (M c.loop-list.files) (M c.write_shard.new.files) c.args.slot (c.loop-list.text.items ++ (shard_line n ++ flat_map entry_line c.as_slice.result.now))) held.number c.in_err-write_shard.ensures.begun)))
