@@ -74,48 +74,50 @@ pub file-part-longer : (u v : List Made → Type 0) (slot : ℕ) (part whole : L
 file-part-longer u v slot part whole q p = (p.0, prefix-again p.0 part whole p.1 q, p.2)
 
 -- texts that are kept back
-pub keeps-none : (m : List Made → Type 0) (slot : ℕ) (kept : List ℕ) → KeepsBack m m slot kept [] kept
-keeps-none m slot kept = record { written = []; grows = file-none m slot; same = sym (append-nil kept) }
+module _ (G : List ℕ → Type 0) (none : G []) where
+  pub keeps-none : (kept : List ℕ) → KeepsBack G kept [] kept
+  keeps-none kept = record { written = []; grows = none; same = sym (append-nil kept) }
 
-pub keeps-text : (m : List Made → Type 0) (slot : ℕ) (kept more : List ℕ) → KeepsBack m m slot kept more (kept ++ more)
-keeps-text m slot kept more = record { written = []; grows = file-none m slot; same = refl }
+  pub keeps-text : (kept more : List ℕ) → KeepsBack G kept more (kept ++ more)
+  keeps-text kept more = record { written = []; grows = none; same = refl }
 
 -- a text is kept back, and then some of it is written
-pub keeps-pushed : (u v : List Made → Type 0) (slot : ℕ) (kept more left : List ℕ) → KeepsBack u v slot (kept ++ more) [] left → KeepsBack u v slot kept more left
-keeps-pushed u v slot kept more left f = record { written = f.written; grows = f.grows; same = f.same ∙ append-nil (kept ++ more) }
+pub keeps-pushed : (G : List ℕ → Type 0) (kept more left : List ℕ) → KeepsBack G (kept ++ more) [] left → KeepsBack G kept more left
+keeps-pushed G kept more left f = record { written = f.written; grows = f.grows; same = f.same ∙ append-nil (kept ++ more) }
 
--- all that is kept back is written
-pub keeps-written : (u v : List Made → Type 0) (slot : ℕ) (kept : List ℕ) → FileGrows u v slot kept → KeepsBack u v slot kept [] []
-keeps-written u v slot kept grows = record { written = kept; grows = grows; same = refl }
+-- all of it is written
+pub keeps-nothing : (G : List ℕ → Type 0) (kept more : List ℕ) → G (kept ++ more) → KeepsBack G kept more []
+keeps-nothing G kept more grows = record { written = kept ++ more; grows = grows; same = append-nil (kept ++ more) }
 
-module _ (u v w : List Made → Type 0) (slot : ℕ) (a b c d : List ℕ) (f : KeepsBack u v slot a b c) where
+module _ (G : List ℕ → Type 0) (a b c d : List ℕ) (f : KeepsBack G a b c) where
   split : f.written ++ (c ++ d) ≡ a ++ (b ++ d)
   split = sym (append_assoc f.written c d) ∙ ap (λ l. l ++ d) f.same ∙ append_assoc a b d
 
-  pub keeps-more : (e : List ℕ) → KeepsBack v w slot c d e → KeepsBack u w slot a (b ++ d) e
-  keeps-more e g = record {
-    written = f.written ++ g.written;
-    grows = file-more u v w slot f.written g.written f.grows g.grows;
-    same = append_assoc f.written g.written e ∙ ap (λ l. f.written ++ l) g.same ∙ split;
-  }
+  -- more is written
+  module _ (H K : List ℕ → Type 0) (next : (one other : List ℕ) → G one → H other → K (one ++ other)) where
+    pub keeps-more : (e : List ℕ) → KeepsBack H c d e → KeepsBack K a (b ++ d) e
+    keeps-more e g = record {
+      written = f.written ++ g.written;
+      grows = next f.written g.written f.grows g.grows;
+      same = append_assoc f.written g.written e ∙ ap (λ l. f.written ++ l) g.same ∙ split;
+    }
 
-  -- all of it is written
-  pub keeps-whole : FileGrows v w slot (c ++ d) → FileGrows u w slot (a ++ (b ++ d))
-  keeps-whole g = subst (FileGrows u w slot) split (file-more u v w slot f.written (c ++ d) f.grows g)
+    -- all of it
+    keeps-whole : H (c ++ d) → K (a ++ (b ++ d))
+    keeps-whole g = subst K split (next f.written (c ++ d) f.grows g)
+
+    pub keeps-ok : {T E : Type 0} (r : Result T E) → OnOk r (H (c ++ d)) → OnOk r (K (a ++ (b ++ d)))
+    keeps-ok (Ok x) g = keeps-whole g
+    keeps-ok (Err e) g = g
 
   -- a part of it is written, and nothing of what is left
-  pub keeps-part : (left whole : List ℕ) → whole ≡ (b ++ d) ++ left → FileGrowsPart v w slot (c ++ d) → FileGrowsPart u w slot (a ++ whole)
-  keeps-part left whole is p =
-      file-part-longer u w slot (a ++ (b ++ d)) (a ++ whole) (left, ap (λ l. a ++ l) is ∙ sym (append_assoc a (b ++ d) left))
-      (subst (FileGrowsPart u w slot) split (file-part-after u v w slot f.written (c ++ d) f.grows p))
+  module _ (P Q : List ℕ → Type 0) (next : (done whole : List ℕ) → G done → P whole → Q (done ++ whole)) (longer : (part whole : List ℕ) → IsPrefix part whole → Q part → Q whole) where
+    pub keeps-part : (left whole : List ℕ) → whole ≡ (b ++ d) ++ left → P (c ++ d) → Q (a ++ whole)
+    keeps-part left whole is p = longer (a ++ (b ++ d)) (a ++ whole) (left, ap (λ l. a ++ l) is ∙ sym (append_assoc a (b ++ d) left)) (subst Q split (next f.written (c ++ d) f.grows p))
 
-  pub keeps-ok : {T E : Type 0} (r : Result T E) → OnOk r (FileGrows v w slot (c ++ d)) → OnOk r (FileGrows u w slot (a ++ (b ++ d)))
-  keeps-ok (Ok x) g = keeps-whole g
-  keeps-ok (Err e) g = g
-
-  pub keeps-err : {T E : Type 0} (r : Result T E) → OnErr r (FileGrowsPart v w slot (c ++ d)) → OnErr r (FileGrowsPart u w slot (a ++ (b ++ d)))
-  keeps-err (Ok x) p = p
-  keeps-err (Err e) p = keeps-part [] (b ++ d) (sym (append-nil (b ++ d))) p
+    pub keeps-err : {T E : Type 0} (r : Result T E) → OnErr r (P (c ++ d)) → OnErr r (Q (a ++ (b ++ d)))
+    keeps-err (Ok x) p = p
+    keeps-err (Err e) p = subst Q split (next f.written (c ++ d) f.grows p)
 
 -- texts that go on
 pub goes-none : (w : List ℕ → Type 0) (before : List ℕ) → GoesOn w w before before

@@ -4,7 +4,6 @@ use Rattle.std.specs.Prelude.{flat_map, codes}
 use Rattle.journal_text.specs.declared.sections.SectionKind.{SectionKind}
 use Rattle.std.proofs.lemmas.List.{take_more, take-append-drop}
 use Rattle.std.proofs.lemmas.List.Concat.{flat_map-append}
-use Rattle.backsim_io.specs.Counts.{Grows}
 use Rattle.journal_meaning.specs.declared.Entry.{Entry}
 use Rattle.text_fields.specs.Spelling.{field}
 use Rattle.journal_text.specs.Spelling.{line_feed, entry_line, shard_lines, kind_word, section_lines}
@@ -13,8 +12,7 @@ use Rattle.reply_lines.specs.declared.reply.Reply.{Reply}
 use Rattle.reply_lines.specs.Replies.{text_of}
 use Rattle.session_meaning.specs.Replies.{replies_text}
 use Rattle.session_meaning.specs.Broken.{IsPrefix}
-use Rattle.session_loop.specs.inner.Growing.{GrowsPart, shard_line}
-use Rattle.session_loop.proofs.Growing.{grows-more, part-after, part-longer}
+use Rattle.session_loop.specs.inner.Growing.{shard_line}
 
 -- the replies to the first items, and to one more
 replies-more : (items : List Item) (replies : List Reply) (i : ℕ) (a : Item) (b : Reply) → i < length items → i < length replies
@@ -39,14 +37,18 @@ replies-split (suc i) (x ∷ items) [] = sym (replies-none (drop i items))
 replies-split (suc i) (x ∷ items) (y ∷ replies) =
     ap (λ t. text_of x y ++ t) (replies-split i items replies) ∙ sym (append_assoc (text_of x y) (replies_text (take i items) (take i replies)) (replies_text (drop i items) (drop i replies)))
 
-module _ (items : List Item) (replies : List Reply) (i : ℕ) (a : Item) (b : Reply) (within : i < length items) (inside : i < length replies) (u v w : List ℕ → Type 0) (done : Grows u v (replies_text (take i items) (take i replies))) where
-  pub replies-next : Grows v w (text_of (get_or items i a) (get_or replies i b)) → Grows u w (replies_text (take (i + 1) items) (take (i + 1) replies))
-  replies-next more = subst (Grows u w) (sym (replies-more items replies i a b within inside)) (grows-more u v w (replies_text (take i items) (take i replies)) (text_of (get_or items i a) (get_or replies i b)) done more)
+-- the texts of one reply more
+pub replies-next : (items : List Item) (replies : List Reply) (i : ℕ) (a : Item) (b : Reply) → i < length items → i < length replies → a ≡ get_or items i a → b ≡ get_or replies i b
+    → replies_text (take (i + 1) items) (take (i + 1) replies) ≡ replies_text (take i items) (take i replies) ++ text_of a b
+replies-next items replies i a b within inside item reply =
+    replies-more items replies i a b within inside
+    ∙ ap (λ x. replies_text (take i items) (take i replies) ++ text_of x (get_or replies i b)) (sym item) ∙ ap (λ y. replies_text (take i items) (take i replies) ++ text_of a y) (sym reply)
 
-  pub replies-part : GrowsPart v w (text_of (get_or items i a) (get_or replies i b)) → GrowsPart u w (replies_text items replies)
-  replies-part part =
-      part-longer u w (replies_text (take (i + 1) items) (take (i + 1) replies)) (replies_text items replies) (replies_text (drop (i + 1) items) (drop (i + 1) replies), replies-split (i + 1) items replies)
-      (subst (GrowsPart u w) (sym (replies-more items replies i a b within inside)) (part-after u v w (replies_text (take i items) (take i replies)) (text_of (get_or items i a) (get_or replies i b)) done part))
+-- and of those after it
+pub replies-after : (items : List Item) (replies : List Reply) (i : ℕ) (a : Item) (b : Reply) → i < length items → i < length replies → a ≡ get_or items i a → b ≡ get_or replies i b
+    → replies_text items replies ≡ (replies_text (take i items) (take i replies) ++ text_of a b) ++ replies_text (drop (i + 1) items) (drop (i + 1) replies)
+replies-after items replies i a b within inside item reply =
+    replies-split (i + 1) items replies ∙ ap (λ l. l ++ replies_text (drop (i + 1) items) (drop (i + 1) replies)) (replies-next items replies i a b within inside item reply)
 
 -- entries
 abbrev lines_of : List Entry → List ℕ
@@ -112,6 +114,3 @@ section-parts kind number lists = regroup (kind_word kind) (field number) line_f
 
 pub shards-of-section : (kind : SectionKind) (number : ℕ) (lists : List (List Entry)) → IsPrefix (section_head kind number ++ shard_lines 0 lists) (section_lines (record { kind = kind; number = number; shards = lists }))
 shards-of-section kind number lists = (codes "end\n", section-parts kind number lists ∙ sym (append_assoc (section_head kind number) (shard_lines 0 lists) (codes "end\n")))
-
-pub replies-of-first : (i : ℕ) (items : List Item) (replies : List Reply) → IsPrefix (replies_text (take i items) (take i replies)) (replies_text items replies)
-replies-of-first i items replies = (replies_text (drop i items) (drop i replies), replies-split i items replies)

@@ -5,7 +5,7 @@ ghost use Rattle.std.specs.List.{AllZip};
 ghost use Rattle.backsim_io.specs.Counts.{Grows};
 ghost use Rattle.backsim_io.specs.FilesInMemory.{FileGrows};
 ghost use Rattle.journal_text.specs.Spelling.{entry_line, kind_word, line_feed, shard_lines, section_lines};
-ghost use Rattle.reply_lines.specs.Replies.{Suits};
+ghost use Rattle.reply_lines.specs.Replies.{Suits, text_of};
 ghost use Rattle.session_meaning.specs.Replies.{replies_text};
 ghost use Rattle.session_loop.specs.inner.Growing.{GrowsPart, FileGrowsPart, KeepsBack, shard_line};
 ghost use Rattle.text_fields.specs.Spelling.{field};
@@ -21,7 +21,7 @@ use reply_lines::{Reply, reply_text};
 use std::alloc::Global;
 use text_fields::push_field;
 
-/// How many bytes of a section are kept back until they are written.
+/// How many bytes of replies, or of a section, are kept back until they are written.
 const PIECE: usize = 32_768;
 
 /// Writes a reply, by one `write_all`.
@@ -36,7 +36,30 @@ pub fn write_reply<S: Sink>(text: &[u8], out: &mut S) -> Result<(), Stop>
     }
 }
 
-/// Writes the replies to items, in their order, each by one `write_all`.
+/// Adds the reply to an item to the text that is kept back, and writes that once it is a piece long.
+fn push_reply<S: Sink>(
+    alloc: Global,
+    item: &Item,
+    reply: &Reply,
+    text: &mut Vec<u8>,
+    out: &mut S,
+) -> Result<(), Stop>
+    requires suits { Suits item.now.what reply.now }
+    ensures kept { OnOk result (KeepsBack (Grows (S.written out.old) (S.written out.new)) text.old.items (text_of item.now reply.now) text.new.items) }
+    ensures begun { OnErr result (GrowsPart (S.written out.old) (S.written out.new) (text.old.items ++ text_of item.now reply.now)) }
+    ensures state { RepliesChanges (S.faults out.old) (S.faults out.new) result }
+{
+    let more = reply_text(alloc, item, reply)?;
+    text.extend_from_slice(&more)?;
+    if text.len() < PIECE {
+        return Ok(());
+    }
+    write_reply(text.as_slice(), out)?;
+    text.clear();
+    Ok(())
+}
+
+/// Writes the replies to items, in their order, piece by piece.
 pub fn write_replies<S: Sink>(
     alloc: Global,
     items: &[Item],
@@ -50,11 +73,11 @@ pub fn write_replies<S: Sink>(
         OnErr result (GrowsPart (S.written out.old) (S.written out.new) text) }
     ensures state { RepliesChanges (S.faults out.old) (S.faults out.new) result }
 {
+    let mut text = Vec::new(alloc);
     for i in 0..items.len() {
-        let text = reply_text(alloc, &items[i], &replies[i])?;
-        write_reply(&text, out)?;
+        push_reply(alloc, &items[i], &replies[i], &mut text, out)?;
     }
-    Ok(())
+    write_reply(text.as_slice(), out)
 }
 
 /// Writes a text after the bytes of a created file.
@@ -74,7 +97,7 @@ pub fn write_piece<F: Files>(slot: u32, text: &[u8], files: &mut F) -> Result<()
 /// Writes the text to a created file once it is a piece long. Until then it is kept back.
 fn write_full<F: Files>(slot: u32, text: &mut Vec<u8>, files: &mut F) -> Result<(), Stop>
     requires unfinished { Contains (F.state files.old).unfinished slot }
-    ensures kept { OnOk result (KeepsBack (F.made files.old) (F.made files.new) slot text.old.items []
+    ensures kept { OnOk result (KeepsBack (FileGrows (F.made files.old) (F.made files.new) slot) text.old.items []
         text.new.items) }
     ensures begun { OnErr result
         (FileGrowsPart (F.made files.old) (F.made files.new) slot text.old.items) }
@@ -97,7 +120,7 @@ fn write_entries<F: Files>(
 ) -> Result<(), Stop>
     requires unfinished { Contains (F.state files.old).unfinished slot }
     ensures kept { let lines = flat_map entry_line entries.now in
-        OnOk result (KeepsBack (F.made files.old) (F.made files.new) slot text.old.items lines text.new.items) }
+        OnOk result (KeepsBack (FileGrows (F.made files.old) (F.made files.new) slot) text.old.items lines text.new.items) }
     ensures begun { let lines = flat_map entry_line entries.now in
         OnErr result (FileGrowsPart (F.made files.old) (F.made files.new) slot (text.old.items ++ lines)) }
     ensures state { JournalChanges (F.state files.old) (F.state files.new) result }
@@ -129,7 +152,7 @@ fn write_shard<F: Files>(
 ) -> Result<(), Stop>
     requires unfinished { Contains (F.state files.old).unfinished slot }
     ensures kept { let lines = shard_line number ++ flat_map entry_line entries.now in
-        OnOk result (KeepsBack (F.made files.old) (F.made files.new) slot text.old.items lines text.new.items) }
+        OnOk result (KeepsBack (FileGrows (F.made files.old) (F.made files.new) slot) text.old.items lines text.new.items) }
     ensures begun { let lines = shard_line number ++ flat_map entry_line entries.now in
         OnErr result (FileGrowsPart (F.made files.old) (F.made files.new) slot (text.old.items ++ lines)) }
     ensures state { JournalChanges (F.state files.old) (F.state files.new) result }
@@ -148,7 +171,7 @@ fn write_shards<F: Files>(
     requires few { length lists.now ≤ 4294967295 }
     requires unfinished { Contains (F.state files.old).unfinished slot }
     ensures kept { let lines = shard_lines 0 lists.now in
-        OnOk result (KeepsBack (F.made files.old) (F.made files.new) slot text.old.items lines text.new.items) }
+        OnOk result (KeepsBack (FileGrows (F.made files.old) (F.made files.new) slot) text.old.items lines text.new.items) }
     ensures begun { let lines = shard_lines 0 lists.now in
         OnErr result (FileGrowsPart (F.made files.old) (F.made files.new) slot (text.old.items ++ lines)) }
     ensures state { JournalChanges (F.state files.old) (F.state files.new) result }

@@ -31,10 +31,10 @@ GrowsPart old new whole = (part : List ℕ) × IsPrefix part whole × Grows old 
 abbrev pub FileGrowsPart : (List Made → Type 0) → (List Made → Type 0) → ℕ → List ℕ → Type 0
 FileGrowsPart old new slot whole = (part : List ℕ) × IsPrefix part whole × FileGrows old new slot part
 
--- a text was written to the file or is kept back: what is kept back now, after what was written, is what was kept back before, and the text
-pub record KeepsBack (old new : List Made → Type 0) (slot : ℕ) (before more after : List ℕ) : Type 0 where
+-- A text comes after what was kept back. The first part of both grew what is written, and the rest is kept back.
+pub record KeepsBack (Growth : List ℕ → Type 0) (before more after : List ℕ) : Type 0 where
   pub written : List ℕ
-  pub grows : FileGrows old new slot written
+  pub grows : Growth written
   pub same : written ++ after ≡ before ++ more
 
 -- the line of a shard

@@ -1,50 +1,67 @@
-use Rattle.std.proofs.Common.{◌+◌, refl, sym, subst, ◌∙◌, take, drop}
+use Rattle.std.proofs.Common.{◌+◌, ◌++◌, refl, sym, subst, ◌∙◌, take, drop}
 use Rattle.std.specs.Prelude.{[], flat_map}
+use Rattle.backsim_io.specs.FilesInMemory.{FileGrows}
 use Rattle.journal_text.specs.Spelling.{entry_line}
 use Rattle.session_loop.specs.inner.Growing.{FileGrowsPart, KeepsBack}
-use Rattle.session_loop.proofs.Growing.{on-err, file-part-none, keeps-none, keeps-pushed, keeps-more, keeps-part}
+use Rattle.session_loop.proofs.Growing.{on-err, file-none, file-more, file-part-none, file-part-after, file-part-longer, keeps-none, keeps-pushed, keeps-more, keeps-part}
 use Rattle.session_loop.proofs.Pieces.{lines-next, lines-after}
 use Rattle.session_loop.proofs.section.write_entries.Goals as goal
 
 pub loop-entry-init : goal.loop-entry-init
-loop-entry-init g c = record {
-  kept = keeps-none (g.F.Files.made c.args.files.now) c.args.slot c.args.text.now.items;
-  same = refl;
-}
+loop-entry-init g c =
+    let M = g.F.Files.made in
+    record {
+      kept = keeps-none (FileGrows (M c.args.files.now) (M c.args.files.now) c.args.slot) (file-none (M c.args.files.now) c.args.slot) c.args.text.now.items;
+      same = refl;
+    }
 
 pub loop-entry-preserved : goal.loop-entry-preserved
 loop-entry-preserved g c =
     let M = g.F.Files.made in
+    let u = M c.args.files.now in
+    let v = M c.loop-entry.files in
+    let w = M c.write_full.new.files in
+    let slot = c.args.slot in
     let es = c.args.entries.now in
     let i = c.loop-entry.entry-index in
     let e = c.entry-item.result in
     let held = c.loop-entry.invariant in
     let done = c.in_ok-write_full.ensures in
     record {
-      kept = subst (λ l. KeepsBack (M c.args.files.now) (M c.write_full.new.files) c.args.slot c.args.text.now.items l c.write_full.new.text.items) (sym (lines-next es i e c.loop-entry-test.true c.entry-item.is))
-          (keeps-more (M c.args.files.now) (M c.loop-entry.files) (M c.write_full.new.files) c.args.slot c.args.text.now.items (flat_map entry_line (take i es)) c.loop-entry.text.items (entry_line e) held.kept c.write_full.new.text.items
-          (keeps-pushed (M c.loop-entry.files) (M c.write_full.new.files) c.args.slot c.loop-entry.text.items (entry_line e) c.write_full.new.text.items
-          (subst (λ t. KeepsBack (M c.loop-entry.files) (M c.write_full.new.files) c.args.slot t [] c.write_full.new.text.items) c.in_ok-push_entry.ensures done.kept)));
+      kept = subst (λ l. KeepsBack (FileGrows u w slot) c.args.text.now.items l c.write_full.new.text.items) (sym (lines-next es i e c.loop-entry-test.true c.entry-item.is))
+          (keeps-more (FileGrows u v slot) c.args.text.now.items (flat_map entry_line (take i es)) c.loop-entry.text.items (entry_line e) held.kept
+          (FileGrows v w slot) (FileGrows u w slot) (file-more u v w slot) c.write_full.new.text.items
+          (keeps-pushed (FileGrows v w slot) c.loop-entry.text.items (entry_line e) c.write_full.new.text.items
+          (subst (λ t. KeepsBack (FileGrows v w slot) t [] c.write_full.new.text.items) c.in_ok-push_entry.ensures done.kept)));
       same = done.state ∙ held.same;
     }
 
 pub returns-in_err-push_entry-clause-begun : goal.returns-in_err-push_entry-clause-begun
 returns-in_err-push_entry-clause-begun g c =
     let M = g.F.Files.made in
+    let u = M c.args.files.now in
+    let v = M c.loop-entry.files in
+    let slot = c.args.slot in
     let es = c.args.entries.now in
     let i = c.loop-entry.entry-index in
     let e = c.entry-item.result in
     on-err c.from_residual.result
-    (keeps-part (M c.args.files.now) (M c.loop-entry.files) (M c.loop-entry.files) c.args.slot c.args.text.now.items (flat_map entry_line (take i es)) c.loop-entry.text.items (entry_line e) c.loop-entry.invariant.kept
-    (flat_map entry_line (drop (i + 1) es)) (flat_map entry_line es) (lines-after es i e c.loop-entry-test.true c.entry-item.is) (file-part-none (M c.loop-entry.files) c.args.slot _))
+    (keeps-part (FileGrows u v slot) c.args.text.now.items (flat_map entry_line (take i es)) c.loop-entry.text.items (entry_line e) c.loop-entry.invariant.kept
+    (FileGrowsPart v v slot) (FileGrowsPart u v slot) (file-part-after u v v slot) (file-part-longer u v slot)
+    (flat_map entry_line (drop (i + 1) es)) (flat_map entry_line es) (lines-after es i e c.loop-entry-test.true c.entry-item.is) (file-part-none v slot _))
 
 pub returns-in_err-write_full-clause-begun : goal.returns-in_err-write_full-clause-begun
 returns-in_err-write_full-clause-begun g c =
     let M = g.F.Files.made in
+    let u = M c.args.files.now in
+    let v = M c.loop-entry.files in
+    let w = M c.write_full.new.files in
+    let slot = c.args.slot in
     let es = c.args.entries.now in
     let i = c.loop-entry.entry-index in
     let e = c.entry-item.result in
     on-err c.from_residual-in_err-write_full.result
-    (keeps-part (M c.args.files.now) (M c.loop-entry.files) (M c.write_full.new.files) c.args.slot c.args.text.now.items (flat_map entry_line (take i es)) c.loop-entry.text.items (entry_line e) c.loop-entry.invariant.kept
+    (keeps-part (FileGrows u v slot) c.args.text.now.items (flat_map entry_line (take i es)) c.loop-entry.text.items (entry_line e) c.loop-entry.invariant.kept
+    (FileGrowsPart v w slot) (FileGrowsPart u w slot) (file-part-after u v w slot) (file-part-longer u w slot)
     (flat_map entry_line (drop (i + 1) es)) (flat_map entry_line es) (lines-after es i e c.loop-entry-test.true c.entry-item.is)
-    (subst (FileGrowsPart (M c.loop-entry.files) (M c.write_full.new.files) c.args.slot) c.in_ok-push_entry.ensures c.in_err-write_full.ensures.begun))
+    (subst (FileGrowsPart v w slot) c.in_ok-push_entry.ensures c.in_err-write_full.ensures.begun))
