@@ -1,0 +1,246 @@
+#!/usr/bin/env python3
+"""Times sessions that have no counterpart elsewhere: outputs that share their cones, an explanation, and batches at the limits.
+
+    bench/sessions/run.py [multiplier] [why] [limits]
+
+Runs all three where none is named. Each prints a table. Times are wall times of whole sessions, the reading of their files included, and
+memory is the most that the process had. The replies must be those that integers give; else the script ends with status 1.
+
+- multiplier: an array multiplier of 64 by 64 bits between registers, and of its product's bits 0 to 127 the parities of those from bit K
+  on, for K below 64. The 64 parities are asked at the end of a clock period, in one batch, and each in a session of its own, by one
+  worker.
+- why: a ring of 63 inverters, of which one is set at time 0 and free from then on, asked for an explanation a million instants later, with
+  one worker. Its two values before, of which each takes nearly the greatest budget, are asked first. Then `backsim_check` is given the
+  explanation, and the same with its cells again and again, up to the longest text that it takes.
+- limits: 12 layers of 2,000 XOR gates with four pins each, of 64 inputs that are set at each of 10,001 instants. A batch asks 64 gates of
+  the last layer, each at an instant of its own and with the 64th part of the greatest budget. One session has one batch, and one has as
+  many as fill 64 shards of 65,536 cells, with four workers."""
+from __future__ import annotations
+
+import os
+import random
+import subprocess
+import sys
+import tempfile
+from collections.abc import Callable, Iterable
+from functools import reduce
+from operator import xor
+from pathlib import Path
+from typing import NamedTuple
+
+TOP = Path(__file__).resolve().parents[2]
+SEED = 46
+
+
+class Measured(NamedTuple):
+    output: bytes
+    seconds: float
+    megabytes: float
+
+
+def program(name: str) -> str:
+    return subprocess.run([TOP / "tools" / "program", name], check=True, stdout=subprocess.PIPE, text=True).stdout.strip()
+
+
+# Runs a program, and tells its status, seconds and memory. A process's memory counts from that of the one that began it, so a small one
+# does, and not this one.
+RUNNER = """
+import os, sys, time
+start = time.monotonic()
+_, status, usage = os.wait4(os.posix_spawn(sys.argv[1], sys.argv[1:], os.environ), 0)
+print(os.waitstatus_to_exitcode(status), time.monotonic() - start, usage.ru_maxrss / 1000, file=sys.stderr)
+"""
+
+
+def measured(folder: Path, words: list[str], script: bytes = b"", runs: int = 3) -> Measured:
+    """The output of the program with these words, and the shortest of its times."""
+    (folder / "script").write_bytes(script)
+    best = None
+    for _ in range(runs):
+        with open(folder / "script", "rb") as source, open(folder / "output", "wb") as target:
+            ran = subprocess.run([sys.executable, "-c", RUNNER, *words], cwd=folder, stdin=source, stdout=target, stderr=subprocess.PIPE)
+        *said, status, seconds, megabytes = ran.stderr.decode().split()
+        if said or status != "0":
+            sys.exit(f"bench/sessions: {words[0]} ended with status {status}: {' '.join(said)}")
+        if best is None or float(seconds) < best.seconds:
+            best = Measured((folder / "output").read_bytes(), float(seconds), float(megabytes))
+    return best
+
+
+def session(folder: Path, script: bytes, *options: str, runs: int = 3) -> Measured:
+    return measured(folder, [program("backsim"), "n", "t", "s", "j", *options], script, runs)
+
+
+def evaluations(folder: Path) -> int:
+    return (folder / "j").read_bytes().count(b"\nfill ")
+
+
+def write(folder: Path, name: str, lines: Iterable[str]) -> None:
+    (folder / name).write_text("".join(line + "\n" for line in lines))
+
+
+def is_same(found: bytes, wanted: str) -> None:
+    if found != wanted.encode():
+        sys.exit("bench/sessions: the replies are not those that integers give")
+
+
+# The multiplier.
+
+BITS, PERIOD, PERIODS = 64, 2_000, 4
+
+
+class Netlist:
+    def __init__(self) -> None:
+        self.lines: list[str] = []
+
+    def gate(self, kind: str, *pins: str, name: str | None = None) -> str:
+        name = name or f"n{len(self.lines)}"
+        self.lines.append(f"{name} = {kind}({', '.join(pins)})")
+        return name
+
+    def added(self, one: str, other: str, carry: str | None) -> tuple[str, str]:
+        """The sum of two or three bits, and what is carried."""
+        half, both = self.gate("XOR", one, other), self.gate("AND", one, other)
+        if carry is None:
+            return half, both
+        return self.gate("XOR", half, carry), self.gate("OR", both, self.gate("AND", half, carry))
+
+
+def multiplier() -> Netlist:
+    """Inputs a0 to a63 and b0 to b63, each with a flip-flop behind it, and outputs parity0 to parity63."""
+    netlist = Netlist()
+    netlist.lines += [f"INPUT({side}{bit})" for side in "ab" for bit in range(BITS)]
+    netlist.lines += [f"OUTPUT(parity{bit})" for bit in range(BITS)]
+    a, b = ([netlist.gate("DFF", f"{side}{bit}") for bit in range(BITS)] for side in "ab")
+    product, row = [], [netlist.gate("AND", bit, b[0]) for bit in a]
+    top = None  # the bit above the row, which the first row has not
+    for factor in b[1:]:
+        product.append(row[0])
+        others = [*row[1:], *([top] if top else [])]
+        sums, carry = [], None
+        for place, bit in enumerate(a):
+            term = netlist.gate("AND", bit, factor)
+            if place < len(others):
+                total, carry = netlist.added(others[place], term, carry)
+            else:
+                total, carry = netlist.added(term, carry, None)
+            sums.append(total)
+        row, top = sums, carry
+    product += [*row, top]
+    parity = netlist.gate("DFF", product[-1])
+    for bit in reversed(range(2 * BITS - 1)):
+        name = f"parity{bit}" if bit < BITS else None
+        parity = netlist.gate("XOR", netlist.gate("DFF", product[bit]), parity, name=name)
+    return netlist
+
+
+def time_multiplier(folder: Path) -> None:
+    draw = random.Random(SEED)
+    factors = [(draw.getrandbits(BITS), draw.getrandbits(BITS)) for _ in range(PERIODS)]
+    write(folder, "n", multiplier().lines)
+    write(folder, "t", [f"clock {PERIOD - 1} {PERIOD}", "default 1"])
+    settings = (f"set {side}{bit} {PERIOD * turn} {factor >> bit & 1}" for turn, pair in enumerate(factors)
+                for side, factor in zip("ab", pair) for bit in range(BITS))
+    write(folder, "s", [f"horizon {PERIOD * PERIODS}", *settings])
+    # The factors of the second period are in the registers from its end on, and their product from the end of the third.
+    asked = PERIOD * PERIODS - 1
+    product = factors[1][0] * factors[1][1]
+    wanted = [f"at parity{bit} {asked} {(product >> bit).bit_count() & 1}\n" for bit in range(BITS)]
+    lines = [f"at parity{bit} {asked} {10 ** 6 // BITS}\n".encode() for bit in range(BITS)]
+    batch = session(folder, b"".join(lines), "--workers", "1")
+    is_same(batch.output, "".join(wanted))
+    print(f"| 64 outputs in one batch | {evaluations(folder):,} | {batch.seconds:.2f} |", flush=True)
+    seconds, count = 0.0, 0
+    for line, reply in zip(lines, wanted):
+        line = line.replace(b" 15625", b" 500000")
+        alone = session(folder, line, "--workers", "1", runs=1)
+        is_same(alone.output, reply)
+        seconds, count = seconds + alone.seconds, count + evaluations(folder)
+    print(f"| each in a session of its own | {count:,} | {seconds:.2f} |")
+
+
+# The explanation.
+
+RING, ASKED, LONGEST = 63, 1_000_000, 256 * 2 ** 20
+
+
+def time_why(folder: Path) -> None:
+    # While `start` is 0, s0 is 1. From then on each turn of RING instants has the opposite of the turn before.
+    value: Callable[[int], int] = lambda instant: 1 - (instant - 1) // RING % 2
+    write(folder, "n", ["INPUT(start)", "OUTPUT(s0)", f"s0 = NAND(start, s{RING - 1})",
+                        *(f"s{place} = NOT(s{place - 1})" for place in range(1, RING))])
+    write(folder, "t", ["default 1"])
+    write(folder, "s", [f"horizon {ASKED}", "set start 0 0", f"set start {RING} 1"])
+    before = b"at s0 450000 500000\ngo\nat s0 900000 500000\ngo\n"  # no budget suffices for all
+    room = ("--workers", "1", "--shards", "64", "--cells", "65536")
+    without = session(folder, before, *room)
+    is_same(without.output, "".join(f"at s0 {instant} {value(instant)}\n" for instant in (450_000, 900_000)))
+    why = session(folder, before + f"why s0 {ASKED} 500000\n".encode(), *room)
+    text = why.output.removeprefix(without.output)
+    print(f"| the values before | {without.seconds:.2f} | {without.megabytes:.0f} |")
+    print(f"| these and the explanation, {text.count(10):,} lines, {len(text) / 1e6:.1f} MB | {why.seconds:.2f} | {why.megabytes:.0f} |",
+          flush=True)
+    head, *cells, end = text.splitlines(keepends=True)
+    cells = b"".join(cells)
+    for name, turns in (("checked", 1), ("checked, with its cells as often as a proof may have them", LONGEST // len(cells))):
+        (folder / "proof").write_bytes(head + turns * cells + end)
+        checked = measured(folder, [program("backsim_check"), "n", "t", "s", "proof"])
+        is_same(checked.output, f"yes s0 {ASKED} {value(ASKED)}\n")
+        print(f"| {name} | {checked.seconds:.2f} | {checked.megabytes:.0f} |", flush=True)
+
+
+# The limits.
+
+LAYERS, WIDTH, INPUTS, LAST, ASKS = 12, 2_000, 64, 10_000, 64
+
+
+def time_limits(folder: Path) -> None:
+    draw = random.Random(SEED)
+    layers = [[draw.choices(range(WIDTH if layer else INPUTS), k=4) for _ in range(WIDTH)] for layer in range(LAYERS)]
+    bits = [draw.getrandbits(INPUTS) for _ in range(LAST + 1)]
+    name: Callable[[int, int], str] = lambda layer, place: f"g{layer}_{place}" if layer else f"i{place}"
+    gates = (f"{name(layer + 1, place)} = XOR({', '.join(name(layer, pin) for pin in pins)})"
+             for layer, row in enumerate(layers) for place, pins in enumerate(row))
+    write(folder, "n", [*(f"INPUT(i{place})" for place in range(INPUTS)), *gates])
+    write(folder, "t", ["default 1"])
+    write(folder, "s", [f"horizon {LAST}", *(f"set i{place} {instant} {bits[instant] >> place & 1}"
+                                              for instant in range(LAST + 1) for place in range(INPUTS))])
+
+    def value(asked: int, place: int) -> int:
+        row = [bits[asked - LAYERS] >> input_ & 1 for input_ in range(INPUTS)]
+        for pins in layers:
+            row = [reduce(xor, (row[pin] for pin in several)) for several in pins]
+        return row[place]
+
+    def batch(turn: int) -> tuple[bytes, str]:
+        asks = [(100 + 20 * (ASKS * turn + k), 31 * k % WIDTH) for k in range(ASKS)]
+        script = "".join(f"at {name(LAYERS, place)} {asked} {10 ** 6 // ASKS}\n" for asked, place in asks)
+        return script.encode(), "".join(f"at {name(LAYERS, place)} {asked} {value(asked, place)}\n" for asked, place in asks)
+
+    for batches, options in ((1, ()), (7, ("--shards", "64", "--cells", "65536"))):
+        scripts, wanted = zip(*(batch(turn) for turn in range(batches)))
+        ran = session(folder, b"go\n".join(scripts), *options, runs=1 if batches > 1 else 3)
+        is_same(ran.output, "".join(wanted))
+        print(f"| {batches} | {evaluations(folder):,} | {ran.seconds:.1f} | {ran.megabytes:.0f} |", flush=True)
+
+
+TABLES = {
+    "multiplier": (time_multiplier, "| asked of the multiplier | evaluations | seconds |"),
+    "why": (time_why, "| ring of 63 inverters | seconds | MB |"),
+    "limits": (time_limits, "| batches at the limits | evaluations | seconds | MB |"),
+}
+
+
+def main(names: list[str]) -> None:
+    for name in names:
+        run, head = TABLES[name]
+        print(head)
+        print("|" + "---|" * (head.count("|") - 1), flush=True)
+        with tempfile.TemporaryDirectory() as folder:
+            run(Path(folder))
+
+
+if __name__ == "__main__":
+    if not set(sys.argv[1:]) <= set(TABLES):
+        sys.exit(__doc__)
+    main(sys.argv[1:] or list(TABLES))
