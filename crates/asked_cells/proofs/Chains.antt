@@ -1,14 +1,18 @@
 -- Places in chains: what a look-up along a chain finds, and one entry more.
-use Rattle.std.proofs.Common.{◌≡◌, ◌≢◌, ℕ, zero, suc, ◌+◌, ◌-◌, ◌*◌, ◌/◌, ◌^◌, ◌<◌, ◌≤◌, List, [], ◌∷◌, length, get_or, set, take, replicate, Option, Some, None, is_some, Bool, true, false, true≢false, eqb, ◌&&◌, Decides, rules, OnSome, IfNone, refl, sym, ap, subst, ◌∙◌, arith, inl, inr, get_or-set_same, get_or-set_other, length-set}
+use Rattle.std.proofs.Common.{◌≡◌, ◌≢◌, ℕ, zero, suc, ◌+◌, ◌-◌, ◌*◌, ◌/◌, ◌^◌, ◌<◌, ◌≤◌, List, [], ◌∷◌, ◌++◌, length, get_or, set, take, Option, Some, None, is_some, Bool, true, false, true≢false, eqb, ◌&&◌, Decides, rules, OnSome, IfNone, refl, sym, ap, subst, ◌∙◌, arith, inl, inr, get_or-set_same, get_or-set_other, length-set}
 use Rattle.std.specs.List.{AllByRecursion}
 use Rattle.std.proofs.lemmas.Bool.{cases_eq, cases_lt}
 use Rattle.std.proofs.lemmas.Grind.{pow_more}
+use Rattle.std.proofs.lemmas.List.{get_or-map, length-map, map-append, get_or_append_left}
+use Rattle.std.proofs.Math.Seq.{map-set_same, get_or-append_seam}
 use Rattle.std.proofs.lemmas.Nat.{and_le_r, pow_pos}
 use Rattle.valid_intervals.specs.declared.Point.{Point}
 use Rattle.journal_meaning.specs.declared.Entry.{Entry}
 use Rattle.journal_meaning.specs.inner.Index.{SaidCell, cell_said}
 use Rattle.journal_meaning.proofs.Lists.{Each, each-imply}
-use Rattle.asked_cells.specs.inner.Places.{point_of, point_at, chain_of, IsChain, HasPoint, LacksPoint, IsOfChain, IsUnsaid, IsChainOf, IsChainFor, AreNoted, AreEnough}
+use Rattle.asked_cells.specs.declared.places.Noted.{Noted}
+use Rattle.asked_cells.specs.Wanted.{Marked, is_wanted}
+use Rattle.asked_cells.specs.inner.Places.{point_of, point_at, points_of, numbers_before, chain_of, IsChain, HasPoint, LacksPoint, IsOfChain, IsChainOf, IsUnsaid, HasNoted, AreLinked, AreEnough, ArePlaces}
 
 -- the point of the entry in a place
 pub point-is : (journal : List Entry) (place : ℕ) (e : Entry) → place < length journal → e ≡ get_or journal place e → point_at journal place ≡ point_of (cell_said e)
@@ -39,61 +43,61 @@ pub other-lacks : (o : Option Point) (p q : Point) → o ≡ Some q → q ≢ p 
 other-lacks o p q is ne some = let same : q ≡ p = cc (is, some) in ne same
 
 -- A look-up along a chain: the places that are left, and what is known of all once so many of these are looked at.
-pub record IsSought (journal : List Entry) (p : Point) (before : List ℕ) (number : ℕ) (places : List ℕ) (more : ℕ) : Type 0 where
+pub record IsSought (points : List (Option Point)) (p : Point) (before : List ℕ) (number : ℕ) (places : List ℕ) (more : ℕ) : Type 0 where
   pub left : List ℕ
   pub linked : IsChain before number left
-  pub lacks : AllByRecursion (λ place. point_at journal place ≢ Some p) (take more left) → LacksPoint journal p places
-  pub has : HasPoint journal p left → HasPoint journal p places
+  pub lacks : AllByRecursion (λ place. get_or points place None ≢ Some p) (take more left) → LacksPoint points p places
+  pub has : HasPoint points p left → HasPoint points p places
 
-module _ (journal : List Entry) (p : Point) (before : List ℕ) where
+module _ (points : List (Option Point)) (p : Point) (before : List ℕ) where
   -- it begins with all places
-  pub sought-first : (number : ℕ) (places : List ℕ) → IsChain before number places → IsSought journal p before number places 32
+  pub sought-first : (number : ℕ) (places : List ℕ) → IsChain before number places → IsSought points p before number places 32
   sought-first number places h = record { left = places; linked = h; lacks = λ k. k; has = λ k. k }
 
-  module _ (number : ℕ) (places : List ℕ) (more : ℕ) (s : IsSought journal p before number places more) where
+  module _ (number : ℕ) (places : List ℕ) (more : ℕ) (s : IsSought points p before number places more) where
     -- the chain is at its end
-    pub sought-end : number ≡ 0 → LacksPoint journal p places
+    pub sought-end : number ≡ 0 → LacksPoint points p places
     sought-end none = go s.left s.linked s.lacks
       where
-        go : (left : List ℕ) → IsChain before number left → (AllByRecursion (λ place. point_at journal place ≢ Some p) (take more left) → LacksPoint journal p places) → LacksPoint journal p places
+        go : (left : List ℕ) → IsChain before number left → (AllByRecursion (λ place. get_or points place None ≢ Some p) (take more left) → LacksPoint points p places) → LacksPoint points p places
         go [] linked lacks = lacks (empty more)
           where
-            empty : (n : ℕ) → AllByRecursion (λ place. point_at journal place ≢ Some p) (take n [])
+            empty : (n : ℕ) → AllByRecursion (λ place. get_or points place None ≢ Some p) (take n [])
             empty zero = tt
             empty (suc n) = tt
         go (x ∷ left) linked lacks = let is = linked.0 in absurd (omega arith)
 
     -- enough are looked at
-    pub sought-over : more ≡ 0 → LacksPoint journal p places
-    sought-over none = s.lacks (subst (λ n. AllByRecursion (λ place. point_at journal place ≢ Some p) (take n s.left)) (sym none) tt)
+    pub sought-over : more ≡ 0 → LacksPoint points p places
+    sought-over none = s.lacks (subst (λ n. AllByRecursion (λ place. get_or points place None ≢ Some p) (take n s.left)) (sym none) tt)
 
     module _ (place : ℕ) (is : number ≡ place + 1) where
       -- it is found
-      pub sought-found : point_at journal place ≡ Some p → HasPoint journal p places
+      pub sought-found : get_or points place None ≡ Some p → HasPoint points p places
       sought-found here = go s.left s.linked s.has
         where
-          go : (left : List ℕ) → IsChain before number left → (HasPoint journal p left → HasPoint journal p places) → HasPoint journal p places
+          go : (left : List ℕ) → IsChain before number left → (HasPoint points p left → HasPoint points p places) → HasPoint points p places
           go [] linked has = let none : number ≡ 0 = linked in absurd (omega arith)
           go (x ∷ left) linked has =
               let other = linked.0 in
               let same : x ≡ place = omega arith in
-              has (inl (subst (λ n. point_at journal n ≡ Some p) (sym same) here))
+              has (inl (subst (λ n. get_or points n None ≡ Some p) (sym same) here))
 
       -- one place more is looked at
-      pub sought-next : (next less : ℕ) → point_at journal place ≢ Some p → next ≡ get_or before place 0 → more ≡ suc less → IsSought journal p before next places less
+      pub sought-next : (next less : ℕ) → get_or points place None ≢ Some p → next ≡ get_or before place 0 → more ≡ suc less → IsSought points p before next places less
       sought-next next less not then fewer = go s.left s.linked s.lacks s.has
         where
-          go : (left : List ℕ) → IsChain before number left → (AllByRecursion (λ place. point_at journal place ≢ Some p) (take more left) → LacksPoint journal p places) → (HasPoint journal p left → HasPoint journal p places)
-              → IsSought journal p before next places less
+          go : (left : List ℕ) → IsChain before number left → (AllByRecursion (λ place. get_or points place None ≢ Some p) (take more left) → LacksPoint points p places) → (HasPoint points p left → HasPoint points p places)
+              → IsSought points p before next places less
           go [] linked lacks has = let none : number ≡ 0 = linked in absurd (omega arith)
           go (x ∷ left) linked lacks has =
               let other = linked.0 in
               let same : x ≡ place = omega arith in
-              let here : point_at journal x ≢ Some p = subst (λ n. point_at journal n ≢ Some p) (sym same) not in
+              let here : get_or points x None ≢ Some p = subst (λ n. get_or points n None ≢ Some p) (sym same) not in
               record {
                 left = left;
                 linked = subst (λ n. IsChain before n left) (ap (λ n. get_or before n 0) same ∙ sym then) linked.1;
-                lacks = λ k. lacks (subst (λ n. AllByRecursion (λ place. point_at journal place ≢ Some p) (take n (x ∷ left))) (sym fewer) (here, k));
+                lacks = λ k. lacks (subst (λ n. AllByRecursion (λ place. get_or points place None ≢ Some p) (take n (x ∷ left))) (sym fewer) (here, k));
                 has = λ k. has (inr k);
               }
 
@@ -105,111 +109,106 @@ chain-kept before end v (place ∷ places) number low h =
     (h.0, subst (λ n. IsChain (set before end v) n places) (sym (get_or-set_other before end place v 0 ne)) (chain-kept before end v places (get_or before place 0) low.1 h.1))
 
 -- what lacks a point in all its places
-lacks-all : (journal : List Entry) (p : Point) (n : ℕ) (places : List ℕ) → length places ≤ n → AllByRecursion (λ place. point_at journal place ≢ Some p) (take n places) → HasPoint journal p places → ⊥
-lacks-all journal p n [] few h k = k
-lacks-all journal p zero (place ∷ places) few h k = absurd (omega arith)
-lacks-all journal p (suc n) (place ∷ places) few h (inl k) = h.0 k
-lacks-all journal p (suc n) (place ∷ places) few h (inr k) = lacks-all journal p n places (omega arith) h.1 k
+lacks-all : (points : List (Option Point)) (p : Point) (n : ℕ) (places : List ℕ) → length places ≤ n → AllByRecursion (λ place. get_or points place None ≢ Some p) (take n places) → HasPoint points p places → ⊥
+lacks-all points p n [] few h k = k
+lacks-all points p zero (place ∷ places) few h k = absurd (omega arith)
+lacks-all points p (suc n) (place ∷ places) few h (inl k) = h.0 k
+lacks-all points p (suc n) (place ∷ places) few h (inr k) = lacks-all points p n places (omega arith) h.1 k
 
--- so nothing was recorded for a point that its chain lacks
-pub lacks-unsaid : (journal : List Entry) (noted : ℕ) (last before : List ℕ) (p : Point) (chain : IsChainFor journal noted last before p) → length chain.places ≤ 32 → LacksPoint journal p chain.places → IsUnsaid journal noted p
-lacks-unsaid journal noted last before p chain few lacks place low numbered said = lacks-all journal p 32 chain.places few lacks (chain.has place p low numbered said refl)
+-- so nothing was recorded for a wanted point that its chain lacks
+pub lacks-unsaid : (journal : List Entry) (wanted : Marked) (last : List ℕ) (noted : List Noted) (p : Point) (are : ArePlaces journal wanted last noted) → is_wanted wanted p ≡ true → length (are.linked (chain_of p (length last))).places ≤ 32
+    → LacksPoint (points_of journal noted) p (are.linked (chain_of p (length last))).places → IsUnsaid journal p
+lacks-unsaid journal wanted last noted p are is few lacks place numbered said = lacks-all (points_of journal noted) p 32 (are.linked (chain_of p (length last))).places few lacks (are.stands place p numbered said is)
 
 -- before the first entry each chain is empty
-pub noted-first : (journal : List Entry) (last before : List ℕ) → ((chain : ℕ) → get_or last chain 0 ≡ 0) → AreNoted journal 0 last before
-noted-first journal last before none chain = record {
+pub linked-first : (points : List (Option Point)) (last before : List ℕ) → ((chain : ℕ) → get_or last chain 0 ≡ 0) → AreLinked points 0 last before
+linked-first points last before none chain = record {
   places = [];
-  linked = none chain;
+  is = none chain;
   own = tt;
   spread = tt;
   has = λ place p less numbered said of. absurd (omega arith);
 }
 
--- zeros are zeros everywhere
-pub zeros-at : (n chain : ℕ) → ◌≡◌ {A = ℕ} (get_or (replicate n 0) chain 0) 0
-zeros-at zero chain = refl
-zeros-at (suc n) zero = refl
-zeros-at (suc n) (suc chain) = zeros-at n chain
+module _ (points : List (Option Point)) (linked : ℕ) (last before : List ℕ) (chains : AreLinked points linked last before) where
+  later : (chain : ℕ) (places : List ℕ) → Each (IsOfChain points linked (length last) chain) places → Each (IsOfChain points (linked + 1) (length last) chain) places
+  later chain places h = each-imply (IsOfChain points linked (length last) chain) (IsOfChain points (linked + 1) (length last) chain) (λ place k. ((let l = k.0 in omega arith), k.1)) places h
 
-module _ (journal : List Entry) (noted : ℕ) (last before : List ℕ) (chains : AreNoted journal noted last before) where
-  later : (chain : ℕ) (places : List ℕ) → Each (IsOfChain journal noted (length last) chain) places → Each (IsOfChain journal (noted + 1) (length last) chain) places
-  later chain places h = each-imply (IsOfChain journal noted (length last) chain) (IsOfChain journal (noted + 1) (length last) chain) (λ place k. ((let l = k.0 in omega arith), k.1)) places h
-
-  -- an entry that is not noted says nothing, or its point stands in its chain already, or it has no number
-  skipped : ((p : Point) → noted + 1 < 2 ^ 32 → point_at journal noted ≡ Some p → HasPoint journal p (chains (chain_of p (length last))).places) → AreNoted journal (noted + 1) last before
+  -- an entry that is not linked says nothing, or its point stands in its chain already, or it has no number
+  skipped : ((p : Point) → linked + 1 < 2 ^ 32 → get_or points linked None ≡ Some p → HasPoint points p (chains (chain_of p (length last))).places) → AreLinked points (linked + 1) last before
   skipped there chain =
       let c = chains chain in
       record {
         places = c.places;
-        linked = c.linked;
+        is = c.is;
         own = later chain c.places c.own;
         spread = c.spread;
         has = λ place p less numbered said of.
-            elim (cases_eq place noted) [
+            elim (cases_eq place linked) [
               | inl e ↦
-                  let here : HasPoint journal p (chains (chain_of p (length last))).places = there p (subst (λ n. n + 1 < 2 ^ 32) e numbered) (subst (λ n. point_at journal n ≡ Some p) e said) in
-                  subst (λ n. HasPoint journal p (chains n).places) of here
+                  let here : HasPoint points p (chains (chain_of p (length last))).places = there p (subst (λ n. n + 1 < 2 ^ 32) e numbered) (subst (λ n. get_or points n None ≡ Some p) e said) in
+                  subst (λ n. HasPoint points p (chains n).places) of here
               | inr ne ↦ c.has place p (omega arith) numbered said of
             ];
       }
 
-  pub skipped-unsaid : point_at journal noted ≡ None → AreNoted journal (noted + 1) last before
+  pub skipped-unsaid : get_or points linked None ≡ None → AreLinked points (linked + 1) last before
   skipped-unsaid none = skipped (λ p numbered said. absurd (cc (none, said)))
 
-  pub skipped-numberless : 2 ^ 32 ≤ noted + 1 → AreNoted journal (noted + 1) last before
+  pub skipped-numberless : 2 ^ 32 ≤ linked + 1 → AreLinked points (linked + 1) last before
   skipped-numberless high = skipped (λ p numbered said. absurd (omega arith))
 
-  module _ (p : Point) (said : point_at journal noted ≡ Some p) where
-    pub skipped-found : HasPoint journal p (chains (chain_of p (length last))).places → AreNoted journal (noted + 1) last before
-    skipped-found there = skipped (λ q numbered k. let same : p ≡ q = cc (said, k) in subst (λ z. HasPoint journal z (chains (chain_of z (length last))).places) same there)
+  module _ (p : Point) (said : get_or points linked None ≡ Some p) where
+    pub skipped-found : HasPoint points p (chains (chain_of p (length last))).places → AreLinked points (linked + 1) last before
+    skipped-found there = skipped (λ q numbered k. let same : p ≡ q = cc (said, k) in subst (λ z. HasPoint points z (chains (chain_of z (length last))).places) same there)
 
     abbrev here : ℕ
     here = chain_of p (length last)
 
-    below : (places : List ℕ) (chain : ℕ) → Each (IsOfChain journal noted (length last) chain) places → AllByRecursion (λ place. place < noted) places
-    below places chain h = each-imply (IsOfChain journal noted (length last) chain) (λ place. place < noted) (λ place k. k.0) places h
+    below : (places : List ℕ) (chain : ℕ) → Each (IsOfChain points linked (length last) chain) places → AllByRecursion (λ place. place < linked) places
+    below places chain h = each-imply (IsOfChain points linked (length last) chain) (λ place. place < linked) (λ place k. k.0) places h
 
-    -- one entry more is noted
-    pub noted-more : here < length last → noted < length before → LacksPoint journal p (chains here).places → AreNoted journal (noted + 1) (set last here (noted + 1)) (set before noted (get_or last here 0))
-    noted-more low within lacks chain = subst (λ n. IsChainOf journal (noted + 1) n chain (set before noted (get_or last here 0)) (get_or (set last here (noted + 1)) chain 0)) (sym (length-set last here (noted + 1)))
+    -- one entry more is linked
+    pub linked-more : here < length last → linked < length before → LacksPoint points p (chains here).places → AreLinked points (linked + 1) (set last here (linked + 1)) (set before linked (get_or last here 0))
+    linked-more low within lacks chain = subst (λ n. IsChainOf points (linked + 1) n chain (set before linked (get_or last here 0)) (get_or (set last here (linked + 1)) chain 0)) (sym (length-set last here (linked + 1)))
         (elim (cases_eq chain here) [
-          | inl e ↦ subst (λ c. IsChainOf journal (noted + 1) (length last) c (set before noted (get_or last here 0)) (get_or (set last here (noted + 1)) c 0)) (sym e) mine
+          | inl e ↦ subst (λ c. IsChainOf points (linked + 1) (length last) c (set before linked (get_or last here 0)) (get_or (set last here (linked + 1)) c 0)) (sym e) mine
           | inr ne ↦ others ne
         ])
       where
         after : List ℕ
-        after = set before noted (get_or last here 0)
+        after = set before linked (get_or last here 0)
 
-        kept : (c : ℕ) → IsChain (set before noted (get_or last here 0)) (get_or last c 0) (chains c).places
-        kept c = chain-kept before noted (get_or last here 0) (chains c).places (get_or last c 0) (below (chains c).places c (chains c).own) (chains c).linked
+        kept : (c : ℕ) → IsChain (set before linked (get_or last here 0)) (get_or last c 0) (chains c).places
+        kept c = chain-kept before linked (get_or last here 0) (chains c).places (get_or last c 0) (below (chains c).places c (chains c).own) (chains c).is
 
-        mine : IsChainOf journal (noted + 1) (length last) here (set before noted (get_or last here 0)) (get_or (set last here (noted + 1)) here 0)
+        mine : IsChainOf points (linked + 1) (length last) here (set before linked (get_or last here 0)) (get_or (set last here (linked + 1)) here 0)
         mine =
             let c = chains here in
             record {
-              places = noted ∷ c.places;
-              linked = (get_or-set_same last here (noted + 1) 0 low, subst (λ n. IsChain (set before noted (get_or last here 0)) n c.places) (sym (get_or-set_same before noted (get_or last here 0) 0 within)) (kept here));
+              places = linked ∷ c.places;
+              is = (get_or-set_same last here (linked + 1) 0 low, subst (λ n. IsChain (set before linked (get_or last here 0)) n c.places) (sym (get_or-set_same before linked (get_or last here 0) 0 within)) (kept here));
               own = ((omega arith, (p, said, refl)), later here c.places c.own);
-              spread = ((λ q k. let same : p ≡ q = cc (said, k) in subst (λ z. LacksPoint journal z c.places) same lacks), c.spread);
+              spread = ((λ q k. let same : p ≡ q = cc (said, k) in subst (λ z. LacksPoint points z c.places) same lacks), c.spread);
               has = λ place q less numbered k of.
-                  elim (cases_eq place noted) [
-                    | inl e ↦ inl (subst (λ n. point_at journal n ≡ Some q) e k)
+                  elim (cases_eq place linked) [
+                    | inl e ↦ inl (subst (λ n. get_or points n None ≡ Some q) e k)
                     | inr ne ↦ inr (c.has place q (omega arith) numbered k of)
                   ];
             }
 
-        others : chain ≢ here → IsChainOf journal (noted + 1) (length last) chain (set before noted (get_or last here 0)) (get_or (set last here (noted + 1)) chain 0)
+        others : chain ≢ here → IsChainOf points (linked + 1) (length last) chain (set before linked (get_or last here 0)) (get_or (set last here (linked + 1)) chain 0)
         others ne =
             let c = chains chain in
             record {
               places = c.places;
-              linked = subst (λ n. IsChain (set before noted (get_or last here 0)) n c.places) (sym (get_or-set_other last here chain (noted + 1) 0 ne)) (kept chain);
+              is = subst (λ n. IsChain (set before linked (get_or last here 0)) n c.places) (sym (get_or-set_other last here chain (linked + 1) 0 ne)) (kept chain);
               own = later chain c.places c.own;
               spread = c.spread;
               has = λ place q less numbered k of.
-                  elim (cases_eq place noted) [
+                  elim (cases_eq place linked) [
                     | inl e ↦
-                        let mine : point_at journal noted ≡ Some q = subst (λ n. point_at journal n ≡ Some q) e k in
+                        let mine : get_or points linked None ≡ Some q = subst (λ n. get_or points n None ≡ Some q) e k in
                         let same : p ≡ q = cc (said, mine) in
                         absurd (ne (sym (ap (λ z. chain_of z (length last)) same ∙ of)))
                     | inr other ↦ c.has place q (omega arith) numbered k of
@@ -263,20 +262,113 @@ same-point p q r is true_is = (point-eq p q).0 (sym is ∙ true_is)
 pub other-point : (p q : Point) (r : Bool) → r ≡ eqb p.signal q.signal && eqb p.time q.time → r ≡ false → p ≢ q
 other-point p q r is false_is same = absurd (true≢false (sym ((point-eq p q).1 same) ∙ sym is ∙ false_is))
 
+-- what is noted in a place
+module _ (journal : List Entry) (noted : List Noted) (n : ℕ) (d : Noted) (low : n < length noted) where
+  pub noted-point : get_or (points_of journal noted) n None ≡ point_at journal (get_or noted n d).place
+  noted-point = get_or-map (λ (x : Noted). point_at journal x.place) noted n d None low
+
+  pub noted-before : get_or (numbers_before noted) n 0 ≡ (get_or noted n d).before
+  noted-before = get_or-map (λ (x : Noted). x.before) noted n d 0 low
+
+  -- the number before it does not change what it was recorded for
+  pub points-same : (x : Noted) → x.place ≡ (get_or noted n d).place → points_of journal (set noted n x) ≡ points_of journal noted
+  points-same x is = map-set_same (λ (y : Noted). point_at journal y.place) noted n x d (ap (point_at journal) is)
+
+-- a place is past the end
+past-none : {A : Type 0} (xs : List A) (n : ℕ) (d : A) → length xs ≤ n → get_or xs n d ≡ d
+past-none [] n d h = refl
+past-none (x ∷ xs) zero d h = absurd (omega arith)
+past-none (x ∷ xs) (suc n) d h = past-none xs n d (omega arith)
+
+module _ (journal : List Entry) (noted : List Noted) (n : ℕ) (high : length noted ≤ n) where
+  pub past-point : get_or (points_of journal noted) n None ≡ None
+  past-point = past-none (points_of journal noted) n None (subst (λ l. l ≤ n) (sym (length-map noted (λ (x : Noted). point_at journal x.place))) high)
+
+  pub past-before : get_or (numbers_before noted) n 0 ≡ 0
+  past-before = past-none (numbers_before noted) n 0 (subst (λ l. l ≤ n) (sym (length-map noted (λ (x : Noted). x.before))) high)
+
+-- each wanted entry is noted, and each noted one is in its chain
+pub all-stand : (journal : List Entry) (wanted : Marked) (points : List (Option Point)) (count : ℕ) (last before : List ℕ) → length points ≡ count → HasNoted journal wanted (length journal) points → (linked : AreLinked points count last before)
+    → (place : ℕ) (p : Point) → place + 1 < 2 ^ 32 → point_at journal place ≡ Some p → is_wanted wanted p ≡ true → HasPoint points p (linked (chain_of p (length last))).places
+all-stand journal wanted points count last before all noted linked place p numbered said is =
+    elim (cases_lt place (length journal)) [
+      | inl low ↦
+          let h = noted place p low numbered said is in
+          let l = h.1 in
+          elim (cases_lt h.0 (length points)) [
+            | inl within ↦ (linked (chain_of p (length last))).has h.0 p (omega arith) (omega arith) h.2 refl
+            | inr past ↦ absurd (let e = past-none points h.0 None past in let f = h.2 in cc (e, f))
+          ]
+      | inr high ↦ absurd (let e = point-past journal place high in cc (e, said))
+    ]
+
+-- of the first entry past those that are read nothing is to be noted
+pub noted-skipped : (journal : List Entry) (wanted : Marked) (read : ℕ) (points : List (Option Point)) → ((p : Point) → read + 1 < 2 ^ 32 → point_at journal read ≡ Some p → is_wanted wanted p ≡ true → ⊥) → HasNoted journal wanted read points → HasNoted journal wanted (read + 1) points
+noted-skipped journal wanted read points not noted place p low numbered said is =
+    elim (cases_eq place read) [
+      | inl e ↦ absurd (not p (subst (λ n. n + 1 < 2 ^ 32) e numbered) (subst (λ n. point_at journal n ≡ Some p) e said) is)
+      | inr ne ↦ noted place p (omega arith) numbered said is
+    ]
+
+-- it is noted
+pub noted-pushed : (journal : List Entry) (wanted : Marked) (read : ℕ) (noted : List Noted) (x : Noted) → x.place ≡ read → length noted ≤ read → HasNoted journal wanted read (points_of journal noted) → HasNoted journal wanted (read + 1) (points_of journal (noted ++ x ∷ []))
+noted-pushed journal wanted read noted x here few was place p low numbered said is =
+    elim (cases_eq place read) [
+      | inl e ↦
+          let last = get_or-append_seam (points_of journal noted) (point_at journal x.place) [] None in
+          let mine : get_or (points_of journal (noted ++ x ∷ [])) (length (points_of journal noted)) None ≡ Some p = ap (λ l. get_or l (length (points_of journal noted)) None) more ∙ last ∙ ap (point_at journal) (here ∙ sym e) ∙ said in
+          (length (points_of journal noted), (let l = long in omega arith), mine)
+      | inr ne ↦
+          let h = was place p (omega arith) numbered said is in
+          elim (cases_lt h.0 (length (points_of journal noted))) [
+            | inl within ↦ (h.0, h.1, ap (λ l. get_or l h.0 None) more ∙ get_or_append_left (points_of journal noted) (point_at journal x.place ∷ []) None h.0 within ∙ h.2)
+            | inr past ↦ absurd (let e = past-none (points_of journal noted) h.0 None past in let f = h.2 in cc (e, f))
+          ]
+    ]
+  where
+    more : points_of journal (noted ++ x ∷ []) ≡ points_of journal noted ++ point_at journal x.place ∷ []
+    more = map-append (λ (y : Noted). point_at journal y.place) noted (x ∷ [])
+
+    long : length (points_of journal noted) ≡ length noted
+    long = length-map noted (λ (y : Noted). point_at journal y.place)
+
+-- what was read is as it is told
+pub are-places : (journal : List Entry) (wanted : Marked) (last : List ℕ) (noted : List Noted) → (0 < length noted → AreEnough (length noted) (length last)) → HasNoted journal wanted (length journal) (points_of journal noted)
+    → AreLinked (points_of journal noted) (length noted) last (numbers_before noted) → ArePlaces journal wanted last noted
+are-places journal wanted last noted enough has linked = record {
+  chains = enough;
+  linked = linked;
+  stands = all-stand journal wanted (points_of journal noted) (length noted) last (numbers_before noted) (length-map noted (λ (y : Noted). point_at journal y.place)) has linked;
+}
+
+-- nothing was noted
+pub no-places : (journal : List Entry) (wanted : Marked) (last : List ℕ) (noted : List Noted) → length noted ≡ 0 → last ≡ [] → HasNoted journal wanted (length journal) (points_of journal noted) → ArePlaces journal wanted last noted
+no-places journal wanted last noted none bare has =
+    are-places journal wanted last noted (λ h. absurd (omega arith)) has
+    (subst (λ n. AreLinked (points_of journal noted) n last (numbers_before noted)) (sym none) (linked-first (points_of journal noted) last (numbers_before noted) (λ chain. ap (λ l. get_or l chain 0) bare)))
+
 -- What a look-up reads is the chain of the point.
 pub chain-is : (last : List ℕ) (p : Point) (chain many : ℕ) → many ≡ length last → (0 < many → chain ≡ chain_of p many) → 0 < length last → chain ≡ chain_of p (length last)
 chain-is last p chain many all of some = of (subst (λ n. 0 < n) (sym all) some) ∙ ap (chain_of p) all
 
-pub number-of : (last seen : List ℕ) (p : Point) (chain number many : ℕ) → seen ≡ last → many ≡ length last → (0 < many → chain ≡ chain_of p many) → 0 < length last → number ≡ get_or seen chain 0 → number ≡ get_or last (chain_of p (length last)) 0
-number-of last seen p chain number many same all of some is =
-    is ∙ ap (λ l. get_or l chain 0) same ∙ ap (λ n. get_or last n 0) (chain-is last p chain many all of some)
+pub number-of : (last seen : List ℕ) (p : Point) (chain number many : ℕ) → seen ≡ last → many ≡ length last → (0 < many → chain ≡ chain_of p many) → number ≡ get_or seen chain 0 → number ≡ get_or last (chain_of p (length last)) 0
+number-of [] seen p chain number many same all of is = is ∙ ap (λ l. get_or l chain 0) same
+number-of (x ∷ last) seen p chain number many same all of is =
+    is ∙ ap (λ l. get_or l chain 0) same ∙ ap (λ n. get_or (x ∷ last) n 0) (chain-is (x ∷ last) p chain many all of (omega arith))
 
 pub linked-as : (before seen : List ℕ) (number read : ℕ) (places : List ℕ) → seen ≡ before → read ≡ number → IsChain before number places → IsChain seen read places
 linked-as before seen number read places same is h = subst (λ l. IsChain l read places) (sym same) (subst (λ n. IsChain before n places) (sym is) h)
 
 -- What is written is one entry more.
-pub noted-as : (journal : List Entry) (noted : ℕ) (last before written_last written_before : List ℕ) → written_last ≡ last → written_before ≡ before → AreNoted journal noted last before → AreNoted journal noted written_last written_before
-noted-as journal noted last before written_last written_before l b h = subst (λ x. AreNoted journal noted x written_before) (sym l) (subst (λ x. AreNoted journal noted last x) (sym b) h)
+pub linked-now : (points : List (Option Point)) (linked : ℕ) (last before written_last written_before : List ℕ) → written_last ≡ last → written_before ≡ before → AreLinked points linked last before → AreLinked points linked written_last written_before
+linked-now points linked last before written_last written_before l b h = subst (λ x. AreLinked points linked x written_before) (sym l) (subst (λ x. AreLinked points linked last x) (sym b) h)
+
+-- what is empty has no length
+is-none : (n : ℕ) → Decides (eqb n 0) (n ≡ 0)
+is-none n = search rules
+
+pub none-long : (r : Bool) (n : ℕ) → r ≡ eqb n 0 → r ≡ true → n ≡ 0
+none-long r n is true_is = (is-none n).0 (sym is ∙ true_is)
 
 -- what holds where something is found, and where nothing is
 pub some-holds : {A : Type 0} (o : Option A) (P : Type 0) → is_some o ≡ true → OnSome o P → P

@@ -7,4 +7,6 @@ pub mod Freeing
 pub mod Unused
 pub mod Exact
 pub mod Chains
+pub mod Marks
+pub mod Pairs
 pub mod Asking

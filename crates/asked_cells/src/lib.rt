@@ -11,19 +11,21 @@
 //! closed, and `window_answers` settles batches in this way. Several calls for one query are told together by `AsksOn`, and with the
 //! claims that are freed before them by `AsksFreed`.
 //!
-//! `begin` reads each entry once, and notes where the entry stands that was recorded for a point (`src/places.rt`). A strand that came
-//! to its end left an entry for each point that it heard, so whoever asks for the points that it asked for finds all of them there: each
-//! stands in its chain, and a look-up goes along the first 32 places of one.
-//! Only when a point is asked for which no entry was recorded, a memo makes an index of the cells that the entries of the batch say, by
+//! `begin` is told which points are going to be asked for ([`Wanted`]). It reads each entry once, and notes where the entry stands that
+//! was recorded for such a point (`src/places.rt`). A strand that came to its end left an entry for each point that it heard, so whoever
+//! asks for the points that it asked for finds all of them there: each stands in its chain, and a look-up goes along the first 32 places
+//! of one.
+//! Only when a point is asked for which no entry was noted, a memo makes an index of the cells that the entries of the batch say, by
 //! signal and first time. By its type such an index has these cells and no others. With n entries in the end:
-//! - an entry takes a few steps to be read by `begin`, and a look-up of the point for which one was recorded takes as many, whatever n;
+//! - an entry takes a few steps to be read by `begin`, and a look-up of the point for which one was noted takes as many, whatever n;
+//! - an entry that is noted takes a few numbers of memory, and any other none;
 //! - the first other point takes O(n log n) steps, once, and from then on each other look-up and each entry that is added O(log n);
 //! - a call that finds nothing starts a strand, and takes a step for each shard besides.
 //!
 //! A call that is refused memory may give up the shards: the memo is empty from then on.
 //!
 //! ```
-//! let mut memo = begin(alloc, shards)?;
+//! let mut memo = begin(alloc, shards, &Wanted::all())?;
 //! let mut charge = 0;
 //! match reach(&mut memo, design, query, time, &mut charge)? {
 //!     Some(cell) => println!(rt; "{}", cell.value)?,
@@ -37,5 +39,7 @@ mod cells;
 mod memo;
 mod places;
 mod reading;
+mod wanted;
 
 pub use memo::{Memo, begin, reach};
+pub use wanted::Wanted;

@@ -25,6 +25,7 @@ ghost use Rattle.asked_cells.specs.inner.Tails.{lengths_of, tails};
 use crate::cells::SaidCells;
 use crate::places::Places;
 use crate::reading::{free_all, index_of, places_in, said_for};
+use crate::wanted::Wanted;
 use batch_meaning::Query;
 use demand_points::{BatchName, Strand};
 use design::Design;
@@ -42,9 +43,9 @@ use valid_intervals::{Cell, Point};
 pub struct Memo<B: BatchName> {
     alloc: Global,
     shards: Vec<Shard<B>>,
-    /// Where the entries stand that there were at the beginning.
+    /// Where the entries for wanted points stand that there were at the beginning.
     places: Vec<Places>,
-    /// The index of all cells, once a point was asked for which no entry was recorded.
+    /// The index of all cells, once a point was asked for which no entry was noted.
     cells: Option<SaidCells>,
 }
 
@@ -118,8 +119,12 @@ impl<B: BatchName> Memo<B> {
     }
 }
 
-/// Frees the claims that are left, and notes where the entries stand.
-pub fn begin<B: BatchName>(alloc: Global, shards: Vec<Shard<B>>) -> Result<Memo<B>, OutOfMemory>
+/// Frees the claims that are left, and notes where the entries for wanted points stand.
+pub fn begin<B: BatchName>(
+    alloc: Global,
+    shards: Vec<Shard<B>>,
+    wanted: &Wanted,
+) -> Result<Memo<B>, OutOfMemory>
     requires lawful { IsLawful B.batch }
     requires count { length shards.items ≡ B.batch.shards }
     requires numbers { AreNumbered shards.items }
@@ -130,7 +135,7 @@ pub fn begin<B: BatchName>(alloc: Global, shards: Vec<Shard<B>>) -> Result<Memo<
     know_all(&shards);
     let mut freed = shards;
     free_all(&mut freed);
-    let places = places_in(alloc, &freed)?;
+    let places = places_in(alloc, &freed, wanted)?;
     Ok(Memo {
         alloc,
         shards: freed,

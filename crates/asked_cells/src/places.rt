@@ -1,10 +1,12 @@
 //! Where the entry stands that was recorded for a point.
 
-ghost use Rattle.std.specs.Prelude.{◌≡◌, ◌≢◌, ℕ, ◌+◌, ◌<◌, ◌≤◌, List, length, set, slice_index, Some, None, IfSome, IfNone, OnSome, IfOk};
+ghost use Rattle.std.specs.Prelude.{◌≡◌, ◌≢◌, ℕ, ◌+◌, ◌<◌, ◌≤◌, true, List, length, set, slice_index, Some, None, IfSome, IfNone, OnSome, IfOk, OnOk};
 ghost use Rattle.journal_meaning.specs.inner.Index.{cell_said};
+ghost use Rattle.asked_cells.specs.Wanted.{Marked, is_wanted};
 ghost use Rattle.asked_cells.specs.inner.Exact.{IsSaidFor};
-ghost use Rattle.asked_cells.specs.inner.Places.{point_at, chain_of, IsChain, HasPoint, LacksPoint, IsChainFor, IsUnsaid, AreNoted, AreEnough, ArePlaces};
+ghost use Rattle.asked_cells.specs.inner.Places.{point_at, points_of, numbers_before, chain_of, IsChain, HasPoint, LacksPoint, IsUnsaid, HasNoted, AreLinked, AreEnough, ArePlaces};
 
+use crate::wanted::Wanted;
 use journal_meaning::Entry;
 use owned_text::OutOfMemory;
 use std::alloc::Global;
@@ -13,17 +15,26 @@ use valid_intervals::{Cell, Point};
 /// So many entries of a chain are looked at. Few chains are as long, unless points were chosen for it.
 const LONGEST: u32 = 32;
 
-/// The entries of a journal that say cells, in chains, by a hash of the points for which they were recorded. An entry's number is its
-/// place in the journal, from 1 on; 0 is none. Of the entries for one point only the first stands in its chain.
+/// An entry that is noted. Its number is its place among these, from 1 on; 0 is none.
+#[derive(Clone, Copy)]
+pub struct Noted {
+    /// Its place in the journal.
+    place: u32,
+    /// The number of the one before it in its chain.
+    before: u32,
+}
+
+/// The entries of a journal that say cells of wanted points, in chains, by a hash of the points for which they were recorded. Of the
+/// entries for one point only the first stands in its chain.
 ///
-/// What is kept here are places to look at: the entry itself says what it was recorded for. `read` leaves chains that have each point
-/// (`ArePlaces`), so `seek` finds what was recorded for a point where its chain is no longer than `LONGEST`.
+/// What is kept here are places to look at: the entry itself says what it was recorded for. `read` leaves chains that have each wanted
+/// point (`ArePlaces`), so `seek` finds what was recorded for such a point where its chain is no longer than `LONGEST`.
 #[derive(Drop)]
 pub struct Places {
-    /// The last entry of each chain.
+    /// In the order of the journal.
+    noted: Vec<Noted>,
+    /// The number of the last one of each chain.
     last: Vec<u32>,
-    /// For each entry the one before it in its chain.
-    before: Vec<u32>,
 }
 
 /// The number in a place, 0 past the end.
@@ -82,6 +93,17 @@ fn said_by(entry: &Entry) -> Option<(Point, Cell)>
     }
 }
 
+/// The point for which the entry in this place says a cell.
+fn point_in(journal: &[Entry], place: usize) -> Option<Point>
+    ensures { result ≡ point_at journal.now place }
+{
+    if place >= journal.len() {
+        return None;
+    }
+    let (p, _) = said_by(&journal[place])?;
+    Some(p)
+}
+
 /// The cell that the entry in this place says, where it was recorded for this very point.
 fn said_at(journal: &[Entry], place: usize, p: Point) -> Option<Cell>
     ensures said { IfSome result (IsSaidFor journal.now p) }
@@ -97,85 +119,114 @@ fn said_at(journal: &[Entry], place: usize, p: Point) -> Option<Cell>
 
 /// What an entry of a chain says that was recorded for this very point, among the last of it. The chain ends with the entry of this
 /// number.
-fn seek(before: &[u32], journal: &[Entry], last: u32, p: Point) -> Option<Cell>
+fn seek(noted: &[Noted], journal: &[Entry], last: u32, p: Point) -> Option<Cell>
     ensures said { IfSome result (IsSaidFor journal.now p) }
-    ensures some { (places : List ℕ) → IsChain before.now last places
-        → OnSome result (HasPoint journal.now p places) }
-    ensures none { (places : List ℕ) → IsChain before.now last places
-        → IfNone result (LacksPoint journal.now p places) }
+    ensures some { (places : List ℕ) → IsChain (numbers_before noted.now) last places
+        → OnSome result (HasPoint (points_of journal.now noted.now) p places) }
+    ensures none { (places : List ℕ) → IsChain (numbers_before noted.now) last places
+        → IfNone result (LacksPoint (points_of journal.now noted.now) p places) }
 {
     let mut number = last;
     for _step in 0..LONGEST {
         if number == 0 {
             return None;
         }
-        let place = (number - 1) as usize;
-        if let Some(cell) = said_at(journal, place, p) {
+        let entry = noted.get((number - 1) as usize)?;
+        if let Some(cell) = said_at(journal, entry.place as usize, p) {
             return Some(cell);
         }
-        number = number_at(before, place);
+        number = entry.before;
     }
     None
 }
 
 impl Places {
     /// Reads a journal.
-    pub fn read(alloc: Global, journal: &[Entry]) -> Result<Places, OutOfMemory>
-        ensures { IfOk result (λ places. ArePlaces journal.now places.last.items
-            places.before.items) }
+    pub fn read(alloc: Global, journal: &[Entry], wanted: &Wanted) -> Result<Places, OutOfMemory>
+        ensures { IfOk result (λ places. ArePlaces journal.now wanted.now places.last.items
+            places.noted.items) }
     {
-        if journal.is_empty() {
-            return Ok(Places {
-                last: Vec::new(alloc),
-                before: Vec::new(alloc),
-            });
-        }
         let mut places = Places {
-            last: vec![in alloc; 0; chains_for(journal.len())]?,
-            before: vec![in alloc; 0; journal.len()]?,
+            noted: Vec::new(alloc),
+            last: Vec::new(alloc),
         };
         for place in 0..journal.len() {
-            places.note(journal, place);
+            places.note(journal, place, wanted)?;
+        }
+        if places.noted.is_empty() {
+            return Ok(places);
+        }
+        let count = places.noted.len();
+        places.last = vec![in alloc; 0; chains_for(count)]?;
+        for index in 0..count {
+            places.link(journal, index);
         }
         Ok(places)
     }
 
-    /// Puts the entry in this place into its chain, if it says a cell, and the chain has none that was recorded for its point.
-    fn note(&mut self, journal: &[Entry], place: usize)
-        requires count { length self.old.before.items ≡ length journal.now }
-        requires some { 0 < length self.old.last.items }
-        requires noted { AreNoted journal.now place self.old.last.items self.old.before.items }
-        ensures count { length self.new.before.items ≡ length self.old.before.items }
-        ensures chains { length self.new.last.items ≡ length self.old.last.items }
-        ensures noted { AreNoted journal.now (place + 1) self.new.last.items self.new.before.items }
+    /// Notes the entry in this place, if it says the cell of a wanted point.
+    fn note(&mut self, journal: &[Entry], place: usize, wanted: &Wanted) -> Result<(), OutOfMemory>
+        requires few { length self.old.noted.items ≤ place }
+        requires noted { HasNoted journal.now wanted.now place
+            (points_of journal.now self.old.noted.items) }
+        ensures last { self.new.last ≡ self.old.last }
+        ensures few { OnOk result (length self.new.noted.items ≤ place + 1) }
+        ensures noted { OnOk result (HasNoted journal.now wanted.now (place + 1)
+            (points_of journal.now self.new.noted.items)) }
     {
-        if place >= journal.len() {
-            return;
+        let Some(p) = point_in(journal, place) else {
+            return Ok(());
+        };
+        if !wanted.has(p) {
+            return Ok(());
         }
-        let Some((p, _)) = said_by(&journal[place]) else {
+        let Ok(place) = u32::try_from(place) else {
+            return Ok(());
+        };
+        self.noted.push(Noted { place, before: 0 })?;
+        Ok(())
+    }
+
+    /// Puts the noted entry with this index into the chain of its point, unless the chain has one for the same point.
+    fn link(&mut self, journal: &[Entry], index: usize)
+        requires index { index < length self.old.noted.items }
+        requires some { 0 < length self.old.last.items }
+        requires linked { AreLinked (points_of journal.now self.old.noted.items) index
+            self.old.last.items (numbers_before self.old.noted.items) }
+        ensures points { points_of journal.now self.new.noted.items ≡ points_of journal.now
+            self.old.noted.items }
+        ensures count { length self.new.noted.items ≡ length self.old.noted.items }
+        ensures chains { length self.new.last.items ≡ length self.old.last.items }
+        ensures linked { AreLinked (points_of journal.now self.new.noted.items) (index + 1)
+            self.new.last.items (numbers_before self.new.noted.items) }
+    {
+        let place = self.noted[index].place;
+        let Some(p) = point_in(journal, place as usize) else {
             return;
         };
-        let Ok(number) = u32::try_from(place.saturating_add(1)) else {
+        let Ok(number) = u32::try_from(index.saturating_add(1)) else {
             return;
         };
         let chain = chain_of(p, self.last.len());
-        let last = number_at(&self.last, chain);
-        if seek(&self.before, journal, last, p).is_some() {
+        let before = number_at(&self.last, chain);
+        if seek(&self.noted, journal, before, p).is_some() {
             return;
         }
-        write_at(&mut self.before, place, last);
+        self.noted[index] = Noted { place, before };
         write_at(&mut self.last, chain, number);
     }
 
-    /// What an entry of this journal says that was recorded for this very point. Where the point's chain has at most 32 places, this is
-    /// none only if no entry that was noted was recorded for the point.
+    /// What an entry of this journal says that was recorded for this very point. If the point is wanted, and its chain has at most 32
+    /// entries, this is none only if no entry was recorded for the point.
     pub fn seek(&self, journal: &[Entry], p: Point) -> Option<Cell>
         ensures said { IfSome result (IsSaidFor journal.now p) }
-        ensures none { (noted : ℕ) → 0 < length self.now.last.items
-            → (chain : IsChainFor journal.now noted self.now.last.items self.now.before.items p)
-            → length chain.places ≤ 32 → IfNone result (IsUnsaid journal.now noted p) }
+        ensures none { (wanted : Marked)
+            → (are : ArePlaces journal.now wanted self.now.last.items self.now.noted.items)
+            → is_wanted wanted p ≡ true
+            → length (are.linked (chain_of p (length self.now.last.items))).places ≤ 32
+            → IfNone result (IsUnsaid journal.now p) }
     {
         let last = number_at(&self.last, chain_of(p, self.last.len()));
-        seek(&self.before, journal, last, p)
+        seek(&self.noted, journal, last, p)
     }
 }

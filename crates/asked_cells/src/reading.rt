@@ -16,6 +16,7 @@ ghost use Rattle.asked_cells.specs.inner.Places.{ArePlaces};
 
 use crate::cells::SaidCells;
 use crate::places::Places;
+use crate::wanted::Wanted;
 use demand_points::BatchName;
 use memo_shards::{Shard, shard_number};
 use owned_text::OutOfMemory;
@@ -64,21 +65,23 @@ pub fn index_of<B: BatchName>(
     }
 }
 
-/// Where the entries stand in each journal that were recorded for points.
+/// Where the entries stand in each journal that were recorded for wanted points.
 pub fn places_in<B: BatchName>(
     alloc: Global,
     shards: &[Shard<B>],
+    wanted: &Wanted,
 ) -> Result<Vec<Places>, OutOfMemory>
     ensures count { IfOk result (λ places. length places.items ≡ length shards.now) }
     ensures each { IfOk result (λ places. (n : ℕ) (d : KeptShard) (e : PlacesRecord)
         → n < length shards.now
-        → ArePlaces (slice_index_or shards.now n d).shard.journal (slice_index_or places.items n
-        e).last.items
-        (slice_index_or places.items n e).before.items) }
+        → ArePlaces (slice_index_or shards.now n d).shard.journal wanted.now
+        (slice_index_or places.items n e).last.items
+        (slice_index_or places.items n e).noted.items) }
 {
     let mut places = Vec::new(alloc);
     for shard in shards {
-        places.push(Places::read(alloc, shard.journal())?)?;
+        let read = Places::read(alloc, shard.journal(), wanted)?;
+        places.push(read)?;
     }
     Ok(places)
 }

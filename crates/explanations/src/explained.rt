@@ -16,7 +16,7 @@ ghost use Rattle.explanations.specs.Asks.{is_budget};
 use crate::children::hear;
 use crate::lines::gather;
 use crate::waiting::Waiting;
-use asked_cells::{Memo, begin};
+use asked_cells::{Memo, Wanted, begin};
 use batch_meaning::Query;
 use demand_points::BatchName;
 use design::Design;
@@ -99,7 +99,7 @@ pub fn explain<B: BatchName>(
     ensures asks { IfOk result (λ done. AsksFreed B.batch B.opening query (shards_in shards.items)
         (shards_in done.shards.items) (is_budget done.answer)) }
 {
-    let mut memo = begin(alloc, shards)?;
+    let mut memo = begin(alloc, shards, &Wanted::all())?;
     let answer = gather_answer(alloc, &mut memo, design, query)?;
     Ok(Explained {
         answer,

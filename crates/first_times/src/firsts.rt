@@ -14,7 +14,7 @@ ghost use Rattle.asked_cells.specs.Shards.{AreNumbered, AreUnused};
 ghost use Rattle.asked_cells.specs.Memos.{AreFreeShards, entries_of};
 ghost use Rattle.first_times.specs.Asks.{is_budget};
 
-use asked_cells::{Memo, begin, reach};
+use asked_cells::{Memo, Wanted, begin, reach};
 use batch_meaning::Query;
 use demand_points::BatchName;
 use design::Design;
@@ -107,7 +107,7 @@ pub fn first_time<B: BatchName>(
         IfOk result (λ done. AsksFreed B.batch B.opening until (shards_in shards.items)
         (shards_in done.shards.items) (is_budget done.answer)) }
 {
-    let mut memo = begin(alloc, shards)?;
+    let mut memo = begin(alloc, shards, &Wanted::all())?;
     let answer = walk(&mut memo, design, query, value)?;
     Ok(FirstDone {
         answer,

@@ -13,7 +13,7 @@ ghost use Rattle.stuck_faults.specs.inner.Both.{IsAsked, Rests, site_in};
 
 use crate::both::{Held, Memos, Question};
 use crate::root::hear_root;
-use asked_cells::{Memo, begin};
+use asked_cells::{Memo, Wanted, begin};
 use batch_meaning::Query;
 use cell_store::CellStore;
 use demand_points::BatchName;
@@ -152,6 +152,6 @@ pub fn stuck_wave<B: BatchName>(
         reached: design.reached(alloc, site)?,
     };
     let question = Question { query, site, value };
-    let session = begin(alloc, shards)?;
+    let session = begin(alloc, shards, &Wanted::all())?;
     answer::<B, Brand>(alloc, design, &held, question, session)
 }

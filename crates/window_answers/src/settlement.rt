@@ -8,7 +8,7 @@ ghost use Rattle.asked_cells.specs.Memos.{entries_of};
 ghost use Rattle.window_answers.specs.Settlement.{HasSettled};
 
 use crate::answers::{answer_all, feed_all};
-use asked_cells::begin;
+use asked_cells::{Wanted, begin};
 use batch_meaning::Query;
 use demand_points::BatchName;
 use design::Design;
@@ -47,7 +47,7 @@ pub fn settle<B: BatchName>(
     ensures { IfOk result (λ settled. HasSettled B.batch B.opening shards.items settled.shards.items
         settled.replies.items) }
 {
-    let mut memo = begin(alloc, shards)?;
+    let mut memo = begin(alloc, shards, &Wanted::all())?;
     let fed = feed_all(alloc, &mut memo, design, queries, heard)?;
     let replies = answer_all(alloc, &mut memo, design, queries, &fed)?;
     Ok(Settled {

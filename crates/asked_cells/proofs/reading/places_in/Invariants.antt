@@ -7,5 +7,5 @@ use Rattle.asked_cells.proofs.reading.places_in.Given as goal
 abbrev pub invariant-loop-shard : goal.invariant-loop-shard
 invariant-loop-shard g l = record {
   count : length l.places.items ≡ l.shard-index;
-  each : (n : ℕ) (m : KeptShard) (t : Places) → n < l.shard-index → ArePlaces (get_or l.shards n m).shard.journal (get_or l.places.items n t).last.items (get_or l.places.items n t).before.items;
+  each : (n : ℕ) (m : KeptShard) (t : Places) → n < l.shard-index → ArePlaces (get_or l.shards n m).shard.journal l.wanted (get_or l.places.items n t).last.items (get_or l.places.items n t).noted.items;
 }
