@@ -1,12 +1,9 @@
 -- The points that queries filled.
-use Rattle.std.proofs.Common.{◌≡◌, ℕ, zero, suc, ◌+◌, ◌<◌, ◌++◌, nat_eq, Bool, true, false, cond, List, [], ◌∷◌, length, get_or, take, filter, refl, sym, ap, subst, ◌∙◌, arith, append_assoc, append-nil}
+use Rattle.std.proofs.Common.{◌≡◌, ℕ, suc, ◌++◌, nat_eq, Bool, true, false, cond, List, [], ◌∷◌, length, filter, refl, ap}
 use Rattle.journal_meaning.specs.declared.Entry.{Entry}
 use Rattle.journal_meaning.specs.declared.Entry.TheVariants.{Told, Claimed, Filled, Evicted, Dropped, Spent}
 use Rattle.journal_meaning.specs.Answers.{is_fill_of, fill_count}
-use Rattle.journal_meaning.proofs.Lists.{Each, each-left, each-right}
 use Rattle.plan_machine.specs.Settling.{fills_of}
-use Rattle.memo_shards.specs.KeptShards.{KeptShard}
-use Rattle.asked_cells.proofs.Lists.{take-item}
 
 -- the points that a query filled, of two lists of entries
 pub fills-append : (xs ys : List Entry) (q : ℕ) → fills_of (xs ++ ys) q ≡ fills_of xs q ++ fills_of ys q

@@ -1,4 +1,5 @@
 pub mod Filled
+pub mod Counted
 pub mod Heard
 pub mod Pins
 pub mod Phases

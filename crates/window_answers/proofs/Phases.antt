@@ -8,7 +8,6 @@ use Rattle.valid_intervals.specs.declared.SignalCell.{SignalCell}
 use Rattle.circuit_meaning.specs.Circuit.{Circuit}
 use Rattle.circuit_meaning.specs.Need.{children}
 use Rattle.journal_meaning.specs.declared.Entry.{Entry}
-use Rattle.journal_meaning.specs.declared.Entry.TheVariants.{Filled}
 use Rattle.batch_meaning.specs.declared.Query.{Query}
 use Rattle.journal_meaning.specs.Answers.{IsCovered, fill_count}
 use Rattle.batch_meaning.specs.Batches.{Batch, IsNeededBy}
@@ -23,10 +22,11 @@ use Rattle.plan_machine.specs.inner.Settle.{IsStanding, StandsAs, Advances, IsVi
 use Rattle.plan_machine.specs.Settle.{IsSettled, AreAllSettled, journals_of, entries_in, charge_of}
 use Rattle.plan_machine.specs.Settling.{fills_of}
 use Rattle.plan_machine.proofs.Underway.{contains-none}
-use Rattle.plan_machine.proofs.Settle.{begins-query, ends-query, open-kept, visited-kept, settled-kept, opens-kept, all-kept}
+use Rattle.plan_machine.proofs.Settle.{begins-query, stays, ends-query, open-kept, visited-kept, settled-kept, opens-kept, all-kept}
 use Rattle.plan_machine.proofs.Settling.{fills-has, fills-each, needed-by}
 use Rattle.reply_lines.specs.declared.reply.Reply.{Reply}
 use Rattle.memo_shards.specs.KeptShards.{KeptShard}
+use Rattle.plan_core.specs.InTurn.{AllChildrenCovered}
 use Rattle.plan_core.specs.Parts.{shards_in}
 use Rattle.window_answers.specs.declared.answers.Fed.{Fed}
 use Rattle.asked_cells.specs.Memos.{entries_of}
@@ -35,6 +35,7 @@ use Rattle.window_answers.specs.inner.Phases.{IsFed, IsFedWith, AreAllFed, Feeds
 use Rattle.window_answers.specs.Phases.{IsReplyTo, AreReplies, is_budget, refused_of}
 use Rattle.asked_cells.proofs.Lists.{take-all}
 use Rattle.window_answers.proofs.Filled.{fills-count}
+use Rattle.window_answers.proofs.Heard.{fills-heard}
 
 -- two queries have numbers of their own
 abbrev pub Apart : Query → Query → Type 0
@@ -160,6 +161,14 @@ module _ (b : Batch) (lawful : IsLawful b) (opening : ℕ → List SignalCell) (
       by false s v = (s, λ p x h. All-contains (IsVisited b.circuit (entries_of new)) (fills_of start q.number) p (v refl) (fills-has start q.number p x h))
       by true s v = s
 
+  -- the same where the children of all that was filled are covered, and nothing is asked for
+  pub feeds-heard : (ms : List KeptShard) (f : Fed) → IsFresh b opening (shards_in ms) → AllChildrenCovered b.circuit (entries_of ms) → f.refused ≡ false → f.charge ≡ charge_of (entries_of ms) q → IsOpen b.circuit q (entries_of ms) (entries_of ms)
+      → FeedsQuery b q (entries_of ms) (shards_in ms) (shards_in ms) f
+  feeds-heard ms f fresh heard unrefused counts o =
+      let s = begins-query b opening q (entries_of ms) (shards_in ms) fresh o in
+      feeds (entries_of ms) ms ms f (subst (λ r. Advances b opening q (entries_of ms) (shards_in ms) (live ms) (standing ms r)) (sym unrefused) (stays b opening q (entries_of ms) (shards_in ms) (live ms) s))
+      (λ e. fills-heard b.circuit (entries_of ms) [] (entries_of ms) (grows-none (entries_of ms)) heard q.number) counts
+
   -- one query in the second phase
   pub walks-refused : (start : List Entry) (old : List KeptShard) (f : Fed) → IsFresh b opening (shards_in old) → f.refused ≡ true → IsFedWith b.circuit q start (entries_of old) f → SettlesQuery b opening q start (shards_in old) (standing old true)
   walks-refused start old f fresh e k = record {
@@ -206,13 +215,13 @@ module _ (b : Batch) (lawful : IsLawful b) (start : List Entry) (first : List Sh
     pub fed-open : (now : List Shard) (fs : List Fed) → FedTo now i fs → IsOpen b.circuit (get_or qs i d) start (entries_in now)
     fed-open now fs h = (subst (λ l. Each (λ q. IsOpen b.circuit q start (entries_in now)) l) rest h.opens).0
 
-    next : Contains b.queries (get_or qs i d)
-    next = subst (λ l. Contains l (get_or qs i d)) same (i, low, get_or_default qs i (get_or qs i d) d low)
+    pub fed-known : Contains b.queries (get_or qs i d)
+    fed-known = subst (λ l. Contains l (get_or qs i d)) same (i, low, get_or_default qs i (get_or qs i d) d low)
 
     module _ (points : List Point) (is : points ≡ fills_of start (get_or qs i d).number) where
       -- what was gathered for it is needed
       pub fed-needed : (opening : ℕ → List SignalCell) → IsFresh b opening first → start ≡ entries_in first → All (IsNeededBy b (get_or qs i d)) points
-      fed-needed opening fresh begun = subst (λ l. All (IsNeededBy b (get_or qs i d)) l) (sym (is ∙ ap (λ es. fills_of es (get_or qs i d).number) begun)) (fills-wanted b lawful opening (get_or qs i d) next first fresh)
+      fed-needed opening fresh begun = subst (λ l. All (IsNeededBy b (get_or qs i d)) l) (sym (is ∙ ap (λ es. fills_of es (get_or qs i d).number) begun)) (fills-wanted b lawful opening (get_or qs i d) fed-known first fresh)
 
       -- and is all that was filled for it: it is as much as it was when settlement began
       pub fed-count : (now : List Shard) (fs : List Fed) → FedTo now i fs → length points ≡ fill_count (entries_in now) (get_or qs i d).number

@@ -1,3 +1,4 @@
+pub mod FillCounts
 pub mod Fills
 pub mod Phases
 pub mod Sources

@@ -1,12 +1,12 @@
 //! The queries of a batch, one after another.
 
-ghost use Rattle.std.specs.Prelude.{◌≡◌, true, false, min, List, [], All, Contains, None, length, IfOk, OnOk};
+ghost use Rattle.std.specs.Prelude.{◌≡◌, ℕ, true, false, min, List, [], All, Contains, None, length, IfOk, OnOk};
 ghost use Rattle.journal_meaning.specs.declared.Entry.{Entry as EntryRecord};
 ghost use Rattle.journal_meaning.specs.Answers.{fill_count};
 ghost use Rattle.batch_meaning.specs.Batches.{IsNeededBy};
 ghost use Rattle.batch_meaning.specs.Lawful.{IsLawful};
 ghost use Rattle.plan_machine.specs.Shards.{Shard as ShardRecord};
-ghost use Rattle.plan_machine.specs.inner.Settle.{IsOpen, IsVisited, SettlesQuery};
+ghost use Rattle.plan_machine.specs.inner.Settle.{IsOpen, SettlesQuery};
 ghost use Rattle.plan_machine.specs.Settle.{charge_of};
 ghost use Rattle.plan_machine.specs.Settling.{fills_of};
 ghost use Rattle.plan_core.specs.Parts.{shards_in};
@@ -18,6 +18,7 @@ ghost use Rattle.window_answers.specs.inner.Phases.{IsFedWith, FeedsQuery, IsFee
 ghost use Rattle.window_answers.specs.Phases.{IsReplyTo, is_budget, refused_of};
 ghost use Rattle.window_answers.specs.Settlement.{AskInTurn, none_refused};
 
+use crate::fill_counts::FillCounts;
 use crate::fills::FilledPoints;
 use crate::visits::{settle_fills, settle_window};
 use asked_cells::Memo;
@@ -47,14 +48,19 @@ fn charge_at(fills: usize, budget: u32) -> u32
     }
 }
 
-/// Visits the points that a query had filled before settlement. If `heard` is true, their children are covered already: no point is
-/// visited, and the charge is the number of the points, at most the budget.
+/// The number of fills, at most the budget, where they were counted up to 4,294,967,295.
+fn charge_counted(count: u32, budget: u32) -> u32
+    ensures { (fills : ℕ) → count ≡ min fills 4294967295 → result ≡ min fills budget }
+{
+    count.min(budget)
+}
+
+/// Visits the points that a query had filled before settlement.
 fn feed_one<B: BatchName>(
     memo: &mut Memo<B>,
     design: &Design,
     q: Query,
     points: &[Point],
-    heard: bool,
 ) -> Result<Fed, OutOfMemory>
     requires lawful { IsLawful B.batch }
     requires site { B.batch.site ≡ None }
@@ -62,7 +68,6 @@ fn feed_one<B: BatchName>(
     requires known { Contains B.batch.queries q }
     requires needed { All (IsNeededBy B.batch q) points.now }
     requires counts { length points.now ≡ fill_count (entries_of memo.old) q.number }
-    requires heard { heard ≡ true → All (IsVisited B.batch.circuit (entries_of memo.old)) points.now }
     requires kept { AreFreeShards B.batch B.opening memo.old }
     ensures kept { OnOk result (AreFreeShards B.batch B.opening memo.new) }
     ensures feeds { (start : List EntryRecord)
@@ -74,18 +79,69 @@ fn feed_one<B: BatchName>(
         (shards_in memo.new) f.refused) }
 {
     let mut charge = charge_at(points.len(), q.budget);
-    if heard {
-        return Ok(Fed {
-            charge,
-            refused: false,
-        });
-    }
     let refused = settle_fills(memo, design, q, points, &mut charge)?;
     Ok(Fed { charge, refused })
 }
 
 /// Visits what each query filled. The fills of all queries are gathered before the first visit: the strands that then run alone
-/// fill only for the query that is visited. If `heard` is true, the visits are left out, and the fills are only counted.
+/// fill only for the query that is visited.
+fn visit_all<B: BatchName>(
+    alloc: Global,
+    memo: &mut Memo<B>,
+    design: &Design,
+    queries: &[Query],
+) -> Result<Vec<Fed>, OutOfMemory>
+    requires lawful { IsLawful B.batch }
+    requires site { B.batch.site ≡ None }
+    requires design { design.now.circuit ≡ B.batch.circuit }
+    requires queries { queries.now ≡ B.batch.queries }
+    requires kept { AreFreeShards B.batch B.opening memo.old }
+    ensures kept { OnOk result (AreFreeShards B.batch B.opening memo.new) }
+    ensures fed { IfOk result (λ fed. IsFeeding B.batch (entries_of memo.old) (shards_in memo.old)
+        (shards_in memo.new) B.batch.queries fed.items []) }
+    ensures asks { let qs = queries.now in
+        IfOk result (λ fed. AskInTurn B.batch B.opening qs (shards_in memo.old) (none_refused qs)
+        (shards_in memo.new) (refused_in fed.items)) }
+{
+    let gathered = FilledPoints::gather(alloc, memo.shards())?;
+    let mut fed = Vec::new(alloc);
+    for &q in queries {
+        let one = feed_one(memo, design, q, gathered.of(q.number))?;
+        fed.push(one)?;
+    }
+    Ok(fed)
+}
+
+/// Counts what each query filled, where the children of all that was filled are covered already, so that no visit finds one missing.
+fn count_all<B: BatchName>(
+    alloc: Global,
+    memo: &Memo<B>,
+    queries: &[Query],
+) -> Result<Vec<Fed>, OutOfMemory>
+    requires lawful { IsLawful B.batch }
+    requires queries { queries.now ≡ B.batch.queries }
+    requires kept { AreFreeShards B.batch B.opening memo.now }
+    requires heard { AllChildrenCovered B.batch.circuit (entries_of memo.now) }
+    ensures fed { IfOk result (λ fed. IsFeeding B.batch (entries_of memo.now) (shards_in memo.now)
+        (shards_in memo.now) B.batch.queries fed.items []) }
+    ensures asks { let qs = queries.now in
+        IfOk result (λ fed. AskInTurn B.batch B.opening qs (shards_in memo.now) (none_refused qs)
+        (shards_in memo.now) (refused_in fed.items)) }
+{
+    let counts = FillCounts::gather(alloc, memo.shards())?;
+    let mut fed = Vec::new(alloc);
+    for &q in queries {
+        let charge = charge_counted(counts.of(q.number), q.budget);
+        fed.push(Fed {
+            charge,
+            refused: false,
+        })?;
+    }
+    Ok(fed)
+}
+
+/// Visits what each query filled, or only counts it: if `heard` is true, the children of all that was filled are covered already, and no
+/// point is visited.
 pub fn feed_all<B: BatchName>(
     alloc: Global,
     memo: &mut Memo<B>,
@@ -106,13 +162,11 @@ pub fn feed_all<B: BatchName>(
         IfOk result (λ fed. AskInTurn B.batch B.opening qs (shards_in memo.old) (none_refused qs)
         (shards_in memo.new) (refused_in fed.items)) }
 {
-    let gathered = FilledPoints::gather(alloc, memo.shards())?;
-    let mut fed = Vec::new(alloc);
-    for &q in queries {
-        let one = feed_one(memo, design, q, gathered.of(q.number), heard)?;
-        fed.push(one)?;
+    if heard {
+        count_all(alloc, memo, queries)
+    } else {
+        visit_all(alloc, memo, design, queries)
     }
-    Ok(fed)
 }
 
 /// Walks the window of a query, unless it was refused.

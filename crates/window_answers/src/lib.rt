@@ -7,7 +7,8 @@
 //! - It frees the claims that are left.
 //! - For each query in order it visits the points that the query had filled before settlement. `asked_cells` finds the cell of each looked
 //!   pin among the base answers and the cells that entries of the batch say, or asks for it by a strand that runs alone.
-//!   If `heard` is true, the visits are left out: the caller knows that each evaluated point has heard its children.
+//!   If `heard` is true, the visits are left out, and the points are only counted: the caller knows that each evaluated point has heard
+//!   its children.
 //! - For each query in order it walks the window from cell to cell in the same way, and gathers its runs.
 //!
 //! The reply to a query that is refused meanwhile is its budget, and that to any other its waveform (`specs/Settlement`). The charge of a
@@ -20,15 +21,19 @@
 //!   filled. After that it reads only the entries that a strand added, once the strand has run.
 //! - It looks up one cell for each looked pin of each visited point, and one for each cell of each window. A strand that came to its end
 //!   left an entry for each of these points, and such an entry is found by hashing. If all strands came to their ends, a look-up therefore
-//!   takes a few steps, whatever n. If `heard` is true, no point is visited, and pins are not looked up.
-//! - The first look-up of a point without an entry makes an index of all cells, in O(n log n) steps. From then on such a look-up takes
-//!   O(log n) steps, and so does each added entry.
+//!   takes a few steps, whatever n.
+//! - If `heard` is true, no point is visited, and pins are not looked up. So the first scan notes only entries for points in the windows,
+//!   with few others (`Wanted::windows` of `asked_cells`), and the second only counts the fills of each query.
+//! - The first look-up of a point without a noted entry makes an index of all cells, in O(n log n) steps. From then on such a look-up
+//!   takes O(log n) steps, and so does each added entry.
 //! - A look-up that finds nothing starts a strand. The strand adds at least one entry, and takes a step for each shard.
-//! - The points of a query are found in O(log q) steps among q queries, once for each fill and once for each query.
+//! - The points of a query are found in O(log q) steps among q queries, once for each fill and once for each query. Where fills are only
+//!   counted, a fill takes so many steps only if the one before it was for another query.
 //!
 //! For q queries, f fills, p looked pins and c cells of windows, settlement takes O(n + p + c + f log q) steps if all strands came to their
-//! ends, and with s shards at most O((n + p + c) log n + s n). It allocates one or two numbers for each entry, the points, the index if one
-//! is made, and the runs. `strands_of` takes a step for each piece, and `verdicts_of` one look-up by hashing for each item.
+//! ends, and with s shards at most O((n + p + c) log n + s n). It allocates two or three numbers for each noted entry, the points or a
+//! count for each query, the index if one is made, and the runs. `strands_of` takes a step for each piece, and `verdicts_of` one look-up
+//! by hashing for each item.
 //!
 //! ```
 //! let strands = strands_of::<B>(alloc, queries)?;
@@ -38,6 +43,7 @@
 #![tactic(auto)]
 
 mod answers;
+mod fill_counts;
 mod fills;
 mod settlement;
 mod strands;

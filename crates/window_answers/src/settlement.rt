@@ -47,7 +47,12 @@ pub fn settle<B: BatchName>(
     ensures { IfOk result (λ settled. HasSettled B.batch B.opening shards.items settled.shards.items
         settled.replies.items) }
 {
-    let mut memo = begin(alloc, shards, &Wanted::all())?;
+    let wanted = if heard {
+        Wanted::windows(queries)
+    } else {
+        Wanted::all()
+    };
+    let mut memo = begin(alloc, shards, &wanted)?;
     let fed = feed_all(alloc, &mut memo, design, queries, heard)?;
     let replies = answer_all(alloc, &mut memo, design, queries, &fed)?;
     Ok(Settled {

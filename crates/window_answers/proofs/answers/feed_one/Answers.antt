@@ -1,27 +1,11 @@
-use Rattle.std.proofs.Common.{false, List, All, subst, arith}
+use Rattle.std.proofs.Common.{List, All, subst, arith}
 use Rattle.valid_intervals.specs.declared.Point.{Point}
 use Rattle.plan_machine.specs.inner.Settle.{IsVisited}
-use Rattle.plan_machine.proofs.Settle.{begins-query, stays}
+use Rattle.plan_machine.proofs.Settle.{begins-query}
 use Rattle.plan_core.specs.Parts.{shards_in}
-use Rattle.asked_cells.specs.Asked.{Nothing}
 use Rattle.asked_cells.specs.Memos.{entries_of}
-use Rattle.asked_cells.specs.inner.Standings.{live}
 use Rattle.window_answers.proofs.Phases.{feeds}
 use Rattle.window_answers.proofs.answers.feed_one.Goals as goal
-
-pub returns-then-heard-clause-feeds : goal.returns-then-heard-clause-feeds
-returns-then-heard-clause-feeds g c = λ start o points.
-    let b = g.B.BatchName.batch in
-    let opening = g.B.BatchName.opening in
-    let ms = c.args.memo.now in
-    let q = c.args.q in
-    let s = begins-query b opening q start (shards_in ms) c.requires.kept.fresh o in
-    feeds b c.requires.lawful opening q c.requires.known start ms ms (record { charge = c.charge_at-charge.result; refused = false }) (stays b opening q start (shards_in ms) (live ms) s)
-    (λ e. subst (λ (xs : List Point). All (IsVisited b.circuit (entries_of ms)) xs) points (c.requires.heard c.if-heard.true))
-    (let a = c.charge_at-charge.ensures in let n = c.requires.counts in omega arith)
-
-pub returns-then-heard-clause-asks : goal.returns-then-heard-clause-asks
-returns-then-heard-clause-asks g c = Nothing
 
 pub settle_fills-requires-clause-asking : goal.settle_fills-requires-clause-asking
 settle_fills-requires-clause-asking g c = record {

@@ -1,5 +1,4 @@
 use Rattle.std.proofs.Common.{◌++◌, ◌∷◌, [], List, map, ap, ap₂, sym, ◌∙◌, arith}
-use Rattle.query_lines.specs.declared.unit.Item.{Item}
 use Rattle.session_meaning.specs.declared.Verdict.{Verdict}
 use Rattle.session_meaning.specs.Verdicts.{verdict_of}
 use Rattle.asked_cells.proofs.Lists.{map-item, take-all}

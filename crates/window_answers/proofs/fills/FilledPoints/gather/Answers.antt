@@ -1,4 +1,4 @@
-use Rattle.std.proofs.Common.{◌++◌, ◌+◌, List, take, sym, ap, ap₂, ◌∙◌, arith}
+use Rattle.std.proofs.Common.{◌++◌, List, take, sym, ap, ap₂, ◌∙◌, arith}
 use Rattle.valid_intervals.specs.declared.Point.{Point}
 use Rattle.journal_meaning.specs.declared.Entry.{Entry}
 use Rattle.plan_machine.specs.Settling.{fills_of}

@@ -3,7 +3,7 @@ use Rattle.plan_core.specs.Parts.{shards_in}
 use Rattle.asked_cells.specs.Memos.{AreFreeShards, entries_of}
 use Rattle.window_answers.specs.inner.Phases.{IsFeeding}
 use Rattle.window_answers.proofs.Turns.{VisitsTo}
-use Rattle.window_answers.proofs.answers.feed_all.Given as goal
+use Rattle.window_answers.proofs.answers.visit_all.Given as goal
 
 abbrev pub invariant-loop-q : goal.invariant-loop-q
 invariant-loop-q g l = record {
