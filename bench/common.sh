@@ -32,7 +32,8 @@ in_turn() {
 }
 
 # timed NAME INPUT COMMAND..: runs the command, whose output goes to $copy/NAME.out, and keeps the shortest of its times so far, in
-# microseconds, in ${least[NAME]}. Commands that are compared take turns, so that what else the machine does comes to all of them.
+# microseconds, in ${least[NAME]}. Commands that are compared take turns, so that what else the machine does comes to all of them. Who
+# calls it removes the journal of the turn before: a file system may write what replaces a file's text to the disk before it is closed.
 declare -A least
 timed() {
     local name=$1 input=$2 start taken

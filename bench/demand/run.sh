@@ -24,6 +24,7 @@ cp "$here"/loop.* "$copy/"
 serve() {
     local name=$1 session=$2
     shift 2
+    rm -f "$copy/journal"
     timed "$name-$session" "$copy/$session.script" "$@"
 }
 

@@ -31,6 +31,7 @@ failed=0
 for number in "$@"; do
     least=()
     for _ in {1..15}; do
+        rm -f "$copy"/*.journal
         timed plain /dev/null "$copy/plain" "$number" "$copy/plain.journal"
         timed texts /dev/null "$copy/plain" "$number" "$copy/texts.journal" texts
         for workers in 1 2 4; do

@@ -27,9 +27,11 @@ backsim() { "$own" "$copy"/workload.{bench,timing,stim} "$copy/journal" --worker
 
 for _ in {1..9}; do
     for program in plain backsim; do
+        rm -f "$copy/journal"
         timed "$program-empty-1" "$copy/empty.script" $program 1
         for script in workload apart; do
             for workers in 1 2 4; do
+                rm -f "$copy/journal"
                 timed "$program-$script-$workers" "$copy/$script.script" $program $workers
             done
         done
