@@ -1,7 +1,8 @@
 -- What each call of a store does to its cache, its index and its free slots.
-use Rattle.std.proofs.Common.{◌≡◌, ℕ, zero, suc, eq-eqb, ◌+◌, ◌-◌, ◌<◌, ◌≤◌, Bool, true, cond, nat_eq, List, [], ◌∷◌, ◌++◌, length, take, All, Option, Some, None, option_map, find, refl, sym, ap, subst, ◌∙◌, arith}
+use Rattle.std.proofs.Common.{◌≡◌, ℕ, zero, suc, false, nat_lt, unwrap_or, None, eq-eqb, ◌+◌, ◌-◌, ◌<◌, ◌≤◌, Bool, true, cond, nat_eq, List, [], ◌∷◌, ◌++◌, length, take, All, Option, Some, option_map, find, refl, sym, ap, ap₂, subst, ◌∙◌, arith}
 use Rattle.std.proofs.lemmas.List.{length-append, length-take, take_all, take-map}
 use Rattle.std.proofs.lemmas.List.Elements.{All-cons}
+use Rattle.std.proofs.lemmas.Bool.{ltb-true, ltb-false}
 use Rattle.std.proofs.lemmas.Option.{slice_get_within}
 use Rattle.std.specs.List.{slice_get}
 use Rattle.std.specs.Map.{lookup_entry, remove_entry}
@@ -9,15 +10,16 @@ use Rattle.std.specs.Option.{option_map_or}
 use Rattle.std.specs.Ordering.{is_eq}
 use Rattle.lru.specs.LruCache.{lru_cache, promoted, put_entries, last_entry}
 use Rattle.valid_intervals.specs.Spans.{IsSpan}
+use Rattle.valid_intervals.specs.declared.Cell.{Cell}
 use Rattle.valid_intervals.specs.declared.Point.{Point}
 use Rattle.valid_intervals.specs.declared.SignalCell.{SignalCell}
 use Rattle.valid_intervals.specs.Cells.{covers, cell_for, stored_at, to_front, all_but_last}
 use Rattle.cell_store.specs.declared.Key.{Key}
 use Rattle.cell_store.specs.declared.store.Place.{Place}
 use Rattle.cell_store.specs.Recency.{key_of, last_key, IsApart}
-use Rattle.cell_store.specs.inner.Index.{key_cmp, place_at, end_in, cells_of, uses_of, IsStoreIndex, IsPlaced, IsSoundStore}
+use Rattle.cell_store.specs.inner.Index.{key_cmp, place_at, slot_and_cell, end_in, cells_of, times, uses_of, places_of, AreSlots, IsStoreIndex, IsPlaced, IsSoundStore}
 use Rattle.cell_store.proofs.Keys.{covers_true}
-use Rattle.cell_store.proofs.Found.{found_true, found_all}
+use Rattle.cell_store.proofs.Found.{some_same, none_some, found_true, found_all}
 use Rattle.cell_store.proofs.Kept.{used}
 use Rattle.cell_store.proofs.Entries.{Entry, split_last, length-cells_of, times-append, uses_of-append, absent, IsTaken, taken, All-remove_entry, IsMoved, moved, same_slots, IsAtEnd, at_end, IsFresh, fresh, new_slot, still_free}
 use Rattle.cell_store.proofs.Placed.{IsAt, same_placed, added_place, dropped_place, IsLocated, IsFoundIn, cell_found}
@@ -81,7 +83,7 @@ has_come f g entries free capacity slot x sound span apart short is came =
       sound = record {
         found = added_place f g entries slot x sound.found span apart came;
         slots = new.slots;
-        within = omega (arith, room);
+        within = omega (arith, room, sound.within, length-take (length free - 1) free);
         some = sound.some;
         most = sound.most;
       };
@@ -155,6 +157,34 @@ has_replaced f g h entries free capacity slot x y sound span apart at came went 
       sound = subst (λ (es : List Entry). IsSoundStore h ((slot, x) ∷ es) free capacity) l.before after;
     }
 
+-- a slot that is used or free is one of the first
+slot_below : (entries : List Entry) (free : List ℕ) (capacity slot : ℕ) → AreSlots entries free → length entries + length free ≤ capacity → 1 ≤ places_of slot entries free → slot < capacity
+slot_below entries free capacity slot slots few there =
+    (elim (nat_lt slot (length entries + length free)) as (λ b. nat_lt slot (length entries + length free) ≡ b → slot < capacity) [
+      | true ↦ λ t. omega (arith, ltb-true slot (length entries + length free) t, few)
+      | false ↦ λ t. let none : places_of slot entries free ≡ 0 = slots.first slot (ltb-false slot (length entries + length free) t) in absurd (omega arith)
+    ]) refl
+
+times_at : (free : List ℕ) (n slot : ℕ) → slice_get free n ≡ Some slot → 1 ≤ times slot free
+times_at [] n slot h = none_some slot h
+times_at (s ∷ free) zero slot h =
+    let itself : nat_eq slot s ≡ true = eq-eqb slot s (sym (some_same s slot h)) in
+    subst (λ b. 1 ≤ cond b 1 0 + times slot free) (sym itself) (omega arith)
+times_at (s ∷ free) (suc n) slot h = let there : 1 ≤ times slot free = times_at free n slot h in omega arith
+
+pub last_below : (f : Key → Option Place) (entries : List Entry) (free : List ℕ) (capacity slot : ℕ) (y : SignalCell) → IsSoundStore f entries free capacity → last_entry entries ≡ Some (slot, y) → slot < capacity
+last_below f entries free capacity slot y sound at =
+    let l : IsLast entries slot y = is_last entries slot y at in
+    let one : uses_of slot ((slot, y) ∷ []) ≡ 1 = ap (λ b. cond b 1 0 + 0) (eq-eqb slot slot refl) in
+    slot_below entries free capacity slot sound.slots sound.within (omega (arith, one, ap (uses_of slot) l.split, uses_of-append slot l.init ((slot, y) ∷ [])))
+
+pub new_below : (f : Key → Option Place) (entries : List Entry) (free : List ℕ) (capacity : ℕ) → IsSoundStore f entries free capacity → length entries < capacity → new_slot entries free < capacity
+new_below f entries free capacity sound room =
+    (elim (slice_get free (length free - 1)) as (λ o. slice_get free (length free - 1) ≡ o → unwrap_or o (length entries) < capacity) [
+      | None ↦ λ h. room
+      | Some slot ↦ λ h. slot_below entries free capacity slot sound.slots sound.within (omega (arith, times_at free (length free - 1) slot h))
+    ]) refl
+
 -- it goes, and its slot is free
 pub popped : (f g : Key → Option Place) (entries : List Entry) (free : List ℕ) (capacity slot : ℕ) (y : SignalCell) → IsSoundStore f entries free capacity → last_entry entries ≡ Some (slot, y)
     → ((q : Key) → g q ≡ cond (is_eq (key_cmp (key_of y) q)) None (f q)) → IsSoundStore g (take (length entries - 1) entries) (free ++ slot ∷ []) capacity
@@ -165,27 +195,28 @@ popped f g entries free capacity slot y sound at went =
       found = cut;
       slots = same_slots entries l.init free (free ++ slot ∷ [])
           (λ s. omega (arith, ap (uses_of s) l.split, uses_of-append s l.init ((slot, y) ∷ []), times-append s free (slot ∷ []))) (omega (arith, l.many, length-append free (slot ∷ []))) sound.slots;
-      within = omega (arith, l.many, sound.within);
+      within = omega (arith, l.many, length-append free (slot ∷ []), sound.within);
       some = sound.some;
       most = sound.most;
     } in
     subst (λ (es : List Entry). IsSoundStore g es (free ++ slot ∷ []) capacity) l.before after
 
 -- ---- find
-pub record IsFound (place_of : Key → Option Place) (entries : List Entry) (free : List ℕ) (capacity slot : ℕ) (p : Point) : Type 0 where
+pub record IsFound (place_of : Key → Option Place) (entries : List Entry) (free : List ℕ) (capacity slot : ℕ) (p : Point) (cell : Cell) : Type 0 where
   pub x : SignalCell
   pub found : stored_at (cells_of entries) p ≡ Some x
-  pub for_point : cell_for p x.cell ≡ x
+  pub is : x ≡ cell_for p cell
   pub used : IsUsed place_of entries free capacity slot x
 
-pub is_found : (place_of : Key → Option Place) (entries : List Entry) (free : List ℕ) (capacity slot : ℕ) (p : Point) → IsSoundStore place_of entries free capacity
-    → Some slot ≡ option_map (λ (e : Entry). e.0) (find (λ (e : Entry). covers p e.1) entries) → IsFound place_of entries free capacity slot p
-is_found place_of entries free capacity slot p sound h =
-    let is : IsFoundIn entries (covers p) slot = cell_found entries (covers p) slot h in
-    let l : IsLocated place_of entries (covers p) is.x = record { slot = slot; found = is.entry; at = found_all (IsAt place_of) (λ (e : Entry). covers p e.1) entries (slot, is.x) sound.found.placed is.entry } in
+pub is_found : (place_of : Key → Option Place) (entries : List Entry) (free : List ℕ) (capacity slot : ℕ) (p : Point) (cell : Cell) → IsSoundStore place_of entries free capacity
+    → Some (slot, cell) ≡ option_map slot_and_cell (find (λ (e : Entry). covers p e.1) entries) → IsFound place_of entries free capacity slot p cell
+is_found place_of entries free capacity slot p cell sound h =
+    let in_slot : IsFoundIn entries (covers p) slot cell = cell_found entries (covers p) slot cell h in
+    let x : SignalCell = in_slot.x in
+    let l : IsLocated place_of entries (covers p) x = record { slot = slot; found = in_slot.entry; at = found_all (IsAt place_of) (λ (e : Entry). covers p e.1) entries (slot, x) sound.found.placed in_slot.entry } in
     record {
-      x = is.x;
-      found = is.cell;
-      for_point = ap (λ (s : ℕ). record { signal = s; cell = is.x.cell }) (sym (covers_true p is.x (found_true (covers p) (cells_of entries) is.x is.cell)).signal);
-      used = is_used place_of entries free capacity (covers p) is.x sound is.cell l;
+      x = x;
+      found = in_slot.found;
+      is = ap₂ (λ (s : ℕ) (c : Cell). record { signal = s; cell = c }) (covers_true p x (found_true (covers p) (cells_of entries) x in_slot.found)).signal in_slot.is;
+      used = is_used place_of entries free capacity (covers p) x sound in_slot.found l;
     }

@@ -1,14 +1,15 @@
 -- What each change of the cells and the index keeps: the index has the place of each cell.
 use Rattle.std.specs.List.{list_any}
-use Rattle.std.proofs.Common.{◌≡◌, ℕ, ◌||◌, is_some, IsSome, Bool, true, false, cond, List, [], ◌∷◌, ◌++◌, All, Option, Some, None, option_map, find, refl, sym, ap, subst, ◌∙◌}
+use Rattle.std.proofs.Common.{◌≡◌, ℕ, ◌||◌, is_some, IsSome, Bool, true, false, cond, List, [], ◌∷◌, ◌++◌, All, Option, Some, None, option_map, find, refl, sym, ap, ap₂, subst, ◌∙◌}
 use Rattle.std.proofs.lemmas.List.Elements.{All-head, All-tail, All-cons, All-nil}
 use Rattle.std.specs.Ordering.{is_eq}
 use Rattle.valid_intervals.specs.Spans.{IsSpan}
+use Rattle.valid_intervals.specs.declared.Cell.{Cell}
 use Rattle.valid_intervals.specs.declared.SignalCell.{SignalCell}
 use Rattle.cell_store.specs.declared.Key.{Key}
 use Rattle.cell_store.specs.declared.store.Place.{Place}
 use Rattle.cell_store.specs.Recency.{key_of, IsApart, AreApart}
-use Rattle.cell_store.specs.inner.Index.{key_cmp, has_key, place_at, end_in, cells_of, IsStoreIndex, IsPlaced}
+use Rattle.cell_store.specs.inner.Index.{key_cmp, has_key, place_at, slot_and_cell, end_in, cells_of, IsStoreIndex, IsPlaced}
 use Rattle.cell_store.proofs.Keys.{keys_differ, key_eq-is, has_key-itself}
 use Rattle.cell_store.proofs.Found.{some_same, none_some, found_all}
 use Rattle.cell_store.proofs.Kept.{same_index, added, dropped, All-front, All-back}
@@ -105,40 +106,60 @@ no_cell place_of es k placed none =
       | Some y ↦ λ d. none_some y.cell.span.stop (sym d)
     ]) (sym (placed.indexed.ends k) ∙ ap (option_map (λ (q : Place). q.end)) none)
 
--- the slot of a cell that a search finds
-pub slot_found : (place_of : Key → Option Place) (es : List Entry) (g : SignalCell → Bool) (k : Key) (p : Place) → IsPlaced place_of es → option_map key_of (find g (cells_of es)) ≡ Some k → place_of k ≡ Some p
-    → Some p.slot ≡ option_map (λ (e : Entry). e.0) (find (λ (e : Entry). g e.1) es)
+-- what the index has of a cell
+abbrev pub cell_in : Key → Place → Cell
+cell_in k p = record { span = record { start = k.start; stop = p.end }; value = p.value }
+
+-- the slot of a cell that a search finds, and the cell
+pub record IsSlotOf (es : List Entry) (g : SignalCell → Bool) (k : Key) (p : Place) : Type 0 where
+  pub found : Some (p.slot, cell_in k p) ≡ option_map slot_and_cell (find (λ e. g e.1) es)
+  pub span : IsSpan (cell_in k p).span
+
+pub slot_found : (place_of : Key → Option Place) (es : List Entry) (g : SignalCell → Bool) (k : Key) (p : Place) → IsPlaced place_of es → option_map key_of (find g (cells_of es)) ≡ Some k → place_of k ≡ Some p → IsSlotOf es g k p
 slot_found place_of es g k p placed h at =
-    (elim (find (λ (e : Entry). g e.1) es) as (λ o. find (λ (e : Entry). g e.1) es ≡ o → option_map key_of (option_map (λ (e : Entry). e.1) o) ≡ Some k → Some p.slot ≡ option_map (λ (e : Entry). e.0) o) [
+    (elim (find (λ (e : Entry). g e.1) es) as (λ o. find (λ (e : Entry). g e.1) es ≡ o → option_map key_of (option_map (λ (e : Entry). e.1) o) ≡ Some k → IsSlotOf es g k p) [
       | None ↦ λ t d. none_some k d
       | Some e ↦ λ t d.
+          let key : key_of e.1 ≡ k = some_same (key_of e.1) k d in
           let there : IsAt place_of e = found_all (IsAt place_of) (λ (c : Entry). g c.1) es e placed.placed t in
-          ap (λ (n : ℕ). Some n) (sym (same_slot place_of e.0 e.1 p there (ap place_of (some_same (key_of e.1) k d) ∙ at)))
+          let is : place_at e ≡ p = some_same (place_at e) p (sym there ∙ ap place_of key ∙ at) in
+          let cell : e.1.cell ≡ cell_in k p = ap₂ cell_in key is in
+          let span : IsSpan e.1.cell.span = found_all (λ (c : Entry). IsSpan c.1.cell.span) (λ (c : Entry). g c.1) es e (spans es placed.indexed.spans) t in
+          record {
+            found = sym (ap (option_map slot_and_cell) t ∙ ap₂ (λ (n : ℕ) (c : Cell). Some (n, c)) (ap (λ (q : Place). q.slot) is) cell);
+            span = subst (λ (c : Cell). IsSpan c.span) cell span;
+          }
     ]) refl (ap (option_map key_of) (sym (find-cells_of g es)) ∙ h)
+  where
+    spans : (ds : List Entry) → All (λ x. IsSpan x.cell.span) (cells_of ds) → All (λ (c : Entry). IsSpan c.1.cell.span) ds
+    spans [] all = All-nil (λ (c : Entry). IsSpan c.1.cell.span)
+    spans (d ∷ ds) all = All-cons (λ (c : Entry). IsSpan c.1.cell.span) d ds (All-head (λ x. IsSpan x.cell.span) d.1 (cells_of ds) all) (spans ds (All-tail (λ x. IsSpan x.cell.span) d.1 (cells_of ds) all))
 
-pub no_slot_found : (es : List Entry) (g : SignalCell → Bool) → find g (cells_of es) ≡ None → None ≡ option_map (λ (e : Entry). e.0) (find (λ (e : Entry). g e.1) es)
+pub no_slot_found : (es : List Entry) (g : SignalCell → Bool) → find g (cells_of es) ≡ None → None ≡ option_map slot_and_cell (find (λ (e : Entry). g e.1) es)
 no_slot_found es g h =
-    (elim (find (λ (e : Entry). g e.1) es) as (λ o. option_map (λ (e : Entry). e.1) o ≡ None → None ≡ option_map (λ (e : Entry). e.0) o) [
+    (elim (find (λ (e : Entry). g e.1) es) as (λ o. option_map (λ (e : Entry). e.1) o ≡ None → None ≡ option_map slot_and_cell o) [
       | None ↦ λ d. refl
       | Some e ↦ λ d. none_some e.1 (sym d)
     ]) (sym (find-cells_of g es) ∙ h)
 
 -- the cell in a slot that a search finds
-pub record IsFoundIn (es : List Entry) (g : SignalCell → Bool) (slot : ℕ) : Type 0 where
+pub record IsFoundIn (es : List Entry) (g : SignalCell → Bool) (slot : ℕ) (cell : Cell) : Type 0 where
   pub x : SignalCell
   pub entry : find (λ e. g e.1) es ≡ Some (slot, x)
-  pub cell : find g (cells_of es) ≡ Some x
+  pub found : find g (cells_of es) ≡ Some x
+  pub is : x.cell ≡ cell
 
-pub cell_found : (es : List Entry) (g : SignalCell → Bool) (slot : ℕ) → Some slot ≡ option_map (λ (e : Entry). e.0) (find (λ (e : Entry). g e.1) es) → IsFoundIn es g slot
-cell_found es g slot h =
-    (elim (find (λ (e : Entry). g e.1) es) as (λ o. find (λ (e : Entry). g e.1) es ≡ o → Some slot ≡ option_map (λ (e : Entry). e.0) o → IsFoundIn es g slot) [
-      | None ↦ λ t d. none_some slot (sym d)
+pub cell_found : (es : List Entry) (g : SignalCell → Bool) (slot : ℕ) (cell : Cell) → Some (slot, cell) ≡ option_map slot_and_cell (find (λ (e : Entry). g e.1) es) → IsFoundIn es g slot cell
+cell_found es g slot cell h =
+    (elim (find (λ (e : Entry). g e.1) es) as (λ o. find (λ (e : Entry). g e.1) es ≡ o → Some (slot, cell) ≡ option_map slot_and_cell o → IsFoundIn es g slot cell) [
+      | None ↦ λ t d. none_some (slot, cell) (sym d)
       | Some e ↦ λ t d.
-          let is : e ≡ (slot, e.1) = ap (λ (n : ℕ). (n, e.1)) (sym (some_same slot e.0 d)) in
+          let at : (slot, cell) ≡ (e.0, e.1.cell) = some_same (slot, cell) (e.0, e.1.cell) d in
           record {
             x = e.1;
-            entry = t ∙ ap (λ (c : Entry). Some c) is;
-            cell = find-cells_of g es ∙ ap (option_map (λ (c : Entry). c.1)) t;
+            entry = t ∙ ap (λ (n : ℕ). Some (n, e.1)) (sym (ap (λ (c : ℕ × Cell). c.0) at));
+            found = find-cells_of g es ∙ ap (option_map (λ (c : Entry). c.1)) t;
+            is = sym (ap (λ (c : ℕ × Cell). c.1) at);
           }
     ]) refl h
 
@@ -152,14 +173,14 @@ no_end_of_place place_of k at = ap (option_map (λ (q : Place). q.end)) at
 pub has_place : (place_of : Key → Option Place) (k : Key) → IsSome (end_in place_of k) → IsSome (place_of k)
 has_place place_of k has = (elim (place_of k) as (λ o. IsSome (option_map (λ (q : Place). q.end) o) → IsSome o) [ None ↦ λ d. d | Some p ↦ λ d. d ]) has
 
-pub any_found : (f : SignalCell → Bool) (es : List Entry) → is_some (option_map (λ (e : Entry). e.0) (find (λ (e : Entry). f e.1) es)) ≡ list_any f (cells_of es)
+pub any_found : (f : SignalCell → Bool) (es : List Entry) → is_some (option_map slot_and_cell (find (λ (e : Entry). f e.1) es)) ≡ list_any f (cells_of es)
 any_found f [] = refl
-any_found f (e ∷ es) = elim (f e.1) as (λ b. is_some (option_map (λ (d : Entry). d.0) (cond b (Some e) (find (λ (d : Entry). f d.1) es))) ≡ (b || list_any f (cells_of es))) [ true ↦ refl | false ↦ any_found f es ]
+any_found f (e ∷ es) = elim (f e.1) as (λ b. is_some (option_map slot_and_cell (cond b (Some e) (find (λ (d : Entry). f d.1) es))) ≡ (b || list_any f (cells_of es))) [ true ↦ refl | false ↦ any_found f es ]
 
-pub none_found : (es : List Entry) (g : SignalCell → Bool) → None ≡ option_map (λ (e : Entry). e.0) (find (λ (e : Entry). g e.1) es) → find g (cells_of es) ≡ None
+pub none_found : (es : List Entry) (g : SignalCell → Bool) → None ≡ option_map slot_and_cell (find (λ (e : Entry). g e.1) es) → find g (cells_of es) ≡ None
 none_found es g h =
     find-cells_of g es
-    ∙ (elim (find (λ (e : Entry). g e.1) es) as (λ o. None ≡ option_map (λ (e : Entry). e.0) o → option_map (λ (e : Entry). e.1) o ≡ None) [
+    ∙ (elim (find (λ (e : Entry). g e.1) es) as (λ o. None ≡ option_map slot_and_cell o → option_map (λ (e : Entry). e.1) o ≡ None) [
       | None ↦ λ d. refl
-      | Some e ↦ λ d. none_some e.0 d
+      | Some e ↦ λ d. none_some (e.0, e.1.cell) d
     ]) h

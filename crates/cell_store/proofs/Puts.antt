@@ -1,7 +1,8 @@
 -- What a put leaves in the index, the cache and the free slots, and what its clauses say.
-use Rattle.std.proofs.Common.{◌≡◌, ℕ, refl, ◌-◌, ◌<◌, Bool, true, false, cond, not, ◌&&◌, ◌==◌, nat_eq, nat_lt, ◌≤◌, List, ◌∷◌, length, All, Option, Some, None, option_map, find, sym, ap, ap₂, subst, ◌∙◌, eq-eqb, arith}
+use Rattle.std.proofs.Common.{◌≡◌, ℕ, refl, ◌-◌, ◌<◌, Bool, true, false, cond, not, ◌&&◌, ◌==◌, nat_eq, nat_lt, ◌≤◌, List, ◌∷◌, length, All, Option, Some, None, option_map, unwrap_or, find, sym, ap, ap₂, subst, ◌∙◌, eq-eqb, arith}
 use Rattle.std.proofs.lemmas.Bool.{ne_eqb, ltb-true, ltb-false}
 use Rattle.std.proofs.lemmas.List.Elements.{All-take}
+use Rattle.std.specs.List.{slice_get}
 use Rattle.std.specs.Ordering.{is_eq}
 use Rattle.lru.specs.LruCache.{LruCache, lru_cache, promoted, put_entries, last_entry}
 use Rattle.valid_intervals.specs.Spans.{IsSpan}
@@ -15,7 +16,7 @@ use Rattle.cell_store.proofs.Found.{some_same, none_some}
 use Rattle.cell_store.proofs.Cached.{all_kept, all_differ, found_if_stored, not_stored, all_apart}
 use Rattle.cell_store.proofs.Entries.{Entry, past_end, length-cells_of, new_slot, still_free}
 use Rattle.cell_store.proofs.Placed.{IsLocated, located, same_slot, no_cell}
-use Rattle.cell_store.proofs.Calls.{IsUsed, is_used, same_sound, HasCome, has_come, is_last, HasReplaced, has_replaced}
+use Rattle.cell_store.proofs.Calls.{last_below, new_below, IsUsed, is_used, same_sound, HasCome, has_come, is_last, HasReplaced, has_replaced}
 
 pub came_at : (f g : Key → Option Place) (k : Key) (p : Place) (slot : ℕ) (x : SignalCell) → k ≡ key_of x → p ≡ place_at (slot, x) → ((q : Key) → g q ≡ cond (is_eq (key_cmp k q)) (Some p) (f q))
     → (q : Key) → g q ≡ cond (is_eq (key_cmp (key_of x) q)) (Some (place_at (slot, x))) (f q)
@@ -125,11 +126,18 @@ full_last entries capacity slot k h =
           ]) refl d
     ]) refl h
 
+-- the slot of a new cell is below the capacity
+pub below : (f : Key → Option Place) (entries : List Entry) (free : List ℕ) (capacity : ℕ) (last : Option (ℕ × Key)) → IsSoundStore f entries free capacity → last ≡ last_if_full entries capacity
+    → unwrap_or (option_map (λ e. e.0) last) (new_slot entries free) < capacity
+below f entries free capacity None sound h = new_below f entries free capacity sound (room_left entries capacity sound.some h)
+below f entries free capacity (Some e) sound h = let end : IsFullLast entries capacity e.0 e.1 = full_last entries capacity e.0 e.1 h in last_below f entries free capacity e.0 end.y sound end.entry
+
 pub at_slot : (slot given : ℕ) (k : Key) (entries : List Entry) (capacity : ℕ) → slot ≡ given → Some (given, k) ≡ last_if_full entries capacity → Some (slot, k) ≡ last_if_full entries capacity
 at_slot slot given k entries capacity is h = subst (λ (n : ℕ). Some (n, k) ≡ last_if_full entries capacity) (sym is) h
 
 -- ---- what a put leaves and returns
-pub record IsPut (place_of : Key → Option Place) (cache : LruCache ℕ SignalCell) (free : List ℕ) (s : Contents) (x : SignalCell) (fresh : Bool) (evicted : Option Key) : Type 0 where
+pub record IsPut (place_of : Key → Option Place) (cache : LruCache ℕ SignalCell) (free : List ℕ) (s : Contents) (slot : ℕ) (x : SignalCell) (fresh : Bool) (evicted : Option Key) : Type 0 where
+  pub first : slice_get cache.entries 0 ≡ Some (slot, x)
   pub sound : IsSoundStore place_of cache.entries free cache.cap
   pub cells : contents cache.cap (cells_of cache.entries) ≡ after_put s x
   pub is_fresh : fresh ≡ not (is_stored x s.cells)
@@ -146,12 +154,19 @@ module _ (f : Key → Option Place) (cache : LruCache ℕ SignalCell) (free : Li
   new_cell none = subst (λ (t : Contents). (is_stored x t.cells ≡ false) × All (IsApart x) t.cells) view (new_inside none)
 
   -- the cell is stored already
-  pub put_again : (g : Key → Option Place) (next : LruCache ℕ SignalCell) (p : Place) → Some p ≡ f k → ((q : Key) → g q ≡ f q) → next ≡ lru_cache (promoted (nat_eq p.slot) cache.entries) cache.cap → IsPut g next free s x false None
-  put_again g next p at same is =
-      let was : IsStored f cache.entries free cache.cap p.slot x = stored_at_place f cache.entries free cache.cap x sound span fits_inside p (ap f (sym key) ∙ sym at) in
+  pub put_again : (g : Key → Option Place) (next : LruCache ℕ SignalCell) (slot : ℕ) → Some slot ≡ option_map (λ (p : Place). p.slot) (f k) → ((q : Key) → g q ≡ f q) → next ≡ lru_cache (promoted (nat_eq slot) cache.entries) cache.cap → IsPut g next free s slot x false None
+  put_again g next slot at same is =
+      let was : IsStored f cache.entries free cache.cap slot x =
+      (elim (f k) as (λ o. f k ≡ o → Some slot ≡ option_map (λ (p : Place). p.slot) o → IsStored f cache.entries free cache.cap slot x) [
+        | None ↦ λ e d. none_some slot (sym d)
+        | Some p ↦ λ e d.
+            subst (λ (n : ℕ). IsStored f cache.entries free cache.cap n x) (sym (some_same slot p.slot d))
+            (stored_at_place f cache.entries free cache.cap x sound span fits_inside p (ap f (sym key) ∙ e))
+      ]) refl at in
       let stored : is_stored x s.cells ≡ true = subst (λ (t : Contents). is_stored x t.cells ≡ true) view was.stored in
       record {
-        sound = subst (λ (l : LruCache ℕ SignalCell). IsSoundStore g l.entries free l.cap) (sym is) (same_sound g f (promoted (nat_eq p.slot) cache.entries) free cache.cap same was.used.sound);
+        first = ap (λ (l : LruCache ℕ SignalCell). slice_get l.entries 0) is ∙ was.used.first;
+        sound = subst (λ (l : LruCache ℕ SignalCell). IsSoundStore g l.entries free l.cap) (sym is) (same_sound g f (promoted (nat_eq slot) cache.entries) free cache.cap same was.used.sound);
         cells = ap (λ (l : LruCache ℕ SignalCell). contents l.cap (cells_of l.entries)) is ∙ ap (contents cache.cap) was.used.cells
             ∙ ap (λ (t : Contents). with_cells t (to_front x t.cells)) view ∙ again_shows s x stored;
         is_fresh = sym (ap not stored);
@@ -160,13 +175,14 @@ module _ (f : Key → Option Place) (cache : LruCache ℕ SignalCell) (free : Li
 
   -- a new cell where there is room
   pub put_in_room : (g : Key → Option Place) (next : LruCache ℕ SignalCell) (left : List ℕ) (p : Place) (slot : ℕ) → None ≡ f k → None ≡ last_if_full cache.entries cache.cap → slot ≡ new_slot cache.entries free
-      → p ≡ place_at (slot, x) → ((q : Key) → g q ≡ cond (is_eq (key_cmp k q)) (Some p) (f q)) → next ≡ lru_cache (put_entries nat_eq (lru_cache cache.entries cache.cap) slot x) cache.cap → left ≡ still_free free → IsPut g next left s x true None
+      → p ≡ place_at (slot, x) → ((q : Key) → g q ≡ cond (is_eq (key_cmp k q)) (Some p) (f q)) → next ≡ lru_cache (put_entries nat_eq (lru_cache cache.entries cache.cap) slot x) cache.cap → left ≡ still_free free → IsPut g next left s slot x true None
   put_in_room g next left p slot none last at place came is off =
       let new = new_cell none in
       let room : length (cells_of cache.entries) < cache.cap = omega (arith, length-cells_of cache.entries, room_left cache.entries cache.cap sound.some last) in
       let short : length s.cells < s.capacity = subst (λ (t : Contents). length t.cells < t.capacity) view room in
       let come : HasCome g cache.entries free cache.cap slot x = has_come f g cache.entries free cache.cap slot x sound span (new_inside none).1 room at (came_at f g k p slot x key place came) in
       record {
+        first = ap (λ (l : LruCache ℕ SignalCell). slice_get l.entries 0) is ∙ ap (λ (es : List Entry). slice_get es 0) come.list;
         sound = subst (λ (l : LruCache ℕ SignalCell). IsSoundStore g l.entries left l.cap) (sym is)
             (subst (λ (es : List Entry). IsSoundStore g es left cache.cap) (sym come.list)
             (subst (λ (slots : List ℕ). IsSoundStore g ((slot, x) ∷ cache.entries) slots cache.cap) (sym off) come.sound));
@@ -179,7 +195,7 @@ module _ (f : Key → Option Place) (cache : LruCache ℕ SignalCell) (free : Li
   -- a new cell in the slot of the least recently used one
   pub put_in_full : (g h : Key → Option Place) (next : LruCache ℕ SignalCell) (p : Place) (slot : ℕ) (gone : Key) → None ≡ f k → Some (slot, gone) ≡ last_if_full cache.entries cache.cap
       → p ≡ place_at (slot, x) → ((q : Key) → g q ≡ cond (is_eq (key_cmp k q)) (Some p) (f q)) → next ≡ lru_cache (put_entries nat_eq (lru_cache cache.entries cache.cap) slot x) cache.cap
-      → ((q : Key) → h q ≡ cond (is_eq (key_cmp gone q)) None (g q)) → IsPut h next free s x true (Some gone)
+      → ((q : Key) → h q ≡ cond (is_eq (key_cmp gone q)) None (g q)) → IsPut h next free s slot x true (Some gone)
   put_in_full g h next p slot gone none last place came is went =
       let new = new_cell none in
       let end : IsFullLast cache.entries cache.cap slot gone = full_last cache.entries cache.cap slot gone last in
@@ -187,6 +203,7 @@ module _ (f : Key → Option Place) (cache : LruCache ℕ SignalCell) (free : Li
       let replaced : HasReplaced h cache.entries free cache.cap slot x =
       has_replaced f g h cache.entries free cache.cap slot x end.y sound span (new_inside none).1 end.entry (came_at f g k p slot x key place came) (went_at g h gone end.y end.key went) in
       record {
+        first = ap (λ (l : LruCache ℕ SignalCell). slice_get l.entries 0) is ∙ ap (λ (es : List Entry). slice_get es 0) replaced.list;
         sound = subst (λ (l : LruCache ℕ SignalCell). IsSoundStore h l.entries free l.cap) (sym is) (subst (λ (es : List Entry). IsSoundStore h es free cache.cap) (sym replaced.list) replaced.sound);
         cells = ap (λ (l : LruCache ℕ SignalCell). contents l.cap (cells_of l.entries)) is ∙ ap (λ (es : List Entry). contents cache.cap (cells_of es)) replaced.list ∙ ap (contents cache.cap) replaced.cells
             ∙ ap (λ (t : Contents). with_cells t (x ∷ all_but_last t.cells)) view ∙ replaced_shows s x span new.1 new.0 full;

@@ -7,15 +7,17 @@
 //!
 //! The model of a store is its capacity and the list of its cells (`specs/Recency.antt`). Contracts say exactly which list
 //! a call leaves. Inside, each cell has a slot, a small number, and the kit's `lru` cache keeps the cells by their slots. An
-//! ordered index has the end and the slot of each cell by its [`Key`]. Of the cells of a signal that begin no later than a
-//! point, only the last can cover it. The cell in front is tried before the index. A new cell takes a free slot, or the next
-//! number, or in a full store the slot of the cell that it evicts. Slots that follow one another lie beside one another in the
-//! cache's hash map. A call that fails for lack of memory leaves the store as it was. `find` and `covers` do not allocate.
+//! ordered index has the end, the value and the slot of each cell by its [`Key`], so that a search reads the index alone. Of the
+//! cells of a signal that begin no later than a point, only the last can cover it. The cell in front is tried before the index. A
+//! use is noted, and the cache is put in order when its last cell is asked for: a store that has room moves no cell. A new cell
+//! takes a free slot, or the next number, or in a full store the slot of the cell that it evicts. Slots that follow one another
+//! lie beside one another in the cache's hash map. A call that fails for lack of memory leaves the store as it was. `find` and
+//! `covers` do not allocate.
 //!
-//! With n cells, `find`, `covers` and `put` take O(log n) steps. A `put` of a new cell searches the index once for its key,
-//! and once for the key of a cell that it evicts. `len`, `capacity`, and a `find` of the most recently used cell take
-//! constant time. `trim` takes O(log n) steps for each cell that it removes. The store allocates about 100 bytes a cell, as
-//! cells come.
+//! With n cells, `find`, `covers` and `put` take O(log n) steps, and constant time for each use that was noted before and is made
+//! now: those of at most some eight n calls. A `put` of a new cell searches the index once for its key, and once for the key of a
+//! cell that it evicts. `len`, `capacity`, and a `find` of the most recently used cell take constant time. `trim` takes O(log n)
+//! steps for each cell that it removes. The store allocates about 110 bytes a cell, as cells come.
 //!
 //! ```text
 //! let mut store = CellStore::new(alloc, 3)?;
@@ -25,6 +27,7 @@
 //! ```
 #![tactic(auto)]
 
+mod recent;
 mod slots;
 mod store;
 

@@ -7,52 +7,51 @@ ghost use Rattle.valid_intervals.specs.Cells as cells;
 ghost use Rattle.valid_intervals.specs.Cells.{all_but_last, cell_for, to_front};
 ghost use Rattle.cell_store.specs.Recency.{contents, with_cells, key_of, last_key, pushes_out, after_put, FitsStore, AreApart, IsApart};
 ghost use Rattle.valid_intervals.specs.Cells.{stored_at, is_stored};
-ghost use Rattle.cell_store.specs.inner.Index.{key_cmp, place_at, IsInFront, IsPlaced};
-ghost use Rattle.lru.specs.LruCache.{lru_cache, promoted, last_entry as last_of};
+ghost use Rattle.cell_store.specs.inner.Index.{key_cmp, place_at, slot_and_cell, IsFront, IsInFront, IsPlaced};
+ghost use Rattle.lru.specs.LruCache.{last_entry as last_of};
 
-use crate::slots::SlotHasher;
+use crate::recent::RecentCells;
 use crate::{Key, Put};
-use lru::LruCache;
+use gate_values::Value;
 use owned_text::OutOfMemory;
 use std::alloc::Global;
 use std::collections::BTreeMap;
-use std::hash::BuildHasherDefault;
 use std::marker::Model;
 use std::num::NonZeroUsize;
-use valid_intervals::{Cell, Point, SignalCell};
-
-// The cells by their slots, which are small numbers.
-type Cache = LruCache<u32, SignalCell, BuildHasherDefault<SlotHasher>>;
+use valid_intervals::{Cell, Point, SignalCell, Span};
 
 /// The greatest capacity of a store.
 pub const MOST_CELLS: u32 = 65_536;
 
-// Where the index says that a cell is: its end, and its slot in the cache.
+// What the index has of a stored cell, beside its key: its end and its value, and its slot in the cache. A place takes eight bytes.
 #[derive(Clone, Copy)]
 struct Place {
     end: u32,
-    slot: u32,
+    slot: u16,
+    value: Value,
 }
 
 /// Cells of signals, the most recently used first, at most as many as the capacity. Two cells of a signal have no common time.
 #[derive(Drop)]
 pub struct CellStore {
-    cache: Cache,
+    cache: RecentCells,
     index: BTreeMap<Key, Place>,
     // slots that no cell has, left by trims
     free: Vec<u32>,
+    // the most recently used cell and its slot, where they are known
+    front: Option<(u32, SignalCell)>,
 }
 
 impl Model for CellStore {
     ghost use Rattle.std.specs.BTreeMap.{get};
     ghost use Rattle.cell_store.specs.Recency.{Contents, contents};
-    ghost use Rattle.cell_store.specs.inner.Index.{key_cmp, cells_of, IsSoundStore};
+    ghost use Rattle.cell_store.specs.inner.Index.{key_cmp, cells_of, IsFront, IsSoundStore};
 
     ghost Value = { Contents };
 
     ghost view = { λ s. contents s.cache.cap (cells_of s.cache.entries) };
 
-    ghost invariant = { λ s. IsSoundStore (get key_cmp s.index) s.cache.entries s.free.items s.cache.cap };
+    ghost invariant = { λ s. IsSoundStore (get key_cmp s.index) s.cache.entries s.free.items s.cache.cap × IsFront s.front s.cache.entries };
 }
 
 impl CellStore {
@@ -63,12 +62,11 @@ impl CellStore {
         ensures { IfOk result (λ store. store ≡ contents capacity []) }
     {
         let cells = NonZeroUsize::new(capacity as usize).unwrap();
-        let mut cache = LruCache::unbounded_with_hasher(alloc, BuildHasherDefault::new())?;
-        cache.resize(cells);
         Ok(CellStore {
-            cache,
+            cache: RecentCells::new(alloc, cells)?,
             index: BTreeMap::new(alloc),
             free: Vec::new(alloc),
+            front: None,
         })
     }
 
@@ -85,7 +83,7 @@ impl CellStore {
     pub fn is_empty(&self) -> bool
         ensures { IsTrue result ↔ (self.now.cells ≡ []) }
     {
-        self.cache.is_empty()
+        self.cache.len() == 0
     }
 
     /// The greatest number of cells.
@@ -104,18 +102,24 @@ impl CellStore {
             (to_front (cell_for p cell) self.old.cells)) }
         ensures unchanged { IfNone result (self.new ≡ self.old) }
     {
-        if let Some(cell) = front_covering(&self.cache, p) {
+        if let Some(cell) = front_covering(self.front, p) {
             return Some(cell);
         }
-        let slot = covering_slot(&self.index, p)?;
-        use_slot(&mut self.cache, slot)
+        let found = covering_cell(&self.index, p)?;
+        self.cache.promote(found.0);
+        let x = SignalCell {
+            signal: p.signal,
+            cell: found.1,
+        };
+        self.front = Some((found.0, x));
+        Some(found.1)
     }
 
     /// Whether a stored cell covers the point. The order of use stays.
     pub fn covers(&self, p: Point) -> bool
         ensures { result ≡ list_any (cells.covers p) self.now.cells }
     {
-        covering_slot(&self.index, p).is_some()
+        covering_cell(&self.index, p).is_some()
     }
 
     /// Puts a cell in front. A cell that is stored already moves there. A new cell in a full store replaces the least recently used one.
@@ -132,19 +136,21 @@ impl CellStore {
     {
         let x = SignalCell { signal, cell };
         let key = cell_key(&x);
-        let last = last_if_full(&self.cache);
+        let last = last_if_full(&mut self.cache);
         let slot = slot_for_new(last, &self.free, self.cache.len() as u32);
-        if let Some(stored) = insert_if_absent(&mut self.index, key, cell_place(&x, slot))? {
-            self.cache.promote(&stored.slot);
+        if let Some(held) = insert_if_absent(&mut self.index, key, cell_place(&x, slot))? {
+            self.cache.promote(held);
+            self.front = Some((held, x));
             return Ok(Put {
                 evicted: None,
                 fresh: false,
             });
         }
-        let Ok(_) = self.cache.push(slot, x) else {
+        let Ok(()) = self.cache.push(slot, x) else {
             self.index.remove(&key);
             return Err(OutOfMemory);
         };
+        self.front = Some((slot, x));
         match last {
             Some((_, evicted)) => {
                 self.index.remove(&evicted);
@@ -172,8 +178,9 @@ impl CellStore {
     {
         let left = n as usize;
         let extra = self.cache.len().saturating_sub(left);
-        let mut keys = Vec::with_capacity(*self.cache.allocator(), extra)?;
+        let mut keys = Vec::with_capacity(*self.free.allocator(), extra)?;
         self.free.reserve(extra)?;
+        self.front = None;
         while self.cache.len() > left {
             let Some((slot, oldest)) = self.cache.pop_lru() else {
                 unreachable!()
@@ -187,20 +194,18 @@ impl CellStore {
     }
 }
 
-// The most recently used cell, if it covers the point. Its use leaves the order as it is.
-fn front_covering(cache: &Cache, p: Point) -> Option<Cell>
-    ensures { IfSome result (IsInFront cache.now.entries p) }
+// The most recently used cell, if it is known and covers the point. Its use leaves the order as it is.
+fn front_covering(front: Option<(u32, SignalCell)>, p: Point) -> Option<Cell>
+    ensures { (entries : List (ℕ × SignalCell)) → IsFront front entries → IfSome result (IsInFront entries p) }
 {
-    match cache.peek_mru() {
-        None => None,
-        Some((_, x)) => { if x.covers(p) { Some(x.cell) } else { None } }
-    }
+    let (_, x) = front?;
+    if x.covers(p) { Some(x.cell) } else { None }
 }
 
-// The slot of the cell that covers the point. Of the cells of its signal that begin no later, only the last can cover it.
-fn covering_slot(index: &BTreeMap<Key, Place>, p: Point) -> Option<u32>
+// The cell that covers the point, and its slot. Of the cells of its signal that begin no later, only the last can cover it.
+fn covering_cell(index: &BTreeMap<Key, Place>, p: Point) -> Option<(u32, Cell)>
     ensures { (entries : List (ℕ × SignalCell)) → IsPlaced (get key_cmp index.now) entries
-        → result ≡ option_map (λ e. e.0) (find (λ e. cells.covers p e.1) entries) }
+        → result ≡ option_map slot_and_cell (find (λ e. cells.covers p e.1) entries) }
 {
     let at = Key {
         signal: p.signal,
@@ -208,31 +213,28 @@ fn covering_slot(index: &BTreeMap<Key, Place>, p: Point) -> Option<u32>
     };
     let (key, place) = index.range(..=at).next_back()?;
     if key.signal == p.signal && p.time < place.end {
-        Some(place.slot)
+        let span = Span::new(key.start, place.end)?;
+        let cell = Cell {
+            span,
+            value: place.value,
+        };
+        Some((place.slot as u32, cell))
     } else {
         None
     }
 }
 
-// Makes the cell in this slot the most recently used, and returns the most recently used cell.
-fn use_slot(cache: &mut Cache, slot: u32) -> Option<Cell>
-    ensures cache { cache.new ≡ lru_cache (promoted (nat_eq slot) cache.old.entries) cache.old.cap }
-    ensures cell { result ≡ option_map (λ e. e.1.cell) (slice_get cache.new.entries 0) }
-{
-    cache.promote(&slot);
-    cache.peek_mru().map(|(_, x)| x.cell)
-}
-
 // The slot and the key of the least recently used cell of a full cache. Where there is room, none.
-fn last_if_full(cache: &Cache) -> Option<(u32, Key)>
-    ensures { result ≡ (if nat_lt (length cache.now.entries) cache.now.cap then None
-        else option_map (λ e. (e.0, key_of e.1)) (last_of cache.now.entries)) }
+fn last_if_full(cache: &mut RecentCells) -> Option<(u32, Key)>
+    ensures unchanged { cache.new ≡ cache.old }
+    ensures last { result ≡ (if nat_lt (length cache.new.entries) cache.new.cap then None
+        else option_map (λ e. (e.0, key_of e.1)) (last_of cache.new.entries)) }
 {
     if cache.len() < cache.cap().get() {
         return None;
     }
     let (slot, x) = cache.peek_lru()?;
-    Some((*slot, cell_key(x)))
+    Some((slot, cell_key(&x)))
 }
 
 // The slot of a new cell: that of the last cell, where one is given, or else the last of the free slots, or else the first that was never used.
@@ -246,13 +248,13 @@ fn slot_for_new(last: Option<(u32, Key)>, free: &[u32], many: u32) -> u32
     }
 }
 
-// Gives a key this place, in one search. A key that has a place keeps it, by a second search, and its place is returned.
+// Gives a key this place, in one search. A key that has a place keeps it, by a second search, and its slot is returned.
 fn insert_if_absent(
     index: &mut BTreeMap<Key, Place>,
     key: Key,
     place: Place,
-) -> Result<Option<Place>, OutOfMemory>
-    ensures had { IfOk result (λ had. had ≡ get key_cmp index.old key) }
+) -> Result<Option<u32>, OutOfMemory>
+    ensures had { IfOk result (λ had. had ≡ option_map (λ p. p.slot) (get key_cmp index.old key)) }
     ensures new { IfOk result (λ had. IfNone had (Updates key_cmp index.old index.new key (Some place))) }
     ensures stays { IfOk result (λ had. IfSome had (λ _. (k : Key) → get key_cmp index.new k ≡ get key_cmp index.old k)) }
     ensures err { OnErr result (IsUnchanged index.old index.new) }
@@ -261,7 +263,7 @@ fn insert_if_absent(
         return Ok(None);
     };
     index.insert(key, had)?;
-    Ok(Some(had))
+    Ok(Some(had.slot as u32))
 }
 
 fn cell_key(x: &SignalCell) -> Key
@@ -275,11 +277,13 @@ fn cell_key(x: &SignalCell) -> Key
 }
 
 fn cell_place(x: &SignalCell, slot: u32) -> Place
+    requires { slot < 65536 }
     ensures { result ≡ place_at (slot, x.now) }
 {
     Place {
         end: x.cell.span.end(),
-        slot,
+        slot: slot as u16,
+        value: x.cell.value,
     }
 }
 

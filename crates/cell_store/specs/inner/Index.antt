@@ -1,5 +1,5 @@
--- How a store finds a cell: the cache's pairs of slots and cells, an index from keys to ends and slots, and the slots that are free.
-use Rattle.std.specs.Prelude.{◌≡◌, ℕ, ◌+◌, ◌<◌, ◌≤◌, Bool, true, ◌&&◌, nat_eq, if◌then◌else◌, List, [], ◌∷◌, length, map, find, slice_get, All, Option, Some, option_map}
+-- How a store finds a cell: the cache's pairs of slots and cells, an index from keys to cells and slots, and the slots that are free.
+use Rattle.std.specs.Prelude.{◌≡◌, ℕ, ◌+◌, ◌<◌, ◌≤◌, Bool, true, ◌&&◌, nat_eq, if◌then◌else◌, List, [], ◌∷◌, length, map, find, slice_get, All, Option, Some, IfSome, option_map}
 use Rattle.std.specs.declared.cmp.Ordering.{Ordering}
 use Rattle.std.specs.Ordering.{ordering_then, nat_cmp}
 use Rattle.valid_intervals.specs.Spans.{IsSpan}
@@ -22,9 +22,13 @@ has_key k x = nat_eq k.signal x.signal && nat_eq k.start x.cell.span.start
 abbrev pub end_at : Key → List SignalCell → Option ℕ
 end_at k cells = option_map (λ x. x.cell.span.stop) (find (has_key k) cells)
 
--- where the index has a cell
+-- what the index has of a cell
 abbrev pub place_at : ℕ × SignalCell → Place
-place_at e = record { end = e.1.cell.span.stop; slot = e.0 }
+place_at e = record { end = e.1.cell.span.stop; slot = e.0; value = e.1.cell.value }
+
+-- the slot and the cell
+abbrev pub slot_and_cell : ℕ × SignalCell → ℕ × Cell
+slot_and_cell e = (e.0, e.1.cell)
 
 -- the ends of an index
 abbrev pub end_in : (Key → Option Place) → Key → Option ℕ
@@ -46,6 +50,10 @@ uses_of slot entries = times slot (map (λ e. e.0) entries)
 abbrev pub places_of : ℕ → List (ℕ × SignalCell) → List ℕ → ℕ
 places_of slot entries free = uses_of slot entries + times slot free
 
+-- this is the most recently used cell, with its slot, where it is one
+abbrev pub IsFront : Option (ℕ × SignalCell) → List (ℕ × SignalCell) → Type 0
+IsFront front entries = IfSome front (λ e. slice_get entries 0 ≡ Some e)
+
 -- the most recently used cell is this one, and covers the point
 pub record IsInFront (entries : List (ℕ × SignalCell)) (p : Point) (cell : Cell) : Type 0 where
   pub slot : ℕ
@@ -60,7 +68,7 @@ pub record IsStoreIndex (end_of : Key → Option ℕ) (cells : List SignalCell) 
   pub apart : AreApart cells
   pub ends : (k : Key) → end_of k ≡ end_at k cells
 
--- the index has the end and the slot of each cell, and of no other key
+-- the index has each cell and its slot, and no other key
 pub record IsPlaced (place_of : Key → Option Place) (entries : List (ℕ × SignalCell)) : Type 0 where
   pub indexed : IsStoreIndex (end_in place_of) (cells_of entries)
   pub placed : All (λ e. place_of (key_of e.1) ≡ Some (place_at e)) entries
@@ -74,6 +82,6 @@ pub record AreSlots (entries : List (ℕ × SignalCell)) (free : List ℕ) : Typ
 pub record IsSoundStore (place_of : Key → Option Place) (entries : List (ℕ × SignalCell)) (free : List ℕ) (capacity : ℕ) : Type 0 where
   pub found : IsPlaced place_of entries
   pub slots : AreSlots entries free
-  pub within : length entries ≤ capacity
+  pub within : length entries + length free ≤ capacity
   pub some : 0 < capacity
   pub most : capacity ≤ 65536

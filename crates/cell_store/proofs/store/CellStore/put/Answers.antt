@@ -1,35 +1,65 @@
-use Rattle.std.proofs.Common.{◌≡◌, ℕ, ◌-◌, true, false, List, length, take, Option, None, Some, IfNone, IfSome, cond, option_map, unwrap_or, sym, ap, ap₂, subst, ◌∙◌}
+use Rattle.std.proofs.Common.{arith, ◌<◌, refl, ◌≡◌, ℕ, ◌-◌, true, false, List, length, take, Option, None, Some, IfNone, IfSome, cond, option_map, unwrap_or, sym, ap, ap₂, subst, ◌∙◌}
 use Rattle.std.specs.List.{slice_get}
 use Rattle.std.specs.BTreeMap.{get, is_at, Updates}
 use Rattle.std.specs.Map.{lookup}
 use Rattle.std.specs.Ordering.{is_eq}
 use Rattle.lru.specs.LruCache.{LruCache}
 use Rattle.valid_intervals.specs.declared.SignalCell.{SignalCell}
+use Rattle.cell_store.specs.Recency.{contents}
 use Rattle.cell_store.specs.declared.Key.{Key}
 use Rattle.cell_store.specs.declared.store.Place.{Place}
-use Rattle.cell_store.specs.inner.Index.{key_cmp, IsSoundStore}
+use Rattle.cell_store.specs.inner.Index.{key_cmp, cells_of, IsFront, IsSoundStore}
+use Rattle.cell_store.proofs.Found.{none_some}
 use Rattle.cell_store.proofs.Kept.{put_back}
 use Rattle.cell_store.proofs.Entries.{new_slot}
 use Rattle.cell_store.proofs.Calls.{same_sound}
-use Rattle.cell_store.proofs.Puts.{IsPut, put_again, put_in_room, put_in_full, at_slot}
-use Rattle.cell_store.proofs.store.CellStore.put.Goals.{After-push}
+use Rattle.cell_store.proofs.Puts.{below, IsPut, put_again, put_in_room, put_in_full, at_slot}
+use Rattle.cell_store.proofs.store.CellStore.put.Goals.{After-last_if_full-last, After-promote, After-push}
 use Rattle.cell_store.proofs.store.CellStore.put.Goals as goal
+
+-- ---- the look at the least recently used cell leaves the store as it is
+sound : (c : After-last_if_full-last) → IsSoundStore (get key_cmp c.self.inside.index) c.last_if_full-last.new.cache.entries c.self.inside.free.items c.last_if_full-last.new.cache.cap
+sound c = subst (λ (l : LruCache ℕ SignalCell). IsSoundStore (get key_cmp c.self.inside.index) l.entries c.self.inside.free.items l.cap) (sym c.last_if_full-last.ensures.unchanged) c.self.invariant.0
+
+front : (c : After-last_if_full-last) → IsFront c.self.inside.front c.last_if_full-last.new.cache.entries
+front c = subst (λ (l : LruCache ℕ SignalCell). IsFront c.self.inside.front l.entries) (sym c.last_if_full-last.ensures.unchanged) c.self.invariant.1
+
+view : (c : After-last_if_full-last) → contents c.last_if_full-last.new.cache.cap (cells_of c.last_if_full-last.new.cache.entries) ≡ c.args.self.now
+view c = ap (λ (l : LruCache ℕ SignalCell). contents l.cap (cells_of l.entries)) c.last_if_full-last.ensures.unchanged ∙ c.self.view_is
+
+-- ---- a slot fits
+pub cell_place-requires : goal.cell_place-requires
+cell_place-requires c =
+    let seen : After-last_if_full-last = (goal.at.cell_place-requires c).After-last_if_full-last in
+    let fits : unwrap_or (option_map (λ e. e.0) c.last_if_full-last.result) (new_slot c.last_if_full-last.new.cache.entries c.self.inside.free.items) < c.last_if_full-last.new.cache.cap =
+    below (get key_cmp c.self.inside.index) c.last_if_full-last.new.cache.entries c.self.inside.free.items c.last_if_full-last.new.cache.cap c.last_if_full-last.result (sound seen) c.last_if_full-last.ensures.last in
+    omega (
+      arith,
+      fits,
+      (sound seen).most,
+      c.slot_for_new-slot.ensures
+          ∙ ap₂ (λ (l : List ℕ) (n : ℕ). unwrap_or (option_map (λ e. e.0) c.last_if_full-last.result) (unwrap_or (slice_get l (length l - 1)) n)) c.deref.ensures.value c.len.ensures,
+    )
 
 pub invariant_of-self : goal.invariant_of-self
 invariant_of-self c =
-    same_sound (get key_cmp c.insert_if_absent.new.index) (get key_cmp c.self.inside.index) c.self.inside.cache.entries c.self.inside.free.items c.self.inside.cache.cap
-    (λ q. ap (λ (es : List (Key × Place)). lookup (is_at (key_cmp q)) es) c.in_err-stored.ensures.err) c.self.invariant
+    let seen : After-last_if_full-last = (goal.at.invariant_of-self c).After-last_if_full-last in (
+      same_sound (get key_cmp c.insert_if_absent.new.index) (get key_cmp c.self.inside.index) c.last_if_full-last.new.cache.entries c.self.inside.free.items c.last_if_full-last.new.cache.cap
+          (λ q. ap (λ (es : List (Key × Place)). lookup (is_at (key_cmp q)) es) c.in_err-held.ensures.err) (sound seen),
+      front seen,
+    )
 
 -- ---- the cell is stored already
-again : (c : goal.After-promote) → IsPut (get key_cmp c.insert_if_absent.new.index) c.promote.new.self c.self.inside.free.items c.args.self.now (record { signal = c.args.signal; cell = c.args.cell }) false None
+again : (c : goal.After-self-1) → IsPut (get key_cmp c.insert_if_absent.new.index) c.promote.new.self c.self.inside.free.items c.args.self.now c.in-Some.held (record { signal = c.args.signal; cell = c.args.cell }) false None
 again c =
-    put_again (get key_cmp c.self.inside.index) c.self.inside.cache c.self.inside.free.items c.args.self.now (record { signal = c.args.signal; cell = c.args.cell }) c.cell_key-key.result
-    c.self.invariant c.self.view_is c.requires c.cell_key-key.ensures.key c.cell_key-key.ensures.span (get key_cmp c.insert_if_absent.new.index) c.promote.new.self c.in-Some.stored
-    (sym c.in-Some.is ∙ c.in_ok-stored.ensures.had)
-    (subst (λ o. IfSome o (λ _. (q : Key) → get key_cmp c.insert_if_absent.new.index q ≡ get key_cmp c.self.inside.index q)) c.in-Some.is c.in_ok-stored.ensures.stays) c.promote.ensures.entries
+    let seen : After-last_if_full-last = (goal.at.invariant_of-self-in-Some c).After-last_if_full-last in
+    put_again (get key_cmp c.self.inside.index) c.last_if_full-last.new.cache c.self.inside.free.items c.args.self.now (record { signal = c.args.signal; cell = c.args.cell }) c.cell_key-key.result
+    (sound seen) (view seen) c.requires c.cell_key-key.ensures.key c.cell_key-key.ensures.span (get key_cmp c.insert_if_absent.new.index) c.promote.new.self c.in-Some.held
+    (sym c.in-Some.is ∙ c.in_ok-held.ensures.had)
+    (subst (λ o. IfSome o (λ _. (q : Key) → get key_cmp c.insert_if_absent.new.index q ≡ get key_cmp c.self.inside.index q)) c.in-Some.is c.in_ok-held.ensures.stays) c.promote.ensures
 
 pub invariant_of-self-in-Some : goal.invariant_of-self-in-Some
-invariant_of-self-in-Some c = (again c).sound
+invariant_of-self-in-Some c = ((again c).sound, (again c).first)
 
 pub returns-in-Some-clause-cells : goal.returns-in-Some-clause-cells
 returns-in-Some-clause-cells c = (again c).cells
@@ -42,36 +72,46 @@ returns-in-Some-clause-evicted c = (again c).is_evicted
 
 -- ---- the cell is new
 none : (c : After-push) → None ≡ get key_cmp c.self.inside.index c.cell_key-key.result
-none c = sym c.in_default.is ∙ c.in_ok-stored.ensures.had
+none c = no_slot (get key_cmp c.self.inside.index c.cell_key-key.result) (sym c.in_default.is ∙ c.in_ok-held.ensures.had)
+  where
+    no_slot : (o : Option Place) → None ≡ option_map (λ (p : Place). p.slot) o → None ≡ o
+    no_slot None h = refl
+    no_slot (Some p) h = none_some p.slot h
 
 came : (c : After-push) → (q : Key) → get key_cmp c.insert_if_absent.new.index q ≡ cond (is_eq (key_cmp c.cell_key-key.result q)) (Some c.cell_place.result) (get key_cmp c.self.inside.index q)
-came c = (subst (λ o. IfNone o (Updates key_cmp c.self.inside.index c.insert_if_absent.new.index c.cell_key-key.result (Some c.cell_place.result))) c.in_default.is c.in_ok-stored.ensures.new).0
+came c = (subst (λ o. IfNone o (Updates key_cmp c.self.inside.index c.insert_if_absent.new.index c.cell_key-key.result (Some c.cell_place.result))) c.in_default.is c.in_ok-held.ensures.new).0
 
-slot : (c : After-push) → (last : Option (ℕ × Key)) → c.last_if_full-last.result ≡ last → c.slot_for_new-slot.result ≡ unwrap_or (option_map (λ e. e.0) last) (new_slot c.self.inside.cache.entries c.self.inside.free.items)
+slot : (c : After-push) → (last : Option (ℕ × Key)) → c.last_if_full-last.result ≡ last
+    → c.slot_for_new-slot.result ≡ unwrap_or (option_map (λ e. e.0) last) (new_slot c.last_if_full-last.new.cache.entries c.self.inside.free.items)
 slot c last is =
     c.slot_for_new-slot.ensures
     ∙ ap (λ (o : Option (ℕ × Key)). unwrap_or (option_map (λ e. e.0) o) (unwrap_or (slice_get c.deref.result.now (length c.deref.result.now - 1)) c.len.result)) is
-    ∙ ap₂ (λ (l : List ℕ) (n : ℕ). unwrap_or (option_map (λ e. e.0) last) (unwrap_or (slice_get l (length l - 1)) n)) c.deref.ensures.value c.len.ensures.len
+    ∙ ap₂ (λ (l : List ℕ) (n : ℕ). unwrap_or (option_map (λ e. e.0) last) (unwrap_or (slice_get l (length l - 1)) n)) c.deref.ensures.value c.len.ensures
 
 -- the cache refuses it
 pub invariant_of-self-in_default-push : goal.invariant_of-self-in_default-push
 invariant_of-self-in_default-push c =
     let new : After-push = (goal.at.invariant_of-self-in_default-push c).After-push in
-    subst (λ (l : LruCache ℕ SignalCell). IsSoundStore (get key_cmp c.remove.new.self) l.entries c.self.inside.free.items l.cap) (sym c.in_default-push.ensures.err)
-    (same_sound (get key_cmp c.remove.new.self) (get key_cmp c.self.inside.index) c.self.inside.cache.entries c.self.inside.free.items c.self.inside.cache.cap
-    (put_back (get key_cmp c.self.inside.index) (get key_cmp c.insert_if_absent.new.index) (get key_cmp c.remove.new.self) c.cell_key-key.result (Some c.cell_place.result) None (none new) (came new) c.remove.ensures.updates.0) c.self.invariant)
+    let seen : After-last_if_full-last = (goal.at.invariant_of-self-in_default-push c).After-last_if_full-last in (
+      subst (λ (l : LruCache ℕ SignalCell). IsSoundStore (get key_cmp c.remove.new.self) l.entries c.self.inside.free.items l.cap) (sym c.in_default-push.ensures.err)
+          (same_sound (get key_cmp c.remove.new.self) (get key_cmp c.self.inside.index) c.last_if_full-last.new.cache.entries c.self.inside.free.items c.last_if_full-last.new.cache.cap
+          (put_back (get key_cmp c.self.inside.index) (get key_cmp c.insert_if_absent.new.index) (get key_cmp c.remove.new.self) c.cell_key-key.result (Some c.cell_place.result) None (none new) (came new) c.remove.ensures.updates.0) (sound seen)),
+      subst (λ (l : LruCache ℕ SignalCell). IsFront c.self.inside.front l.entries) (sym c.in_default-push.ensures.err) (front seen),
+    )
 
 -- ---- it takes the slot of the least recently used cell
-full : (c : goal.After-remove-in-Some-last) → IsPut (get key_cmp c.remove-in-Some-last.new.self) c.push.new.self c.self.inside.free.items c.args.self.now (record { signal = c.args.signal; cell = c.args.cell }) true (Some c.in-Some-last.evicted)
+full : (c : goal.After-remove-in-Some-last) → IsPut (get key_cmp c.remove-in-Some-last.new.self) c.push.new.self c.self.inside.free.items c.args.self.now c.slot_for_new-slot.result (record { signal = c.args.signal; cell = c.args.cell }) true (Some c.in-Some-last.evicted)
 full c =
     let new : After-push = (goal.at.invariant_of-self-in-Some-last c).After-push in
-    put_in_full (get key_cmp c.self.inside.index) c.self.inside.cache c.self.inside.free.items c.args.self.now (record { signal = c.args.signal; cell = c.args.cell }) c.cell_key-key.result
-    c.self.invariant c.self.view_is c.requires c.cell_key-key.ensures.key c.cell_key-key.ensures.span (get key_cmp c.insert_if_absent.new.index) (get key_cmp c.remove-in-Some-last.new.self) c.push.new.self c.cell_place.result c.slot_for_new-slot.result c.in-Some-last.evicted
-    (none new) (at_slot c.slot_for_new-slot.result c.in-Some-last.field-0-0 c.in-Some-last.evicted c.self.inside.cache.entries c.self.inside.cache.cap (slot new (Some (c.in-Some-last.field-0-0, c.in-Some-last.evicted)) c.in-Some-last.is) c.in-Some-last.ensures)
+    let seen : After-last_if_full-last = (goal.at.invariant_of-self-in-Some-last c).After-last_if_full-last in
+    put_in_full (get key_cmp c.self.inside.index) c.last_if_full-last.new.cache c.self.inside.free.items c.args.self.now (record { signal = c.args.signal; cell = c.args.cell }) c.cell_key-key.result
+    (sound seen) (view seen) c.requires c.cell_key-key.ensures.key c.cell_key-key.ensures.span (get key_cmp c.insert_if_absent.new.index) (get key_cmp c.remove-in-Some-last.new.self) c.push.new.self c.cell_place.result c.slot_for_new-slot.result c.in-Some-last.evicted
+    (none new) (at_slot c.slot_for_new-slot.result c.in-Some-last.field-0-0 c.in-Some-last.evicted c.last_if_full-last.new.cache.entries c.last_if_full-last.new.cache.cap
+    (slot new (Some (c.in-Some-last.field-0-0, c.in-Some-last.evicted)) c.in-Some-last.is) c.in-Some-last.ensures.last)
     c.cell_place.ensures (came new) c.in-Ok.ensures.entries c.remove-in-Some-last.ensures.updates.0
 
 pub invariant_of-self-in-Some-last : goal.invariant_of-self-in-Some-last
-invariant_of-self-in-Some-last c = (full c).sound
+invariant_of-self-in-Some-last c = ((full c).sound, (full c).first)
 
 pub returns-in-Some-last-clause-cells : goal.returns-in-Some-last-clause-cells
 returns-in-Some-last-clause-cells c = (full c).cells
@@ -83,16 +123,17 @@ pub returns-in-Some-last-clause-evicted : goal.returns-in-Some-last-clause-evict
 returns-in-Some-last-clause-evicted c = (full c).is_evicted
 
 -- ---- it takes a free slot
-room : (c : goal.After-pop) → IsPut (get key_cmp c.insert_if_absent.new.index) c.push.new.self c.pop.new.self.items c.args.self.now (record { signal = c.args.signal; cell = c.args.cell }) true None
+room : (c : goal.After-pop) → IsPut (get key_cmp c.insert_if_absent.new.index) c.push.new.self c.pop.new.self.items c.args.self.now c.slot_for_new-slot.result (record { signal = c.args.signal; cell = c.args.cell }) true None
 room c =
     let new : After-push = (goal.at.invariant_of-self-in-None c).After-push in
-    put_in_room (get key_cmp c.self.inside.index) c.self.inside.cache c.self.inside.free.items c.args.self.now (record { signal = c.args.signal; cell = c.args.cell }) c.cell_key-key.result
-    c.self.invariant c.self.view_is c.requires c.cell_key-key.ensures.key c.cell_key-key.ensures.span (get key_cmp c.insert_if_absent.new.index) c.push.new.self c.pop.new.self.items c.cell_place.result c.slot_for_new-slot.result
-    (none new) c.in-None.ensures (slot new None c.in-None.is) c.cell_place.ensures (came new) c.in-Ok.ensures.entries
+    let seen : After-last_if_full-last = (goal.at.invariant_of-self-in-None c).After-last_if_full-last in
+    put_in_room (get key_cmp c.self.inside.index) c.last_if_full-last.new.cache c.self.inside.free.items c.args.self.now (record { signal = c.args.signal; cell = c.args.cell }) c.cell_key-key.result
+    (sound seen) (view seen) c.requires c.cell_key-key.ensures.key c.cell_key-key.ensures.span (get key_cmp c.insert_if_absent.new.index) c.push.new.self c.pop.new.self.items c.cell_place.result c.slot_for_new-slot.result
+    (none new) c.in-None.ensures.last (slot new None c.in-None.is) c.cell_place.ensures (came new) c.in-Ok.ensures.entries
     (c.pop.ensures.rest ∙ ap (λ (n : ℕ). take (n - 1) c.self.inside.free.items) (sym c.deref.ensures.len ∙ ap (λ (l : List ℕ). length l) c.deref.ensures.value))
 
 pub invariant_of-self-in-None : goal.invariant_of-self-in-None
-invariant_of-self-in-None c = (room c).sound
+invariant_of-self-in-None c = ((room c).sound, (room c).first)
 
 pub returns-in-None-clause-cells : goal.returns-in-None-clause-cells
 returns-in-None-clause-cells c = (room c).cells
