@@ -1,11 +1,13 @@
 #!/usr/bin/env python3
-"""Times sessions that have no counterpart elsewhere: outputs that share their cones, an explanation, and batches at the limits.
+"""Times sessions that have no counterpart elsewhere: a long stimulus, outputs that share their cones, an explanation, and batches at the
+limits.
 
-    bench/sessions/run.py [multiplier] [why] [limits]
+    bench/sessions/run.py [stimulus] [multiplier] [why] [limits]
 
-Runs all three where none is named. Each prints a table. Times are wall times of whole sessions, the reading of their files included, and
+Runs all four where none is named. Each prints a table. Times are wall times of whole sessions, the reading of their files included, and
 memory is the most that the process had. The replies must be those that integers give; else the script ends with status 1.
 
+- stimulus: 960,000 settings of 64 inputs, in three orders, and no question.
 - multiplier: an array multiplier of 64 by 64 bits between registers, and of its product's bits 0 to 127 the parities of those from bit K
   on, for K below 64. The 64 parities are asked at the end of a clock period, in one batch, and each in a session of its own, by one
   worker.
@@ -82,6 +84,24 @@ def write(folder: Path, name: str, lines: Iterable[str]) -> None:
 def is_same(found: bytes, wanted: str) -> None:
     if found != wanted.encode():
         sys.exit("bench/sessions: the replies are not those that integers give")
+
+
+# The stimulus.
+
+LINES, TURNS = 64, 15_000
+
+
+def time_stimulus(folder: Path) -> None:
+    draw = random.Random(SEED)
+    write(folder, "n", [*(f"INPUT(i{line})" for line in range(LINES)), "y = NOT(i0)"])
+    write(folder, "t", ["default 1"])
+    settings = [(turn, line, draw.getrandbits(1)) for turn in range(TURNS) for line in range(LINES)]
+    one_by_one = sorted(settings, key=lambda setting: setting[1])
+    for name, order in (("in the order of time", settings), ("one input after another", one_by_one), ("times falling", settings[::-1])):
+        write(folder, "s", [f"horizon {TURNS}", *(f"set i{line} {turn} {bit}" for turn, line, bit in order)])
+        ran = session(folder, b"")
+        is_same(ran.output, "")
+        print(f"| {name} | {ran.seconds:.3f} | {ran.megabytes:.0f} |", flush=True)
 
 
 # The multiplier.
@@ -225,6 +245,7 @@ def time_limits(folder: Path) -> None:
 
 
 TABLES = {
+    "stimulus": (time_stimulus, "| 960,000 settings | seconds | MB |"),
     "multiplier": (time_multiplier, "| asked of the multiplier | evaluations | seconds |"),
     "why": (time_why, "| ring of 63 inverters | seconds | MB |"),
     "limits": (time_limits, "| batches at the limits | evaluations | seconds | MB |"),
