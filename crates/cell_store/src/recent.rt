@@ -17,9 +17,6 @@ use valid_intervals::SignalCell;
 // The cells by their slots, which are small numbers.
 type Cache = LruCache<u32, SignalCell, BuildHasherDefault<SlotHasher>>;
 
-// So many uses of each cell are noted before the noted cells are moved.
-const NOTES_A_CELL: usize = 4;
-
 /// A cache that is in order only when its other end is asked for. A use of a cell is noted. What is noted is moved to the front, in
 /// its order, before the least recently used cell is looked at or taken out, and where there is no room for a note. So a cache that
 /// has room for all that comes moves nothing. The model is the cache with all uses made.
@@ -116,14 +113,14 @@ impl RecentCells {
         self.cache.pop_lru()
     }
 
-    // Room for more notes, where there are few for the cells. A note is no need: where memory is refused, cells are moved sooner.
+    // Room for as many notes again, once half of it is taken, up to four notes a cell and more. A note is no need: where memory is
+    // refused, cells are moved sooner.
     fn make_room(&mut self)
         ensures { self.new ≡ self.old }
     {
-        if self.noted.len() == self.noted.capacity()
-            && self.noted.capacity() / NOTES_A_CELL <= self.cache.len()
-        {
-            let _ = self.noted.reserve(1);
+        let many = self.noted.len();
+        if self.noted.capacity() / 2 <= many && many / 2 <= self.cache.len() {
+            let _ = self.noted.reserve(many.max(16));
         }
     }
 }

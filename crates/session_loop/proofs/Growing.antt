@@ -78,16 +78,9 @@ module _ (G : List ℕ → Type 0) (none : G []) where
   pub keeps-none : (kept : List ℕ) → KeepsBack G kept [] kept
   keeps-none kept = record { written = []; grows = none; same = sym (append-nil kept) }
 
-  pub keeps-text : (kept more : List ℕ) → KeepsBack G kept more (kept ++ more)
-  keeps-text kept more = record { written = []; grows = none; same = refl }
-
 -- a text is kept back, and then some of it is written
 pub keeps-pushed : (G : List ℕ → Type 0) (kept more left : List ℕ) → KeepsBack G (kept ++ more) [] left → KeepsBack G kept more left
 keeps-pushed G kept more left f = record { written = f.written; grows = f.grows; same = f.same ∙ append-nil (kept ++ more) }
-
--- all of it is written
-pub keeps-nothing : (G : List ℕ → Type 0) (kept more : List ℕ) → G (kept ++ more) → KeepsBack G kept more []
-keeps-nothing G kept more grows = record { written = kept ++ more; grows = grows; same = append-nil (kept ++ more) }
 
 module _ (G : List ℕ → Type 0) (a b c d : List ℕ) (f : KeepsBack G a b c) where
   split : f.written ++ (c ++ d) ≡ a ++ (b ++ d)
