@@ -7,6 +7,7 @@ from collections.abc import Callable
 from typing import BinaryIO
 
 from .errors import FormatError, reason_of
+from .evaluations import MOST_CELLS
 from .formats.text import number_of
 
 
@@ -37,7 +38,8 @@ def add_memo(parser: argparse.ArgumentParser) -> None:
     """Adds the options --workers, --shards and --cells."""
     parser.add_argument("--workers", metavar="N", type=count_of(1, 64), help="of each process: 1 where there are several, else 4")
     parser.add_argument("--shards", metavar="N", type=count_of(1, 64), help="of each process, 8 where it is left out")
-    parser.add_argument("--cells", metavar="N", type=count_of(1, 65_536), help="of each shard, 16384 where it is left out")
+    parser.add_argument("--cells", metavar="N", type=count_of(1, MOST_CELLS), default=MOST_CELLS,
+                        help=f"of each shard, {MOST_CELLS} where it is left out; each takes some 100 bytes once it comes")
 
 
 def opened(path: str) -> BinaryIO:

@@ -17,6 +17,7 @@ from contextlib import contextmanager
 from typing import TYPE_CHECKING, NamedTuple, TypeVar
 
 from .errors import FormatError, UsageError, reason_of, type_of_path
+from .evaluations import MOST_CELLS
 from .outcomes import FAULTS, Fault, Refused, SessionError, ended
 from .parts import TextLine
 
@@ -36,20 +37,24 @@ _LONG = (b"wave ", b"stuck ", b"why ")
 # a long reply; one that is not whole, and so the rest; another reply; and one that is not whole
 _REPLIES = re.compile(rb"(?:wave|stuck|why) [^\n]*\n(?:[^\n]*\n)*?end\n|(?s:(?:wave|stuck|why) .*)|[^\n]*\n|[^\n]+\Z")
 _NOT_BUILT = 7
+# glibc asks for large pages, where the system lets it; a long session takes a tenth less then
+_LARGE_PAGES = {"GLIBC_TUNABLES": "glibc.malloc.hugetlb=1"}
 _PLACES = {"netlist": 0, "timing": 1, "stimulus": 2, "journal": 3}
 
 
 class Options(NamedTuple):
-    """The options of a session; None leaves one out. Workers and shards are 1 to 64, cells (of each shard) 1 to 65,536."""
+    """The options of a session; None leaves one out. Workers and shards are 1 to 64, cells (of each shard) 1 to 65,536. The room for
+    cells is as great as it may be where nothing else is said: what is evaluated again for want of it costs more than the memory, some
+    100 bytes for each cell that comes."""
 
     workers: int | None = None
     shards: int | None = None
-    cells: int | None = None
+    cells: int | None = MOST_CELLS
 
     def words(self) -> list[str]:
         """The options as words of a command. UsageError where a number is out of its range."""
         words: list[str] = []
-        for name, number, most in zip(self._fields, self, (64, 64, 65_536)):
+        for name, number, most in zip(self._fields, self, (64, 64, MOST_CELLS)):
             if number is None:
                 continue
             if not 1 <= number <= most:
@@ -116,7 +121,8 @@ class Conversation:
         # a name that begins with - is a name after --
         words = [find_program(program), *options.words(), "--", *self.files]
         try:
-            self._process = subprocess.Popen(words, bufsize=0, stdin=subprocess.PIPE, stdout=subprocess.PIPE, stderr=subprocess.PIPE)
+            self._process = subprocess.Popen(words, bufsize=0, stdin=subprocess.PIPE, stdout=subprocess.PIPE, stderr=subprocess.PIPE,
+                                             env={**_LARGE_PAGES, **os.environ})
         except (OSError, ValueError) as error:
             raise UsageError(f"{words[0]}: {reason_of(error)}") from None
         assert self._process.stdin and self._process.stdout and self._process.stderr

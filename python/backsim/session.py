@@ -21,10 +21,11 @@ from typing import Any, TypeVar
 from . import buses, questions
 from .batch import Batch
 from .errors import FormatError, UsageError, type_of_path
+from .evaluations import MOST_CELLS
 from .exchange import CHUNK, Asked, Exchange, Questions
 from .formats.netlist import Netlist, read_netlist, write_netlist
 from .formats.replies import Reply
-from .formats.script import MOST_CELLS, Line, StatsLine, Trim, VcdLine
+from .formats.script import Line, StatsLine, Trim, VcdLine
 from .formats.stimulus import Stimulus, write_stimulus
 from .formats.text import is_name
 from .formats.timing import Timing, write_timing
@@ -41,7 +42,7 @@ class Session:
 
     `journal` is the path of the journal, which is created or emptied; where it is left out, the journal is in a folder of its own
     that goes with the session. `workers` (1 to 64), `shards` (1 to 64) and `cells` (1 to 65,536, of each shard) are the program's
-    options. `program` is the program's path; `find_program` says what is taken where it is left out.
+    options, and None leaves one out. `program` is the program's path; `find_program` says what is taken where it is left out.
 
     The program begins at once: where it refuses a file, or can't open one, the constructor raises `Refused` or `Fault`. Line 1 of the
     session's script is a `stats` line, which asks whether all is well. A session is a context manager; whoever does not use it as one
@@ -54,7 +55,7 @@ class Session:
 
     def __init__(self, netlist: type_of_path | Netlist, timing: type_of_path | Timing, stimulus: type_of_path | Stimulus, *,
                  journal: type_of_path | None = None, workers: int | None = None, shards: int | None = None,
-                 cells: int | None = None, program: type_of_path | None = None) -> None:
+                 cells: int | None = MOST_CELLS, program: type_of_path | None = None) -> None:
         options = Options(workers, shards, cells)
         self._folder = Path(tempfile.mkdtemp(prefix="backsim"))
         self._exchange: Exchange | None = None

@@ -73,7 +73,7 @@ def test_a_script_from_standard_input_and_a_kept_journal(program: str, example, 
     run = tools("run", *example("s27"), "-", "--journal", tmp_path / "kept", "--shards", 1, "--program", program, input=script)
     assert run.returncode == 0
     assert run.stdout == session(program, [*example("s27")], write("script", script), tmp_path)
-    assert (tmp_path / "kept").read_text().startswith("journal shards 1 cells 16384\n")
+    assert (tmp_path / "kept").read_text().startswith("journal shards 1 cells 65536\n")
     run = tools("run", *example("s27"), write("few", FEW), "--journal", tmp_path / "kept", "--jobs", 3, "--program", program)
     assert run.returncode == 0
     assert sorted(path.name for path in tmp_path.glob("kept.*")) == ["kept.1", "kept.2", "kept.3"]

@@ -96,7 +96,7 @@ def test_counts_and_dumps(example, program: str, tmp_path) -> None:
         assert session.trim(0) == Trimmed(stats.cells)
         assert session.stats() == Stats(1, stats.fills, stats.cells, 0)
     assert read_vcd(dumped).signal("top", "22")[:2] == ((0, "x"), (2, "0"))
-    assert (tmp_path / "journal").read_text().startswith("journal shards 8 cells 16384\nbatch 1\n")
+    assert (tmp_path / "journal").read_text().startswith("journal shards 8 cells 65536\nbatch 1\n")
 
 
 def test_buses_and_patterns(program: str) -> None:
@@ -258,6 +258,20 @@ def test_a_session_that_breaks_off_says_what_was_answered(example, monkeypatch, 
         assert error.value.answered == tuple((line, At("22", line.time, values[line.time])) for line in lines[:2])
         with pytest.raises(SessionError, match=cause):
             session.at("22", 3)
+
+
+@pytest.mark.parametrize("own", [None, "glibc.malloc.arena_max=2"])
+def test_large_pages_unless_the_user_says_otherwise(own: str | None, program: str, example, write, tmp_path, monkeypatch) -> None:
+    if own is None:
+        monkeypatch.delenv("GLIBC_TUNABLES", raising=False)
+    else:
+        monkeypatch.setenv("GLIBC_TUNABLES", own)
+    noting = write("noting", f"#!/bin/sh\necho $GLIBC_TUNABLES > '{tmp_path}/noted'\nexec '{program}' \"$@\"\n")
+    noting.chmod(0o755)
+    with Session(*example("c17"), program=noting) as session:
+        assert session.at("22", 3).value == "0"
+    assert (tmp_path / "noted").read_text() == f"{own or 'glibc.malloc.hugetlb=1'}\n"
+
 
 
 def test_a_session_that_was_closed(example) -> None:

@@ -7,12 +7,12 @@ from dataclasses import dataclass
 from typing import ClassVar, TextIO, Union
 
 from ..errors import FormatError, type_of_path
+from ..evaluations import MOST_CELLS
 from .text import LINE_LIMIT, NAME, SCRIPT_LIMIT, is_name, lines_of, logic_of, number_of, read_bytes, words_of
 
 MOST_TIME = 4_294_967_294
 MOST_BUDGET = 500_000
 USUAL_BUDGET = 50_000
-MOST_CELLS = 65_536
 MOST_ITEMS = 64
 MOST_BUDGETS = 1_000_000
 MOST_LENGTHS = 4_000_000
