@@ -1,6 +1,7 @@
 #!/usr/bin/env python3
-"""Times sessions by this program and by that of an earlier commit, as `dist/` has it there. Both take turns, each with a new journal and
-one worker, and the shortest time of each counts. Their replies must be the same; else the script ends with status 1.
+"""Times sessions by that program which `dist/` had at a commit, by this one, and by this one as the launcher runs it, which has the C
+library ask for large pages. They take turns, each with a new journal and one worker, and the shortest time of each counts. Their
+replies must be the same; else the script ends with status 1. A ratio is that of a time to the earlier program's.
 
 - everything: each signal of examples/from_verilog at every time, with room for all cells.
 - loop: the first session of bench/demand.
@@ -9,6 +10,7 @@ one worker, and the shortest time of each counts. Their replies must be the same
 from __future__ import annotations
 
 import argparse
+import os
 import platform
 import subprocess
 import sys
@@ -25,9 +27,17 @@ ROOM = ("--shards", "64", "--cells", "65536")
 LAYERS, WIDTH, HORIZON, LINES = 100, 200, 1_000, 100
 
 
+LARGE_PAGES = {"GLIBC_TUNABLES": "glibc.malloc.hugetlb=1"}
+
+
 class Session(NamedTuple):
     words: tuple[str, ...]
     script: str = ""
+
+
+class Program(NamedTuple):
+    path: Path
+    environment: dict[str, str]
 
 
 def everything() -> Session:
@@ -51,17 +61,18 @@ def stuck(folder: Path, lines: int) -> Session:
     return Session((f"{folder}/workload.bench", f"{folder}/t", f"{folder}/workload.stim", "journal"), "".join(asked))
 
 
-def timed(program: Path, session: Session, folder: Path) -> tuple[float, bytes]:
+def timed(program: Program, session: Session, folder: Path) -> tuple[float, bytes]:
     (folder / "journal").unlink(missing_ok=True)
     begun = time.monotonic()
-    ran = subprocess.run([program, *session.words, "--workers", "1"], cwd=folder, input=session.script.encode(), capture_output=True)
+    ran = subprocess.run([program.path, *session.words, "--workers", "1"], cwd=folder, env={**os.environ, **program.environment},
+                         input=session.script.encode(), capture_output=True)
     took = time.monotonic() - begun
     if ran.returncode:
-        sys.exit(f"bench/before: {program} ended with status {ran.returncode}: {ran.stdout[-200:].decode()}")
+        sys.exit(f"bench/before: {program.path} ended with status {ran.returncode}: {ran.stdout[-200:].decode()}")
     return took, ran.stdout
 
 
-def compared(name: str, session: Session, programs: list[Path], turns: int, folder: Path) -> list[float]:
+def compared(name: str, session: Session, programs: list[Program], turns: int, folder: Path) -> list[float]:
     """The shortest time by each program."""
     least = [float("inf")] * len(programs)
     for _ in range(turns):
@@ -75,8 +86,9 @@ def compared(name: str, session: Session, programs: list[Path], turns: int, fold
     return least
 
 
-def row(name: str, before: float, now: float) -> None:
-    print(f"| {name} | {1000 * before:.1f} | {1000 * now:.1f} | {now / before:.2f} |", flush=True)
+def row(name: str, before: float, now: float, large: float) -> None:
+    times = (f"{1000 * time:.2f}" for time in (before, now, large))
+    print("|", " | ".join([name, *times, f"{now / before:.3f}", f"{large / before:.3f}"]), "|", flush=True)
 
 
 def main() -> None:
@@ -93,8 +105,9 @@ def main() -> None:
         earlier.write_bytes(shown.stdout)
         earlier.chmod(0o755)
         own = subprocess.run([TOP / "tools" / "program", "backsim"], check=True, stdout=subprocess.PIPE, text=True).stdout.strip()
-        programs = [earlier, Path(own)]
-        print("| session | before, ms | now, ms | ratio |\n|---|---|---|---|", flush=True)
+        programs = [Program(earlier, {}), Program(Path(own), {}), Program(Path(own), LARGE_PAGES)]
+        print("| session | before, ms | now, ms | now with large pages, ms | ratio | ratio with large pages |")
+        print("|---|---|---|---|---|---|", flush=True)
         row("everything", *compared("everything", everything(), programs, given.turns, folder))
         row("loop", *compared("loop", loop(), programs, given.turns, folder))
         row("workload", *compared("workload", Session(("--work", "7", "journal")), programs, given.turns, folder))
