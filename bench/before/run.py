@@ -20,14 +20,12 @@ from pathlib import Path
 from typing import NamedTuple
 
 TOP = Path(__file__).resolve().parents[2]
-sys.path.insert(0, str(TOP / "bench" / "icarus"))
+sys.path[:0] = [str(TOP / "bench" / "icarus"), str(TOP / "python")]
+from backsim.program import LARGE_PAGES  # noqa: E402
 from generate import main as generate  # noqa: E402
 
 ROOM = ("--shards", "64", "--cells", "65536")
 LAYERS, WIDTH, HORIZON, LINES = 100, 200, 1_000, 100
-
-
-LARGE_PAGES = {"GLIBC_TUNABLES": "glibc.malloc.hugetlb=1"}
 
 
 class Session(NamedTuple):

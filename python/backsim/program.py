@@ -38,7 +38,7 @@ _LONG = (b"wave ", b"stuck ", b"why ")
 _REPLIES = re.compile(rb"(?:wave|stuck|why) [^\n]*\n(?:[^\n]*\n)*?end\n|(?s:(?:wave|stuck|why) .*)|[^\n]*\n|[^\n]+\Z")
 _NOT_BUILT = 7
 # glibc asks for large pages, where the system lets it; a long session takes a tenth less then
-_LARGE_PAGES = {"GLIBC_TUNABLES": "glibc.malloc.hugetlb=1"}
+LARGE_PAGES = {"GLIBC_TUNABLES": "glibc.malloc.hugetlb=1"}
 _PLACES = {"netlist": 0, "timing": 1, "stimulus": 2, "journal": 3}
 
 
@@ -122,7 +122,7 @@ class Conversation:
         words = [find_program(program), *options.words(), "--", *self.files]
         try:
             self._process = subprocess.Popen(words, bufsize=0, stdin=subprocess.PIPE, stdout=subprocess.PIPE, stderr=subprocess.PIPE,
-                                             env={**_LARGE_PAGES, **os.environ})
+                                             env={**LARGE_PAGES, **os.environ})
         except (OSError, ValueError) as error:
             raise UsageError(f"{words[0]}: {reason_of(error)}") from None
         assert self._process.stdin and self._process.stdout and self._process.stderr

@@ -273,7 +273,6 @@ def test_large_pages_unless_the_user_says_otherwise(own: str | None, program: st
     assert (tmp_path / "noted").read_text() == f"{own or 'glibc.malloc.hugetlb=1'}\n"
 
 
-
 def test_a_session_that_was_closed(example) -> None:
     session = Session(*example("c17"), program=STAND_IN)
     journal = Path(session.journal)
