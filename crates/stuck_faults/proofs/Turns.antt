@@ -244,12 +244,12 @@ pub own-extends : (m new : KeptShard) → new ≡ m → Extends m.shard.journal 
 own-extends m new is = subst (λ (z : KeptShard). Extends m.shard.journal z.shard.journal) (sym is) (extends-none m.shard.journal)
 
 -- a turn after base answers were heard is a turn of the strand before
-pub turn-same : {X E : Type 0} (b : Batch) (opening : ℕ → List SignalCell) (own : Batch) (question : Question) (time : ℕ) (old ms : List KeptShard) (m : KeptShard) (s t : Demand) → TakesStep itself s t
-    → (r : Result (Turn X) E) → IfOk r (OfTurn b opening own question time old ms m t) → IfOk r (OfTurn b opening own question time old ms m s)
-turn-same b opening own question time old ms m s t f (Ok (GoesOn u)) h = (h.0, record { asks = h.1.asks; less = subst (λ (z : Strand). turns_left own 1 u.strand < turns_left own 1 z) f.strand h.1.less })
-turn-same b opening own question time old ms m s t f (Ok (Ended u)) h = h
-turn-same b opening own question time old ms m s t f (Ok (Refused u)) h = h
-turn-same b opening own question time old ms m s t f (Err e) h = tt
+pub turn-same : {E : Type 0} (b : Batch) (opening : ℕ → List SignalCell) (own : Batch) (question : Question) (time : ℕ) (old ms : List KeptShard) (m : KeptShard) (s t u : Demand) → TakesStep itself s t
+    → (r : Result Turn E) → IfOk r (OfTurn b opening own question time old ms m t u) → IfOk r (OfTurn b opening own question time old ms m s u)
+turn-same b opening own question time old ms m s t u f (Ok GoesOn) h = (h.0, record { asks = h.1.asks; less = subst (λ (z : Strand). turns_left own 1 u.strand < turns_left own 1 z) f.strand h.1.less })
+turn-same b opening own question time old ms m s t u f (Ok Ended) h = h
+turn-same b opening own question time old ms m s t u f (Ok Refused) h = h
+turn-same b opening own question time old ms m s t u f (Err e) h = tt
 
 pub gives-same : (b : Batch) (question : Question) (time : ℕ) (ms : List KeptShard) (m : KeptShard) (s t : Demand) → (who : RefusedBy) → TakesStep itself s t → GivesUp b question time ms m s who → GivesUp b question time ms m t who
 gives-same b question time ms m s t who f gives = record {

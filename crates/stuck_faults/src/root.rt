@@ -24,7 +24,7 @@ use valid_intervals::Cell;
 /// Gives up what a refused strand holds.
 fn drop_all<B: BatchName, H: BatchName>(
     memos: &mut Memos<B, H>,
-    strand: Strand<H>,
+    strand: &mut Strand<H>,
     design: &Design,
     held: &Held,
     question: Question,
@@ -33,22 +33,21 @@ fn drop_all<B: BatchName, H: BatchName>(
     requires asked { IsAsked B.batch H.batch question design.now.circuit held.now.design.circuit
         held.now.reached }
     requires gives_up { (who : RefusedBy) ×
-        GivesUp B.batch question time memos.old.session memos.old.own strand who }
+        GivesUp B.batch question time memos.old.session memos.old.own strand.old who }
     ensures refused { IsRefused B.batch question memos.new.session memos.new.own }
     ensures leaves { (who : RefusedBy)
-        → GivesUp B.batch question time memos.old.session memos.old.own strand who
+        → GivesUp B.batch question time memos.old.session memos.old.own strand.old who
         → LeavesOwn B.batch.circuit question time (entries_of memos.new.session)
         memos.new.own.shard.journal who }
     ensures extends { Extends memos.old.own.shard.journal memos.new.own.shard.journal }
     ensures session { memos.new.session ≡ memos.old.session }
     ensures charge { memos.new.charge ≡ memos.old.charge }
 {
-    let mut strand = strand;
     'claims: loop {
         strand.facts();
         match strand.next_step(&held.design) {
             Next::Drop(p) => {
-                let came = memos.own.step(&mut strand, &held.design, Next::Drop(p));
+                let came = memos.own.step(strand, &held.design, Next::Drop(p));
                 let Ok(Step::Dropped(_)) = came else {
                     unreachable!();
                 };
@@ -111,18 +110,18 @@ pub fn hear_root<B: BatchName, H: BatchName>(
         memos.filled,
     );
     'turns: loop {
-        match take_turn(memos, strand, design, held, question, time)? {
-            Turn::GoesOn(next) => strand = next,
-            Turn::Ended(ended) => {
-                ended.facts();
-                memos.filled = ended.charge();
-                let Some(cell) = ended.last() else {
+        match take_turn(memos, &mut strand, design, held, question, time)? {
+            Turn::GoesOn => {}
+            Turn::Ended => {
+                strand.facts();
+                memos.filled = strand.charge();
+                let Some(cell) = strand.last() else {
                     unreachable!()
                 };
                 return Ok(Some(cell));
             }
-            Turn::Refused(refused) => {
-                drop_all(memos, refused, design, held, question, time);
+            Turn::Refused => {
+                drop_all(memos, &mut strand, design, held, question, time);
                 return Ok(None);
             }
         }

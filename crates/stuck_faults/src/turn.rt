@@ -19,51 +19,50 @@ use strand_meaning::Next;
 use valid_intervals::Point;
 
 /// What came of a step.
-#[derive(Drop)]
-pub enum Turn<H: BatchName> {
+#[derive(Clone, Copy)]
+pub enum Turn {
     /// The strand has another step.
-    GoesOn(Strand<H>),
+    GoesOn,
     /// It has heard its root.
-    Ended(Strand<H>),
+    Ended,
     /// It was refused a point, and holds its claims still.
-    Refused(Strand<H>),
+    Refused,
 }
 
 /// Makes a step at the memo of its own: a fill, or an ask for a point that is not free.
 fn step_own<B: BatchName, H: BatchName>(
     memos: &mut Memos<B, H>,
-    strand: Strand<H>,
+    strand: &mut Strand<H>,
     design: &Design,
     held: &Held,
     question: Question,
     time: u32,
     next: Next,
-) -> Result<Turn<H>, OutOfMemory>
+) -> Result<Turn, OutOfMemory>
     requires asked { IsAsked B.batch H.batch question design.now.circuit held.now.design.circuit
         held.now.reached }
-    requires asks { Asks B.batch B.opening question time memos.old.session memos.old.own strand }
-    requires next { next_of strand.strand ≡ next }
+    requires asks { Asks B.batch B.opening question time memos.old.session memos.old.own strand.old }
+    requires next { next_of strand.old.strand ≡ next }
     requires own { IsOwnStep B.batch question next }
     ensures turn { IfOk result (OfTurn B.batch B.opening H.batch question time memos.old.session
-        memos.new.session memos.new.own strand) }
+        memos.new.session memos.new.own strand.old strand.new) }
     ensures extends { OnOk result (Extends memos.old.own.shard.journal
         memos.new.own.shard.journal) }
     ensures session { memos.new.session ≡ memos.old.session }
     ensures charge { memos.new.charge ≡ memos.old.charge }
 {
-    let mut strand = strand;
     strand.facts();
     memos.own.facts();
-    match memos.own.step(&mut strand, &held.design, next)? {
-        Step::Heard => Ok(Turn::GoesOn(strand)),
-        Step::Holds => Ok(Turn::GoesOn(strand)),
-        Step::Filled(_) => Ok(Turn::GoesOn(strand)),
+    match memos.own.step(strand, &held.design, next)? {
+        Step::Heard => Ok(Turn::GoesOn),
+        Step::Holds => Ok(Turn::GoesOn),
+        Step::Filled(_) => Ok(Turn::GoesOn),
         Step::Refused => {
             let Some(p) = step_point(next) else {
                 unreachable!();
             };
-            memos.own.spend(&strand, p)?;
-            Ok(Turn::Refused(strand))
+            memos.own.spend(strand, p)?;
+            Ok(Turn::Refused)
         }
         Step::Taken => unreachable!(),
         Step::Dropped(_) => unreachable!(),
@@ -73,29 +72,28 @@ fn step_own<B: BatchName, H: BatchName>(
 /// Asks the session's memo for a point that is free of the site.
 fn ask_session<B: BatchName, H: BatchName>(
     memos: &mut Memos<B, H>,
-    strand: Strand<H>,
+    strand: &mut Strand<H>,
     design: &Design,
     held: &Held,
     question: Question,
     time: u32,
     p: Point,
-) -> Result<Turn<H>, OutOfMemory>
+) -> Result<Turn, OutOfMemory>
     requires asked { IsAsked B.batch H.batch question design.now.circuit held.now.design.circuit
         held.now.reached }
     requires session { IsChargedMemo B.batch B.opening memos.old.session question.query
         memos.old.charge }
-    requires asks { Asks B.batch B.opening question time memos.old.session memos.old.own strand }
-    requires next { next_of strand.strand ≡ AskNext p }
+    requires asks { Asks B.batch B.opening question time memos.old.session memos.old.own strand.old }
+    requires next { next_of strand.old.strand ≡ AskNext p }
     requires free { IsFree B.batch.circuit question.site p.signal }
     ensures session { OnOk result (IsChargedMemo B.batch B.opening memos.new.session question.query
         memos.new.charge) }
     ensures turn { IfOk result (OfTurn B.batch B.opening H.batch question time memos.old.session
-        memos.new.session memos.new.own strand) }
+        memos.new.session memos.new.own strand.old strand.new) }
     ensures kept_session { OnOk result (AreKept (entries_of memos.old.session)
         (entries_of memos.new.session)) }
     ensures own { memos.new.own ≡ memos.old.own }
 {
-    let mut strand = strand;
     strand.facts();
     let query = question.query;
     let one = Query {
@@ -108,11 +106,11 @@ fn ask_session<B: BatchName, H: BatchName>(
     match reach(&mut memos.session, design, one, p.time, &mut memos.charge)? {
         Some(cell) => {
             strand.hear(&held.design, cell);
-            Ok(Turn::GoesOn(strand))
+            Ok(Turn::GoesOn)
         }
         None => {
             strand.give_up();
-            Ok(Turn::Refused(strand))
+            Ok(Turn::Refused)
         }
     }
 }
@@ -120,29 +118,28 @@ fn ask_session<B: BatchName, H: BatchName>(
 /// One step of the strand.
 pub fn take_turn<B: BatchName, H: BatchName>(
     memos: &mut Memos<B, H>,
-    strand: Strand<H>,
+    strand: &mut Strand<H>,
     design: &Design,
     held: &Held,
     question: Question,
     time: u32,
-) -> Result<Turn<H>, OutOfMemory>
+) -> Result<Turn, OutOfMemory>
     requires asked { IsAsked B.batch H.batch question design.now.circuit held.now.design.circuit
         held.now.reached }
     requires session { IsChargedMemo B.batch B.opening memos.old.session question.query
         memos.old.charge }
-    requires asks { Asks B.batch B.opening question time memos.old.session memos.old.own strand }
+    requires asks { Asks B.batch B.opening question time memos.old.session memos.old.own strand.old }
     ensures session { OnOk result (IsChargedMemo B.batch B.opening memos.new.session question.query
         memos.new.charge) }
     ensures turn { IfOk result (OfTurn B.batch B.opening H.batch question time memos.old.session
-        memos.new.session memos.new.own strand) }
+        memos.new.session memos.new.own strand.old strand.new) }
     ensures kept_session { OnOk result (AreKept (entries_of memos.old.session)
         (entries_of memos.new.session)) }
     ensures extends { OnOk result (Extends memos.old.own.shard.journal
         memos.new.own.shard.journal) }
 {
-    let mut strand = strand;
     match strand.next_step(&held.design) {
-        Next::Done => Ok(Turn::Ended(strand)),
+        Next::Done => Ok(Turn::Ended),
         Next::Fill(p) => step_own(memos, strand, design, held, question, time, Next::Fill(p)),
         Next::Ask(p) => {
             strand.facts();

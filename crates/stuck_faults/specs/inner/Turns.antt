@@ -28,11 +28,11 @@ pub record HasHeardAll (b : Batch) (opening : ℕ → List SignalCell) (question
   pub asks : Asks b opening question time ms m s
   pub done : next s.strand ≡ Done
 
--- the strand, and what was asked of the session's memo, from its old shards on
-abbrev pub OfTurn : {X : Type 0} → Batch → (ℕ → List SignalCell) → Batch → Question → ℕ → List KeptShard → List KeptShard → KeptShard → Demand → Turn X → Type 0
-OfTurn b opening own question time old ms m s (GoesOn t) = AsksOn b opening question.query (shards_in old) false (shards_in ms) false × AsksFurther b opening own question time ms m s t
-OfTurn b opening own question time old ms m s (Ended t) = AsksOn b opening question.query (shards_in old) false (shards_in ms) false × HasHeardAll b opening question time ms m t
-OfTurn b opening own question time old ms m s (Refused t) = (who : RefusedBy) × AsksOn b opening question.query (shards_in old) false (shards_in ms) (is_session who) × GivesUp b question time ms m t who
+-- what was asked of the session's memo, from its old shards on, and what the step made of the strand
+abbrev pub OfTurn : Batch → (ℕ → List SignalCell) → Batch → Question → ℕ → List KeptShard → List KeptShard → KeptShard → Demand → Demand → Turn → Type 0
+OfTurn b opening own question time old ms m s t GoesOn = AsksOn b opening question.query (shards_in old) false (shards_in ms) false × AsksFurther b opening own question time ms m s t
+OfTurn b opening own question time old ms m s t Ended = AsksOn b opening question.query (shards_in old) false (shards_in ms) false × HasHeardAll b opening question time ms m t
+OfTurn b opening own question time old ms m s t Refused = (who : RefusedBy) × AsksOn b opening question.query (shards_in old) false (shards_in ms) (is_session who) × GivesUp b question time ms m t who
 
 -- the point is not free of the site
 abbrev pub IsNotFree : Batch → Question → Point → Type 0

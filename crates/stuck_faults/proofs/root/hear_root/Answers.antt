@@ -40,13 +40,13 @@ turns-init g c = record {
 pub turns-preserved : goal.turns-preserved
 turns-preserved g c =
     let b = g.B.BatchName.batch in
-    let turn = subst (OfTurn b g.B.BatchName.opening g.H.BatchName.batch c.args.question c.args.time c.turns.memos.session c.take_turn.new.memos.session c.take_turn.new.memos.own c.turns.strand) c.in-GoesOn.is c.in_ok-next.ensures.turn in
+    let turn = subst (OfTurn b g.B.BatchName.opening g.H.BatchName.batch c.args.question c.args.time c.turns.memos.session c.take_turn.new.memos.session c.take_turn.new.memos.own c.turns.strand c.take_turn.new.strand) c.in-GoesOn.is c.in_ok-take_turn.ensures.turn in
     let k = c.turns.invariant in
     record {
-      session = c.in_ok-next.ensures.session;
+      session = c.in_ok-take_turn.ensures.session;
       asks = turn.1.asks;
-      kept_session = λ e h. c.in_ok-next.ensures.kept_session e (k.kept_session e h);
-      extends = extends-then c.args.memos.now.own.shard.journal c.turns.memos.own.shard.journal c.take_turn.new.memos.own.shard.journal k.extends c.in_ok-next.ensures.extends;
+      kept_session = λ e h. c.in_ok-take_turn.ensures.kept_session e (k.kept_session e h);
+      extends = extends-then c.args.memos.now.own.shard.journal c.turns.memos.own.shard.journal c.take_turn.new.memos.own.shard.journal k.extends c.in_ok-take_turn.ensures.extends;
       session_asks = asks-then b g.B.BatchName.opening c.args.question.query (shards_in c.args.memos.now.session) false (shards_in c.turns.memos.session) (shards_in c.take_turn.new.memos.session) false k.session_asks turn.0;
     }
 
@@ -55,29 +55,29 @@ unreachable-requires g c =
     let b = g.B.BatchName.batch in
     let asked = c.requires.asked in
     let e = subst (λ (z : Circuit). IsEvaluable z c.args.question.query.signal c.args.time) asked.stuck (none-of c.base.result (IsEvaluable c.args.held.now.design.circuit c.args.question.query.signal c.args.time) c.base.ensures.none c.in_default.is) in
-    let ended = (subst (OfTurn b g.B.BatchName.opening g.H.BatchName.batch c.args.question c.args.time c.turns.memos.session c.take_turn.new.memos.session c.take_turn.new.memos.own c.turns.strand) c.in-Ended.is c.in_ok-next.ensures.turn).1 in
-    ends-heard b g.B.BatchName.opening c.args.question c.args.time c.take_turn.new.memos.session c.take_turn.new.memos.own c.in-Ended.ended ended.asks c.facts.ensures.charge ended.done e
+    let ended = (subst (OfTurn b g.B.BatchName.opening g.H.BatchName.batch c.args.question c.args.time c.turns.memos.session c.take_turn.new.memos.session c.take_turn.new.memos.own c.turns.strand c.take_turn.new.strand) c.in-Ended.is c.in_ok-take_turn.ensures.turn).1 in
+    ends-heard b g.B.BatchName.opening c.args.question c.args.time c.take_turn.new.memos.session c.take_turn.new.memos.own c.take_turn.new.strand ended.asks c.facts.ensures.charge ended.done e
     g.H.BatchName.batch (ap (λ (z : Batch). z.circuit) asked.own_is) c.facts.ensures (sym c.last.ensures.last ∙ c.in_default-last.is)
 
 pub returns-in-Ended-clause-kept_session : goal.returns-in-Ended-clause-kept_session
-returns-in-Ended-clause-kept_session g c = λ e h. c.in_ok-next.ensures.kept_session e (c.turns.invariant.kept_session e h)
+returns-in-Ended-clause-kept_session g c = λ e h. c.in_ok-take_turn.ensures.kept_session e (c.turns.invariant.kept_session e h)
 
 pub returns-in-Ended-clause-extends : goal.returns-in-Ended-clause-extends
 returns-in-Ended-clause-extends g c =
-    extends-then c.args.memos.now.own.shard.journal c.turns.memos.own.shard.journal c.take_turn.new.memos.own.shard.journal c.turns.invariant.extends c.in_ok-next.ensures.extends
+    extends-then c.args.memos.now.own.shard.journal c.turns.memos.own.shard.journal c.take_turn.new.memos.own.shard.journal c.turns.invariant.extends c.in_ok-take_turn.ensures.extends
 
 pub returns-in-Ended-clause-rests : goal.returns-in-Ended-clause-rests
 returns-in-Ended-clause-rests g c =
     let b = g.B.BatchName.batch in
-    let ended = (subst (OfTurn b g.B.BatchName.opening g.H.BatchName.batch c.args.question c.args.time c.turns.memos.session c.take_turn.new.memos.session c.take_turn.new.memos.own c.turns.strand) c.in-Ended.is c.in_ok-next.ensures.turn).1 in
+    let ended = (subst (OfTurn b g.B.BatchName.opening g.H.BatchName.batch c.args.question c.args.time c.turns.memos.session c.take_turn.new.memos.session c.take_turn.new.memos.own c.turns.strand c.take_turn.new.strand) c.in-Ended.is c.in_ok-take_turn.ensures.turn).1 in
     subst (Rests b g.B.BatchName.opening c.args.question c.take_turn.new.memos.session c.take_turn.new.memos.own) (sym c.charge-memos.ensures.charged)
-    (ends-rest b g.B.BatchName.opening c.args.question c.args.time c.take_turn.new.memos.session c.take_turn.new.memos.own c.in-Ended.ended ended.asks c.facts.ensures.charge ended.done)
+    (ends-rest b g.B.BatchName.opening c.args.question c.args.time c.take_turn.new.memos.session c.take_turn.new.memos.own c.take_turn.new.strand ended.asks c.facts.ensures.charge ended.done)
 
 pub returns-in-Ended-clause-covered : goal.returns-in-Ended-clause-covered
 returns-in-Ended-clause-covered g c =
     let b = g.B.BatchName.batch in
-    let ended = (subst (OfTurn b g.B.BatchName.opening g.H.BatchName.batch c.args.question c.args.time c.turns.memos.session c.take_turn.new.memos.session c.take_turn.new.memos.own c.turns.strand) c.in-Ended.is c.in_ok-next.ensures.turn).1 in
-    ends-covered b g.B.BatchName.opening c.args.question c.args.time c.take_turn.new.memos.session c.take_turn.new.memos.own c.in-Ended.ended ended.asks c.facts.ensures.charge ended.done
+    let ended = (subst (OfTurn b g.B.BatchName.opening g.H.BatchName.batch c.args.question c.args.time c.turns.memos.session c.take_turn.new.memos.session c.take_turn.new.memos.own c.turns.strand c.take_turn.new.strand) c.in-Ended.is c.in_ok-take_turn.ensures.turn).1 in
+    ends-covered b g.B.BatchName.opening c.args.question c.args.time c.take_turn.new.memos.session c.take_turn.new.memos.own c.take_turn.new.strand ended.asks c.facts.ensures.charge ended.done
 
 pub returns-in-Ended-clause-asks : goal.returns-in-Ended-clause-asks
 returns-in-Ended-clause-asks g c =
@@ -88,30 +88,30 @@ returns-in-Ended-clause-asks g c =
     let m = c.args.memos.now.own in
     let new_ms = c.take_turn.new.memos.session in
     let new = c.take_turn.new.memos.own in
-    let turn = subst (OfTurn b opening g.H.BatchName.batch question c.args.time c.turns.memos.session new_ms new c.turns.strand) c.in-Ended.is c.in_ok-next.ensures.turn in
-    let strand = c.in-Ended.ended in
+    let turn = subst (OfTurn b opening g.H.BatchName.batch question c.args.time c.turns.memos.session new_ms new c.turns.strand c.take_turn.new.strand) c.in-Ended.is c.in_ok-take_turn.ensures.turn in
+    let strand = c.take_turn.new.strand in
     let asks = turn.1.asks in
     hears b opening question c.args.time ms m c.args.memos.now.filled c.requires.rests new_ms new Neither
     (asks-then b opening question.query (shards_in ms) false (shards_in c.turns.memos.session) (shards_in new_ms) false c.turns.invariant.session_asks turn.0)
-    (extends-then m.shard.journal c.turns.memos.own.shard.journal new.shard.journal c.turns.invariant.extends c.in_ok-next.ensures.extends)
+    (extends-then m.shard.journal c.turns.memos.own.shard.journal new.shard.journal c.turns.invariant.extends c.in_ok-take_turn.ensures.extends)
     (leaves-heard b opening question c.args.time new_ms new strand.strand.charged (ends-rest b opening question c.args.time new_ms new strand asks c.facts.ensures.charge turn.1.done)
     (ends-covered b opening question c.args.time new_ms new strand asks c.facts.ensures.charge turn.1.done)) false refl
 
 pub drop_all-requires-clause-gives_up : goal.drop_all-requires-clause-gives_up
 drop_all-requires-clause-gives_up g c =
-    let turn = subst (OfTurn g.B.BatchName.batch g.B.BatchName.opening g.H.BatchName.batch c.args.question c.args.time c.turns.memos.session c.take_turn.new.memos.session c.take_turn.new.memos.own c.turns.strand) c.in-Refused.is c.in_ok-next.ensures.turn in
+    let turn = subst (OfTurn g.B.BatchName.batch g.B.BatchName.opening g.H.BatchName.batch c.args.question c.args.time c.turns.memos.session c.take_turn.new.memos.session c.take_turn.new.memos.own c.turns.strand c.take_turn.new.strand) c.in-Refused.is c.in_ok-take_turn.ensures.turn in
     (turn.0, turn.2)
 
 pub returns-in-Refused-clause-kept_session : goal.returns-in-Refused-clause-kept_session
 returns-in-Refused-clause-kept_session g c = λ e h.
-    session-kept c.take_turn.new.memos.session c.drop_all.new.memos.session c.drop_all.ensures.session e (c.in_ok-next.ensures.kept_session e (c.turns.invariant.kept_session e h))
+    session-kept c.take_turn.new.memos.session c.drop_all.new.memos.session c.drop_all.ensures.session e (c.in_ok-take_turn.ensures.kept_session e (c.turns.invariant.kept_session e h))
 
 pub returns-in-Refused-clause-extends : goal.returns-in-Refused-clause-extends
 returns-in-Refused-clause-extends g c =
     let was = c.args.memos.now.own.shard.journal in
     let mid = c.turns.memos.own.shard.journal in
     let refused = c.take_turn.new.memos.own.shard.journal in
-    extends-then was refused c.drop_all.new.memos.own.shard.journal (extends-then was mid refused c.turns.invariant.extends c.in_ok-next.ensures.extends) c.drop_all.ensures.extends
+    extends-then was refused c.drop_all.new.memos.own.shard.journal (extends-then was mid refused c.turns.invariant.extends c.in_ok-take_turn.ensures.extends) c.drop_all.ensures.extends
 
 pub returns-in-Refused-clause-asks : goal.returns-in-Refused-clause-asks
 returns-in-Refused-clause-asks g c =
@@ -123,12 +123,12 @@ returns-in-Refused-clause-asks g c =
     let mid = c.take_turn.new.memos.session in
     let new_ms = c.drop_all.new.memos.session in
     let new = c.drop_all.new.memos.own in
-    let turn = subst (OfTurn b opening g.H.BatchName.batch question c.args.time c.turns.memos.session mid c.take_turn.new.memos.own c.turns.strand) c.in-Refused.is c.in_ok-next.ensures.turn in
+    let turn = subst (OfTurn b opening g.H.BatchName.batch question c.args.time c.turns.memos.session mid c.take_turn.new.memos.own c.turns.strand c.take_turn.new.strand) c.in-Refused.is c.in_ok-take_turn.ensures.turn in
     let who = turn.0 in
     let session = asks-then b opening question.query (shards_in ms) false (shards_in c.turns.memos.session) (shards_in mid) (is_session who) c.turns.invariant.session_asks turn.1 in
     let was = m.shard.journal in
     let refused = c.take_turn.new.memos.own.shard.journal in
     hears b opening question c.args.time ms m c.args.memos.now.filled c.requires.rests new_ms new who
     (subst (λ (z : List KeptShard). AsksOn b opening question.query (shards_in ms) false (shards_in z) (is_session who)) (sym c.drop_all.ensures.session) session)
-    (extends-then was refused new.shard.journal (extends-then was c.turns.memos.own.shard.journal refused c.turns.invariant.extends c.in_ok-next.ensures.extends) c.drop_all.ensures.extends)
-    (c.drop_all.ensures.leaves who turn.2) true (gives-flag b opening question c.args.time mid c.take_turn.new.memos.own c.in-Refused.refused who turn.2)
+    (extends-then was refused new.shard.journal (extends-then was c.turns.memos.own.shard.journal refused c.turns.invariant.extends c.in_ok-take_turn.ensures.extends) c.drop_all.ensures.extends)
+    (c.drop_all.ensures.leaves who turn.2) true (gives-flag b opening question c.args.time mid c.take_turn.new.memos.own c.take_turn.new.strand who turn.2)
