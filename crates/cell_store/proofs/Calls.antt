@@ -26,6 +26,7 @@ use Rattle.cell_store.proofs.Placed.{IsAt, same_placed, added_place, dropped_pla
 
 -- ---- a cell that is stored is used
 pub record IsUsed (place_of : Key → Option Place) (entries : List Entry) (free : List ℕ) (capacity slot : ℕ) (x : SignalCell) : Type 0 where
+  pub there : lookup_entry (nat_eq slot) entries ≡ Some (slot, x)
   pub first : slice_get (promoted (nat_eq slot) entries) 0 ≡ Some (slot, x)
   pub cells : cells_of (promoted (nat_eq slot) entries) ≡ to_front x (cells_of entries)
   pub sound : IsSoundStore place_of (promoted (nat_eq slot) entries) free capacity
@@ -51,6 +52,7 @@ is_used place_of entries free capacity f x sound h l =
       most = sound.most;
     } in
     record {
+      there = is.entry;
       first = ap (λ (es : List Entry). slice_get es 0) list;
       cells = ap cells_of list ∙ cells;
       sound = subst (λ (es : List Entry). IsSoundStore place_of es free capacity) (sym list) after;

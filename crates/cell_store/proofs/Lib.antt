@@ -3,7 +3,7 @@ pub mod Keys
 pub mod Found
 pub mod Cached
 pub mod Entries
-pub mod Uses
+pub mod Notes
 pub mod Kept
 pub mod Placed
 pub mod Calls

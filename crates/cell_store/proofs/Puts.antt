@@ -1,8 +1,9 @@
 -- What a put leaves in the index, the cache and the free slots, and what its clauses say.
-use Rattle.std.proofs.Common.{◌≡◌, ℕ, refl, ◌-◌, ◌<◌, Bool, true, false, cond, not, ◌&&◌, ◌==◌, nat_eq, nat_lt, ◌≤◌, List, ◌∷◌, length, All, Option, Some, None, option_map, unwrap_or, find, sym, ap, ap₂, subst, ◌∙◌, eq-eqb, arith}
+use Rattle.std.proofs.Common.{◌≡◌, ℕ, refl, ◌-◌, ◌<◌, Bool, true, false, cond, not, ◌&&◌, ◌==◌, nat_eq, nat_lt, ◌≤◌, List, ◌∷◌, length, All, Option, Some, None, IsSome, option_map, unwrap_or, find, sym, ap, ap₂, subst, ◌∙◌, eq-eqb, arith}
 use Rattle.std.proofs.lemmas.Bool.{ne_eqb, ltb-true, ltb-false}
 use Rattle.std.proofs.lemmas.List.Elements.{All-take}
 use Rattle.std.specs.List.{slice_get}
+use Rattle.std.specs.Map.{lookup_entry}
 use Rattle.std.specs.Ordering.{is_eq}
 use Rattle.lru.specs.LruCache.{LruCache, lru_cache, promoted, put_entries, last_entry}
 use Rattle.valid_intervals.specs.Spans.{IsSpan}
@@ -14,9 +15,9 @@ use Rattle.cell_store.specs.Recency.{Contents, contents, with_cells, key_of, las
 use Rattle.cell_store.specs.inner.Index.{key_cmp, has_key, place_at, cells_of, IsSoundStore}
 use Rattle.cell_store.proofs.Found.{some_same, none_some}
 use Rattle.cell_store.proofs.Cached.{all_kept, all_differ, found_if_stored, not_stored, all_apart}
-use Rattle.cell_store.proofs.Entries.{Entry, past_end, length-cells_of, new_slot, still_free}
+use Rattle.cell_store.proofs.Entries.{Entry, past_end, length-cells_of, absent, fresh, new_slot, still_free}
 use Rattle.cell_store.proofs.Placed.{IsLocated, located, same_slot, no_cell}
-use Rattle.cell_store.proofs.Calls.{last_below, new_below, IsUsed, is_used, same_sound, HasCome, has_come, is_last, HasReplaced, has_replaced}
+use Rattle.cell_store.proofs.Calls.{last_below, new_below, IsUsed, is_used, same_sound, HasCome, has_come, IsLast, is_last, last_at, HasReplaced, has_replaced}
 
 pub came_at : (f g : Key → Option Place) (k : Key) (p : Place) (slot : ℕ) (x : SignalCell) → k ≡ key_of x → p ≡ place_at (slot, x) → ((q : Key) → g q ≡ cond (is_eq (key_cmp k q)) (Some p) (f q))
     → (q : Key) → g q ≡ cond (is_eq (key_cmp (key_of x) q)) (Some (place_at (slot, x))) (f q)
@@ -132,6 +133,22 @@ pub below : (f : Key → Option Place) (entries : List Entry) (free : List ℕ) 
 below f entries free capacity None sound h = new_below f entries free capacity sound (room_left entries capacity sound.some h)
 below f entries free capacity (Some e) sound h = let end : IsFullLast entries capacity e.0 e.1 = full_last entries capacity e.0 e.1 h in last_below f entries free capacity e.0 end.y sound end.entry
 
+-- the slot of a new cell is empty where there is room
+pub slot_empty : (f : Key → Option Place) (entries : List Entry) (free : List ℕ) (capacity slot : ℕ) (last : Option (ℕ × Key)) → IsSoundStore f entries free capacity → last ≡ last_if_full entries capacity
+    → slot ≡ unwrap_or (option_map (λ e. e.0) last) (new_slot entries free) → SignalCell → length entries < capacity → lookup_entry (nat_eq slot) entries ≡ None
+slot_empty f entries free capacity slot None sound h is x room = subst (λ (n : ℕ). lookup_entry (nat_eq n) entries ≡ None) (sym is) (absent (new_slot entries free) entries (fresh entries free x sound.slots).unused)
+slot_empty f entries free capacity slot (Some e) sound h is x room = let end : IsFullLast entries capacity e.0 e.1 = full_last entries capacity e.0 e.1 h in absurd (omega (arith, end.full))
+
+-- and else it is that of the last cell
+pub slot_held : (f : Key → Option Place) (entries : List Entry) (free : List ℕ) (capacity slot : ℕ) (last : Option (ℕ × Key)) → IsSoundStore f entries free capacity → last ≡ last_if_full entries capacity
+    → slot ≡ unwrap_or (option_map (λ e. e.0) last) (new_slot entries free) → capacity ≤ length entries → IsSome (lookup_entry (nat_eq slot) entries)
+slot_held f entries free capacity slot None sound h is full = absurd (omega (arith, room_left entries capacity sound.some h))
+slot_held f entries free capacity slot (Some e) sound h is full =
+    let end : IsFullLast entries capacity e.0 e.1 = full_last entries capacity e.0 e.1 h in
+    let l : IsLast entries e.0 end.y = is_last entries e.0 end.y end.entry in
+    let there : lookup_entry (nat_eq e.0) entries ≡ Some (e.0, end.y) = ap (lookup_entry (nat_eq e.0)) l.split ∙ (last_at f entries free capacity e.0 end.y sound l).entry in
+    subst (λ (n : ℕ). IsSome (lookup_entry (nat_eq n) entries)) (sym is) (subst IsSome (sym there) refl)
+
 pub at_slot : (slot given : ℕ) (k : Key) (entries : List Entry) (capacity : ℕ) → slot ≡ given → Some (given, k) ≡ last_if_full entries capacity → Some (slot, k) ≡ last_if_full entries capacity
 at_slot slot given k entries capacity is h = subst (λ (n : ℕ). Some (n, k) ≡ last_if_full entries capacity) (sym is) h
 
@@ -153,16 +170,23 @@ module _ (f : Key → Option Place) (cache : LruCache ℕ SignalCell) (free : Li
   new_cell : None ≡ f k → (is_stored x s.cells ≡ false) × All (IsApart x) s.cells
   new_cell none = subst (λ (t : Contents). (is_stored x t.cells ≡ false) × All (IsApart x) t.cells) view (new_inside none)
 
-  -- the cell is stored already
-  pub put_again : (g : Key → Option Place) (next : LruCache ℕ SignalCell) (slot : ℕ) → Some slot ≡ option_map (λ (p : Place). p.slot) (f k) → ((q : Key) → g q ≡ f q) → next ≡ lru_cache (promoted (nat_eq slot) cache.entries) cache.cap → IsPut g next free s slot x false None
-  put_again g next slot at same is =
-      let was : IsStored f cache.entries free cache.cap slot x =
+  was_stored : (slot : ℕ) → Some slot ≡ option_map (λ (p : Place). p.slot) (f k) → IsStored f cache.entries free cache.cap slot x
+  was_stored slot at =
       (elim (f k) as (λ o. f k ≡ o → Some slot ≡ option_map (λ (p : Place). p.slot) o → IsStored f cache.entries free cache.cap slot x) [
         | None ↦ λ e d. none_some slot (sym d)
         | Some p ↦ λ e d.
             subst (λ (n : ℕ). IsStored f cache.entries free cache.cap n x) (sym (some_same slot p.slot d))
             (stored_at_place f cache.entries free cache.cap x sound span fits_inside p (ap f (sym key) ∙ e))
-      ]) refl at in
+      ]) refl at
+
+  -- the slot that the index has of it holds it
+  pub slot_holds : (slot : ℕ) → Some slot ≡ option_map (λ (p : Place). p.slot) (f k) → lookup_entry (nat_eq slot) cache.entries ≡ Some (slot, x)
+  slot_holds slot at = (was_stored slot at).used.there
+
+  -- the cell is stored already
+  pub put_again : (g : Key → Option Place) (next : LruCache ℕ SignalCell) (slot : ℕ) → Some slot ≡ option_map (λ (p : Place). p.slot) (f k) → ((q : Key) → g q ≡ f q) → next ≡ lru_cache (promoted (nat_eq slot) cache.entries) cache.cap → IsPut g next free s slot x false None
+  put_again g next slot at same is =
+      let was : IsStored f cache.entries free cache.cap slot x = was_stored slot at in
       let stored : is_stored x s.cells ≡ true = subst (λ (t : Contents). is_stored x t.cells ≡ true) view was.stored in
       record {
         first = ap (λ (l : LruCache ℕ SignalCell). slice_get l.entries 0) is ∙ was.used.first;

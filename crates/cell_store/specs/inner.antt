@@ -1,4 +1,4 @@
 pub mod Beside
 pub mod Index
 pub mod Slots
-pub mod Uses
+pub mod Notes

@@ -96,23 +96,27 @@ impl CellStore {
     }
 
     /// The stored cell that covers the point. It becomes the most recently used.
-    pub fn find(&mut self, p: Point) -> Option<Cell>
-        ensures found { result ≡ option_map (λ x. x.cell) (stored_at self.old.cells p) }
-        ensures used { IfSome result (λ cell. self.new ≡ with_cells self.old
-            (to_front (cell_for p cell) self.old.cells)) }
-        ensures unchanged { IfNone result (self.new ≡ self.old) }
+    pub fn find(&mut self, p: Point) -> Result<Option<Cell>, OutOfMemory>
+        ensures found { IfOk result (λ found. found ≡ option_map (λ x. x.cell)
+            (stored_at self.old.cells p)) }
+        ensures used { IfOk result (λ found. IfSome found (λ cell. self.new ≡ with_cells self.old
+            (to_front (cell_for p cell) self.old.cells))) }
+        ensures unchanged { IfOk result (λ found. IfNone found (self.new ≡ self.old)) }
+        ensures err { OnErr result (self.new ≡ self.old) }
     {
         if let Some(cell) = front_covering(self.front, p) {
-            return Some(cell);
+            return Ok(Some(cell));
         }
-        let found = covering_cell(&self.index, p)?;
-        self.cache.promote(found.0);
+        let Some((slot, cell)) = covering_cell(&self.index, p) else {
+            return Ok(None);
+        };
         let x = SignalCell {
             signal: p.signal,
-            cell: found.1,
+            cell,
         };
-        self.front = Some((found.0, x));
-        Some(found.1)
+        self.cache.promote(slot, &x)?;
+        self.front = Some((slot, x));
+        Ok(Some(x.cell))
     }
 
     /// Whether a stored cell covers the point. The order of use stays.
@@ -136,17 +140,17 @@ impl CellStore {
     {
         let x = SignalCell { signal, cell };
         let key = cell_key(&x);
-        let last = last_if_full(&mut self.cache);
+        let last = last_if_full(&mut self.cache)?;
         let slot = slot_for_new(last, &self.free, self.cache.len() as u32);
         if let Some(held) = insert_if_absent(&mut self.index, key, cell_place(&x, slot))? {
-            self.cache.promote(held);
+            self.cache.promote(held, &x)?;
             self.front = Some((held, x));
             return Ok(Put {
                 evicted: None,
                 fresh: false,
             });
         }
-        let Ok(()) = self.cache.push(slot, x) else {
+        let Ok(()) = self.cache.push(slot, &x) else {
             self.index.remove(&key);
             return Err(OutOfMemory);
         };
@@ -180,15 +184,13 @@ impl CellStore {
         let extra = self.cache.len().saturating_sub(left);
         let mut keys = Vec::with_capacity(*self.free.allocator(), extra)?;
         self.free.reserve(extra)?;
+        let gone = self.cache.truncate(left)?;
         self.front = None;
-        while self.cache.len() > left {
-            let Some((slot, oldest)) = self.cache.pop_lru() else {
-                unreachable!()
-            };
-            let gone = cell_key(&oldest);
-            self.index.remove(&gone);
-            keys.push_reserved(gone);
-            self.free.push_reserved(slot);
+        for (slot, x) in gone.as_slice() {
+            let old = cell_key(x);
+            self.index.remove(&old);
+            keys.push_reserved(old);
+            self.free.push_reserved(*slot);
         }
         Ok(keys)
     }
@@ -225,16 +227,16 @@ fn covering_cell(index: &BTreeMap<Key, Place>, p: Point) -> Option<(u32, Cell)>
 }
 
 // The slot and the key of the least recently used cell of a full cache. Where there is room, none.
-fn last_if_full(cache: &mut RecentCells) -> Option<(u32, Key)>
+fn last_if_full(cache: &mut RecentCells) -> Result<Option<(u32, Key)>, OutOfMemory>
     ensures unchanged { cache.new ≡ cache.old }
-    ensures last { result ≡ (if nat_lt (length cache.new.entries) cache.new.cap then None
-        else option_map (λ e. (e.0, key_of e.1)) (last_of cache.new.entries)) }
+    ensures last { IfOk result (λ last. last ≡ (if nat_lt (length cache.new.entries) cache.new.cap then None
+        else option_map (λ e. (e.0, key_of e.1)) (last_of cache.new.entries))) }
 {
     if cache.len() < cache.cap().get() {
-        return None;
+        return Ok(None);
     }
-    let (slot, x) = cache.peek_lru()?;
-    Some((slot, cell_key(&x)))
+    let last = cache.peek_lru()?;
+    Ok(last.map(|(slot, x)| (slot, cell_key(&x))))
 }
 
 // The slot of a new cell: that of the last cell, where one is given, or else the last of the free slots, or else the first that was never used.

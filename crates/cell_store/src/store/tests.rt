@@ -32,13 +32,13 @@ fn fits(x: &SignalCell, cells: &[SignalCell]) -> bool
 
 // Each function below makes one call of both bodies, and returns whether they agree. It is proved that both have the
 // same list.
-fn find_both(store: &mut CellStore, plain: &mut PlainStore, p: Point) -> bool
+fn find_both(store: &mut CellStore, plain: &mut PlainStore, p: Point) -> Result<bool, OutOfMemory>
     requires { store.old ≡ plain.old }
-    ensures { store.new ≡ plain.new }
+    ensures { OnOk result (store.new ≡ plain.new) }
 {
-    let found = store.find(p);
+    let found = store.find(p)?;
     let expected = plain.find(p);
-    found == expected
+    Ok(found == expected)
 }
 
 fn put_both(
@@ -96,7 +96,7 @@ fn one_call(
     let time = draws.draw() % 400;
     let p = Point { signal, time };
     match choice {
-        0..=4 => Ok(find_both(store, plain, p)),
+        0..=4 => find_both(store, plain, p),
         5 => Ok(store.covers(p) == plain.covers(p)),
         6 => trim_both(store, plain, 12 + time % 12),
         _ => {
@@ -154,7 +154,7 @@ fn a_used_cell_outlives_older_ones(rt: HostRuntime) -> Result<(), Fail> {
     assert_eq!(rt; store.len(), 3);
     assert_eq!(rt;
         store
-            .find(Point { signal: 1, time: 9 })
+            .find(Point { signal: 1, time: 9 })?
             .map(|cell| cell.value),
         Some(Value::One)
     );
@@ -163,7 +163,7 @@ fn a_used_cell_outlives_older_ones(rt: HostRuntime) -> Result<(), Fail> {
             .find(Point {
                 signal: 1,
                 time: 10
-            })
+            })?
             .is_none(),
         "past its end"
     );

@@ -1,18 +1,14 @@
-use Rattle.std.proofs.Common.{◌<◌, ℕ, nat_eq, List, length, ap, ◌∙◌, arith}
-use Rattle.lru.specs.LruCache.{LruCache, lru_cache, promoted, put_entries}
-use Rattle.valid_intervals.specs.declared.SignalCell.{SignalCell}
-use Rattle.cell_store.specs.inner.Uses.{after_uses}
-use Rattle.cell_store.proofs.Entries.{Entry}
-use Rattle.cell_store.proofs.Uses.{put_before}
+use Rattle.std.proofs.Common.{arith}
+use Rattle.cell_store.specs.inner.Notes.{after_notes}
+use Rattle.cell_store.proofs.Notes.{many_pushed, many_replaced, same_cap}
 use Rattle.cell_store.proofs.recent.RecentCells.push.Goals as goal
 
-pub returns-clause-entries : goal.returns-clause-entries
-returns-clause-entries c =
-    let cache : LruCache ℕ SignalCell = c.self.inside.cache in
-    let noted : List ℕ = c.self.inside.noted.items in
-    let room : length cache.entries < cache.cap = omega (arith, c.len.ensures.len, c.len.ensures.valid.1, c.if-len-get.false, c.get.ensures.value, c.cap.ensures) in
-    c.promote.ensures
-    ∙ ap (λ (l : LruCache ℕ SignalCell). lru_cache (promoted (nat_eq c.args.slot) l.entries) l.cap)
-    (c.make_room.ensures ∙ ap (λ (l : LruCache ℕ SignalCell). lru_cache (after_uses noted l.entries) l.cap) c.in_ok-push-2.ensures.entries)
-    ∙ ap (λ (es : List Entry). lru_cache es cache.cap) (put_before noted cache.entries cache.cap c.args.slot c.args.x room c.len.ensures.valid.0)
-    ∙ ap (λ (l : LruCache ℕ SignalCell). lru_cache (put_entries nat_eq l c.args.slot c.args.x) l.cap) c.self.view_is
+pub invariant_of-self-then-self-get : goal.invariant_of-self-then-self-get
+invariant_of-self-then-self-get c =
+    many_pushed (after_notes c.self.inside.cache c.self.inside.noted.items) (after_notes c.note.new.cache c.note.new.noted.items) c.args.self.now (c.args.slot, c.args.x.now) c.self.inside.many c.self.invariant c.self.view_is c.requires.empty
+    c.in_ok-note.ensures.after (omega (arith, c.if-self-get.true, c.get.ensures.value, c.cap.ensures, c.note.ensures.cap, same_cap c.self.inside.noted.items c.self.inside.cache))
+
+pub invariant_of-self-else-self-get : goal.invariant_of-self-else-self-get
+invariant_of-self-else-self-get c =
+    many_replaced (after_notes c.self.inside.cache c.self.inside.noted.items) (after_notes c.note.new.cache c.note.new.noted.items) c.args.self.now (c.args.slot, c.args.x.now) c.self.inside.many c.self.invariant c.self.view_is c.requires.held
+    c.in_ok-note.ensures.after (omega (arith, c.if-self-get.false, c.get.ensures.value, c.cap.ensures, c.note.ensures.cap, same_cap c.self.inside.noted.items c.self.inside.cache))

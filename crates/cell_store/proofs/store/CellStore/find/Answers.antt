@@ -12,15 +12,22 @@ use Rattle.cell_store.proofs.Front.{front_found, front_stays}
 use Rattle.cell_store.proofs.store.CellStore.find.Goals.{In-Some}
 use Rattle.cell_store.proofs.store.CellStore.find.Goals as goal
 
-found : (c : goal.After-result-1) → IsFound (get key_cmp c.self.inside.index) c.self.inside.cache.entries c.self.inside.free.items c.self.inside.cache.cap c.in_ok-found.found.0 c.args.p c.in_ok-found.found.1
-found c =
-    is_found (get key_cmp c.self.inside.index) c.self.inside.cache.entries c.self.inside.free.items c.self.inside.cache.cap c.in_ok-found.found.0 c.args.p c.in_ok-found.found.1 c.self.invariant.0
-    (c.in_ok-found.ensures c.self.inside.cache.entries c.self.invariant.0.found)
+pub promote-requires : goal.promote-requires
+promote-requires c =
+    let found : IsFound (get key_cmp c.self.inside.index) c.self.inside.cache.entries c.self.inside.free.items c.self.inside.cache.cap c.in-Some-covering_cell.slot c.args.p c.in-Some-covering_cell.cell =
+    is_found (get key_cmp c.self.inside.index) c.self.inside.cache.entries c.self.inside.free.items c.self.inside.cache.cap c.in-Some-covering_cell.slot c.args.p c.in-Some-covering_cell.cell c.self.invariant.0
+    (c.in-Some-covering_cell.ensures c.self.inside.cache.entries c.self.invariant.0.found) in
+    record { there = found.used.there ∙ ap (λ (x : SignalCell). Some (c.in-Some-covering_cell.slot, x)) found.is }
 
-pub invariant_of-self : goal.invariant_of-self
-invariant_of-self c = (
-  subst (λ (l : LruCache ℕ SignalCell). IsSoundStore (get key_cmp c.self.inside.index) l.entries c.self.inside.free.items l.cap) (sym c.promote.ensures) (found c).used.sound,
-  ap (λ (l : LruCache ℕ SignalCell). slice_get l.entries 0) c.promote.ensures ∙ (found c).used.first ∙ ap (λ (x : SignalCell). Some (c.in_ok-found.found.0, x)) (found c).is,
+found : (c : goal.After-result-1) → IsFound (get key_cmp c.self.inside.index) c.self.inside.cache.entries c.self.inside.free.items c.self.inside.cache.cap c.in-Some-covering_cell.slot c.args.p c.in-Some-covering_cell.cell
+found c =
+    is_found (get key_cmp c.self.inside.index) c.self.inside.cache.entries c.self.inside.free.items c.self.inside.cache.cap c.in-Some-covering_cell.slot c.args.p c.in-Some-covering_cell.cell c.self.invariant.0
+    (c.in-Some-covering_cell.ensures c.self.inside.cache.entries c.self.invariant.0.found)
+
+pub invariant_of-self-2 : goal.invariant_of-self-2
+invariant_of-self-2 c = (
+  subst (λ (l : LruCache ℕ SignalCell). IsSoundStore (get key_cmp c.self.inside.index) l.entries c.self.inside.free.items l.cap) (sym c.in_ok-promote.ensures.entries) (found c).used.sound,
+  ap (λ (l : LruCache ℕ SignalCell). slice_get l.entries 0) c.in_ok-promote.ensures.entries ∙ (found c).used.first ∙ ap (λ (x : SignalCell). Some (c.in-Some-covering_cell.slot, x)) (found c).is,
 )
 
 pub returns-clause-found : goal.returns-clause-found
@@ -30,10 +37,15 @@ returns-clause-found c =
 
 pub returns-clause-used : goal.returns-clause-used
 returns-clause-used c =
-    ap (λ (l : LruCache ℕ SignalCell). contents l.cap (cells_of l.entries)) c.promote.ensures
+    ap (λ (l : LruCache ℕ SignalCell). contents l.cap (cells_of l.entries)) c.in_ok-promote.ensures.entries
     ∙ ap (λ (l : List SignalCell). contents c.self.inside.cache.cap l) (found c).used.cells
     ∙ ap (λ (x : SignalCell). contents c.self.inside.cache.cap (to_front x (cells_of c.self.inside.cache.entries))) (found c).is
-    ∙ ap (λ (s : Contents). with_cells s (to_front (cell_for c.args.p c.in_ok-found.found.1) s.cells)) c.self.view_is
+    ∙ ap (λ (s : Contents). with_cells s (to_front (cell_for c.args.p c.in-Some-covering_cell.cell) s.cells)) c.self.view_is
+
+pub returns-in_default-covering_cell-clause-found : goal.returns-in_default-covering_cell-clause-found
+returns-in_default-covering_cell-clause-found c =
+    sym (ap (option_map (λ (x : SignalCell). x.cell)) (none_found c.self.inside.cache.entries (covers c.args.p) (sym c.in_default-covering_cell.is ∙ c.covering_cell.ensures c.self.inside.cache.entries c.self.invariant.0.found)))
+    ∙ ap (λ (s : Contents). option_map (λ (x : SignalCell). x.cell) (stored_at s.cells c.args.p)) c.self.view_is
 
 in_front : (c : In-Some) → IsInFront c.self.inside.cache.entries c.args.p c.in-Some.cell
 in_front c = c.in-Some.ensures c.self.inside.cache.entries c.self.invariant.1
@@ -47,9 +59,3 @@ pub returns-in-Some-clause-used : goal.returns-in-Some-clause-used
 returns-in-Some-clause-used c =
     subst (λ (s : Contents). s ≡ with_cells s (to_front (cell_for c.args.p c.in-Some.cell) s.cells)) c.self.view_is
     (ap (contents c.self.inside.cache.cap) (sym (front_stays (end_in (get key_cmp c.self.inside.index)) c.self.inside.cache.entries c.args.p c.in-Some.cell c.self.invariant.0.found.indexed (in_front c))))
-
-pub returns-in_err-found-clause-found : goal.returns-in_err-found-clause-found
-returns-in_err-found-clause-found c =
-    c.from_residual.ensures
-    ∙ sym (ap (option_map (λ (x : SignalCell). x.cell)) (none_found c.self.inside.cache.entries (covers c.args.p) (c.in_err-found.ensures c.self.inside.cache.entries c.self.invariant.0.found)))
-    ∙ ap (λ (s : Contents). option_map (λ (x : SignalCell). x.cell) (stored_at s.cells c.args.p)) c.self.view_is

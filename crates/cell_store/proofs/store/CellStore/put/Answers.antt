@@ -13,50 +13,70 @@ use Rattle.cell_store.proofs.Found.{none_some}
 use Rattle.cell_store.proofs.Kept.{put_back}
 use Rattle.cell_store.proofs.Entries.{new_slot}
 use Rattle.cell_store.proofs.Calls.{same_sound}
-use Rattle.cell_store.proofs.Puts.{below, IsPut, put_again, put_in_room, put_in_full, at_slot}
-use Rattle.cell_store.proofs.store.CellStore.put.Goals.{After-last_if_full-last, After-promote, After-push}
+use Rattle.cell_store.proofs.Puts.{below, slot_empty, slot_held, slot_holds, IsPut, put_again, put_in_room, put_in_full, at_slot}
+use Rattle.cell_store.proofs.store.CellStore.put.Goals.{After-last_if_full, After-promote, After-push}
 use Rattle.cell_store.proofs.store.CellStore.put.Goals as goal
 
 -- ---- the look at the least recently used cell leaves the store as it is
-sound : (c : After-last_if_full-last) → IsSoundStore (get key_cmp c.self.inside.index) c.last_if_full-last.new.cache.entries c.self.inside.free.items c.last_if_full-last.new.cache.cap
-sound c = subst (λ (l : LruCache ℕ SignalCell). IsSoundStore (get key_cmp c.self.inside.index) l.entries c.self.inside.free.items l.cap) (sym c.last_if_full-last.ensures.unchanged) c.self.invariant.0
+sound : (c : After-last_if_full) → IsSoundStore (get key_cmp c.self.inside.index) c.last_if_full.new.cache.entries c.self.inside.free.items c.last_if_full.new.cache.cap
+sound c = subst (λ (l : LruCache ℕ SignalCell). IsSoundStore (get key_cmp c.self.inside.index) l.entries c.self.inside.free.items l.cap) (sym c.last_if_full.ensures.unchanged) c.self.invariant.0
 
-front : (c : After-last_if_full-last) → IsFront c.self.inside.front c.last_if_full-last.new.cache.entries
-front c = subst (λ (l : LruCache ℕ SignalCell). IsFront c.self.inside.front l.entries) (sym c.last_if_full-last.ensures.unchanged) c.self.invariant.1
+front : (c : After-last_if_full) → IsFront c.self.inside.front c.last_if_full.new.cache.entries
+front c = subst (λ (l : LruCache ℕ SignalCell). IsFront c.self.inside.front l.entries) (sym c.last_if_full.ensures.unchanged) c.self.invariant.1
 
-view : (c : After-last_if_full-last) → contents c.last_if_full-last.new.cache.cap (cells_of c.last_if_full-last.new.cache.entries) ≡ c.args.self.now
-view c = ap (λ (l : LruCache ℕ SignalCell). contents l.cap (cells_of l.entries)) c.last_if_full-last.ensures.unchanged ∙ c.self.view_is
+view : (c : After-last_if_full) → contents c.last_if_full.new.cache.cap (cells_of c.last_if_full.new.cache.entries) ≡ c.args.self.now
+view c = ap (λ (l : LruCache ℕ SignalCell). contents l.cap (cells_of l.entries)) c.last_if_full.ensures.unchanged ∙ c.self.view_is
 
 -- ---- a slot fits
 pub cell_place-requires : goal.cell_place-requires
 cell_place-requires c =
-    let seen : After-last_if_full-last = (goal.at.cell_place-requires c).After-last_if_full-last in
-    let fits : unwrap_or (option_map (λ e. e.0) c.last_if_full-last.result) (new_slot c.last_if_full-last.new.cache.entries c.self.inside.free.items) < c.last_if_full-last.new.cache.cap =
-    below (get key_cmp c.self.inside.index) c.last_if_full-last.new.cache.entries c.self.inside.free.items c.last_if_full-last.new.cache.cap c.last_if_full-last.result (sound seen) c.last_if_full-last.ensures.last in
+    let seen : After-last_if_full = (goal.at.cell_place-requires c).After-last_if_full in
+    let fits : unwrap_or (option_map (λ e. e.0) c.in_ok-last.last) (new_slot c.last_if_full.new.cache.entries c.self.inside.free.items) < c.last_if_full.new.cache.cap =
+    below (get key_cmp c.self.inside.index) c.last_if_full.new.cache.entries c.self.inside.free.items c.last_if_full.new.cache.cap c.in_ok-last.last (sound seen) c.in_ok-last.ensures.last in
     omega (
       arith,
       fits,
       (sound seen).most,
       c.slot_for_new-slot.ensures
-          ∙ ap₂ (λ (l : List ℕ) (n : ℕ). unwrap_or (option_map (λ e. e.0) c.last_if_full-last.result) (unwrap_or (slice_get l (length l - 1)) n)) c.deref.ensures.value c.len.ensures,
+          ∙ ap₂ (λ (l : List ℕ) (n : ℕ). unwrap_or (option_map (λ e. e.0) c.in_ok-last.last) (unwrap_or (slice_get l (length l - 1)) n)) c.deref.ensures.value c.len.ensures,
     )
 
 pub invariant_of-self : goal.invariant_of-self
-invariant_of-self c =
-    let seen : After-last_if_full-last = (goal.at.invariant_of-self c).After-last_if_full-last in (
-      same_sound (get key_cmp c.insert_if_absent.new.index) (get key_cmp c.self.inside.index) c.last_if_full-last.new.cache.entries c.self.inside.free.items c.last_if_full-last.new.cache.cap
+invariant_of-self c = let seen : After-last_if_full = (goal.at.invariant_of-self c).After-last_if_full in (sound seen, front seen)
+
+pub invariant_of-self-in_err-held : goal.invariant_of-self-in_err-held
+invariant_of-self-in_err-held c =
+    let seen : After-last_if_full = (goal.at.invariant_of-self-in_err-held c).After-last_if_full in (
+      same_sound (get key_cmp c.insert_if_absent.new.index) (get key_cmp c.self.inside.index) c.last_if_full.new.cache.entries c.self.inside.free.items c.last_if_full.new.cache.cap
           (λ q. ap (λ (es : List (Key × Place)). lookup (is_at (key_cmp q)) es) c.in_err-held.ensures.err) (sound seen),
       front seen,
     )
 
 -- ---- the cell is stored already
+pub promote-requires : goal.promote-requires
+promote-requires c =
+    let seen : After-last_if_full = (goal.at.promote-requires c).After-last_if_full in
+    record {
+      there = slot_holds (get key_cmp c.self.inside.index) c.last_if_full.new.cache c.self.inside.free.items c.args.self.now (record { signal = c.args.signal; cell = c.args.cell }) c.cell_key-key.result
+          (sound seen) (view seen) c.requires c.cell_key-key.ensures.key c.cell_key-key.ensures.span c.in-Some.held (sym c.in-Some.is ∙ c.in_ok-held.ensures.had);
+    }
+
+pub invariant_of-self-in_err-promote : goal.invariant_of-self-in_err-promote
+invariant_of-self-in_err-promote c =
+    let seen : After-last_if_full = (goal.at.invariant_of-self-in_err-promote c).After-last_if_full in (
+      subst (λ (l : LruCache ℕ SignalCell). IsSoundStore (get key_cmp c.insert_if_absent.new.index) l.entries c.self.inside.free.items l.cap) (sym c.in_err-promote.ensures.err)
+          (same_sound (get key_cmp c.insert_if_absent.new.index) (get key_cmp c.self.inside.index) c.last_if_full.new.cache.entries c.self.inside.free.items c.last_if_full.new.cache.cap
+          (subst (λ o. IfSome o (λ _. (q : Key) → get key_cmp c.insert_if_absent.new.index q ≡ get key_cmp c.self.inside.index q)) c.in-Some.is c.in_ok-held.ensures.stays) (sound seen)),
+      subst (λ (l : LruCache ℕ SignalCell). IsFront c.self.inside.front l.entries) (sym c.in_err-promote.ensures.err) (front seen),
+    )
+
 again : (c : goal.After-self-1) → IsPut (get key_cmp c.insert_if_absent.new.index) c.promote.new.self c.self.inside.free.items c.args.self.now c.in-Some.held (record { signal = c.args.signal; cell = c.args.cell }) false None
 again c =
-    let seen : After-last_if_full-last = (goal.at.invariant_of-self-in-Some c).After-last_if_full-last in
-    put_again (get key_cmp c.self.inside.index) c.last_if_full-last.new.cache c.self.inside.free.items c.args.self.now (record { signal = c.args.signal; cell = c.args.cell }) c.cell_key-key.result
+    let seen : After-last_if_full = (goal.at.invariant_of-self-in-Some c).After-last_if_full in
+    put_again (get key_cmp c.self.inside.index) c.last_if_full.new.cache c.self.inside.free.items c.args.self.now (record { signal = c.args.signal; cell = c.args.cell }) c.cell_key-key.result
     (sound seen) (view seen) c.requires c.cell_key-key.ensures.key c.cell_key-key.ensures.span (get key_cmp c.insert_if_absent.new.index) c.promote.new.self c.in-Some.held
     (sym c.in-Some.is ∙ c.in_ok-held.ensures.had)
-    (subst (λ o. IfSome o (λ _. (q : Key) → get key_cmp c.insert_if_absent.new.index q ≡ get key_cmp c.self.inside.index q)) c.in-Some.is c.in_ok-held.ensures.stays) c.promote.ensures
+    (subst (λ o. IfSome o (λ _. (q : Key) → get key_cmp c.insert_if_absent.new.index q ≡ get key_cmp c.self.inside.index q)) c.in-Some.is c.in_ok-held.ensures.stays) c.in_ok-promote.ensures.entries
 
 pub invariant_of-self-in-Some : goal.invariant_of-self-in-Some
 invariant_of-self-in-Some c = ((again c).sound, (again c).first)
@@ -81,20 +101,33 @@ none c = no_slot (get key_cmp c.self.inside.index c.cell_key-key.result) (sym c.
 came : (c : After-push) → (q : Key) → get key_cmp c.insert_if_absent.new.index q ≡ cond (is_eq (key_cmp c.cell_key-key.result q)) (Some c.cell_place.result) (get key_cmp c.self.inside.index q)
 came c = (subst (λ o. IfNone o (Updates key_cmp c.self.inside.index c.insert_if_absent.new.index c.cell_key-key.result (Some c.cell_place.result))) c.in_default.is c.in_ok-held.ensures.new).0
 
-slot : (c : After-push) → (last : Option (ℕ × Key)) → c.last_if_full-last.result ≡ last
-    → c.slot_for_new-slot.result ≡ unwrap_or (option_map (λ e. e.0) last) (new_slot c.last_if_full-last.new.cache.entries c.self.inside.free.items)
+slot : (c : After-push) → (last : Option (ℕ × Key)) → c.in_ok-last.last ≡ last
+    → c.slot_for_new-slot.result ≡ unwrap_or (option_map (λ e. e.0) last) (new_slot c.last_if_full.new.cache.entries c.self.inside.free.items)
 slot c last is =
     c.slot_for_new-slot.ensures
     ∙ ap (λ (o : Option (ℕ × Key)). unwrap_or (option_map (λ e. e.0) o) (unwrap_or (slice_get c.deref.result.now (length c.deref.result.now - 1)) c.len.result)) is
     ∙ ap₂ (λ (l : List ℕ) (n : ℕ). unwrap_or (option_map (λ e. e.0) last) (unwrap_or (slice_get l (length l - 1)) n)) c.deref.ensures.value c.len.ensures
 
+pub push-requires-clause-empty : goal.push-requires-clause-empty
+push-requires-clause-empty c =
+    slot_empty (get key_cmp c.self.inside.index) c.last_if_full.new.cache.entries c.self.inside.free.items c.last_if_full.new.cache.cap c.slot_for_new-slot.result c.in_ok-last.last
+    (sound ((goal.at.push-requires-clause-empty c).After-last_if_full)) c.in_ok-last.ensures.last
+    (c.slot_for_new-slot.ensures ∙ ap₂ (λ (l : List ℕ) (n : ℕ). unwrap_or (option_map (λ e. e.0) c.in_ok-last.last) (unwrap_or (slice_get l (length l - 1)) n)) c.deref.ensures.value c.len.ensures)
+    (record { signal = c.args.signal; cell = c.args.cell })
+
+pub push-requires-clause-held : goal.push-requires-clause-held
+push-requires-clause-held c =
+    slot_held (get key_cmp c.self.inside.index) c.last_if_full.new.cache.entries c.self.inside.free.items c.last_if_full.new.cache.cap c.slot_for_new-slot.result c.in_ok-last.last
+    (sound ((goal.at.push-requires-clause-held c).After-last_if_full)) c.in_ok-last.ensures.last
+    (c.slot_for_new-slot.ensures ∙ ap₂ (λ (l : List ℕ) (n : ℕ). unwrap_or (option_map (λ e. e.0) c.in_ok-last.last) (unwrap_or (slice_get l (length l - 1)) n)) c.deref.ensures.value c.len.ensures)
+
 -- the cache refuses it
 pub invariant_of-self-in_default-push : goal.invariant_of-self-in_default-push
 invariant_of-self-in_default-push c =
     let new : After-push = (goal.at.invariant_of-self-in_default-push c).After-push in
-    let seen : After-last_if_full-last = (goal.at.invariant_of-self-in_default-push c).After-last_if_full-last in (
+    let seen : After-last_if_full = (goal.at.invariant_of-self-in_default-push c).After-last_if_full in (
       subst (λ (l : LruCache ℕ SignalCell). IsSoundStore (get key_cmp c.remove.new.self) l.entries c.self.inside.free.items l.cap) (sym c.in_default-push.ensures.err)
-          (same_sound (get key_cmp c.remove.new.self) (get key_cmp c.self.inside.index) c.last_if_full-last.new.cache.entries c.self.inside.free.items c.last_if_full-last.new.cache.cap
+          (same_sound (get key_cmp c.remove.new.self) (get key_cmp c.self.inside.index) c.last_if_full.new.cache.entries c.self.inside.free.items c.last_if_full.new.cache.cap
           (put_back (get key_cmp c.self.inside.index) (get key_cmp c.insert_if_absent.new.index) (get key_cmp c.remove.new.self) c.cell_key-key.result (Some c.cell_place.result) None (none new) (came new) c.remove.ensures.updates.0) (sound seen)),
       subst (λ (l : LruCache ℕ SignalCell). IsFront c.self.inside.front l.entries) (sym c.in_default-push.ensures.err) (front seen),
     )
@@ -103,11 +136,11 @@ invariant_of-self-in_default-push c =
 full : (c : goal.After-remove-in-Some-last) → IsPut (get key_cmp c.remove-in-Some-last.new.self) c.push.new.self c.self.inside.free.items c.args.self.now c.slot_for_new-slot.result (record { signal = c.args.signal; cell = c.args.cell }) true (Some c.in-Some-last.evicted)
 full c =
     let new : After-push = (goal.at.invariant_of-self-in-Some-last c).After-push in
-    let seen : After-last_if_full-last = (goal.at.invariant_of-self-in-Some-last c).After-last_if_full-last in
-    put_in_full (get key_cmp c.self.inside.index) c.last_if_full-last.new.cache c.self.inside.free.items c.args.self.now (record { signal = c.args.signal; cell = c.args.cell }) c.cell_key-key.result
+    let seen : After-last_if_full = (goal.at.invariant_of-self-in-Some-last c).After-last_if_full in
+    put_in_full (get key_cmp c.self.inside.index) c.last_if_full.new.cache c.self.inside.free.items c.args.self.now (record { signal = c.args.signal; cell = c.args.cell }) c.cell_key-key.result
     (sound seen) (view seen) c.requires c.cell_key-key.ensures.key c.cell_key-key.ensures.span (get key_cmp c.insert_if_absent.new.index) (get key_cmp c.remove-in-Some-last.new.self) c.push.new.self c.cell_place.result c.slot_for_new-slot.result c.in-Some-last.evicted
-    (none new) (at_slot c.slot_for_new-slot.result c.in-Some-last.field-0-0 c.in-Some-last.evicted c.last_if_full-last.new.cache.entries c.last_if_full-last.new.cache.cap
-    (slot new (Some (c.in-Some-last.field-0-0, c.in-Some-last.evicted)) c.in-Some-last.is) c.in-Some-last.ensures.last)
+    (none new) (at_slot c.slot_for_new-slot.result c.in-Some-last.field-0-0 c.in-Some-last.evicted c.last_if_full.new.cache.entries c.last_if_full.new.cache.cap
+    (slot new (Some (c.in-Some-last.field-0-0, c.in-Some-last.evicted)) c.in-Some-last.is) (sym c.in-Some-last.is ∙ c.in_ok-last.ensures.last))
     c.cell_place.ensures (came new) c.in-Ok.ensures.entries c.remove-in-Some-last.ensures.updates.0
 
 pub invariant_of-self-in-Some-last : goal.invariant_of-self-in-Some-last
@@ -126,10 +159,10 @@ returns-in-Some-last-clause-evicted c = (full c).is_evicted
 room : (c : goal.After-pop) → IsPut (get key_cmp c.insert_if_absent.new.index) c.push.new.self c.pop.new.self.items c.args.self.now c.slot_for_new-slot.result (record { signal = c.args.signal; cell = c.args.cell }) true None
 room c =
     let new : After-push = (goal.at.invariant_of-self-in-None c).After-push in
-    let seen : After-last_if_full-last = (goal.at.invariant_of-self-in-None c).After-last_if_full-last in
-    put_in_room (get key_cmp c.self.inside.index) c.last_if_full-last.new.cache c.self.inside.free.items c.args.self.now (record { signal = c.args.signal; cell = c.args.cell }) c.cell_key-key.result
+    let seen : After-last_if_full = (goal.at.invariant_of-self-in-None c).After-last_if_full in
+    put_in_room (get key_cmp c.self.inside.index) c.last_if_full.new.cache c.self.inside.free.items c.args.self.now (record { signal = c.args.signal; cell = c.args.cell }) c.cell_key-key.result
     (sound seen) (view seen) c.requires c.cell_key-key.ensures.key c.cell_key-key.ensures.span (get key_cmp c.insert_if_absent.new.index) c.push.new.self c.pop.new.self.items c.cell_place.result c.slot_for_new-slot.result
-    (none new) c.in-None.ensures.last (slot new None c.in-None.is) c.cell_place.ensures (came new) c.in-Ok.ensures.entries
+    (none new) (sym c.in-None.is ∙ c.in_ok-last.ensures.last) (slot new None c.in-None.is) c.cell_place.ensures (came new) c.in-Ok.ensures.entries
     (c.pop.ensures.rest ∙ ap (λ (n : ℕ). take (n - 1) c.self.inside.free.items) (sym c.deref.ensures.len ∙ ap (λ (l : List ℕ). length l) c.deref.ensures.value))
 
 pub invariant_of-self-in-None : goal.invariant_of-self-in-None
