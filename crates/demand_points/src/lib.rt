@@ -21,7 +21,10 @@
 //! loop {
 //!     match strand.next_step(&design) {
 //!         Next::Ask(p) => strand.take_claim(&design, p)?,
-//!         Next::Fill(p) => { let cell = strand.finish_top(&design); }
+//!         Next::Fill(_) => {
+//!             let cell = strand.top_cell(&design);
+//!             strand.finish_with(&design, &cell);
+//!         }
 //!         Next::Drop(_) => { strand.drop_top(); }
 //!         Next::Done => break,
 //!     }

@@ -235,20 +235,7 @@ impl<B: BatchName> Strand<B> {
         self.parts.top_cell(design)
     }
 
-    /// Ends the claim of the point on top of its stack; what lies under it hears the cell.
-    pub fn finish_top(&mut self, design: &Design) -> Cell
-        requires design { design.now.circuit ≡ B.batch.circuit }
-        requires fills { IsFilling self.old.strand }
-        ensures cell { (p : Point) → next self.old.strand ≡ Fill p
-            → result ≡ cell_at B.batch.circuit p }
-        ensures steps { TakesStep strands.after_fill self.old self.new }
-    {
-        let cell = self.top_cell(design);
-        self.finish_with(design, &cell);
-        cell
-    }
-
-    /// The same, where the cell of that point is known.
+    /// Ends the claim of the point on top of its stack, whose cell is known; what lies under it hears the cell.
     pub fn finish_with(&mut self, design: &Design, cell: &Cell)
         requires design { design.now.circuit ≡ B.batch.circuit }
         requires fills { IsFilling self.old.strand }
