@@ -1,8 +1,8 @@
--- A walk from signal to signal, back to those that a signal reads or on to those that read it.
+-- A walk from signal to signal, on to those that read a signal.
 use Rattle.std.proofs.Common.{◌≡◌, ℕ, zero, suc, ◌<◌, ◌≤◌, Bool, true, false, not, ◌&&◌, ◌||◌, eqb-true, eq-eqb, List, [], ◌∷◌, ◌++◌, length, get_or, refl, sym, ap, ap₂, ◌∙◌, subst, arith, ◌⊎◌, inl, inr}
 use Rattle.std.specs.Prelude.{replicate, nat_eq, ◌↔◌, IsTrue}
 use Rattle.std.proofs.lemmas.Cmp.{nat_eq_equiv}
-use Rattle.std.proofs.lemmas.List.{get_or_past, get_or_read, length-replicate}
+use Rattle.std.proofs.lemmas.List.{get_or_past, length-replicate}
 use Rattle.std.proofs.lemmas.List.Folds.{list_any-append}
 use Rattle.std.proofs.lemmas.Map.Views.{list_any-from_Contains, Contains-from_any}
 use Rattle.circuit_meaning.specs.Circuit.{Circuit, driver, read_by}
@@ -17,10 +17,6 @@ pub record Walked (n : ℕ) (edges : ℕ → ℕ → Bool) (Inside : ℕ → Typ
   pub sound : (x : ℕ) → is_marked marks x ≡ true → Inside x
   pub waits : (x : ℕ) → has ahead x ≡ true → is_marked marks x ≡ true
   pub whole : (x u : ℕ) → is_marked marks x ≡ true → has ahead x ≡ false → edges x u ≡ true → is_marked marks u ≡ true
-
--- from the root back through the pins
-abbrev pub WalkedBack : Circuit → ℕ → List Bool → List ℕ → Type 0
-WalkedBack c root marks ahead = Walked (length c.drivers) (λ x u. has (read_by (driver c x)) u) (IsInCone c root) root marks ahead
 
 -- from the site on to the readers
 abbrev pub WalkedOn : Circuit → ℕ → List Bool → List ℕ → Type 0
@@ -145,25 +141,9 @@ module _ (n : ℕ) (edges : ℕ → ℕ → Bool) (Inside : ℕ → Type 0) (fir
       ];
     }
 
--- what a signal of the cone reads lies in the cone
-pub back-inside : (c : Circuit) (root next : ℕ) → IsInCone c root next → (x : ℕ) → has (read_by (driver c next)) x ≡ true → IsInCone c root x
-back-inside c root next inside x h = Reads inside (Contains-from_any nat_eq-true x (read_by (driver c next)) h)
-
 -- the site lies in the cone of what reads a signal with the site in its cone
 pub on-inside : (c : Circuit) (site next : ℕ) → IsInCone c next site → (x : ℕ) → has (read_by (driver c x)) next ≡ true → IsInCone c x site
 on-inside c site next inside x h = cone-step c x next site (Contains-from_any nat_eq-true next (read_by (driver c x)) h) inside
-
--- with nothing ahead each signal of the cone is marked
-pub walked-end : (c : Circuit) (root : ℕ) (marks : List Bool) (ahead : List ℕ) → WalkedBack c root marks ahead → ahead ≡ [] → (x : ℕ) → IsInCone c root x → is_marked marks x ≡ true
-walked-end c root marks ahead w empty _ Itself = w.begun
-walked-end c root marks ahead w empty x (Reads {s} inside read) =
-    w.whole s x (walked-end c root marks ahead w empty s inside) (ap (λ xs. has xs s) empty) (list_any-from_Contains nat_eq_equiv x (read_by (driver c s)) read)
-
-pub walked-found : (c : Circuit) (root : ℕ) (marks : List Bool) (ahead : List ℕ) → WalkedBack c root marks ahead → (x : ℕ) → is_marked marks x ≡ true → IsTrue true ↔ IsInCone c root x
-walked-found c root marks ahead w x h = (λ _. w.sound x h, λ _. refl)
-
-pub walked-missed : (c : Circuit) (root : ℕ) (marks : List Bool) (ahead : List ℕ) → WalkedBack c root marks ahead → ahead ≡ [] → (x : ℕ) → is_marked marks x ≡ false → IsTrue false ↔ IsInCone c root x
-walked-missed c root marks ahead w empty x h = (λ t. absurd (cc t), λ inside. absurd (cc (h, walked-end c root marks ahead w empty x inside)))
 
 -- with nothing ahead each signal that has a marked one in its cone is marked
 on-end : (c : Circuit) (site : ℕ) (marks : List Bool) (ahead : List ℕ) → WalkedOn c site marks ahead → ahead ≡ []
@@ -178,7 +158,3 @@ walked-on c site marks ahead w empty x = (λ h. w.sound x h, λ inside. on-end c
 pub empty-list : (xs : List ℕ) → (0 < length xs → ⊥) → xs ≡ []
 empty-list [] h = refl
 empty-list (x ∷ xs) h = absurd (h (omega arith))
-
--- a mark that is read is the one at its place
-pub unmarked-read : (n : ℕ) (edges : ℕ → ℕ → Bool) (Inside : ℕ → Type 0) (first : ℕ) (marks : List Bool) (ahead : List ℕ) → Walked n edges Inside first marks ahead → (x : ℕ) → x < n → (b : Bool) → b ≡ get_or marks x b → b ≡ false → is_marked marks x ≡ false
-unmarked-read n edges Inside first marks ahead w x l b read e = sym (get_or_read marks x b (let k = w.long in omega (arith, k, l)) read false) ∙ e

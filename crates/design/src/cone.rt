@@ -1,5 +1,4 @@
-//! Fan-in cones, by a walk back through the pins, and the signals with a given signal in their cones, by a walk forward through the
-//! readers.
+//! The signals with a given signal in their cones, by a walk forward through the readers.
 
 ghost use Rattle.std.specs.Prelude.{◌≡◌, ◌<◌, ◌↔◌, ◌∷◌, [], ℕ, length, slice_index_or, false, All, IsTrue, OnOk, IfOk};
 ghost use Rattle.circuit_meaning.specs.Need.{IsInCone};
@@ -45,28 +44,6 @@ impl Walk {
 }
 
 impl Design {
-    /// Whether `signal` is reached from `root` back through pins. A signal is reached from itself.
-    ///
-    /// The call takes a flag for each signal, and at most the time to look at each pin once.
-    pub fn in_cone(&self, alloc: Global, root: u32, signal: u32) -> Result<bool, OutOfMemory>
-        requires root { root < length self.now.circuit.drivers }
-        requires signal { signal < length self.now.circuit.drivers }
-        ensures { IfOk result (λ inside. IsTrue inside ↔ IsInCone self.now.circuit root signal) }
-    {
-        let mut walk = Walk {
-            marks: vec![in alloc; false; self.signals() as usize]?,
-            ahead: Vec::new(alloc),
-        };
-        walk.mark(root)?;
-        while !walk.marks[signal as usize] {
-            match walk.ahead.pop() {
-                None => return Ok(false),
-                Some(next) => walk.mark_all(self.reads(next))?,
-            }
-        }
-        Ok(true)
-    }
-
     /// For each signal whether it reads `site`, however far back. The site counts as one of them. All other signals are free of the
     /// site.
     ///

@@ -1,6 +1,6 @@
 //! A design, and what it says of its points.
 
-ghost use Rattle.std.specs.Prelude.{◌≡◌, ◌+◌, ◌<◌, ◌≤◌, length, All, slice_get, Some, IfSome, OnSome, IfNone, IfOk, option_map};
+ghost use Rattle.std.specs.Prelude.{◌≡◌, ◌+◌, ◌<◌, ◌≤◌, length, slice_get, Some, IfSome, OnSome, IfNone, IfOk, option_map};
 ghost use Rattle.std.specs.Arc.{arc_value};
 ghost use Rattle.circuit_meaning.specs.Circuit.{driver, read_by};
 ghost use Rattle.circuit_meaning.specs.Cells.{span};
@@ -17,7 +17,7 @@ ghost use Rattle.design.specs.inner.HeldSignals.{AreOpenReaders};
 use crate::cells::{early_gate, flop_span, idle_flop, input_cell, later_span, shown_edge, span_of};
 use crate::fault::JoinFault;
 use crate::held::{HeldSignal, held_settings, value_of, with_first};
-use crate::origin::{Origin, reads_of};
+use crate::origin::Origin;
 use crate::readers::{OpenReaders, Readers, shared_readers};
 use crate::rows::SignalView;
 use crate::settings;
@@ -177,15 +177,6 @@ impl Design {
         ensures { result ≡ length self.now.circuit.drivers }
     {
         self.origin.signals()
-    }
-
-    /// The signals that a signal reads.
-    pub(crate) fn reads(&self, signal: u32) -> &[u32]
-        requires { signal < length self.now.circuit.drivers }
-        ensures reads { result.now ≡ read_by (driver self.now.circuit signal) }
-        ensures signals { All (λ read. read < length self.now.circuit.drivers) result.now }
-    {
-        reads_of(self.view(signal))
     }
 
     /// The readers of each signal: those that were made before, or else new ones.

@@ -38,7 +38,7 @@ impl Model for Origin {
 }
 
 /// The signals that a signal with this view reads.
-pub fn reads_of(view: SignalView<'_>) -> &[u32]
+fn reads_of(view: SignalView<'_>) -> &[u32]
     requires { FitsFrom view }
     ensures { result.now ≡ read_by (driver_seen view.entry) }
 {
