@@ -1,6 +1,5 @@
 -- What each change of the cells and the index keeps: the index has the place of each cell.
-use Rattle.std.specs.List.{list_any}
-use Rattle.std.proofs.Common.{◌≡◌, ℕ, ◌||◌, is_some, IsSome, Bool, true, false, cond, List, [], ◌∷◌, ◌++◌, All, Option, Some, None, option_map, find, refl, sym, ap, ap₂, subst, ◌∙◌}
+use Rattle.std.proofs.Common.{◌≡◌, ℕ, IsSome, Bool, true, false, cond, List, [], ◌∷◌, ◌++◌, All, Option, Some, None, option_map, find, refl, sym, ap, ap₂, subst, ◌∙◌}
 use Rattle.std.proofs.lemmas.List.Elements.{All-head, All-tail, All-cons, All-nil}
 use Rattle.std.specs.Ordering.{is_eq}
 use Rattle.valid_intervals.specs.Spans.{IsSpan}
@@ -172,10 +171,6 @@ no_end_of_place place_of k at = ap (option_map (λ (q : Place). q.end)) at
 
 pub has_place : (place_of : Key → Option Place) (k : Key) → IsSome (end_in place_of k) → IsSome (place_of k)
 has_place place_of k has = (elim (place_of k) as (λ o. IsSome (option_map (λ (q : Place). q.end) o) → IsSome o) [ None ↦ λ d. d | Some p ↦ λ d. d ]) has
-
-pub any_found : (f : SignalCell → Bool) (es : List Entry) → is_some (option_map slot_and_cell (find (λ (e : Entry). f e.1) es)) ≡ list_any f (cells_of es)
-any_found f [] = refl
-any_found f (e ∷ es) = elim (f e.1) as (λ b. is_some (option_map slot_and_cell (cond b (Some e) (find (λ (d : Entry). f d.1) es))) ≡ (b || list_any f (cells_of es))) [ true ↦ refl | false ↦ any_found f es ]
 
 pub none_found : (es : List Entry) (g : SignalCell → Bool) → None ≡ option_map slot_and_cell (find (λ (e : Entry). g e.1) es) → find g (cells_of es) ≡ None
 none_found es g h =

@@ -1,9 +1,9 @@
 //! The bounded store of a memo's shard: cells of signals, the most recently used first.
 //!
 //! A [`CellStore`] holds at most as many cells as its capacity. No two of its cells cover one point. [`CellStore::find`]
-//! returns the cell that covers a point, and makes it the most recently used. [`CellStore::covers`] only asks.
-//! [`CellStore::put`] stores a cell in front. A new cell in a full store evicts the least recently used one, which [`Put`]
-//! names. [`CellStore::trim`] removes cells from the end until few enough are left.
+//! returns the cell that covers a point, and makes it the most recently used. [`CellStore::put`] stores a cell in front.
+//! A new cell in a full store evicts the least recently used one, which [`Put`] names. [`CellStore::trim`] removes cells
+//! from the end until few enough are left.
 //!
 //! The model of a store is its capacity and the list of its cells (`specs/Recency.antt`). Contracts say exactly which list
 //! a call leaves. Inside, each cell has a slot, a small number. An ordered index has the end, the value and the slot of each cell by
@@ -13,9 +13,9 @@
 //! cache, in its order, when a full store takes a new cell, at a trim, and where there are more than four notes for each cell. So a
 //! store that has room for all that comes keeps no cache. A new cell takes a free slot, or the next number, or in a full store the
 //! slot of the cell that it evicts. Slots that follow one another lie beside one another in the cache's hash map. A call that fails
-//! for lack of memory leaves the store as it was. `covers` does not allocate, nor does a `find` of the cell in front.
+//! for lack of memory leaves the store as it was. A `find` of the cell in front does not allocate.
 //!
-//! With n cells, `find`, `covers` and `put` take O(log n) steps, and constant time for each note that is put into the cache now:
+//! With n cells, `find` and `put` take O(log n) steps, and constant time for each note that is put into the cache now:
 //! those of at most some eight n calls. A `put` of a new cell searches the index once for its key, and once for the key of a
 //! cell that it evicts. `len`, `capacity`, and a `find` of the most recently used cell take constant time. `trim` takes O(log n)
 //! steps for each cell that it removes. The store allocates about 30 bytes a cell for the index, 20 for each note, and 80 for each

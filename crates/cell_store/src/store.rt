@@ -1,11 +1,10 @@
-ghost use Rattle.std.specs.Prelude.{◌≡◌, ℕ, ◌-◌, ◌<◌, ◌≤◌, ◌↔◌, [], ◌∷◌, IsTrue, List, All, not, map, find, drop, reverse, take, option_map, unwrap_or, IfNone, IfOk, IfSome, None, OnErr, OnOk, length, nat_eq, nat_lt, slice_get, if◌then◌else◌};
-ghost use Rattle.std.specs.List.{list_any};
+ghost use Rattle.std.specs.Prelude.{◌≡◌, ℕ, ◌-◌, ◌<◌, ◌≤◌, ◌↔◌, [], IsTrue, List, not, map, find, drop, reverse, take, option_map, unwrap_or, IfNone, IfOk, IfSome, None, OnErr, OnOk, length, nat_lt, slice_get, if◌then◌else◌};
 ghost use Rattle.std.specs.BTreeMap.{get, Updates, IsUnchanged};
 ghost use Rattle.valid_intervals.specs.declared.SignalCell.{SignalCell};
 ghost use Rattle.valid_intervals.specs.Spans.{IsSpan};
 ghost use Rattle.valid_intervals.specs.Cells as cells;
-ghost use Rattle.valid_intervals.specs.Cells.{all_but_last, cell_for, to_front};
-ghost use Rattle.cell_store.specs.Recency.{contents, with_cells, key_of, last_key, pushes_out, after_put, FitsStore, AreApart, IsApart};
+ghost use Rattle.valid_intervals.specs.Cells.{cell_for, to_front};
+ghost use Rattle.cell_store.specs.Recency.{contents, with_cells, key_of, last_key, pushes_out, after_put, FitsStore, AreApart};
 ghost use Rattle.valid_intervals.specs.Cells.{stored_at, is_stored};
 ghost use Rattle.cell_store.specs.inner.Index.{key_cmp, place_at, slot_and_cell, IsFront, IsInFront, IsPlaced};
 ghost use Rattle.lru.specs.LruCache.{last_entry as last_of};
@@ -117,13 +116,6 @@ impl CellStore {
         self.cache.promote(slot, &x)?;
         self.front = Some((slot, x));
         Ok(Some(x.cell))
-    }
-
-    /// Whether a stored cell covers the point. The order of use stays.
-    pub fn covers(&self, p: Point) -> bool
-        ensures { result ≡ list_any (cells.covers p) self.now.cells }
-    {
-        covering_cell(&self.index, p).is_some()
     }
 
     /// Puts a cell in front. A cell that is stored already moves there. A new cell in a full store replaces the least recently used one.

@@ -1,6 +1,5 @@
 //! The store as a plain list, proved against the contract of [`CellStore`](crate::CellStore).
 ghost use Rattle.std.specs.Prelude.{◌≡◌, ◌<◌, ◌≤◌, ◌-◌, [], true, not, map, drop, reverse, take, option_map, IfNone, IfOk, IfSome, None, OnErr, OnOk, length, vec_capacity, vec_len, ◌==◌, if◌then◌else◌};
-ghost use Rattle.std.specs.List.{list_any};
 ghost use Rattle.valid_intervals.specs.Cells as cells;
 ghost use Rattle.valid_intervals.specs.Cells.{all_but_last, cell_for, same_stored, to_front};
 ghost use Rattle.cell_store.specs.Recency.{contents, with_cells, key_of, last_key, pushes_out, after_put};
@@ -56,12 +55,6 @@ impl PlainStore {
         };
         use_cell(&x, &mut self.cells);
         Some(x.cell)
-    }
-
-    pub fn covers(&self, p: Point) -> bool
-        ensures { result ≡ list_any (cells.covers p) self.now.cells }
-    {
-        self.cells.iter().any(|x| covers(x, p))
     }
 
     pub fn put(&mut self, signal: u32, cell: Cell) -> Result<Put, OutOfMemory>
