@@ -1,3 +1,4 @@
 pub mod FilesInMemory
+pub mod Heads
 pub mod Slots
 pub mod SureFiles

@@ -152,7 +152,7 @@ impl Files for MemFiles {
     }
 
     /// Fails if its number is listed, or else only if there is no memory.
-    fn create(&mut self, name: &str) -> Result<u32, Failed>
+    fn create(&mut self, name: &str, _head: &[u8]) -> Result<u32, Failed>
         requires { (files_state self.old).created < 4 }
         ensures place { IfOk result (λ place. place ≡ (files_state self.old).created) }
         ensures creates { OnOk result (files_state self.new ≡ record (files_state self.old) {

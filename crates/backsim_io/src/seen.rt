@@ -23,10 +23,10 @@ impl FileId {
     }
 }
 
-/// The greatest number of files: four for reading and four created.
-const MOST: usize = 8;
+/// The greatest number of files: two standard streams, four for reading and four created.
+const MOST: usize = 10;
 
-/// Up to eight files of the system.
+/// Up to ten files of the system.
 #[derive(Drop)]
 pub(crate) struct SeenFiles {
     ids: [FileId; MOST],
@@ -38,7 +38,7 @@ impl Model for SeenFiles {
 
     ghost view = { λ k. take k.count k.ids };
 
-    ghost invariant = { λ k. k.count ≤ 8 };
+    ghost invariant = { λ k. k.count ≤ 10 };
 }
 
 impl SeenFiles {
@@ -64,7 +64,7 @@ impl SeenFiles {
 
     /// Adds a file if there is one.
     pub(crate) fn add(&mut self, id: Option<FileId>)
-        requires { length self.old < 8 }
+        requires { length self.old < 10 }
         ensures { self.new ≡ self.old ++ option_to_list id }
     {
         if let Some(id) = id {

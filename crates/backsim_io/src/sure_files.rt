@@ -167,7 +167,7 @@ impl Files for SureFiles {
         Ok(self.stored.next(into))
     }
 
-    fn create(&mut self, name: &str) -> Result<u32, Failed> {
+    fn create(&mut self, name: &str, _head: &[u8]) -> Result<u32, Failed> {
         let place = self.slots.files();
         let mut file = self.spare.pop().unwrap();
         file.set_name(name);

@@ -154,7 +154,7 @@ fn journal(
 ) -> Option<(Result<usize, Failed>, [Result<(), Failed>; 2], bool)> {
     let failing = failing.to_vec(alloc).ok()?;
     let mut files = MemFiles::new(alloc, Vec::new(alloc), failing);
-    let Ok(journal) = files.create("j") else {
+    let Ok(journal) = files.create("j", b"batch") else {
         return None;
     };
     let written = files.write(journal, bytes);
@@ -181,7 +181,7 @@ fn sure_file(
 ) -> Option<(bool, Result<usize, Failed>, bool)> {
     let mut files = SureFiles::new(alloc, Vec::new(alloc), 6).ok()?;
     let is_empty = is_text(read_file(alloc, &mut files, "t", 9), b"");
-    let Ok(journal) = files.create("j") else {
+    let Ok(journal) = files.create("j", b"batch") else {
         return None;
     };
     let written = files.write(journal, piece);

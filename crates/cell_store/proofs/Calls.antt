@@ -15,7 +15,7 @@ use Rattle.valid_intervals.specs.declared.Point.{Point}
 use Rattle.valid_intervals.specs.declared.SignalCell.{SignalCell}
 use Rattle.valid_intervals.specs.Cells.{covers, cell_for, stored_at, to_front, all_but_last}
 use Rattle.cell_store.specs.declared.Key.{Key}
-use Rattle.cell_store.specs.declared.store.Place.{Place}
+use Rattle.cell_store.specs.declared.index.Place.{Place}
 use Rattle.cell_store.specs.Recency.{key_of, last_key, IsApart}
 use Rattle.cell_store.specs.inner.Index.{key_cmp, place_at, slot_and_cell, end_in, cells_of, times, uses_of, places_of, AreSlots, IsStoreIndex, IsPlaced, IsSoundStore}
 use Rattle.cell_store.proofs.Keys.{covers_true}

@@ -1,5 +1,5 @@
 -- The entries of the cache, by their slots.
-use Rattle.std.proofs.Common.{◌≡◌, ℕ, zero, suc, ◌+◌, ◌-◌, ◌≤◌, Bool, true, false, cond, not, nat_eq, List, [], ◌∷◌, ◌++◌, length, take, filter, All, Some, None, option_map, unwrap_or, find, refl, sym, ap, subst, ◌∙◌, eq-eqb, eqb-true, arith}
+use Rattle.std.proofs.Common.{◌≡◌, ℕ, zero, suc, ◌+◌, ◌-◌, ◌≤◌, Bool, true, false, cond, not, nat_eq, List, [], ◌∷◌, ◌++◌, length, take, filter, All, Option, Some, None, IsSome, option_map, unwrap_or, find, refl, sym, ap, subst, ◌∙◌, eq-eqb, eqb-true, arith}
 use Rattle.std.proofs.lemmas.List.{length-append}
 use Rattle.std.proofs.lemmas.List.Elements.{All-head, All-tail, All-cons}
 use Rattle.std.specs.List.{slice_get}
@@ -18,6 +18,10 @@ abbrev pub Entry : Type 0
 Entry = ℕ × SignalCell
 
 -- ---- lists
+pub is_there : {X : Type 0} (o : Option X) (x : X) → o ≡ Some x → IsSome o
+is_there None x h = none_some x h
+is_there (Some y) x h = refl
+
 pub past_end : {X : Type 0} (xs : List X) (n : ℕ) → slice_get xs n ≡ None → length xs ≤ n
 past_end [] n h = omega arith
 past_end (y ∷ ys) zero h = none_some y (sym h)

@@ -119,7 +119,7 @@ covered end_of cells p k end index at signal low high =
     let there : covers p h.cell ≡ true = covers_from p h.cell (record { signal = of ∙ signal; low = let i = start in omega arith; high = let i = h.end in omega arith }) in
     ap (option_map key_of) (found_at_point (has_key k) cells h.cell p index.apart h.found there) ∙ ap (λ (j : Key). Some j) (sym h.key)
 
-same_signal : (q k : Key) (signal time : ℕ) → q.signal ≡ signal → AtMost q k → AtMost k (record { signal = signal; start = time }) → k.signal ≡ signal
+pub same_signal : (q k : Key) (signal time : ℕ) → q.signal ≡ signal → AtMost q k → AtMost k (record { signal = signal; start = time }) → k.signal ≡ signal
 same_signal q k signal time is (inl a) (inl b) = absurd (omega arith)
 same_signal q k signal time is (inl a) (inr b) = b.0
 same_signal q k signal time is (inr a) (inl b) = absurd (let i = a.0 in omega arith)
@@ -131,39 +131,35 @@ lower q k is (inr a) = a.1
 
 -- the last cell that begins no later than the time does not cover the point: no cell does
 pub past : (end_of : Key → Option ℕ) (cells : List SignalCell) (p : Point) (k : Key) (end : ℕ) → IsStoreIndex end_of cells → end_of k ≡ Some end
-    → AtMost k (record { signal = p.signal; start = p.time })
-    → ((q : Key) → AtMost q (record { signal = p.signal; start = p.time }) → IsSome (end_of q) → AtMost q k)
-    → (k.signal ≡ p.signal → end ≤ p.time) → stored_at cells p ≡ None
-past end_of cells p k end index at before last ended =
+    → k.signal ≡ p.signal → k.start ≤ p.time
+    → ((q : Key) → q.signal ≡ p.signal → q.start ≤ p.time → IsSome (end_of q) → q.start ≤ k.start)
+    → end ≤ p.time → stored_at cells p ≡ None
+past end_of cells p k end index at signal below last ended =
     (elim (stored_at cells p) as (λ o. stored_at cells p ≡ o → o ≡ None) [
       | None ↦ λ e. refl
       | Some y ↦ λ e.
           let c : IsCovered p y = covers_true p y (found_true (covers p) cells y e) in
           let there : end_of (key_of y) ≡ Some y.cell.span.stop = has_end end_of cells (covers p) y index e in
-          let most : AtMost (key_of y) k = last (key_of y) (inr (c.signal, c.low)) (subst (λ o. IsSome o) (sym there) refl) in
+          let low : y.cell.span.start ≤ k.start = last (key_of y) c.signal c.low (subst (λ o. IsSome o) (sym there) refl) in
           let h : Holds cells k end = holds end_of cells k end index at in
           let s : IsSpan h.cell.cell.span = found_all (λ z. IsSpan z.cell.span) (has_key k) cells h.cell index.spans h.found in
-          let signal : k.signal ≡ p.signal = same_signal (key_of y) k p.signal p.time c.signal most before in
           let start : h.cell.cell.span.start ≡ k.start = ap (λ (j : Key). j.start) (sym h.key) in
           let of : h.cell.signal ≡ k.signal = ap (λ (j : Key). j.signal) (sym h.key) in
-          let low : y.cell.span.start ≤ k.start = lower (key_of y) k (c.signal ∙ sym signal) most in
-          let below : k.start ≤ p.time = lower k (record { signal = p.signal; start = p.time }) signal before in
           let q : Point = record { signal = p.signal; time = k.start } in
           let first : covers q h.cell ≡ true = covers_from q h.cell (record { signal = of ∙ signal; low = let i = start in omega arith; high = let i = start in let j = s.some in omega arith }) in
           let second : covers q y ≡ true = covers_from q y (record { signal = c.signal; low = low; high = let j = c.high in omega arith }) in
           let same : h.cell ≡ y = one_found (has_key k) (covers p) cells h.cell y q index.apart h.found e first second in
           let ends : y.cell.span.stop ≡ end = ap (λ (z : SignalCell). z.cell.span.stop) (sym same) ∙ h.end in
-          let too_late : end ≤ p.time = ended signal in
           absurd (let j = c.high in omega arith)
     ]) refl
 
--- no cell begins so early: none covers the point
+-- no cell of the signal begins so early: none covers the point
 pub none_before : (end_of : Key → Option ℕ) (cells : List SignalCell) (p : Point) → IsStoreIndex end_of cells
-    → ((q : Key) → AtMost q (record { signal = p.signal; start = p.time }) → end_of q ≡ None) → stored_at cells p ≡ None
+    → ((q : Key) → q.signal ≡ p.signal → q.start ≤ p.time → end_of q ≡ None) → stored_at cells p ≡ None
 none_before end_of cells p index none =
     (elim (stored_at cells p) as (λ o. stored_at cells p ≡ o → o ≡ None) [
       | None ↦ λ e. refl
       | Some y ↦ λ e.
           let c : IsCovered p y = covers_true p y (found_true (covers p) cells y e) in
-          none_some y.cell.span.stop (sym (none (key_of y) (inr (c.signal, c.low))) ∙ has_end end_of cells (covers p) y index e)
+          none_some y.cell.span.stop (sym (none (key_of y) c.signal c.low) ∙ has_end end_of cells (covers p) y index e)
     ]) refl

@@ -3,7 +3,8 @@ pub mod Keys
 pub mod Found
 pub mod Cached
 pub mod Entries
-pub mod Notes
+pub mod Uses
+pub mod Celled
 pub mod Kept
 pub mod Placed
 pub mod Calls
@@ -12,3 +13,10 @@ pub mod Trims
 pub mod Front
 pub mod Plain
 pub mod Beside
+pub mod Links
+pub mod Lists
+pub mod Listed
+pub mod Indexed
+pub mod Nodes
+pub mod Pages
+pub mod Results

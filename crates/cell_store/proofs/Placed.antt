@@ -6,7 +6,7 @@ use Rattle.valid_intervals.specs.Spans.{IsSpan}
 use Rattle.valid_intervals.specs.declared.Cell.{Cell}
 use Rattle.valid_intervals.specs.declared.SignalCell.{SignalCell}
 use Rattle.cell_store.specs.declared.Key.{Key}
-use Rattle.cell_store.specs.declared.store.Place.{Place}
+use Rattle.cell_store.specs.declared.index.Place.{Place}
 use Rattle.cell_store.specs.Recency.{key_of, IsApart, AreApart}
 use Rattle.cell_store.specs.inner.Index.{key_cmp, has_key, place_at, slot_and_cell, end_in, cells_of, IsStoreIndex, IsPlaced}
 use Rattle.cell_store.proofs.Keys.{keys_differ, key_eq-is, has_key-itself}

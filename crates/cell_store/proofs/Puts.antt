@@ -10,7 +10,7 @@ use Rattle.valid_intervals.specs.Spans.{IsSpan}
 use Rattle.valid_intervals.specs.declared.SignalCell.{SignalCell}
 use Rattle.valid_intervals.specs.Cells.{to_front, all_but_last, is_stored}
 use Rattle.cell_store.specs.declared.Key.{Key}
-use Rattle.cell_store.specs.declared.store.Place.{Place}
+use Rattle.cell_store.specs.declared.index.Place.{Place}
 use Rattle.cell_store.specs.Recency.{Contents, contents, with_cells, key_of, last_key, pushes_out, after_put, IsApart, FitsStore}
 use Rattle.cell_store.specs.inner.Index.{key_cmp, has_key, place_at, cells_of, IsSoundStore}
 use Rattle.cell_store.proofs.Found.{some_same, none_some}

@@ -1,4 +1,6 @@
 pub mod Beside
 pub mod Index
+pub mod Heads
+pub mod Lists
 pub mod Slots
 pub mod Notes

@@ -6,29 +6,38 @@
 //! from the end until few enough are left.
 //!
 //! The model of a store is its capacity and the list of its cells (`specs/Recency.antt`). Contracts say exactly which list
-//! a call leaves. Inside, each cell has a slot, a small number. An ordered index has the end, the value and the slot of each cell by
-//! its [`Key`], so that a search reads the index alone. Of the cells of a signal that begin no later than a point, only the last can
-//! cover it. The cell in front is tried before the index. The kit's `lru` cache, which has the cells by their slots, tells which one
-//! was used longest ago. It is filled only when it is asked: each cell that is put or used is noted, and what is noted is put into the
-//! cache, in its order, when a full store takes a new cell, at a trim, and where there are more than four notes for each cell. So a
-//! store that has room for all that comes keeps no cache. A new cell takes a free slot, or the next number, or in a full store the
-//! slot of the cell that it evicts. Slots that follow one another lie beside one another in the cache's hash map. A call that fails
-//! for lack of memory leaves the store as it was. A `find` of the cell in front does not allocate.
+//! a call leaves. Inside, each cell has a slot, a small number. An index has the end, the value and the slot of each cell by its
+//! [`Key`], so that a search reads the index alone. Of the cells of a signal that begin no later than a point, only the last can cover
+//! it. The cell in front is tried before the index.
 //!
-//! With n cells, `find` and `put` take O(log n) steps, and constant time for each note that is put into the cache now:
-//! those of at most some eight n calls. A `put` of a new cell searches the index once for its key, and once for the key of a
-//! cell that it evicts. `len`, `capacity`, and a `find` of the most recently used cell take constant time. `trim` takes O(log n)
-//! steps for each cell that it removes. The store allocates about 30 bytes a cell for the index, 20 for each note, and 80 for each
-//! cell in the cache, as they come. Once the cache has taken the notes, the store keeps room for at most 1,024 of them.
+//! In the index the cells of a signal are a list, the latest first, behind a head in a table by the signal's number. The nodes of all
+//! lists are in one array. A list has at most 16 nodes: further cells of its signal go into an ordered map, and so do the cells of
+//! signals that have no head, which are those of another residue than the store was made for, and very great numbers. The table has
+//! pages of 64 heads, made when they are needed.
+//!
+//! The kit's `lru` cache, which has the slots, tells which one was used longest ago. It is filled only when it is asked: each use is
+//! noted by its slot, and the notes are put into the cache, in their order, when a full store takes a new cell, and at a trim. There is
+//! room for two notes of each slot; where it is full, only the last note of each is kept, in place. So a store that has room for all
+//! that comes keeps no order. A new cell takes a free slot, or the next number, or in a full store the slot of the cell that it evicts.
+//! A `put` or `trim` that fails for lack of memory leaves the store as it was. A `find` takes no memory.
+//!
+//! With n cells, `find` and `put` take O(log n) steps, whatever the order of the times asked, and constant time for each note that is
+//! put into the cache or thinned out now: those of at most some two n calls. `len`, `capacity`, and a `find` of the most recently used
+//! cell take constant time. `trim` takes O(log n) steps for each cell that it removes. The store takes about 20 bytes a cell for the
+//! index and 21 for the cells by slots and their notes, up to twice that as these arrays grow, 4 for each signal of a page, 24 for each
+//! 64 signals up to the last that has a cell, and 50 a cell once there is an order.
 //!
 //! ```text
-//! let mut store = CellStore::new(alloc, 3)?;
+//! let mut store = CellStore::new(alloc, 3, 1, 0)?;
 //! store.put(7, cell)?;                                   // cell has the times 10 to 19
 //! store.find(Point { signal: 7, time: 12 })?;            // Some(cell)
 //! store.find(Point { signal: 7, time: 20 })?;            // None
 //! ```
 #![tactic(auto)]
 
+mod heads;
+mod index;
+mod notes;
 mod recent;
 mod slots;
 mod store;

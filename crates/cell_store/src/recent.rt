@@ -1,11 +1,12 @@
 //! The cells of a store by their slots, in the order of their use.
 
-ghost use Rattle.std.specs.Prelude.{◌≡◌, ◌<◌, ◌≤◌, [], None, IfOk, IsSome, OnErr, OnOk, Some, drop, length, nat_eq, reverse, take};
+ghost use Rattle.std.specs.Prelude.{◌≡◌, ℕ, ◌<◌, ◌≤◌, [], None, IfOk, IsSome, OnErr, OnOk, drop, false, length, nat_eq, reverse, take};
 ghost use Rattle.std.specs.Int.NonZero.{non_zero_usize_get};
 ghost use Rattle.std.specs.Map.{lookup_entry};
-ghost use Rattle.cell_store.specs.inner.Notes.{after_notes, with_note};
-ghost use Rattle.lru.specs.LruCache.{lru_cache, last_entry, promoted};
+ghost use Rattle.cell_store.specs.inner.Notes.{after_notes, cell_in};
+ghost use Rattle.lru.specs.LruCache.{lru_cache, last_entry, promoted, put_entries};
 
+use crate::notes::Notes;
 use crate::slots::SlotHasher;
 use lru::LruCache;
 use owned_text::OutOfMemory;
@@ -15,36 +16,35 @@ use std::marker::Model;
 use std::num::NonZeroUsize;
 use valid_intervals::SignalCell;
 
-// For how many notes room is kept once the cache has taken all.
-const KEPT: usize = 1_024;
+/// The slots, which are small numbers, in the order of their use.
+pub type Order = LruCache<u32, (), BuildHasherDefault<SlotHasher>>;
 
-// The cells by their slots, which are small numbers.
-type Cache = LruCache<u32, SignalCell, BuildHasherDefault<SlotHasher>>;
-
-/// A cache that is filled only when its other end is asked for. Each cell that is put or used is noted, with its slot. What is noted is
-/// put into the cache, in its order, before the least recently used cell is looked at or taken out, and where there are more than four
-/// notes for each cell. So while a store has room for all that comes, its cells are in the notes alone. The model is the cache with all
-/// that is noted.
+/// Cells by their slots, of which it is known which was used longest ago. The order of the slots is kept only when its other end is
+/// asked for: each cell that is put or used is noted by its slot, and these uses are made in the order of the slots, the earliest first,
+/// before the least recently used cell is looked at or taken out. So while a store has room for all that comes, no order is kept. The
+/// model is a cache of the cells by their slots, with all uses made.
 #[derive(Drop)]
 pub struct RecentCells {
-    cache: Cache,
-    // the cells that were put or used since, each with its slot, the earliest first
-    noted: Vec<(u32, SignalCell)>,
-    // how many cells there are, with those that are noted
+    // the slots, without the uses that are noted
+    order: Order,
+    notes: Notes,
+    // by its slot, each cell
+    cells: Vec<SignalCell>,
+    // how many cells there are
     many: usize,
 }
 
 impl Model for RecentCells {
-    ghost use Rattle.std.specs.Prelude.{◌≡◌, ℕ, length};
+    ghost use Rattle.std.specs.Prelude.{ℕ};
     ghost use Rattle.valid_intervals.specs.declared.SignalCell.{SignalCell};
-    ghost use Rattle.cell_store.specs.inner.Notes.{after_notes};
-    ghost use Rattle.lru.specs.LruCache.{LruCache};
+    ghost use Rattle.cell_store.specs.inner.Notes.{after_notes, with_cells, AreRecent};
+    ghost use Rattle.lru.specs.LruCache.{LruCache, lru_cache};
 
     ghost Value = { LruCache ℕ SignalCell };
 
-    ghost view = { λ s. after_notes s.cache s.noted.items };
+    ghost view = { λ s. lru_cache (with_cells s.cells.items (after_notes s.order.entries s.notes.noted)) s.order.cap };
 
-    ghost invariant = { λ s. s.many ≡ length (after_notes s.cache s.noted.items).entries };
+    ghost invariant = { λ s. AreRecent (after_notes s.order.entries s.notes.noted) s.cells.items s.notes.slots s.many s.order.cap };
 }
 
 impl RecentCells {
@@ -52,11 +52,12 @@ impl RecentCells {
     pub fn new(alloc: Global, capacity: NonZeroUsize) -> Result<RecentCells, OutOfMemory>
         ensures { IfOk result (λ cells. cells ≡ lru_cache [] (non_zero_usize_get capacity)) }
     {
-        let mut cache = LruCache::unbounded_with_hasher(alloc, BuildHasherDefault::new())?;
-        cache.resize(capacity);
+        let mut order = LruCache::unbounded_with_hasher(alloc, BuildHasherDefault::new())?;
+        order.resize(capacity);
         Ok(RecentCells {
-            cache,
-            noted: Vec::new(alloc),
+            order,
+            notes: Notes::new(alloc),
+            cells: Vec::new(alloc),
             many: 0,
         })
     }
@@ -72,31 +73,32 @@ impl RecentCells {
     pub fn cap(&self) -> NonZeroUsize
         ensures { non_zero_usize_get result ≡ self.now.cap }
     {
-        self.cache.cap()
+        self.order.cap()
     }
 
     /// The cell in this slot is the most recently used one now.
-    pub fn promote(&mut self, slot: u32, x: &SignalCell) -> Result<(), OutOfMemory>
-        requires there { lookup_entry (nat_eq slot) self.old.entries ≡ Some (slot, x.now) }
-        ensures entries { OnOk result (self.new ≡ lru_cache
-            (promoted (nat_eq slot) self.old.entries) self.old.cap) }
-        ensures err { OnErr result (self.new ≡ self.old) }
+    pub fn promote(&mut self, slot: u32)
+        requires there { IsSome (lookup_entry (nat_eq slot) self.old.entries) }
+        ensures { self.new ≡ lru_cache (promoted (nat_eq slot) self.old.entries) self.old.cap }
     {
-        note(&mut self.cache, &mut self.noted, self.many, (slot, *x))
+        self.notes.note(slot);
     }
 
     /// Puts a cell into a slot, as the most recently used one: into an empty slot where there is room, and in a full cache into the slot
     /// of another cell.
     pub fn push(&mut self, slot: u32, x: &SignalCell) -> Result<(), OutOfMemory>
+        requires small { slot < 65536 }
         requires empty { length self.old.entries < self.old.cap
             → lookup_entry (nat_eq slot) self.old.entries ≡ None }
         requires held { self.old.cap ≤ length self.old.entries
             → IsSome (lookup_entry (nat_eq slot) self.old.entries) }
-        ensures entries { OnOk result (self.new ≡ with_note self.old (slot, x.now)) }
+        ensures entries { OnOk result (self.new ≡ lru_cache (put_entries nat_eq self.old slot x.now) self.old.cap) }
         ensures err { OnErr result (self.new ≡ self.old) }
     {
-        note(&mut self.cache, &mut self.noted, self.many, (slot, *x))?;
-        if self.many < self.cache.cap().get() {
+        self.notes.take_room(slot)?;
+        place(&mut self.cells, slot, x)?;
+        self.notes.note(slot);
+        if self.many < self.order.cap().get() {
             self.many += 1;
         }
         Ok(())
@@ -107,8 +109,11 @@ impl RecentCells {
         ensures unchanged { self.new ≡ self.old }
         ensures last { IfOk result (λ last. last ≡ last_entry self.old.entries) }
     {
-        put_noted(&mut self.cache, &mut self.noted)?;
-        Ok(self.cache.peek_lru().map(|(slot, x)| (*slot, *x)))
+        self.notes.put_into(&mut self.order)?;
+        let Some((slot, ())) = self.order.peek_lru() else {
+            return Ok(None);
+        };
+        Ok(Some((*slot, self.cells[*slot as usize])))
     }
 
     /// Takes out the least recently used cells until at most n are left, and returns them with their slots, the least recently used
@@ -118,59 +123,32 @@ impl RecentCells {
         ensures gone { IfOk result (λ gone. gone.items ≡ reverse (drop n self.old.entries)) }
         ensures err { OnErr result (self.new ≡ self.old) }
     {
-        put_noted(&mut self.cache, &mut self.noted)?;
         let extra = self.many.saturating_sub(n);
-        let mut gone = Vec::with_capacity(*self.cache.allocator(), extra)?;
-        while self.cache.len() > n {
-            let Some(last) = self.cache.pop_lru() else {
+        let mut gone = Vec::with_capacity(*self.order.allocator(), extra)?;
+        self.notes.put_into(&mut self.order)?;
+        while self.order.len() > n {
+            let Some((slot, ())) = self.order.pop_lru() else {
                 unreachable!()
             };
-            gone.push_reserved(last);
+            gone.push_reserved((slot, self.cells[slot as usize]));
         }
-        self.many = self.cache.len();
+        self.many = self.order.len();
         Ok(gone)
     }
 }
 
-// Notes that a cell was put or used. Where there are more than four notes for each cell, the cache takes those that there are.
-fn note(
-    cache: &mut Cache,
-    noted: &mut Vec<(u32, SignalCell)>,
-    many: usize,
-    used: (u32, SignalCell),
-) -> Result<(), OutOfMemory>
-    ensures after { OnOk result (after_notes cache.new noted.new.items ≡ with_note
-        (after_notes cache.old noted.old.items) used) }
-    ensures cap { cache.new.cap ≡ cache.old.cap }
-    ensures err { OnErr result (after_notes cache.new noted.new.items ≡ after_notes cache.old
-        noted.old.items) }
+// Puts the cell into its slot.
+fn place(cells: &mut Vec<SignalCell>, slot: u32, x: &SignalCell) -> Result<(), OutOfMemory>
+    ensures here { OnOk result (cell_in cells.new.items slot ≡ x.now) }
+    ensures others { (other : ℕ) → other < length cells.old.items → nat_eq slot other ≡ false → cell_in cells.new.items other ≡ cell_in cells.old.items other }
+    ensures kept { OnErr result (cells.new.items ≡ cells.old.items) }
+    ensures more { length cells.old.items ≤ length cells.new.items }
+    ensures room { OnOk result (slot < length cells.new.items) }
 {
-    if noted.len() == noted.capacity() {
-        if noted.len() / 4 > many {
-            put_noted(cache, noted)?;
-        }
-        noted.reserve(noted.len().max(16))?;
+    let slot = slot as usize;
+    if cells.len() <= slot {
+        cells.resize(slot + 1, *x)?;
     }
-    noted.push_reserved(used);
-    Ok(())
-}
-
-// Puts what is noted into the cache, in its order.
-fn put_noted(cache: &mut Cache, noted: &mut Vec<(u32, SignalCell)>) -> Result<(), OutOfMemory>
-    ensures same { after_notes cache.new noted.new.items ≡ after_notes cache.old noted.old.items }
-    ensures cap { cache.new.cap ≡ cache.old.cap }
-    ensures none { OnOk result (noted.new.items ≡ []) }
-{
-    noted.reverse();
-    while let Some(first) = noted.pop() {
-        if cache.push(first.0, first.1).is_err() {
-            noted.push_reserved(first);
-            noted.reverse();
-            return Err(OutOfMemory);
-        }
-    }
-    if noted.capacity() > KEPT {
-        *noted = Vec::new(*noted.allocator());
-    }
+    cells[slot] = *x;
     Ok(())
 }

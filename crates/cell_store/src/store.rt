@@ -1,20 +1,19 @@
 ghost use Rattle.std.specs.Prelude.{◌≡◌, ℕ, ◌-◌, ◌<◌, ◌≤◌, ◌↔◌, [], IsTrue, List, not, map, find, drop, reverse, take, option_map, unwrap_or, IfNone, IfOk, IfSome, None, OnErr, OnOk, length, nat_lt, slice_get, if◌then◌else◌};
-ghost use Rattle.std.specs.BTreeMap.{get, Updates, IsUnchanged};
+ghost use Rattle.cell_store.specs.inner.Lists.{place_of};
 ghost use Rattle.valid_intervals.specs.declared.SignalCell.{SignalCell};
 ghost use Rattle.valid_intervals.specs.Spans.{IsSpan};
 ghost use Rattle.valid_intervals.specs.Cells as cells;
 ghost use Rattle.valid_intervals.specs.Cells.{cell_for, to_front};
 ghost use Rattle.cell_store.specs.Recency.{contents, with_cells, key_of, last_key, pushes_out, after_put, FitsStore, AreApart};
 ghost use Rattle.valid_intervals.specs.Cells.{stored_at, is_stored};
-ghost use Rattle.cell_store.specs.inner.Index.{key_cmp, place_at, slot_and_cell, IsFront, IsInFront, IsPlaced};
+ghost use Rattle.cell_store.specs.inner.Index.{place_at, slot_and_cell, IsFront, IsInFront, IsPlaced};
 ghost use Rattle.lru.specs.LruCache.{last_entry as last_of};
 
+use crate::index::{CellIndex, Place};
 use crate::recent::RecentCells;
 use crate::{Key, Put};
-use gate_values::Value;
 use owned_text::OutOfMemory;
 use std::alloc::Global;
-use std::collections::BTreeMap;
 use std::marker::Model;
 use std::num::NonZeroUsize;
 use valid_intervals::{Cell, Point, SignalCell, Span};
@@ -22,19 +21,11 @@ use valid_intervals::{Cell, Point, SignalCell, Span};
 /// The greatest capacity of a store.
 pub const MOST_CELLS: u32 = 65_536;
 
-// What the index has of a stored cell, beside its key: its end and its value, and its slot in the cache. A place takes eight bytes.
-#[derive(Clone, Copy)]
-struct Place {
-    end: u32,
-    slot: u16,
-    value: Value,
-}
-
 /// Cells of signals, the most recently used first, at most as many as the capacity. Two cells of a signal have no common time.
 #[derive(Drop)]
 pub struct CellStore {
     cache: RecentCells,
-    index: BTreeMap<Key, Place>,
+    index: CellIndex,
     // slots that no cell has, left by trims
     free: Vec<u32>,
     // the most recently used cell and its slot, where they are known
@@ -42,20 +33,26 @@ pub struct CellStore {
 }
 
 impl Model for CellStore {
-    ghost use Rattle.std.specs.BTreeMap.{get};
     ghost use Rattle.cell_store.specs.Recency.{Contents, contents};
-    ghost use Rattle.cell_store.specs.inner.Index.{key_cmp, cells_of, IsFront, IsSoundStore};
+    ghost use Rattle.cell_store.specs.inner.Lists.{place_of};
+    ghost use Rattle.cell_store.specs.inner.Index.{cells_of, IsFront, IsSoundStore};
 
     ghost Value = { Contents };
 
     ghost view = { λ s. contents s.cache.cap (cells_of s.cache.entries) };
 
-    ghost invariant = { λ s. IsSoundStore (get key_cmp s.index) s.cache.entries s.free.items s.cache.cap × IsFront s.front s.cache.entries };
+    ghost invariant = { λ s. IsSoundStore (place_of s.index) s.cache.entries s.free.items s.cache.cap × IsFront s.front s.cache.entries };
 }
 
 impl CellStore {
-    /// An empty store with room for `capacity` cells.
-    pub fn new(alloc: Global, capacity: u32) -> Result<CellStore, OutOfMemory>
+    /// An empty store with room for `capacity` cells, mostly of signals that leave this residue when they are divided by `stride`: the cells
+    /// of other signals cost a longer search.
+    pub fn new(
+        alloc: Global,
+        capacity: u32,
+        stride: u32,
+        residue: u32,
+    ) -> Result<CellStore, OutOfMemory>
         requires some { 0 < capacity }
         requires most { capacity ≤ MOST_CELLS }
         ensures { IfOk result (λ store. store ≡ contents capacity []) }
@@ -63,7 +60,7 @@ impl CellStore {
         let cells = NonZeroUsize::new(capacity as usize).unwrap();
         Ok(CellStore {
             cache: RecentCells::new(alloc, cells)?,
-            index: BTreeMap::new(alloc),
+            index: CellIndex::new(alloc, stride, residue),
             free: Vec::new(alloc),
             front: None,
         })
@@ -95,27 +92,21 @@ impl CellStore {
     }
 
     /// The stored cell that covers the point. It becomes the most recently used.
-    pub fn find(&mut self, p: Point) -> Result<Option<Cell>, OutOfMemory>
-        ensures found { IfOk result (λ found. found ≡ option_map (λ x. x.cell)
-            (stored_at self.old.cells p)) }
-        ensures used { IfOk result (λ found. IfSome found (λ cell. self.new ≡ with_cells self.old
-            (to_front (cell_for p cell) self.old.cells))) }
-        ensures unchanged { IfOk result (λ found. IfNone found (self.new ≡ self.old)) }
-        ensures err { OnErr result (self.new ≡ self.old) }
+    pub fn find(&mut self, p: Point) -> Option<Cell>
+        ensures found { result ≡ option_map (λ x. x.cell) (stored_at self.old.cells p) }
+        ensures used { IfSome result (λ cell. self.new ≡ with_cells self.old
+            (to_front (cell_for p cell) self.old.cells)) }
+        ensures unchanged { IfNone result (self.new ≡ self.old) }
     {
         if let Some(cell) = front_covering(self.front, p) {
-            return Ok(Some(cell));
+            return Some(cell);
         }
         let Some((slot, cell)) = covering_cell(&self.index, p) else {
-            return Ok(None);
+            return None;
         };
-        let x = SignalCell {
-            signal: p.signal,
-            cell,
-        };
-        self.cache.promote(slot, &x)?;
-        self.front = Some((slot, x));
-        Ok(Some(x.cell))
+        self.cache.promote(slot);
+        self.front = Some((slot, cell_found(p, &cell)));
+        Some(cell)
     }
 
     /// Puts a cell in front. A cell that is stored already moves there. A new cell in a full store replaces the least recently used one.
@@ -134,8 +125,8 @@ impl CellStore {
         let key = cell_key(&x);
         let last = last_if_full(&mut self.cache)?;
         let slot = slot_for_new(last, &self.free, self.cache.len() as u32);
-        if let Some(held) = insert_if_absent(&mut self.index, key, cell_place(&x, slot))? {
-            self.cache.promote(held, &x)?;
+        if let Some(held) = self.index.insert_if_absent(key, cell_place(&x, slot))? {
+            self.cache.promote(held);
             self.front = Some((held, x));
             return Ok(Put {
                 evicted: None,
@@ -197,17 +188,13 @@ fn front_covering(front: Option<(u32, SignalCell)>, p: Point) -> Option<Cell>
 }
 
 // The cell that covers the point, and its slot. Of the cells of its signal that begin no later, only the last can cover it.
-fn covering_cell(index: &BTreeMap<Key, Place>, p: Point) -> Option<(u32, Cell)>
-    ensures { (entries : List (ℕ × SignalCell)) → IsPlaced (get key_cmp index.now) entries
+fn covering_cell(index: &CellIndex, p: Point) -> Option<(u32, Cell)>
+    ensures { (entries : List (ℕ × SignalCell)) → IsPlaced (place_of index.now) entries
         → result ≡ option_map slot_and_cell (find (λ e. cells.covers p e.1) entries) }
 {
-    let at = Key {
-        signal: p.signal,
-        start: p.time,
-    };
-    let (key, place) = index.range(..=at).next_back()?;
-    if key.signal == p.signal && p.time < place.end {
-        let span = Span::new(key.start, place.end)?;
+    let (start, place) = index.last_at(p)?;
+    if p.time < place.end {
+        let span = Span::new(start, place.end)?;
         let cell = Cell {
             span,
             value: place.value,
@@ -215,6 +202,16 @@ fn covering_cell(index: &BTreeMap<Key, Place>, p: Point) -> Option<(u32, Cell)>
         Some((place.slot as u32, cell))
     } else {
         None
+    }
+}
+
+// The cell that was found for the point, with its signal.
+fn cell_found(p: Point, cell: &Cell) -> SignalCell
+    ensures { result ≡ cell_for p cell.now }
+{
+    SignalCell {
+        signal: p.signal,
+        cell: *cell,
     }
 }
 
@@ -240,24 +237,6 @@ fn slot_for_new(last: Option<(u32, Key)>, free: &[u32], many: u32) -> u32
         (None, Some(slot)) => *slot,
         (None, None) => many,
     }
-}
-
-// Gives a key this place, in one search. A key that has a place keeps it, by a second search, and its slot is returned.
-fn insert_if_absent(
-    index: &mut BTreeMap<Key, Place>,
-    key: Key,
-    place: Place,
-) -> Result<Option<u32>, OutOfMemory>
-    ensures had { IfOk result (λ had. had ≡ option_map (λ p. p.slot) (get key_cmp index.old key)) }
-    ensures new { IfOk result (λ had. IfNone had (Updates key_cmp index.old index.new key (Some place))) }
-    ensures stays { IfOk result (λ had. IfSome had (λ _. (k : Key) → get key_cmp index.new k ≡ get key_cmp index.old k)) }
-    ensures err { OnErr result (IsUnchanged index.old index.new) }
-{
-    let Some(had) = index.insert(key, place)? else {
-        return Ok(None);
-    };
-    index.insert(key, had)?;
-    Ok(Some(had.slot as u32))
 }
 
 fn cell_key(x: &SignalCell) -> Key

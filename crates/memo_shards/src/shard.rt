@@ -141,7 +141,7 @@ impl<B: BatchName> Shard<B> {
         strand.facts();
         let q = strand.query().number;
         make_room(&mut self.journal, self.claims.len(), 1)?;
-        match self.store.find(p)? {
+        match self.store.find(p) {
             Some(cell) => {
                 self.journal.push_reserved(told(q, p, &cell));
                 strand.hear(design, cell);

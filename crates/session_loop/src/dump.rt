@@ -28,6 +28,9 @@ use unit_answers::dump_waves;
 /// The most dumps that a session makes.
 const MOST_DUMPS: usize = 3;
 
+/// How each dump begins.
+const HEAD: &[u8] = b"$";
+
 /// Whether one of these names is that of the file.
 fn is_among(names: &[Text], file: &Text) -> bool
     ensures { result ≡ list_any (bytes_eq file.now) names.now }
@@ -50,7 +53,7 @@ fn refusal_of(dumps: &Dumps, file: &Text) -> Option<VcdReply>
     }
 }
 
-/// Creates the file of a dump, writes its text, and finishes it.
+/// Creates the file of a dump, also in the place of another one, writes its text, and finishes it.
 fn write_dump<F: Files>(name: &str, text: &[u8], files: &mut F) -> Result<(), Stop>
     requires room { (F.state files.old).created < 4 }
     requires journal { 0 < (F.state files.old).created }
@@ -61,7 +64,7 @@ fn write_dump<F: Files>(name: &str, text: &[u8], files: &mut F) -> Result<(), St
         × ((F.state files.new).created ≡ (F.state files.old).created + length more)) }
     ensures state { DumpChanges (F.state files.old) (F.state files.new) result }
 {
-    let Ok(slot) = files.create(name) else {
+    let Ok(slot) = files.create(name, HEAD) else {
         return Err(Stop::DumpUnmade);
     };
     if write_file(files, slot, text).is_err() {

@@ -17,7 +17,10 @@ use unit_answers::Sizes;
 /// The place of the journal, which is the first file that a session creates.
 pub const JOURNAL: u32 = 0;
 
-/// Creates the journal, and writes its head.
+/// How each journal begins.
+const HEAD: &[u8] = b"journal shards";
+
+/// Creates the journal, also in the place of another one, and writes its head.
 pub fn begin_journal<F: Files>(
     alloc: Global,
     sizes: Sizes,
@@ -32,7 +35,7 @@ pub fn begin_journal<F: Files>(
         (F.state files.old).created (F.state files.new).created) }
     ensures state { BeginChanges (F.state files.old) (F.state files.new) result }
 {
-    if files.create(name).is_err() {
+    if files.create(name, HEAD).is_err() {
         return Err(Halt::JournalUnmade);
     }
     let head = head_text(alloc, sizes.shards, sizes.cells)?;

@@ -8,15 +8,15 @@ use owned_text::OutOfMemory;
 use std::alloc::Global;
 use unit_answers::Sizes;
 
-/// An empty store for each shard.
+/// An empty store for each shard. A shard's signals are those whose remainder, divided by the number of shards, is its own.
 pub fn empty_stores(alloc: Global, sizes: Sizes) -> Result<Vec<CellStore>, OutOfMemory>
     requires { (0 < sizes.cells) × (sizes.cells ≤ 65536) }
     ensures { IfOk result (λ stores. stores.items ≡ replicate sizes.shards
         (contents sizes.cells [])) }
 {
     let mut stores = Vec::new(alloc);
-    for _ in 0..sizes.shards {
-        stores.push(CellStore::new(alloc, sizes.cells)?)?;
+    for number in 0..sizes.shards {
+        stores.push(CellStore::new(alloc, sizes.cells, sizes.shards, number)?)?;
     }
     Ok(stores)
 }

@@ -100,7 +100,7 @@ fn answer<B: BatchName, H: BatchName>(
         IfOk result (λ done. AsksRoots B.batch B.opening site question.query (shards_in session) []
         (shards_in done.shards.items) done.held.items (is_budget done.answer)) }
 {
-    let store = CellStore::new(alloc, OWN_CELLS)?;
+    let store = CellStore::new(alloc, OWN_CELLS, 1, 0)?;
     let mut memos = Memos::<B, H> {
         session,
         charge: 0,

@@ -8,7 +8,7 @@ use Rattle.valid_intervals.specs.declared.Point.{Point}
 use Rattle.valid_intervals.specs.declared.SignalCell.{SignalCell}
 use Rattle.valid_intervals.specs.Cells.{covers}
 use Rattle.cell_store.specs.declared.Key.{Key}
-use Rattle.cell_store.specs.declared.store.Place.{Place}
+use Rattle.cell_store.specs.declared.index.Place.{Place}
 use Rattle.cell_store.specs.Recency.{key_of, AreApart}
 
 -- by signal, then by start

@@ -1,5 +1,5 @@
 //! Runs of the store, and of the plain list as a reference.
-ghost use Rattle.std.specs.Prelude.{◌≡◌, ◌<◌, OnOk};
+ghost use Rattle.std.specs.Prelude.{◌≡◌, ◌<◌, ◌≤◌, OnOk};
 ghost use Rattle.cell_store.specs.inner.Beside.{is_apart, is_fitting};
 
 use crate::Key;
@@ -36,7 +36,7 @@ fn find_both(store: &mut CellStore, plain: &mut PlainStore, p: Point) -> Result<
     requires { store.old ≡ plain.old }
     ensures { OnOk result (store.new ≡ plain.new) }
 {
-    let found = store.find(p)?;
+    let found = store.find(p);
     let expected = plain.find(p);
     Ok(found == expected)
 }
@@ -82,11 +82,12 @@ impl Draws {
     }
 }
 
-// One call, drawn at random: a find with 6 chances in 16, a trim with 1, a put with 9.
+// One call, drawn at random: a find with 6 chances in 16, a trim to some few more than `least` with 1, a put with 9.
 fn one_call(
     store: &mut CellStore,
     plain: &mut PlainStore,
     draws: &mut Draws,
+    least: u32,
 ) -> Result<bool, OutOfMemory>
     requires { store.old ≡ plain.old }
     ensures { OnOk result (store.new ≡ plain.new) }
@@ -97,7 +98,7 @@ fn one_call(
     let p = Point { signal, time };
     match choice {
         0..=5 => find_both(store, plain, p),
-        6 => trim_both(store, plain, 12 + time % 12),
+        6 => trim_both(store, plain, least.saturating_add(time % 12)),
         _ => {
             let value = if time / 10 % 2 == signal % 2 {
                 Value::One
@@ -112,12 +113,15 @@ fn one_call(
     }
 }
 
-fn agree(alloc: Global, calls: u32) -> Result<bool, OutOfMemory> {
-    let mut store = CellStore::new(alloc, 24)?;
-    let mut plain = PlainStore::new(alloc, 24)?;
+// Of the four signals two have lists in the index, and two are in its map alone.
+fn agree(alloc: Global, capacity: u32, calls: u32) -> Result<bool, OutOfMemory>
+    requires { (0 < capacity) × (capacity ≤ 65536) }
+{
+    let mut store = CellStore::new(alloc, capacity, 2, 1)?;
+    let mut plain = PlainStore::new(alloc, capacity)?;
     let mut draws = Draws { x: 1 };
     for _call in 0..calls {
-        if !one_call(&mut store, &mut plain, &mut draws)? {
+        if !one_call(&mut store, &mut plain, &mut draws, capacity / 2)? {
             return Ok(false);
         }
         if store.len() as usize != plain.cells().len() {
@@ -129,7 +133,14 @@ fn agree(alloc: Global, calls: u32) -> Result<bool, OutOfMemory> {
 
 #[test]
 fn the_store_and_the_plain_list_agree(rt: HostRuntime) -> Result<(), Fail> {
-    assert!(rt; agree(rt.alloc(), 2_000)?);
+    assert!(rt; agree(rt.alloc(), 24, 2_000)?);
+    Ok(())
+}
+
+// A signal has up to 40 cells, more than a list of the index.
+#[test]
+fn they_agree_where_lists_are_full(rt: HostRuntime) -> Result<(), Fail> {
+    assert!(rt; agree(rt.alloc(), 158, 4_000)?);
     Ok(())
 }
 
@@ -145,7 +156,7 @@ fn a_used_cell_outlives_older_ones(rt: HostRuntime) -> Result<(), Fail> {
         signal: 3,
         cell: second.cell,
     };
-    let mut store = CellStore::new(rt.alloc(), 3)?;
+    let mut store = CellStore::new(rt.alloc(), 3, 1, 0)?;
     let mut plain = PlainStore::new(rt.alloc(), 3)?;
     assert!(rt; put_both(&mut store, &mut plain, &first)?);
     assert!(rt; put_both(&mut store, &mut plain, &second)?);
@@ -153,7 +164,7 @@ fn a_used_cell_outlives_older_ones(rt: HostRuntime) -> Result<(), Fail> {
     assert_eq!(rt; store.len(), 3);
     assert_eq!(rt;
         store
-            .find(Point { signal: 1, time: 9 })?
+            .find(Point { signal: 1, time: 9 })
             .map(|cell| cell.value),
         Some(Value::One)
     );
@@ -162,7 +173,7 @@ fn a_used_cell_outlives_older_ones(rt: HostRuntime) -> Result<(), Fail> {
             .find(Point {
                 signal: 1,
                 time: 10
-            })?
+            })
             .is_none(),
         "past its end"
     );
@@ -182,7 +193,7 @@ fn a_used_cell_outlives_older_ones(rt: HostRuntime) -> Result<(), Fail> {
         .as_slice()
     );
     assert_eq!(rt; store.len(), 1);
-    assert!(rt; store.find(Point { signal: 1, time: 0 })?.is_some());
+    assert!(rt; store.find(Point { signal: 1, time: 0 }).is_some());
     assert_eq!(rt; store.capacity(), 3);
     assert!(rt; !store.is_empty());
     Ok(())

@@ -3,5 +3,5 @@ use Rattle.std.proofs.Common.{◌≡◌, replicate, []}
 use Rattle.cell_store.specs.Recency.{contents}
 use Rattle.session_loop.proofs.stores.empty_stores.Given as goal
 
-abbrev pub invariant-loop : goal.invariant-loop
-invariant-loop l = l.stores.items ≡ replicate l.counter (contents l.sizes.cells [])
+abbrev pub invariant-loop-number : goal.invariant-loop-number
+invariant-loop-number l = l.stores.items ≡ replicate l.number (contents l.sizes.cells [])

@@ -21,7 +21,7 @@ hear-requires-clause-answer g c =
     let p = c.args.p in
     let w = c.args.strand.now in
     let here : p.signal % b.shards ≡ s.number = subst (λ (v : KeptShard). IsHere b v p) (sym c.self.view_is) c.requires.here in
-    let t = told b o s.number s.store s.claims es a w c.facts.ensures p c.requires.asks here c.in-Some.cell (sym c.in_ok-cell.ensures.found ∙ c.in-Some.is) in
+    let t = told b o s.number s.store s.claims es a w c.facts.ensures p c.requires.asks here c.in-Some.cell (sym c.find.ensures.found ∙ c.in-Some.is) in
     (p, c.requires.asks, t.answer)
 
 pub invariant_of-self-in-Some : goal.invariant_of-self-in-Some
@@ -34,13 +34,13 @@ invariant_of-self-in-Some g c =
     let p = c.args.p in
     let w = c.args.strand.now in
     let here : p.signal % b.shards ≡ s.number = subst (λ (v : KeptShard). IsHere b v p) (sym c.self.view_is) c.requires.here in
-    let t = told b o s.number s.store s.claims es a w c.facts.ensures p c.requires.asks here c.in-Some.cell (sym c.in_ok-cell.ensures.found ∙ c.in-Some.is) in
+    let t = told b o s.number s.store s.claims es a w c.facts.ensures p c.requires.asks here c.in-Some.cell (sym c.find.ensures.found ∙ c.in-Some.is) in
     let items : c.push_reserved.new.self.items ≡ es ++ entry.Told w.strand.query.number p c.in-Some.cell ∷ [] =
     c.push_reserved.ensures.items ∙ ap (λ (l : List Entry). l ++ c.told.result ∷ []) c.make_room.ensures.items
     ∙ ap (λ (e : Entry). es ++ e ∷ []) (c.told.ensures ∙ ap (λ (x : Query). entry.Told x.number p c.in-Some.cell) c.query-q.ensures) in
     record {
       agrees = subst (λ (l : List Entry). Agrees b o s.number c.find.new.self s.claims l) (sym items) (told-agrees b o s.number s.store s.claims es a p w.strand.query.number c.in-Some.cell t c.find.new.self
-          (subst (λ o. IfSome o (λ cell. c.find.new.self ≡ with_cells s.store (to_front (cell_for p cell) s.store.cells))) c.in-Some.is c.in_ok-cell.ensures.used));
+          (subst (λ o. IfSome o (λ cell. c.find.new.self ≡ with_cells s.store (to_front (cell_for p cell) s.store.cells))) c.in-Some.is c.find.ensures.used));
       room = omega (arith, c.push_reserved.ensures.len, c.push_reserved.ensures.capacity, c.in_ok-make_room.ensures.room, c.len.ensures);
     }
 
@@ -54,7 +54,7 @@ returns-in-Some g c =
     let p = c.args.p in
     let w = c.args.strand.now in
     let here : p.signal % b.shards ≡ s.number = subst (λ (v : KeptShard). IsHere b v p) (sym c.self.view_is) c.requires.here in
-    let t = told b o s.number s.store s.claims es a w c.facts.ensures p c.requires.asks here c.in-Some.cell (sym c.in_ok-cell.ensures.found ∙ c.in-Some.is) in
+    let t = told b o s.number s.store s.claims es a w c.facts.ensures p c.requires.asks here c.in-Some.cell (sym c.find.ensures.found ∙ c.in-Some.is) in
     let items : c.push_reserved.new.self.items ≡ es ++ entry.Told w.strand.query.number p c.in-Some.cell ∷ [] =
     c.push_reserved.ensures.items ∙ ap (λ (l : List Entry). l ++ c.told.result ∷ []) c.make_room.ensures.items
     ∙ ap (λ (e : Entry). es ++ e ∷ []) (c.told.ensures ∙ ap (λ (x : Query). entry.Told x.number p c.in-Some.cell) c.query-q.ensures) in

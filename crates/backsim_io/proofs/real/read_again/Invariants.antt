@@ -1,0 +1,6 @@
+-- Calls that failed took nothing.
+use Rattle.std.specs.Io.KnownBytes.{Keeps}
+use Rattle.backsim_io.proofs.real.read_again.Given as goal
+
+abbrev pub invariant-loop : goal.invariant-loop
+invariant-loop g l = Keeps (g.R.Read.remaining l.initial.reader) (g.R.Read.remaining l.reader)
