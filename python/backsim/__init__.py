@@ -15,7 +15,8 @@ from typing import TYPE_CHECKING, Any
 if TYPE_CHECKING:
     from .batch import Batch, Pending
     from .buses import number_of
-    from .errors import BacksimError, FormatError, MissingExtra, UsageError
+    from .errors import BacksimError, FormatError, MissingExtra, NoValue, UsageError
+    from .explanations import Cause, CauseKind, Explanation, Step
     from .formats.netlist import Gate, Kind, Netlist, parse_netlist, read_netlist, write_netlist
     from .formats.stimulus import Stimulus, read_stimulus, write_stimulus
     from .formats.timing import Clock, Timing, read_timing, write_timing
@@ -27,7 +28,8 @@ if TYPE_CHECKING:
 _NAMES = {
     "batch": ("Batch", "Pending"),
     "buses": ("number_of",),
-    "errors": ("BacksimError", "FormatError", "MissingExtra", "UsageError"),
+    "errors": ("BacksimError", "FormatError", "MissingExtra", "NoValue", "UsageError"),
+    "explanations": ("Cause", "CauseKind", "Explanation", "Step"),
     "formats.netlist": ("Gate", "Kind", "Netlist", "parse_netlist", "read_netlist", "write_netlist"),
     "formats.stimulus": ("Stimulus", "read_stimulus", "write_stimulus"),
     "formats.timing": ("Clock", "Timing", "read_timing", "write_timing"),

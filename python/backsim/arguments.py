@@ -2,13 +2,17 @@
 from __future__ import annotations
 
 import argparse
+import os
 import sys
 from collections.abc import Callable
-from typing import BinaryIO
+from typing import TYPE_CHECKING, BinaryIO
 
 from .errors import FormatError, reason_of
 from .evaluations import MOST_CELLS
 from .formats.text import number_of
+
+if TYPE_CHECKING:
+    from .formats.units import Moment, Unit
 
 
 def count_of(least: int, most: int) -> Callable[[str], int]:
@@ -21,6 +25,31 @@ def count_of(least: int, most: int) -> Callable[[str], int]:
         return number
 
     return count
+
+
+def unit_word(word: str) -> Unit:
+    """A type of an argument: a unit of time, as `10ps`."""
+    from .formats.units import unit_of  # `run` begins without it
+    unit = unit_of(word)
+    if unit is None:
+        raise argparse.ArgumentTypeError(f"a unit of time is wanted, a whole number of s, ms, us, ns, ps or fs as 10ps, and not {word}")
+    return unit
+
+
+def moment(word: str) -> Moment:
+    """A type of an argument: a time in units, or such as `15ns`."""
+    from .formats.units import is_time
+    if word.lstrip("-").isdigit():
+        return int(word)
+    if not is_time(word):
+        raise argparse.ArgumentTypeError(f"a time is wanted, a number of units or one of s, ms, us, ns, ps or fs as 15ns, and not {word}")
+    return word
+
+
+def unit_of_session(timing: str | os.PathLike[str], stimulus: str | os.PathLike[str]) -> Unit | None:
+    """The unit of time that the files of a session state."""
+    from .formats.units import unit_of_file
+    return unit_of_file(timing) or unit_of_file(stimulus)
 
 
 def add_files(parser: argparse.ArgumentParser) -> None:

@@ -1,21 +1,27 @@
-"""A bar on standard error, where that is a terminal: what is done of all, evaluations, time left. It is drawn by tqdm."""
+"""How far long work is, on standard error: a bar where that is a terminal, drawn by tqdm, with what is done of all, evaluations and the
+time left; elsewhere, where it is wanted, a line of it every ten seconds."""
 from __future__ import annotations
 
 import sys
 import threading
+import time
 from collections.abc import Callable
 from types import TracebackType
 from typing import Any
 
 _PERIOD = 0.3
+_SECONDS_OF_LINES = 10.0
 
 
 class Bar:
     """A context manager. `add` counts what is done; `evaluations`, where it is given, is asked from time to time and shown. Where
-    standard error is no terminal nothing is shown; where tqdm is not there, a line says so."""
+    standard error is no terminal nothing is shown, or with `has_lines` a line every ten seconds; where tqdm is not there, a line says
+    so."""
 
-    def __init__(self, total: int, what: str, evaluations: Callable[[], int] | None = None) -> None:
+    def __init__(self, total: int, what: str, evaluations: Callable[[], int] | None = None, *, has_lines: bool = False) -> None:
         self._total, self._what, self._evaluations = total, what, evaluations
+        self._has_lines = has_lines
+        self._begun = time.monotonic()
         self._bar: Any = None
         self._done = 0
         self._ends = threading.Event()
@@ -30,12 +36,16 @@ class Bar:
             else:
                 self._bar = tqdm(total=self._total, unit=f" {self._what}", file=sys.stderr, dynamic_ncols=True)
                 self._thread.start()
+        elif self._has_lines and sys.stderr is not None:
+            self._thread = threading.Thread(target=self._tell, daemon=True)
+            self._thread.start()
         return self
 
     def __exit__(self, kind: type[BaseException] | None, error: BaseException | None, trace: TracebackType | None) -> None:
-        if self._bar is not None:
-            self._ends.set()
+        self._ends.set()
+        if self._thread.ident is not None:
             self._thread.join()
+        if self._bar is not None:
             self._show()
             self._bar.close()
 
@@ -46,6 +56,12 @@ class Bar:
     def _draw(self) -> None:
         while not self._ends.wait(_PERIOD):
             self._show()
+
+    def _tell(self) -> None:
+        while not self._ends.wait(_SECONDS_OF_LINES):
+            taken = time.monotonic() - self._begun
+            left = f", some {taken * (self._total - self._done) / self._done:.0f} s left" if self._done else ""
+            print(f"{self._done} of {self._total} {self._what}, {taken:.0f} s{left}", file=sys.stderr, flush=True)
 
     def _show(self) -> None:
         if self._evaluations is not None:

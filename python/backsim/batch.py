@@ -9,6 +9,7 @@ from . import questions
 from .errors import UsageError
 from .exchange import CHUNK, Questions
 from .formats.script import Line
+from .formats.units import Moment
 from .questions import Question
 from .values import At, Budget, First, Past, Proof, Stuck, Unknown, Wave
 
@@ -87,22 +88,23 @@ class Batch:
         self._asked.send(lines, ends)
         return self._asked
 
-    def wave(self, name: str, start: int, stop: int, budget: int | None = None) -> Pending[Wave]:
+    def wave(self, name: str, start: Moment, stop: Moment, budget: int | None = None) -> Pending[Wave]:
         """As `Session.wave`."""
-        return self._add(questions.wave(self._session.bits, name, start, stop, budget))
+        return self._add(questions.wave(self._session.bits, name, self._session.time(start), self._session.time(stop), budget))
 
-    def at(self, name: str, time: int, budget: int | None = None) -> Pending[At]:
+    def at(self, name: str, time: Moment, budget: int | None = None) -> Pending[At]:
         """As `Session.at`."""
-        return self._add(questions.at(self._session.bits, name, time, budget))
+        return self._add(questions.at(self._session.bits, name, self._session.time(time), budget))
 
-    def first(self, name: str, value: str | int, start: int, stop: int, budget: int | None = None) -> Pending[First]:
+    def first(self, name: str, value: str | int, start: Moment, stop: Moment, budget: int | None = None) -> Pending[First]:
         """As `Session.first`."""
-        return self._add(questions.first(self._session.bits, name, value, start, stop, budget))
+        return self._add(questions.first(self._session.bits, name, value, self._session.time(start), self._session.time(stop), budget))
 
-    def why(self, name: str, time: int, budget: int | None = None) -> Pending[Proof]:
+    def why(self, name: str, time: Moment, budget: int | None = None) -> Pending[Proof]:
         """As `Session.why`."""
-        return self._add(questions.why(self._session.bits, name, time, budget))
+        return self._add(questions.why(self._session.bits, name, self._session.time(time), budget))
 
-    def stuck(self, site: str, value: str | int, name: str, start: int, stop: int, budget: int | None = None) -> Pending[Stuck]:
+    def stuck(self, site: str, value: str | int, name: str, start: Moment, stop: Moment, budget: int | None = None) -> Pending[Stuck]:
         """As `Session.stuck`."""
-        return self._add(questions.stuck(self._session.bits, site, value, name, start, stop, budget))
+        times = self._session.time(start), self._session.time(stop)
+        return self._add(questions.stuck(self._session.bits, site, value, name, *times, budget))

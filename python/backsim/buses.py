@@ -1,17 +1,18 @@
 """Buses, as `count[7:0]`, and patterns of names, as `u1.*`.
 
 A bus is asked as its bits, `count[7]` to `count[0]`, and answered by words, the bit that is named first being the leftmost. A signal
-whose whole name is that of a bus is that signal, and no bus."""
+whose whole name is that of a bus is that signal, and no bus. With the names of a netlist a bus may be named without its range."""
 from __future__ import annotations
 
 import re
-from collections.abc import Iterable, Sequence
+from collections.abc import Collection, Iterable, Sequence
 from itertools import groupby
 
 from .errors import UsageError
 from .values import Wave
 
 _BUS = re.compile(r"(.+)\[([0-9]{1,6}):([0-9]{1,6})\]")
+_PLACE = re.compile(r"[0-9]{1,6}\]")
 MOST_BITS = 4096
 
 
@@ -27,6 +28,32 @@ def bits_of(name: str) -> tuple[str, ...]:
     if len(places) > MOST_BITS:
         raise UsageError(f"{name} has {len(places)} bits, more than {MOST_BITS}")
     return tuple(f"{parts[1]}[{place}]" for place in places)
+
+
+def full_name(name: str, names: Collection[str]) -> str:
+    """The name with its range where it is that of a bus of which `names`, those of a netlist or of a file, has all bits and whose range
+    was left out: `count[7:0]` for `count`. Any other name stays. The leftmost bit is the highest one. A look at each of `names`.
+    UsageError where bits between the highest and the lowest are missing, or there are more than 4,096."""
+    if name in names or name.endswith("]") and bits_of(name):
+        return name
+    stem = f"{name}["
+    places = {int(own[len(stem):-1]) for own in names if own.startswith(stem) and _PLACE.fullmatch(own, len(stem))}
+    if not places:
+        return name
+    full = f"{name}[{max(places)}:{min(places)}]"
+    missing = [bit for bit in bits_of(full) if bit not in names]
+    if missing:
+        raise UsageError(f"the bus {full} has no bit {missing[0]}: name its bits, or a range that has all")
+    return full
+
+
+def signals_of(name: str, names: Collection[str]) -> tuple[str, ...]:
+    """The signals of `names` that a name stands for: the signal of that name, or the bits of a bus that is named with its range or
+    without it, the leftmost first. The empty tuple where one of them is none of `names`. UsageError as of `full_name`."""
+    if name in names:
+        return (name,)
+    bits = bits_of(full_name(name, names))
+    return bits if bits and all(bit in names for bit in bits) else ()
 
 
 def wave_of(name: str, waves: Sequence[Wave]) -> Wave:

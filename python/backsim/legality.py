@@ -37,24 +37,23 @@ class _Shard:
         """What the entry changes, where it has what it needs."""
         if self.place_made and not isinstance(entry, Fill):
             raise _Cause("a place was just made, and this entry does not fill it")
-        match entry:
-            case Told():
-                self.told(entry)
-            case Claim():
-                self.is_free(entry.signal, entry.time)
-                self.claims[entry.signal, entry.time] = entry.query
-            case Fill():
-                self.fill(entry)
-            case Evict():
-                if len(self.cells) != self.capacity:
-                    raise _Cause("the shard has room")
-                self.remove_last(entry)
-                self.place_made = True
-            case Drop():
-                self.is_held(entry)
-                del self.claims[entry.signal, entry.time]
-            case Spent():
-                self.is_free(entry.signal, entry.time)
+        if isinstance(entry, Told):
+            self.told(entry)
+        elif isinstance(entry, Claim):
+            self.is_free(entry.signal, entry.time)
+            self.claims[entry.signal, entry.time] = entry.query
+        elif isinstance(entry, Fill):
+            self.fill(entry)
+        elif isinstance(entry, Evict):
+            if len(self.cells) != self.capacity:
+                raise _Cause("the shard has room")
+            self.remove_last(entry)
+            self.place_made = True
+        elif isinstance(entry, Drop):
+            self.is_held(entry)
+            del self.claims[entry.signal, entry.time]
+        elif isinstance(entry, Spent):
+            self.is_free(entry.signal, entry.time)
 
     def is_own(self, signal: int) -> None:
         if signal % self.shards != self.number:
@@ -123,20 +122,19 @@ class _Judge:
         self.entries = self.sections = 0
 
     def take(self, event: Event) -> None:
-        match event:
-            case Head():
-                self.own = [_Shard(place, event.shards, event.cells) for place in range(event.shards)]
-            case SectionBegin():
-                self.kind = event.kind
-                self.shards = [_Shard(0, 1, HELD_CELLS)] if event.kind == "held" else self.own
-            case ShardBegin():
-                self.shard = event.number
-            case SectionEnd():
-                for shard in self.shards:
-                    shard.end()
-                self.sections += 1
-            case _:
-                self.take_entry(event)
+        if isinstance(event, Head):
+            self.own = [_Shard(place, event.shards, event.cells) for place in range(event.shards)]
+        elif isinstance(event, SectionBegin):
+            self.kind = event.kind
+            self.shards = [_Shard(0, 1, HELD_CELLS)] if event.kind == "held" else self.own
+        elif isinstance(event, ShardBegin):
+            self.shard = event.number
+        elif isinstance(event, SectionEnd):
+            for shard in self.shards:
+                shard.end()
+            self.sections += 1
+        else:
+            self.take_entry(event)
 
     def take_entry(self, entry: Entry) -> None:
         if isinstance(entry, (Told, Fill)) and entry.value == "z":

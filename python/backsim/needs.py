@@ -2,11 +2,12 @@
 empty memo, as long as nothing is evicted."""
 from __future__ import annotations
 
+import sys
 from bisect import bisect_right
 from collections.abc import Iterator
 
 from .formats.netlist import Kind
-from .pictures.rules import Design, decides
+from .rules import Design, decides
 from .profile import Profile, grouped
 
 
@@ -55,7 +56,7 @@ class _Points:
 
     def value(self, signal: int, time: int) -> str:
         own = self.intervals.get(signal, [])
-        place = bisect_right(own, time, key=lambda interval: interval[0])
+        place = bisect_right(own, (time, sys.maxsize))
         if not place or own[place - 1][1] <= time:
             raise KeyError(f"what {self.design.netlist.names[signal]} is at {time}")
-        return self.cells[signal, *own[place - 1]]
+        return self.cells[(signal, *own[place - 1])]

@@ -15,11 +15,9 @@ def no_value_of(answer: Unknown | Past | Budget, netlist: type_of_path, stimulus
                 horizon: str = "") -> BacksimError:
     """The error of a command that asked for `what`, a signal or a signal at a time, and got no value; `horizon` says more of a time that
     is after it."""
-    match answer:
-        case Unknown():
-            near = f"; near it: {', '.join(answer.nearest)}" if answer.nearest else ""
-            return UsageError(f"{netlist}: there is no signal {answer.name}{near}")
-        case Past():
-            return UsageError(f"{stimulus}: the time {answer.stop - 1} is after the horizon{horizon}")
-        case Budget():
-            return TooDear(f"{answer.budget} evaluations did not suffice for {what}; --budget allows more")
+    if isinstance(answer, Unknown):
+        near = f"; near it: {', '.join(answer.nearest)}" if answer.nearest else ""
+        return UsageError(f"{netlist}: there is no signal {answer.name}{near}")
+    if isinstance(answer, Past):
+        return UsageError(f"{stimulus}: the time {answer.stop - 1} is after the horizon{horizon}")
+    return TooDear(f"{answer.budget} evaluations did not suffice for {what}; --budget allows more")

@@ -18,6 +18,8 @@ FAULTS = {3: "could not be read", 4: "could not be written", 5: "could not be op
 _ENDS = {0: "the program ended before all was answered", 1: "the program does not take these words", 6: "the program ran out of memory",
          7: "the program could not be built"}
 _SIGNALS = 128
+# how the files begin that the program makes
+_BEGINNINGS = {"journal": b"journal shards", "vcd": b"$"}
 _MOST_SHOWN = 200
 
 
@@ -49,12 +51,13 @@ class Refused(SessionError):
 
 class Fault(SessionError):
     """A file could not be opened, read, written or finished. `place` is the program's word for it, and `path` the file's name where
-    the place is a file."""
+    the place is a file. `inputs` are the names of the three files of the circuit."""
 
-    def __init__(self, status: int, place: str, path: str | None) -> None:
+    def __init__(self, status: int, place: str, path: str | None, inputs: Sequence[str] = ()) -> None:
         self.place, self.path = place, path
-        reason = _reason_of(path, place) if path else ""
-        super().__init__(f"{path or f'backsim: {place}'}: the {place} {FAULTS[status]}" + (f": {reason}" if reason else ""), status)
+        reason = _reason_of(path, place, inputs) if path else ""
+        what = "dump" if place == "vcd" else place
+        super().__init__(f"{path or f'backsim: {place}'}: the {what} {FAULTS[status]}" + (f": {reason}" if reason else ""), status)
 
 
 def _line_of(path: str, number: int) -> str:
@@ -69,16 +72,34 @@ def _line_of(path: str, number: int) -> str:
     return ""
 
 
-def _reason_of(path: str, place: str) -> str:
-    """Why the system does not give the file, where that can still be seen."""
+def _reason_of(path: str, place: str, inputs: Sequence[str]) -> str:
+    """Why the system does not give the file, or the program does not write over it, where that can still be seen."""
     try:
-        if place == "journal":
-            folder = os.path.dirname(path) or "."
-            return "it is a folder" if os.path.isdir(path) else "" if os.access(folder, os.W_OK) else f"no file can be made in {folder}"
+        if place in _BEGINNINGS:
+            return _reason_of_output(path, place, inputs)
         with open(path, "rb") as file:
             file.read(1)
     except (OSError, ValueError) as error:
         return reason_of(error)
+    return ""
+
+
+def _reason_of_output(path: str, place: str, inputs: Sequence[str]) -> str:
+    folder = os.path.dirname(path) or "."
+    if os.path.isdir(path):
+        return "it is a folder"
+    if not os.path.exists(path):
+        return "" if os.access(folder, os.W_OK) else f"no file can be made in {folder}" + ("" if os.path.isdir(folder) else ", which is no folder")
+    for name, given in zip(("netlist", "timing file", "stimulus"), inputs):
+        if os.path.exists(given) and os.path.samefile(path, given):
+            return f"it is the {name} of the session"
+    if not os.access(path, os.W_OK):
+        return "it may not be written"
+    if os.path.isfile(path):
+        with open(path, "rb") as file:
+            begun = file.read(len(_BEGINNINGS[place]))
+        if begun and begun != _BEGINNINGS[place]:
+            return "a file that is none stands there, and is left as it is"
     return ""
 
 

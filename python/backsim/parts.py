@@ -14,6 +14,8 @@ if TYPE_CHECKING:
     from .formats.script import Line
 
 _MOST_TOLD = 20
+_MOST_SHOWN = 60
+_WORDS = frozenset(("wave", "at", "go", "trim", "stats", "first", "why", "vcd", "stuck"))
 
 
 class TextLine(NamedTuple):
@@ -44,11 +46,24 @@ class TextLine(NamedTuple):
 
 
 def read_lines(stream: BinaryIO, path: type_of_path) -> list[TextLine]:
-    """The lines of an open script that aren't blank. FormatError where it has more than 16 MiB."""
+    """The lines of an open script that aren't blank. FormatError where it has more than 16 MiB, or is no script."""
     data = stream.read(SCRIPT_LIMIT + 1)
     if len(data) > SCRIPT_LIMIT:
         raise FormatError(path, None, "the script has more than 16 MiB, which a session refuses")
-    return list(text_lines(data))
+    lines = list(text_lines(data))
+    _check_is_script(lines, path)
+    return lines
+
+
+def _check_is_script(lines: Sequence[TextLine], path: type_of_path) -> None:
+    """FormatError for a binary, or a file of another format. A session answers each of its lines by `error`; a script may have such lines
+    too, so only a file is refused whose first line and most others begin with no word of a script."""
+    if not lines or lines[0].words[:1] and lines[0].words[0] in _WORDS:
+        return
+    if 2 * sum(bool(line.words) and line.words[0] in _WORDS for line in lines) <= len(lines):
+        text = ascii(lines[0].text[:_MOST_SHOWN].decode("latin-1"))[1:-1][:_MOST_SHOWN]
+        which = f"`{text}` and most other lines are" if len(lines) > 1 else f"`{text}` is"
+        raise FormatError(path, lines[0].number, f"this is no script: {which} no question, as `wave NAME FROM TO`")
 
 
 def text_lines(data: bytes) -> Iterator[TextLine]:

@@ -5,9 +5,9 @@ import os
 import shlex
 import shutil
 from collections.abc import Sequence
-from dataclasses import dataclass
 
 from .program import TOP
+from .records import dataclass
 
 
 @dataclass(frozen=True, slots=True)

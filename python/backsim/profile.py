@@ -8,11 +8,12 @@ from __future__ import annotations
 
 from collections import Counter, defaultdict
 from collections.abc import Iterable, Iterator
-from dataclasses import dataclass, field
+from dataclasses import field
 
 from .errors import type_of_path
 from .evaluations import MOST_CELLS, SHARDS
 from .formats.journal import Claim, Drop, Entry, Event, Evict, Fill, Head, SectionBegin, ShardBegin, Spent, Told, read_events
+from .records import dataclass
 
 BLOCK = 64
 MOST_STRETCHES = 60
@@ -141,74 +142,70 @@ class _Counting:
         self.parts: list[tuple[int, _Block]] = []
 
     def take(self, event: Event) -> None:
-        match event:
-            case Head():
-                self.profile.shards, self.profile.capacity = event.shards, event.cells
-            case SectionBegin():
-                self.close()
-                self.kind, self.number = event.kind, event.number
-                self.profile.sections[event.kind] += 1
-                self.held.clear()
-            case ShardBegin():
-                self.blocks.append([_Block()])
-            case Told() | Claim() | Fill() | Evict() | Drop() | Spent():
-                if self.kind == "held":
-                    self.take_held(event)
-                else:
-                    self.take_own(event)
+        if isinstance(event, Head):
+            self.profile.shards, self.profile.capacity = event.shards, event.cells
+        elif isinstance(event, SectionBegin):
+            self.close()
+            self.kind, self.number = event.kind, event.number
+            self.profile.sections[event.kind] += 1
+            self.held.clear()
+        elif isinstance(event, ShardBegin):
+            self.blocks.append([_Block()])
+        elif isinstance(event, (Told, Claim, Fill, Evict, Drop, Spent)):
+            if self.kind == "held":
+                self.take_held(event)
+            else:
+                self.take_own(event)
 
     def question(self, line: int) -> Question:
         return self.profile.questions.setdefault(line, Question(line))
 
     def take_own(self, entry: Entry) -> None:
         block = self.block()
-        match entry:
-            case Fill():
-                point = entry.signal, entry.time
-                self.profile.fills += 1
-                block.fills += 1
-                if point in self.filled:
-                    self.profile.again += 1
-                    block.again += 1
-                self.filled.add(point)
-                self.profile.signals[entry.signal] += 1
-                self.profile.cells[entry.signal, entry.start, entry.end] = entry.value
-            case Evict():
-                block.evictions += 1
-                if self.kind == "trim":
-                    self.profile.trimmed += 1
-                else:
-                    self.profile.evictions += 1
-            case Told() | Claim() if self.keeps_points:
-                self.question(entry.query).points.add((entry.signal, entry.time))
+        if isinstance(entry, Fill):
+            point = entry.signal, entry.time
+            self.profile.fills += 1
+            block.fills += 1
+            if point in self.filled:
+                self.profile.again += 1
+                block.again += 1
+            self.filled.add(point)
+            self.profile.signals[entry.signal] += 1
+            self.profile.cells[entry.signal, entry.start, entry.end] = entry.value
+        elif isinstance(entry, Evict):
+            block.evictions += 1
+            if self.kind == "trim":
+                self.profile.trimmed += 1
+            else:
+                self.profile.evictions += 1
+        elif isinstance(entry, (Told, Claim)) and self.keeps_points:
+            self.question(entry.query).points.add((entry.signal, entry.time))
         self.count(entry)
 
     def take_held(self, entry: Entry) -> None:
-        match entry:
-            case Fill():
-                self.profile.held_fills += 1
-                self.held.add((entry.signal, entry.start))
-                self.profile.held_cells = max(self.profile.held_cells, len(self.held))
-            case Evict():
-                self.profile.held_evictions += 1
+        if isinstance(entry, Fill):
+            self.profile.held_fills += 1
+            self.held.add((entry.signal, entry.start))
+            self.profile.held_cells = max(self.profile.held_cells, len(self.held))
+        elif isinstance(entry, Evict):
+            self.profile.held_evictions += 1
         self.count(entry)
         if not isinstance(entry, Evict):
             self.question(entry.query).is_stuck = True
 
     def count(self, entry: Entry) -> None:
         """Counts an entry for its question."""
-        match entry:
-            case Claim():
-                self.question(entry.query).claims += 1
-            case Fill():
-                self.question(entry.query).fills += 1
-            case Told():
-                self.question(entry.query).told += 1
-            case Drop():
-                self.question(entry.query).drops += 1
-            case Spent():
-                question = self.question(entry.query)
-                question.refused_at = question.fills + entry.held
+        if isinstance(entry, Claim):
+            self.question(entry.query).claims += 1
+        elif isinstance(entry, Fill):
+            self.question(entry.query).fills += 1
+        elif isinstance(entry, Told):
+            self.question(entry.query).told += 1
+        elif isinstance(entry, Drop):
+            self.question(entry.query).drops += 1
+        elif isinstance(entry, Spent):
+            question = self.question(entry.query)
+            question.refused_at = question.fills + entry.held
 
     def block(self) -> _Block:
         """The block of the shard to which the next entry belongs."""

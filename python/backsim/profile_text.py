@@ -7,12 +7,12 @@ from collections import Counter
 from collections.abc import Iterable, Iterator, Mapping, Sequence
 from pathlib import Path
 
-from .errors import FormatError, UsageError
+from .errors import FormatError, WordsError
 from .formats.netlist import read_netlist
 from .formats.script import read_script
 from .needs import needs_of
 from .pictures.files import form_of, write_picture
-from .pictures.rules import Design, read_design
+from .rules import Design, read_design
 from .profile import Profile, Question, Stretch, most_first, profile_of
 
 USUAL_MOST = 20
@@ -35,9 +35,9 @@ def run(journal: Path, arguments: argparse.Namespace) -> int:
     """Writes the profile of a journal by these arguments; gives the exit status."""
     form = form_of(arguments.picture, ("svg", "png")) if arguments.picture else None
     if arguments.most < 1:
-        raise UsageError(f"--most takes a number from 1 on, and not {arguments.most}")
+        raise WordsError(f"--most takes a number from 1 on, and not {arguments.most}")
     if (arguments.timing is None) != (arguments.stimulus is None) or arguments.timing and not arguments.netlist:
-        raise UsageError("--timing and --stimulus go together, with --netlist")
+        raise WordsError("--timing and --stimulus go together, with --netlist")
     design = read_design(arguments.netlist, arguments.timing, arguments.stimulus) if arguments.timing else None
     netlist = design.netlist if design else read_netlist(arguments.netlist) if arguments.netlist else None
     names = netlist.names if netlist else None

@@ -16,6 +16,7 @@ from collections.abc import Callable, Iterator, Sequence
 from contextlib import contextmanager
 from typing import TYPE_CHECKING, NamedTuple, TypeVar
 
+from .checks import whole_number
 from .errors import FormatError, UsageError, reason_of, type_of_path
 from .evaluations import MOST_CELLS
 from .outcomes import FAULTS, Fault, Refused, SessionError, ended
@@ -57,43 +58,56 @@ class Options(NamedTuple):
         for name, number, most in zip(self._fields, self, (64, 64, MOST_CELLS)):
             if number is None:
                 continue
-            if not 1 <= number <= most:
-                raise UsageError(f"{name} must be from 1 to {most}, and not {number}")
-            words += [f"--{name}", str(number)]
+            words += [f"--{name}", str(whole_number(number, f"number of {name}", 1, most))]
         return words
 
 
 @contextmanager
 def interrupt_held() -> Iterator[None]:
-    """Holds an interrupt (SIGINT) back until the end, so that a process which is started inside is known where it is to be ended. Only
-    the main thread is interrupted; in others nothing is held."""
-    before = signal.getsignal(signal.SIGINT)
-    if threading.current_thread() is not threading.main_thread() or not callable(before):
+    """Holds an interrupt (SIGINT) back until the end, and what ends a command as one (SIGTERM, SIGHUP), so that a process which is started
+    inside is known where it is to be ended. Only the main thread is interrupted; in others nothing is held."""
+    before = {number: signal.getsignal(number) for number in (signal.SIGINT, signal.SIGTERM, signal.SIGHUP)}
+    held = [number for number, handler in before.items() if callable(handler)]
+    if threading.current_thread() is not threading.main_thread() or not held:
         yield
         return
     came: list[int] = []
-    signal.signal(signal.SIGINT, lambda number, _: came.append(number))
+    for number in held:
+        signal.signal(number, lambda number, _: came.append(number))
     try:
         yield
     finally:
-        signal.signal(signal.SIGINT, before)
+        for number in held:
+            signal.signal(number, before[number])
         if came:
-            signal.raise_signal(signal.SIGINT)
+            signal.raise_signal(came[0])
 
 
 def find_program(given: type_of_path | None = None) -> str:
     """The program: the one that is given, else that of the environment variable BACKSIM, else the launcher at the top of the
-    repository in which this package lies, else `backsim` on PATH. UsageError where it is none of these."""
+    repository in which this package lies, else the nearest `bin/backsim` in a folder above the package, as an installation has it, else
+    `backsim` on PATH. UsageError where it is none of these."""
     named = given or os.environ.get("BACKSIM")
     if named:
         found = shutil.which(os.fspath(named))
         if found is None:
             raise UsageError(f"{os.fspath(named)}: there is no program of this name")
         return found
-    found = shutil.which(os.path.join(TOP, "backsim")) or shutil.which("backsim")
+    found = shutil.which(os.path.join(TOP, "backsim")) or _installed() or shutil.which("backsim")
     if found is None:
         raise UsageError("the program backsim is not found: name it by the environment variable BACKSIM")
     return found
+
+
+def _installed() -> str | None:
+    """The program that was installed with this package."""
+    folder = os.path.dirname(os.path.abspath(__file__))
+    while folder != os.path.dirname(folder):
+        folder = os.path.dirname(folder)
+        found = shutil.which(os.path.join(folder, "bin", "backsim"))
+        if found is not None:
+            return found
+    return None
 
 
 def looked_up(given: type_of_path | None = None) -> str:
@@ -143,6 +157,7 @@ class Conversation:
         self._open = {self._out, self._err}
         self._count = 0
         self._failure: SessionError | None = None
+        self._dump: str | None = None
         self.refusal: Refusal | None = None
         self._refusal_text = b""
 
@@ -279,7 +294,11 @@ class Conversation:
         if self.refusal is not None:
             return []
         made: list[T] = []
-        for line, text in zip(lines, self._next_texts(len(lines), waits)):
+        texts = self._next_texts(len(lines), waits)
+        if not texts and waits:
+            # where the program ended by its dump it is that of the first of these lines that has one
+            self._dump = next((name for name in map(_dump_of, lines) if name), None)
+        for line, text in zip(lines, texts):
             one = usual(line, text)
             if one is None:
                 try:
@@ -347,5 +366,12 @@ class Conversation:
             return Refused(self.refusal, "the script" if place is None else self.files[place], self._refusal_text)
         if status in FAULTS:
             word = said[-1].rpartition(": ")[2] if said else ""
-            return Fault(status, word, self.files[_PLACES[word]] if word in _PLACES else None)
+            path = self._dump if word == "vcd" else self.files[_PLACES[word]] if word in _PLACES else None
+            return Fault(status, word, path, self.files[:3])
         return ended(status, said)
+
+
+def _dump_of(line: Line | TextLine) -> str:
+    """The name of the file of a `vcd` line; '' of another."""
+    words = line.words if isinstance(line, TextLine) else str(line).split()
+    return words[1] if words[:1] in (("vcd",), ["vcd"]) and len(words) > 1 else ""

@@ -3,31 +3,33 @@ from __future__ import annotations
 
 from collections.abc import Callable, Sequence
 from functools import lru_cache
-from typing import Any, Generic, NamedTuple, TypeVar
+from typing import Any, Generic, TypeVar
 
 from . import buses
+from .checks import whole_number
 from .errors import UsageError
 from .formats.script import MOST_BUDGET, MOST_TIME, AtLine, FirstLine, Line, StuckLine, WaveLine, WhyLine
 from .formats.text import is_name
 from .values import Answer, At, Budget, First, Past, Proof, Stuck, Unknown, Wave
 
 T = TypeVar("T", covariant=True)
-_NO_VALUE = (Unknown, Past, Budget)
 # names come again and again
 _is_name = lru_cache(1 << 16)(is_name)
 Bits = Callable[[str], tuple[str, ...]]
 
 
-class Question(NamedTuple, Generic[T]):
+class Question(Generic[T]):
     """Lines that are asked, and what makes the answer of their answers, where each has a value."""
 
-    lines: tuple[Line, ...]
-    combine: Callable[[Sequence[Any]], T]
+    __slots__ = ("combine", "lines")
+
+    def __init__(self, lines: tuple[Line, ...], combine: Callable[[Sequence[Any]], T]) -> None:
+        self.lines, self.combine = lines, combine
 
     def answer(self, answers: Sequence[Answer]) -> T | Unknown | Past | Budget:
         """The answer; the first of the lines' that is no value, where there is one."""
         for answer in answers:
-            if type(answer) in _NO_VALUE:
+            if isinstance(answer, (Unknown, Past, Budget)):
                 return answer
         return self.combine(answers)
 
@@ -38,7 +40,7 @@ def _only(answers: Sequence[Any]) -> Any:
 
 def wave(bits_of: Bits, name: str, start: int, stop: int, budget: int | None) -> Question[Wave]:
     """Asks for the waveform in a window; `bits_of` gives the bits that a name stands for."""
-    bits = _checked(bits_of, name, (start, stop), budget)
+    bits, (start, stop), budget = _checked(bits_of, name, (start, stop), budget)
     if bits == (name,):
         return Question((WaveLine(name, start, stop, budget),), _only)
     lines = tuple([WaveLine(bit, start, stop, budget) for bit in bits])
@@ -47,7 +49,7 @@ def wave(bits_of: Bits, name: str, start: int, stop: int, budget: int | None) ->
 
 def at(bits_of: Bits, name: str, time: int, budget: int | None) -> Question[At]:
     """Asks for the value at a time."""
-    bits = _checked(bits_of, name, (time,), budget)
+    bits, (time,), budget = _checked(bits_of, name, (time,), budget)
     if bits == (name,):
         return Question((AtLine(name, time, budget),), _only)
     lines = tuple([AtLine(bit, time, budget) for bit in bits])
@@ -56,7 +58,7 @@ def at(bits_of: Bits, name: str, time: int, budget: int | None) -> Question[At]:
 
 def first(bits_of: Bits, name: str, value: str | int, start: int, stop: int, budget: int | None) -> Question[First]:
     """Asks for the first time at which the name has the value; of a bus by the waves of its bits."""
-    bits = _checked(bits_of, name, (start, stop), budget)
+    bits, (start, stop), budget = _checked(bits_of, name, (start, stop), budget)
     word = str(value).lower()
     if len(word) != len(bits) or word.strip("01xz"):
         raise UsageError(f"{value!r} is no value of {name}: {len(bits)} of the letters 0, 1, x and z are wanted")
@@ -72,7 +74,7 @@ def first(bits_of: Bits, name: str, value: str | int, start: int, stop: int, bud
 
 def why(bits_of: Bits, name: str, time: int, budget: int | None) -> Question[Proof]:
     """Asks why a signal has the value that it has at a time."""
-    bits = _checked(bits_of, name, (time,), budget)
+    bits, (time,), budget = _checked(bits_of, name, (time,), budget)
     if bits != (name,):
         raise UsageError(f"{name} is a bus: ask why of one of its bits")
     return Question((WhyLine(name, time, budget),), _only)
@@ -80,7 +82,7 @@ def why(bits_of: Bits, name: str, time: int, budget: int | None) -> Question[Pro
 
 def stuck(bits_of: Bits, site: str, value: str | int, name: str, start: int, stop: int, budget: int | None) -> Question[Stuck]:
     """Asks for the waveform of the name where the signal `site` has the value at all times."""
-    bits = _checked(bits_of, name, (start, stop), budget)
+    bits, (start, stop), budget = _checked(bits_of, name, (start, stop), budget)
     held = str(value)
     if not isinstance(site, str) or not is_name(site) or held not in ("0", "1"):
         raise UsageError(f"a signal is stuck at 0 or 1, and not {site!r} at {value!r}")
@@ -90,13 +92,11 @@ def stuck(bits_of: Bits, site: str, value: str | int, name: str, start: int, sto
     return Question(lines, lambda answers: Stuck(site, held, buses.wave_of(name, [each.wave for each in answers])))
 
 
-def _checked(bits_of: Bits, name: str, times: tuple[int, ...], budget: int | None) -> tuple[str, ...]:
-    """The bits of the name, where a line can ask for it at these times with this budget; else UsageError."""
+def _checked(bits_of: Bits, name: str, times: tuple[int, ...], budget: int | None) -> tuple[tuple[str, ...], list[int], int | None]:
+    """The bits of the name, the times and the budget, where a line can ask for it at these times with this budget; else UsageError."""
     if not isinstance(name, str) or not _is_name(name):
         raise UsageError(f"{name!r} is no name: it may have no blank and none of (, ), comma, = and #")
-    for time in times:
-        if not isinstance(time, int) or not 0 <= time <= MOST_TIME:
-            raise UsageError(f"{time!r} is no time: times are whole numbers from 0 to {MOST_TIME}")
-    if budget is not None and (not isinstance(budget, int) or not 0 <= budget <= MOST_BUDGET):
-        raise UsageError(f"{budget!r} is no budget: budgets are whole numbers from 0 to {MOST_BUDGET}")
-    return bits_of(name) if name[-1] == "]" else (name,)
+    whole = [whole_number(time, "time", 0, MOST_TIME) for time in times]
+    if budget is not None:
+        budget = whole_number(budget, "budget", 0, MOST_BUDGET)
+    return bits_of(name) if name[-1] == "]" else (name,), whole, budget

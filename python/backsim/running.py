@@ -97,10 +97,10 @@ class _Part(threading.Thread):
         """Reads the replies that are left; whether the process served all, and was not ended by a fault after which it may be tried
         again."""
         assert self._conversation is not None
-        counts = []
+        counts: list[Counts | None] = []
         if self._is_answered():
             counts = self._conversation.replies_to([_STATS], lambda _, text: _counts(text), lambda reply: _counts(reply.text))
-            self.stats += counts
+            self.stats += filter(None, counts)
         status = self._conversation.finish()
         if counts and status == 0 or self._is_stopped:
             return True

@@ -9,66 +9,79 @@ What is asked together in a batch shares what is evaluated, and is answered in o
 from __future__ import annotations
 
 import os
-import shutil
-import tempfile
-from collections.abc import Callable, Iterable, Iterator
+from collections.abc import Callable, Collection, Iterable, Iterator
 from difflib import get_close_matches
 from itertools import islice
-from pathlib import Path
 from types import TracebackType
-from typing import Any, TypeVar
+from typing import TYPE_CHECKING, Any, TypeVar
 
 from . import buses, questions
 from .batch import Batch
+from .checks import whole_number
 from .errors import FormatError, UsageError, type_of_path
 from .evaluations import MOST_CELLS
 from .exchange import CHUNK, Asked, Exchange, Questions
 from .formats.netlist import Netlist, read_netlist, write_netlist
 from .formats.replies import Reply
-from .formats.script import Line, StatsLine, Trim, VcdLine
-from .formats.stimulus import Stimulus, write_stimulus
+from .formats.script import MOST_BUDGET, Line, StatsLine, Trim, VcdLine
+from .formats.stimulus import Stimulus, read_horizon, read_stimulus, write_stimulus
 from .formats.text import is_name
-from .formats.timing import Timing, write_timing
+from .formats.timing import Timing, read_timing, write_timing
+from .formats.units import Moment, check_units, unit_of_file, units_of
 from .program import Conversation, Options, interrupt_held
 from .questions import Question
+from .scratch import Scratch
 from .values import Answer, At, Budget, Dump, First, Past, Proof, Stats, Stuck, Trimmed, Unknown, Wave
+
+if TYPE_CHECKING:
+    from .explanations import Explanation
+    from .rules import Design
 
 T = TypeVar("T")
 _NEAREST = 3
+_MOST_TRIES = 8
 
 
 class Session:
     """A session over a netlist, a timing file and a stimulus, each given by its path or as it was read.
 
-    `journal` is the path of the journal, which is created or emptied; where it is left out, the journal is in a folder of its own
-    that goes with the session. `workers` (1 to 64), `shards` (1 to 64) and `cells` (1 to 65,536, of each shard) are the program's
-    options, and None leaves one out. `program` is the program's path; `find_program` says what is taken where it is left out.
+    `journal` is the path of the journal, which is created, or emptied where it is a journal; where it is left out, the journal is a file
+    without a name in any folder, which goes with the session. `workers` (1 to 64), `shards` (1 to 64) and `cells` (1 to 65,536, of each
+    shard) are the program's options, and None leaves one out. `program` is the program's path; `find_program` says what is taken where it
+    is left out.
 
     The program begins at once: where it refuses a file, or can't open one, the constructor raises `Refused` or `Fault`. Line 1 of the
     session's script is a `stats` line, which asks whether all is well. A session is a context manager; whoever does not use it as one
     calls `close`.
 
-    A window from `start` to `stop` holds the times t with `start <= t < stop`; times are 0 to 4,294,967,294. A budget is the number
+    A window from `start` to `stop` holds the times t with `start <= t < stop`; times are 0 to 4,294,967,294, or such as `15ns` where a
+    comment of the files states the unit. A budget is the number
     of points that may be evaluated, 0 to 500,000, and 50,000 where it is left out. A name may be that of a bus, `count[7:0]`; the
     answer is then that of the bus, or the first answer of a bit that is no value: `Unknown`, `Past` or `Budget`. UsageError is raised
-    for what no line can say."""
+    for what no line can say. Numbers are those of Python, or whole ones of numpy.
+
+    Threads may share a session: their questions are sent, and answers read, one after another."""
 
     def __init__(self, netlist: type_of_path | Netlist, timing: type_of_path | Timing, stimulus: type_of_path | Stimulus, *,
                  journal: type_of_path | None = None, workers: int | None = None, shards: int | None = None,
                  cells: int | None = MOST_CELLS, program: type_of_path | None = None) -> None:
         options = Options(workers, shards, cells)
-        self._folder = Path(tempfile.mkdtemp(prefix="backsim"))
+        self._scratch = Scratch()
         self._exchange: Exchange | None = None
         self._netlist: Netlist | None = netlist if isinstance(netlist, Netlist) else None
+        self._design: Design | None = None
+        self._given = timing, stimulus
+        own = timing.unit if isinstance(timing, Timing) else unit_of_file(timing)
+        other = stimulus.unit if isinstance(stimulus, Stimulus) else unit_of_file(stimulus)
+        check_units(own, other, "the stimulus" if isinstance(stimulus, Stimulus) else stimulus)
+        self.unit = own or other
         self._nearest: dict[str, tuple[str, ...]] = {}
         try:
-            files = [_path_of(netlist, write_netlist, self._folder / "netlist"),
-                     _path_of(timing, write_timing, self._folder / "timing"),
-                     _path_of(stimulus, write_stimulus, self._folder / "stimulus")]
-            self._netlist_path = files[0]
-            self.journal = os.fspath(journal if journal is not None else self._folder / "journal")
+            self._files = [self._path_of(netlist, write_netlist), self._path_of(timing, write_timing),
+                           self._path_of(stimulus, write_stimulus)]
+            self.journal = self._scratch.file() if journal is None else os.fspath(journal)
             with interrupt_held():
-                self._exchange = Exchange(Conversation([*files, self.journal], options, program), self._answer_of)
+                self._exchange = Exchange(Conversation([*self._files, self.journal], options, program), self._answer_of)
             self.stats()
         except BaseException:
             self._stop()
@@ -89,7 +102,7 @@ class Session:
             if self._exchange is not None:
                 self._exchange.close()
         finally:
-            shutil.rmtree(self._folder, ignore_errors=True)
+            self._scratch.close()
 
     def _stop(self) -> None:
         if self._exchange is not None:
@@ -101,13 +114,34 @@ class Session:
     def netlist(self) -> Netlist:
         """The netlist, read when it is first wanted."""
         if self._netlist is None:
-            self._netlist = read_netlist(self._netlist_path)
+            self._netlist = read_netlist(self._files[0])
         return self._netlist
+
+    @property
+    def horizon(self) -> int:
+        """The last time of the simulation."""
+        stimulus = self._given[1]
+        return stimulus.horizon if isinstance(stimulus, Stimulus) else read_horizon(stimulus)
+
+    @property
+    def design(self) -> Design:
+        """The netlist, the timing and the stimulus with the rules of cells, read when they are first wanted."""
+        if self._design is None:
+            from .rules import Design
+            timing, stimulus = self._given
+            netlist = self.netlist
+            self._design = Design(netlist, timing if isinstance(timing, Timing) else read_timing(timing, netlist),
+                                  stimulus if isinstance(stimulus, Stimulus) else read_stimulus(stimulus, netlist))
+        return self._design
 
     def names(self, pattern: str = "*") -> tuple[str, ...]:
         """The names of the netlist that are of a pattern, in the order of the signals' numbers: `*` stands for any letters, `?` for
         one, as in `u1.*`."""
         return buses.matching(pattern, self.netlist.names)
+
+    def time(self, time: Moment) -> int:
+        """A time in units: a number as it is, a text such as `15ns` by the unit that the files state, which is `unit`."""
+        return units_of(time, self.unit) if isinstance(time, str) else time
 
     def bits(self, name: str) -> tuple[str, ...]:
         """The names of the bits that a name stands for: those of a bus, the leftmost first, or the name alone."""
@@ -116,34 +150,63 @@ class Session:
 
     # one question
 
-    def wave(self, name: str, start: int, stop: int, budget: int | None = None) -> Wave | Unknown | Past | Budget:
+    def wave(self, name: str, start: Moment, stop: Moment, budget: int | None = None) -> Wave | Unknown | Past | Budget:
         """The waveform in a window; of a bus the values are words, the leftmost bit first."""
-        return self._answer(questions.wave(self.bits, name, start, stop, budget))
+        return self._answer(questions.wave(self.bits, name, self.time(start), self.time(stop), budget))
 
-    def at(self, name: str, time: int, budget: int | None = None) -> At | Unknown | Past | Budget:
+    def at(self, name: str, time: Moment, budget: int | None = None) -> At | Unknown | Past | Budget:
         """The value at a time; of a bus it is a word, the leftmost bit first."""
-        return self._answer(questions.at(self.bits, name, time, budget))
+        return self._answer(questions.at(self.bits, name, self.time(time), budget))
 
-    def first(self, name: str, value: str | int, start: int, stop: int,
+    def first(self, name: str, value: str | int, start: Moment, stop: Moment,
               budget: int | None = None) -> First | Unknown | Past | Budget:
         """The first time of a window at which the signal has the value, 0, 1, x or z; `First.time` is None where there is none. Of a
         bus the value is a word, and the waves of its bits are evaluated in the whole window."""
-        return self._answer(questions.first(self.bits, name, value, start, stop, budget))
+        return self._answer(questions.first(self.bits, name, value, self.time(start), self.time(stop), budget))
 
-    def why(self, name: str, time: int, budget: int | None = None) -> Proof | Unknown | Past | Budget:
+    def why(self, name: str, time: Moment, budget: int | None = None) -> Proof | Unknown | Past | Budget:
         """Why the signal has the value that it has at the time. UsageError of a bus."""
-        return self._answer(questions.why(self.bits, name, time, budget))
+        return self._answer(questions.why(self.bits, name, self.time(time), budget))
 
-    def stuck(self, site: str, value: str | int, name: str, start: int, stop: int,
+    def explain(self, name: str, time: Moment, budget: int | None = None, *, until: Collection[str] = (), depth: int | None = None,
+                has_all: bool = False) -> Explanation | Unknown | Past | Budget:
+        """Why the signal, or bus, has its value at the time: root causes, and the shortest chain to each. A budget that is left out is
+        raised by itself: from 50,000 to 500,000, and by as much again as long as the memo keeps what was evaluated. With `until` the
+        ways back end at these signals, and with `depth` after so many steps; with `has_all` the graph goes on from pins that do not
+        matter too."""
+        from .explanations import Explanation
+        time = self.time(time)
+        if depth is not None:
+            depth = whole_number(depth, "depth", 1)
+        proofs: list[Proof] = []
+        spent: list[int] = []
+        for bit in self.bits(name):
+            answer = self.why(bit, time, budget) if budget is not None else self._why_raised(bit, time, spent)
+            if not isinstance(answer, Proof):
+                return answer
+            proofs.append(answer)
+        return Explanation(self.design, name, time, proofs, until=until, depth=depth, has_all=has_all, spent=spent)
+
+    def _why_raised(self, name: str, time: int, spent: list[int]) -> Proof | Unknown | Past | Budget:
+        """The answer with the usual budget, or with the greatest as long as that helps; `spent` has the budgets that did not suffice."""
+        while True:
+            before = self.stats()
+            answer = self.why(name, time, MOST_BUDGET if spent else None)
+            if not isinstance(answer, Budget) or len(spent) == _MOST_TRIES:
+                return answer
+            after = self.stats()
+            if spent and (after.evictions > before.evictions or after.fills == before.fills):
+                return answer
+            spent.append(answer.budget)
+
+    def stuck(self, site: str, value: str | int, name: str, start: Moment, stop: Moment,
               budget: int | None = None) -> Stuck | Unknown | Past | Budget:
         """The waveform of `name` where the signal `site` has the value 0 or 1 at all times. `name` may be a bus."""
-        return self._answer(questions.stuck(self.bits, site, value, name, start, stop, budget))
+        return self._answer(questions.stuck(self.bits, site, value, name, self.time(start), self.time(stop), budget))
 
     def trim(self, cells: int) -> Trimmed:
         """Evicts the least recent cells of each shard until at most so many, 0 to 65,536, are left."""
-        if not 0 <= cells <= MOST_CELLS:
-            raise UsageError(f"trim takes from 0 to {MOST_CELLS} cells, and not {cells}")
-        return self._one(Trim(cells), Trimmed)
+        return self._one(Trim(whole_number(cells, "number of cells", 0, MOST_CELLS)), Trimmed)
 
     def stats(self) -> Stats:
         """The counts of the session so far."""
@@ -208,6 +271,10 @@ class Session:
         answer = reply.answer
         return Unknown(answer.name, self.nearest(answer.name)) if isinstance(answer, Unknown) else answer
 
+    def _path_of(self, given: Any, write: Callable[[Any, Any], None]) -> str:
+        """The path that is given, or that of a file to which what is given was written."""
+        return os.fspath(given) if isinstance(given, (str, os.PathLike)) else self._scratch.written(write, given)
+
     def nearest(self, name: str) -> tuple[str, ...]:
         """At most three names of the netlist that are like the name, the most alike first."""
         if name not in self._nearest:
@@ -217,12 +284,3 @@ class Session:
                 known = ()
             self._nearest[name] = tuple(get_close_matches(name, known, _NEAREST))
         return self._nearest[name]
-
-
-def _path_of(given: Any, write: Callable[[Any, Any], None], path: Path) -> str:
-    """The path that is given, or that of a file to which what is given was written."""
-    if isinstance(given, (str, os.PathLike)):
-        return os.fspath(given)
-    with open(path, "w", encoding="ascii") as stream:
-        write(given, stream)
-    return str(path)

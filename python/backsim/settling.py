@@ -3,11 +3,11 @@ from __future__ import annotations
 
 from bisect import bisect_left, bisect_right
 from collections.abc import Iterable, Iterator, Mapping, Sequence
-from dataclasses import dataclass
 
 from .formats.netlist import Gate, Netlist, in_order
 from .formats.stimulus import Stimulus
 from .formats.timing import Timing
+from .records import dataclass
 
 INPUTS = "inputs"
 

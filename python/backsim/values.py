@@ -7,10 +7,20 @@ from __future__ import annotations
 
 from bisect import bisect_right
 from collections.abc import Iterator
-from dataclasses import dataclass, field
-from typing import Union
+from dataclasses import field
+from typing import TYPE_CHECKING, Any, Union
+
+from .errors import MissingExtra, NoValue
+
+if TYPE_CHECKING:
+    from numpy import ndarray
+    from pandas import DataFrame
+
+from .records import dataclass
 
 LOGIC = ("0", "1", "x", "z")
+# comes after every value, so that a search for a time with it finds what is set at this time or before
+AFTER_VALUES = "~"
 
 
 @dataclass(frozen=True, slots=True)
@@ -47,7 +57,7 @@ class Wave(_InWindow):
         """The value at a time of the window. IndexError where the time is not in it."""
         if not self.start <= time < self.stop:
             raise IndexError(f"{time} is not in the window of {self.name}, {self.start} to {self.stop}")
-        return self.changes[bisect_right(self.changes, time, key=_time_of) - 1][1]
+        return self.changes[bisect_right(self.changes, (time, AFTER_VALUES)) - 1][1]
 
     def __iter__(self) -> Iterator[tuple[int, int, str]]:
         """The runs in order, as (start, stop, value)."""
@@ -55,9 +65,40 @@ class Wave(_InWindow):
             after = self.changes[place + 1][0] if place + 1 < len(self.changes) else self.stop
             yield time, after, value
 
+    def __len__(self) -> int:
+        """How many runs it has."""
+        return len(self.changes)
 
-def _time_of(change: tuple[int, str]) -> int:
-    return change[0]
+    def to_numpy(self) -> ndarray[Any, Any]:
+        """The runs as an array of numpy with the fields `start`, `stop` (whole numbers) and `value` (text). MissingExtra where numpy is
+        not there."""
+        try:
+            import numpy
+        except ImportError:
+            raise MissingExtra("numpy", "numbers", "python3-numpy") from None
+        width = max((len(value) for _, value in self.changes), default=1)
+        return numpy.array(list(self), dtype=[("start", "i8"), ("stop", "i8"), ("value", f"U{width}")])
+
+    def to_pandas(self) -> DataFrame:
+        """The runs as a table of pandas with the columns `start`, `stop`, `value` (text) and `number`, that of a word of 0 and 1, else
+        None. MissingExtra where pandas is not there."""
+        try:
+            from pandas import DataFrame
+        except ImportError:
+            raise MissingExtra("pandas", "numbers", "python3-pandas") from None
+        rows = [(start, stop, value, None if value.strip("01") else int(value, 2)) for start, stop, value in self]
+        table = DataFrame(rows, columns=["start", "stop", "value", "number"])
+        # a column of whole numbers with gaps, as long as these fit
+        return table.astype({"number": "Int64"}) if all(len(value) < 64 for _, value in self.changes) else table
+
+    def _repr_svg_(self) -> str:
+        from .pictures.inline import svg_of
+        return svg_of(self)
+
+    def _repr_html_(self) -> str:
+        from .pictures.inline import svg_of, table_of
+        count = f"{len(self):,} run{'s' if len(self) != 1 else ''}"
+        return f"{svg_of(self)}<details><summary>{count}</summary>{table_of(('from', 'before', 'value'), self)}</details>"
 
 
 @dataclass(frozen=True, slots=True)
@@ -91,6 +132,22 @@ class Proof(_AtTime):
 
     cells: tuple[ProofCell, ...]
 
+    def __len__(self) -> int:
+        """How many cells it has."""
+        return len(self.cells)
+
+    def __iter__(self) -> Iterator[ProofCell]:
+        """The cells in order."""
+        return iter(self.cells)
+
+    def _repr_html_(self) -> str:
+        from html import escape
+
+        from .pictures.inline import table_of
+        rows = ((cell.signal, cell.start, cell.end, cell.value) for cell in self.cells)
+        return (f"<p>{escape(self.name)} is {self.value} at {self.time:,}, by {len(self):,} cells</p><details><summary>cells</summary>"
+                f"{table_of(('signal', 'from', 'before', 'value'), rows)}</details>")
+
 
 @dataclass(frozen=True, slots=True)
 class Stuck:
@@ -100,31 +157,69 @@ class Stuck:
     value: str
     wave: Wave
 
+    def _repr_svg_(self) -> str:
+        return self.wave._repr_svg_()
+
+    def _repr_html_(self) -> str:
+        from html import escape
+        return f"<p>with {escape(self.site)} stuck at {self.value}</p>{self.wave._repr_html_()}"
+
+
+class _WithoutValue:
+    """An answer that says why there is no value. `str(answer)` is a sentence; whoever takes such an answer for another gets NoValue with
+    it."""
+
+    __slots__ = ()
+
+    # a checker of types has to see that these answers have no value
+    if not TYPE_CHECKING:
+
+        def __getattr__(self, name: str) -> Any:
+            if name.startswith("_"):
+                raise AttributeError(f"{type(self).__name__!r} has no attribute {name!r}")
+            raise NoValue(f"this answer is {type(self).__name__} and has no `{name}`: {self}", name)
+
+        def __iter__(self) -> Any:
+            raise NoValue(f"this answer is {type(self).__name__} and has no parts: {self}", "__iter__")
+
 
 @dataclass(frozen=True, slots=True)
-class Unknown(_OfSignal):
+class Unknown(_WithoutValue, _OfSignal):
     """The netlist has no signal of this name. `nearest` lists names of the netlist that are like it, the most alike first."""
 
     nearest: tuple[str, ...] = field(default=(), compare=False)
 
+    def __str__(self) -> str:
+        near = f"; near it: {', '.join(self.nearest)}" if self.nearest else ""
+        return f"the netlist has no signal {self.name}{near}"
+
 
 @dataclass(frozen=True, slots=True)
-class Past(_InWindow):
+class Past(_WithoutValue, _InWindow):
     """The window ends after the horizon: `stop` may be at most the horizon plus 1."""
 
+    def __str__(self) -> str:
+        return f"of {self.name} the time {self.stop - 1:,} was asked, which is after the horizon"
+
 
 @dataclass(frozen=True, slots=True)
-class Budget(_OfSignal):
+class Budget(_WithoutValue, _OfSignal):
     """So many evaluations did not suffice; nothing is said of the value."""
 
     budget: int
 
+    def __str__(self) -> str:
+        return f"{self.budget:,} evaluations did not suffice for {self.name}; a greater `budget` may"
+
 
 @dataclass(frozen=True, slots=True)
-class BadLine:
+class BadLine(_WithoutValue):
     """The line with this number of the script has none of the forms."""
 
     number: int
+
+    def __str__(self) -> str:
+        return f"the line {self.number} of the script has none of the forms"
 
 
 @dataclass(frozen=True, slots=True)

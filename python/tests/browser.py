@@ -93,9 +93,13 @@ class Browser:
         self.call("Page.navigate", url=path.as_uri() + fragment)
         self.wait("document.readyState === 'complete' && document.querySelector('h2').textContent !== ''")
 
+    def visit(self, address: str) -> None:
+        """Opens an address."""
+        self.call("Page.navigate", url=address)
+
     def value(self, script: str) -> Any:
-        """The value of an expression in the page."""
-        answer = self.call("Runtime.evaluate", expression=script, returnByValue=True)
+        """The value of an expression in the page; of a promise that which it comes to."""
+        answer = self.call("Runtime.evaluate", expression=script, returnByValue=True, awaitPromise=True)
         if "exceptionDetails" in answer:
             raise RuntimeError(f"{script}: {answer['exceptionDetails']}")
         return answer["result"].get("value")
@@ -122,11 +126,31 @@ class Browser:
         for kind in ("mousePressed", "mouseReleased"):
             self.call("Input.dispatchMouseEvent", type=kind, x=x, y=y, button="left", clickCount=1)
 
-    def press(self, key: str, code: int) -> None:
-        """Presses a key and lets it go; `code` is its Windows key code."""
-        text = {"text": "\r"} if key == "Enter" else {"text": key} if len(key) == 1 else {}
-        self.call("Input.dispatchKeyEvent", type="keyDown", key=key, code=key, windowsVirtualKeyCode=code, **text)
-        self.call("Input.dispatchKeyEvent", type="keyUp", key=key, code=key, windowsVirtualKeyCode=code)
+    def click_at(self, x: float, y: float, button: str = "left", modifiers: int = 0) -> None:
+        """Clicks at a point of the page."""
+        self.drag(x, y, x, y, button, modifiers)
+
+    def drag(self, x: float, y: float, to_x: float, to_y: float, button: str = "left", modifiers: int = 0) -> None:
+        """Presses a button at a point, goes to another, and lets it go."""
+        def at(kind: str, x: float, y: float) -> None:
+            self.call("Input.dispatchMouseEvent", type=kind, x=x, y=y, button=button, clickCount=1, modifiers=modifiers)
+
+        at("mousePressed", x, y)
+        if (x, y) != (to_x, to_y):
+            for share in (0.3, 0.7, 1.0):
+                at("mouseMoved", x + share * (to_x - x), y + share * (to_y - y))
+        at("mouseReleased", to_x, to_y)
+
+    def wheel(self, x: float, y: float, by: float, modifiers: int = 0) -> None:
+        """Turns the wheel over a point."""
+        self.call("Input.dispatchMouseEvent", type="mouseWheel", x=x, y=y, deltaX=0, deltaY=by, modifiers=modifiers)
+
+    def press(self, key: str, code: int = 0, modifiers: int = 0) -> None:
+        """Presses a key and lets it go; `code` is its Windows key code, and `modifiers` adds 1 for Alt, 2 for Ctrl and 8 for Shift."""
+        text = {"text": "\r"} if key == "Enter" else {"text": key} if len(key) == 1 and not modifiers & 3 else {}
+        for kind in ("keyDown", "keyUp"):
+            own = text if kind == "keyDown" else {}
+            self.call("Input.dispatchKeyEvent", type=kind, key=key, code=key, windowsVirtualKeyCode=code, modifiers=modifiers, **own)
 
     def write(self, text: str) -> None:
         """Writes into the element that has the focus."""

@@ -17,12 +17,12 @@ signal.signal(signal.SIGINT, signal.default_int_handler)
 
 
 def _program(name: str) -> str | None:
-    """The program that the environment names, else the one that was built in this repository, else that of dist/."""
+    """The program that the environment names, else the one of these sources that stands in the checkout."""
     named = os.environ.get(name.upper())
     if named:
         return shutil.which(named)
-    places = TOP / "crates" / name / "out" / name, TOP / "dist" / "x86_64-linux" / name
-    return next((str(place) for place in places if place.is_file()), None)
+    found = subprocess.run([TOP / "tools" / "program", "--there", name], stdout=subprocess.PIPE, text=True).stdout.strip()
+    return found or None
 
 
 @pytest.fixture(scope="session")

@@ -3,19 +3,22 @@ name, with status 2, and never ends in a traceback. Some of the files are right 
 command may end well."""
 from __future__ import annotations
 
+import io
 import json
 import os
 import re
+import sys
 from pathlib import Path
 
 import pytest
 from backsim import commands
 from backsim.main import main
+from backsim.view.server import Pages
 from conftest import TOP
 
 C17 = TOP / "examples" / "c17"
-VARIABLES = "".join(f"$var wire 1 {code} {name} $end\n" for code, name in zip("!%&*+", "12367"))
-VCD = f"$timescale 1 ns $end\n$scope module top $end\n{VARIABLES}$upscope $end\n$enddefinitions $end\n#0\n0!\n1%\n0&\n0*\n0+\n#5\n1!\n"
+VARIABLES = "".join(f"$var wire 1 {code} {name} $end\n" for code, name in zip("!%&*+(", ("1", "2", "3", "6", "7", "22")))
+VCD = f"$timescale 1 ns $end\n$scope module top $end\n{VARIABLES}$upscope $end\n$enddefinitions $end\n#0\n0!\n1%\n0&\n0*\n0+\n1(\n#5\n1!\n"
 MODULE = {"creator": "Yosys", "modules": {"top": {
     "attributes": {"top": "1"}, "netnames": {"a": {"bits": [2], "attributes": {}}, "y": {"bits": [3], "attributes": {}}},
     "ports": {"a": {"direction": "input", "bits": [2]}, "y": {"direction": "output", "bits": [3]}},
@@ -24,6 +27,8 @@ MODULE = {"creator": "Yosys", "modules": {"top": {
 SDF = """(DELAYFILE (SDFVERSION "3.0") (DESIGN "c17") (TIMESCALE 1ns)
  (CELL (CELLTYPE "NAND2") (INSTANCE 22) (DELAY (ABSOLUTE (IOPATH A Y (1:2:3) (1:2:3)) (IOPATH B Y (2) (2))))))
 """
+VIEW = {"format": "backsim view 1", "files": [str(C17 / f"c17.{end}") for end in ("bench", "timing", "stim")],
+        "rows": [{"name": "22"}], "start": 0, "stop": 11}
 MISSING, FOLDER, UNREADABLE, LOOP, PART = "missing", "folder", "unreadable", "loop", "not a folder"
 
 
@@ -33,6 +38,7 @@ def good_files() -> dict[str, bytes]:
              "proof": "proof"}
     files = {kind: (C17 / f"c17.{end}").read_bytes() for kind, end in kinds.items()}
     files |= {"vcd": VCD.encode(), "patterns": b"00101\n10111\n", "faults": b"10 /0\n", "sdf": SDF.encode()}
+    files |= {"failures": b"9 22\n", "view": json.dumps(VIEW).encode()}
     files |= {"script": b"at 1 3\nwave 1 0 5\n", "blif": b".model c17\n.inputs 1 2 3 6 7\n.outputs 22 23\n.end\n", "json": json.dumps(MODULE).encode()}
     return files
 
@@ -72,13 +78,21 @@ COMMANDS: dict[str, list[list[str]]] = {
     "from-json": [["{json}", "{out}.bench", "{out}.timing"], ["{json}", "{out}.bench", "{out}.timing", "--vcd", "{vcd}", "--scope", "top"]],
     "from-sdf": [["{netlist}", "{sdf}"]],
     "faults": [["{netlist}", "{timing}", "{patterns}", "--period", "10", "--list", "{faults}", "--write", "{folder}"]],
+    "patterns": [["{netlist}", "{timing}", "--list", "{faults}", "--jobs", "1", "-o", "{out}"]],
+    "compact": [["{netlist}", "{timing}", "{patterns}", "--period", "10", "--list", "{faults}", "--jobs", "1", "-o", "{out}"]],
     "why": [["{netlist}", "{timing}", "{stimulus}", "--proof", "{proof}", "--html", "{out}.html"]],
     "draw": [["--replies", "{replies}", "-o", "{out}.svg"], ["--vcd", "{vcd}", "--scope", "top", "-o", "{out}.svg"]],
 }
 # those that start the program, of which the table tries fewer files
 WITH_PROGRAM: dict[str, list[list[str]]] = {
     "run": [["{netlist}", "{timing}", "{stimulus}", "{script}"], ["{netlist}", "{timing}", "{stimulus}", "{script}", "--jobs", "2"]],
+    "compare": [["{netlist}", "{timing}", "{vcd}", "top"]],
+    "ask": [["{netlist}", "{timing}", "{stimulus}"]],
+    "diagnose": [["{netlist}", "{timing}", "{patterns}", "{failures}", "--period", "10", "--list", "{faults}", "--jobs", "1"]],
+    "view": [["{netlist}", "{timing}", "{stimulus}", "--no-browser"], ["{view}", "--no-browser"]],
 }
+# what `ask` is asked
+QUESTIONS = "at 22 5\nwhy 22 5\nnames\n"
 # files that a command may take although it is of another kind, or rightly takes
 ACCEPTS_ANY = {("run", "script"), ("split", "script"), ("names", "journal"), ("names", "proof"), ("journal", "script")}
 
@@ -137,12 +151,19 @@ def test_bad_files(name: str, words: list[str], kind: str, tmp_path: Path, capfd
         check(status, capfd.readouterr().err, path, what, is_bad)
 
 
+def prepare(monkeypatch: pytest.MonkeyPatch, program: str) -> None:
+    """Has commands find the program, `ask` read the questions, and `view` end where it would answer its page until a signal comes."""
+    monkeypatch.setenv("BACKSIM", program)
+    monkeypatch.setattr(sys, "stdin", io.StringIO(QUESTIONS))
+    monkeypatch.setattr(Pages, "serve_forever", lambda pages: None)
+
+
 @pytest.mark.parametrize("name, words, kind", cases(WITH_PROGRAM))
 def test_bad_files_of_commands_that_start_the_program(name: str, words: list[str], kind: str, tmp_path: Path, capfd, program: str,
                                                       monkeypatch) -> None:
-    monkeypatch.setenv("BACKSIM", program)
     tried = ALWAYS | {what: SOMETIMES[what] for what in ("empty", "a blank line", f"a {kind} file cut in a line")}
     for number, (what, content) in enumerate(tried.items()):
+        prepare(monkeypatch, program)
         status, path = ended(name, words, kind, content, tmp_path / str(number))
         # where the program can't open a file, its own status is told
         status = 2 if status in (3, 5) else status
@@ -150,12 +171,22 @@ def test_bad_files_of_commands_that_start_the_program(name: str, words: list[str
         check(status, capfd.readouterr().err, path, what, is_bad)
 
 
-@pytest.mark.parametrize("name, words", [pytest.param(name, words, id=f"{name} {place}") for name, lists in COMMANDS.items()
-                                         for place, words in enumerate(lists)])
+def good(commands_of: dict[str, list[list[str]]]) -> list[object]:
+    return [pytest.param(name, words, id=f"{name} {place}") for name, lists in commands_of.items() for place, words in enumerate(lists)]
+
+
+@pytest.mark.parametrize("name, words", good(COMMANDS))
 def test_good_files(name: str, words: list[str], tmp_path: Path, capfd) -> None:
     """The table stands on files that the commands take."""
     if name == "draw":
         pytest.importorskip("matplotlib")
+    status, _ = ended(name, words, "", b"", tmp_path / "good")
+    assert status == 0, capfd.readouterr().err
+
+
+@pytest.mark.parametrize("name, words", good(WITH_PROGRAM))
+def test_good_files_of_commands_that_start_the_program(name: str, words: list[str], tmp_path: Path, capfd, program: str, monkeypatch) -> None:
+    prepare(monkeypatch, program)
     status, _ = ended(name, words, "", b"", tmp_path / "good")
     assert status == 0, capfd.readouterr().err
 

@@ -1,10 +1,7 @@
 """Stimuli and timings from dumps, BLIF, patterns and SDF, and dumps from replies, with values worked out by hand."""
 from __future__ import annotations
 
-from fractions import Fraction
-
 import pytest
-from backsim.convert.sdf import scale_of
 from backsim.convert.waves import changes_of
 from backsim.formats.stimulus import read_stimulus
 from backsim.formats.timing import Clock, read_timing
@@ -47,7 +44,7 @@ def refused(capsys, *words: object) -> str:
 
 def test_the_stimulus_of_a_dump(capsys, netlist, vcd) -> None:
     assert told(capsys, "from-vcd", netlist, vcd, "test.dut", "--ticks", 10) == (
-        "horizon 6\nset clk 0 1\nset e 0 0\nset vdd 0 1\nset clk 1 0\nset clk 2 1\nset d[0] 2 0\nset d[1] 2 1\nset clk 3 0\nset e 3 z\n"
+        "# unit 10 ps\nhorizon 6\nset clk 0 1\nset e 0 0\nset vdd 0 1\nset clk 1 0\nset clk 2 1\nset d[0] 2 0\nset d[1] 2 1\nset clk 3 0\nset e 3 z\n"
         "set clk 4 1\n")
 
 
@@ -74,7 +71,7 @@ def test_foreign_values_are_refused_with_their_place(value: str, capsys, netlist
 def test_a_dump_that_is_too_long_is_refused(capsys, netlist, write) -> None:
     path = write("d.vcd", HEADER + BODY + "#2000000\n")
     assert "its last time is 2000000 units, above 1000000" in refused(capsys, "from-vcd", netlist, path, "test.dut")
-    assert told(capsys, "from-vcd", netlist, path, "test.dut", "--ticks", 10).startswith("horizon 200000\n")
+    assert told(capsys, "from-vcd", netlist, path, "test.dut", "--ticks", 10).startswith("# unit 10 ps\nhorizon 200000\n")
 
 
 @pytest.mark.parametrize("line, cause", [("stuck clk 0 e 0 3", "a dump answers"), ("stats", "a dump answers"), ("at f 3", "f is not dumped"),
@@ -88,8 +85,8 @@ def test_a_script_that_a_dump_does_not_answer_is_refused(line: str, cause: str, 
 BLIF = ".model m\n.inputs clk d\n.outputs \\\npart.q\n.latch d part.q {edge} clk {first}\n.end\n"
 
 
-@pytest.mark.parametrize("edge, first, lines", [("re", "1", ["version 2", "clock clk 2 2", "default 1", "clocked part.q clk", "init part.q 1"]),
-                                                ("fe", "3", ["version 2", "clock clk_falls 1 2", "default 1", "clocked part.q clk_falls"])])
+@pytest.mark.parametrize("edge, first, lines", [("re", "1", ["# unit 10 ps", "version 2", "clock clk 2 2", "default 1", "clocked part.q clk", "init part.q 1"]),
+                                                ("fe", "3", ["# unit 10 ps", "version 2", "clock clk_falls 1 2", "default 1", "clocked part.q clk_falls"])])
 def test_the_timing_of_a_blif_file(edge: str, first: str, lines: list[str], capsys, netlist, write) -> None:
     # the clock rises at 20 and 40, and falls at 10 and 30, of 59 ticks
     start = "1!" if edge == "fe" else "x!"
@@ -160,29 +157,36 @@ def test_the_greatest_of_the_numbers(capsys, write) -> None:
     assert main(["from-sdf", C17, str(path), "--timing", str(base)]) == 0
     said = capsys.readouterr()
     # pin 0 of 10 has 3.5 and pin 1 has 4, both 4 when rounded up; of 11 the pins 3 and 6 are named by their nets
-    assert set(said.out.splitlines()) == {"version 2", "clock 5 10", "default NAND 9", "delay 10 4", "delay 11 7", "pin 11 0 5", "delay 16 1",
+    assert set(said.out.splitlines()) == {"# unit 10 ps", "version 2", "clock 5 10", "default NAND 9", "delay 10 4", "delay 11 7", "pin 11 0 5", "delay 16 1",
                                           "pin 19 1 3"}
     assert said.err.splitlines() == [
-        "left out: 1 INTERCONNECT, the first in line 8", "left out: 1 INCREMENT, the first in line 9", "left out: 1 TIMINGCHECK, the first in line 11",
-        "left out: 1 IOPATH of an instance that is no gate of the netlist, the first in line 11", "1 delays of 0 or less are taken as 1",
+        "left out: 1 INCREMENT, the first in line 9", "left out: 1 TIMINGCHECK, the first in line 11",
+        "left out: 1 IOPATH of an instance that is no gate of the netlist, the first in line 11",
+        "left out: 1 INTERCONNECT, which needs the ports of cells (--json), the first in line 8", "1 delays of 0 or less are taken as 1",
         "3 of 6 gates have no delay of the file, and keep the one that they had"]
 
 
 def test_another_unit(capsys, write) -> None:
     path = write("d.sdf", SDF)
-    # 35 ps and 40 ps are 18 and 20 units of 2 ps; but only 1, 10 and 100 are units
+    # 35 ps and 40 ps are 18 and 20 units of 2 ps
+    said = told(capsys, "from-sdf", C17, path, "--unit", "2ps")
+    assert said.startswith("# unit 2 ps\n") and "delay 10 20\n" in said and "pin 10 0 18\n" in said
     assert "delay 10 4000\npin" not in told(capsys, "from-sdf", C17, path, "--unit", "10 fs")
     assert "delay 10 40\n" in told(capsys, "from-sdf", C17, path, "--unit", "1 ps")
     assert "pin 10 0 35\n" in told(capsys, "from-sdf", C17, path, "--unit", "1 ps")
     assert "delay 10 1\n" in told(capsys, "from-sdf", C17, path, "--unit", "1ns")
-    assert "the unit 2 ps is none of" in refused(capsys, "from-sdf", C17, path, "--unit", "2 ps")
-    assert scale_of("100 us") == Fraction(1, 10_000)
+    base = write("t", "# unit 1 ps\n")
+    assert "delay 10 40\n" in told(capsys, "from-sdf", C17, path, "--timing", base)
+    assert "its unit of time is 10 ps, and that of the timing file is 1 ps" in refused(capsys, "from-sdf", C17, path, "--timing", base, "--unit", "10ps")
+    with pytest.raises(SystemExit):
+        main(["from-sdf", str(C17), str(path), "--unit", "0ps"])
+    assert "a unit of time is wanted" in capsys.readouterr().err
 
 
 def test_the_edge_of_a_flip_flop(capsys, write) -> None:
     netlist = write("n", "INPUT(d)\nOUTPUT(top.q[1])\ntop.q[1] = DFF(d)\n")
     path = write("d.sdf", '(DELAYFILE (DIVIDER /) (CELL (CELLTYPE "DFF") (INSTANCE top/q\\[1\\]) (DELAY (ABSOLUTE (IOPATH (posedge C) Q (2:3:4)) (IOPATH R Q (9))))))')
-    assert told(capsys, "from-sdf", netlist, path) == "default 1\ndelay top.q[1] 4\n"
+    assert told(capsys, "from-sdf", netlist, path) == "# unit 1 ns\ndefault 1\ndelay top.q[1] 4\n"
 
 
 @pytest.mark.parametrize("text, cause", [

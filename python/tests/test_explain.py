@@ -6,8 +6,8 @@ import pytest
 from backsim.errors import FormatError
 from backsim.formats.netlist import Kind
 from backsim.formats.proof import parse_proof, read_proof
-from backsim.pictures.explain import Explanation, explain
-from backsim.pictures.rules import Role, decides, gate_value, read_design
+from backsim.explanations.cells import CellGraph, explain
+from backsim.rules import Role, decides, gate_value, read_design
 from backsim.pictures.words import sentence_of
 from backsim.session import Session
 from conftest import TOP
@@ -16,13 +16,13 @@ from plain import Circuit, table
 X_PROOF = "why G17 4 x\ncell 13 1 2 x\ncell 15 1 2 x\ncell 16 2 3 x\ncell 8 3 4 x\ncell 4 4 5 x\nend\n"
 
 
-def edges(explanation: Explanation) -> set[tuple[str, str, int, bool]]:
+def edges(explanation: CellGraph) -> set[tuple[str, str, int, bool]]:
     """(effect, cause, time, matters) of each edge."""
     return {(explanation.nodes[edge.effect].name, explanation.nodes[edge.cause].name, edge.time, edge.matters)
             for edge in explanation.edges}
 
 
-def explained(files: list[str], text: str) -> Explanation:
+def explained(files: list[str], text: str) -> CellGraph:
     return explain(read_design(*files), parse_proof(text.encode(), "proof"))
 
 

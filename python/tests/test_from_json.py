@@ -185,7 +185,7 @@ def test_cells_that_are_gates_of_several_kinds(kind: str, pins: str, function, t
 @pytest.mark.parametrize("cells, cause", [
     ({"g": cell("$add", A=2, B=3, Y=5)}, "the cell g of type $add is no gate"), ({"u": cell("alu", A=2, Y=5)}, "the cell u of type alu is no gate"),
     ({"q": cell("$_DLATCH_P_", "Q", E=2, D=3, Q=5)}, "the register y can't be had, of type $_DLATCH_P_: it is a latch"),
-    ({"q": cell("$_DFFSR_PPP_", "Q", C=2, S=3, R=4, D=3, Q=5)}, "an asynchronous set and an asynchronous reset"),
+    ({"q": cell("$_DFFSR_PPP_", "Q", C=2, S=3, R=4, D=3, Q=5)}, "the register y has an asynchronous reset: say by --async-reset"),
     ({"q": cell("$_ALDFF_PP_", "Q", C=2, L=3, AD=4, D=3, Q=5)}, "loads a value asynchronously"),
     ({"q": cell("$dff", "Q", CLK=2, D=3, Q=5)}, "run `simplemap`"),
     ({"q": cell("$_DFF_P_", "Q", C="1", D=3, Q=5)}, "has a constant for a clock"),

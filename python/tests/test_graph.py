@@ -8,9 +8,9 @@ import xml.etree.ElementTree as ElementTree
 import pytest
 from backsim.errors import MissingExtra
 from backsim.formats.proof import parse_proof
-from backsim.pictures.explain import Explanation, explain
+from backsim.explanations.cells import CellGraph, explain
 from backsim.pictures.graph import dot_text, picture_of
-from backsim.pictures.rules import read_design
+from backsim.rules import read_design
 from backsim.pictures.words import shortened
 
 X_PROOF = "why G17 4 x\ncell 13 1 2 x\ncell 15 1 2 x\ncell 16 2 3 x\ncell 8 3 4 x\ncell 4 4 5 x\nend\n"
@@ -19,7 +19,7 @@ needs_dot = pytest.mark.skipif(shutil.which("dot") is None, reason="the program 
 
 
 @pytest.fixture
-def graph(example) -> Explanation:
+def graph(example) -> CellGraph:
     return explain(read_design(*example("s27")), parse_proof(X_PROOF.encode(), "proof"))
 
 

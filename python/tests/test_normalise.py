@@ -8,7 +8,7 @@ import subprocess
 import pytest
 from backsim.convert.dialect import MuxOrder, parse_dialect
 from backsim.errors import FormatError
-from backsim.formats.netlist import Kind, Netlist
+from backsim.formats.netlist import Kind, Netlist, parse_netlist
 from backsim.main import main
 from stand_in import gate_value
 from verilog_tools import icarus, in_order, need
@@ -127,7 +127,9 @@ def test_a_table_of_ten_pins_and_a_gate_of_a_hundred() -> None:
 
 @pytest.mark.parametrize("line, cause", [
     ("q = DFFRSE(a, a, gnd, gnd, gnd)", "the flip-flop q has a reset, set or enable that is not gnd"), ("y = MUX(a, b)", "a MUX has three pins"),
-    ("y = LUT 0x123 (a, b)", "more than the 4 bits"), ("y = LUT (a, b)", "LUT 0xTABLE"), ("y = LATCH(a)", "the kind LATCH is none of"),
+    ("y = LUT 0x123 (a, b)", "more than the 4 bits"), ("y = LUT (a, b)", "LUT 0xTABLE"), ("y = LATCH(a, b)", "y is a latch (LATCH), which no netlist has"),
+    ("y = MAJ(a, b)", "a MAJ has 3, 5 or 7 pins, and this one 2"), ("y = SDFF(a, b)", "an SDFF has the pin data, or data, scan input and scan enable"),
+    ("y = ONE(a)", "the kind ONE is none of"), ("y = AND(a, ONE)", "no line defines: ONE"), ("y = FOO(a)", "the kind FOO is none of"),
     ("y = NOT(a, b)", "NOT has 2 pins"), ("y = AND()", "AND has 0 pins"), ("y = AND(a", "the line is none of"), ("y = nowhere", "no line defines: nowhere"),
     ("y = AND(a, n)", "no line defines: n"), ("a = NOT(b)", "an earlier line defines this signal: a"), ("y AND(a)", "the line is none of"),
     ("y = LUT 0xzz (a)", "LUT 0xTABLE"), ("y\xff = NOT(a)", "the line is none of"), ("y = AND(a, \xff)", "the line is none of")])
@@ -141,6 +143,29 @@ def test_a_name_that_the_file_defines_is_no_constant() -> None:
     netlist = made("INPUT(a)\nvdd = NOT(a)\ny = AND(vdd, CONST1)\nz = gnd\nOUTPUT(vdd$1)\nvdd$1 = NOT(a)\n")
     assert netlist.gates["y"].pins == ("vdd", "vdd$2")
     assert netlist.inputs == ("a", "vdd$2", "gnd")
+
+
+def test_majorities_and_constants_as_kinds() -> None:
+    netlist = made("INPUT(a)\nINPUT(b)\nINPUT(c)\ny = MAJ(a, b, c)\nk = ONE()\nl = zero\nm = MAJ(a, b, c, k, l)\n")
+    for a, b, c in itertools.product("01x", repeat=3):
+        known = [value for value in (a, b, c) if value != "x"]
+        expected = next((value for value in "01" if known.count(value) > 1), "x")
+        found = values(netlist, {"a": a, "b": b, "c": c})
+        # of five pins with a 1 and a 0 the other three decide
+        assert (found["y"], found["k"], found["l"], found["m"]) == (expected, "1", "0", expected)
+
+
+def test_a_scan_flip_flop_takes_one_of_two(capsys, tmp_path) -> None:
+    path = tmp_path / "n"
+    path.write_text("INPUT(d)\nINPUT(s)\nINPUT(e)\nq = SDFF(d, s, e)\nr = SDFF(q, q, e)\np = SDFF(d)\n")
+    assert main(["normalise", str(path)]) == 0
+    said = capsys.readouterr()
+    assert said.err == f"{path}:4: an SDFF is taken as SDFF(data, scan input, scan enable)\n"
+    netlist = parse_netlist(said.out.encode(), "n")
+    assert [gate.name for gate in netlist.flops()] == ["q", "r", "p"] and netlist.gates["p"].pins == ("d",)
+    pin = netlist.gates["q"].pins[0]
+    for d, s, e in itertools.product("01", repeat=3):
+        assert values(netlist, {"d": d, "s": s, "e": e, "q": "x"})[pin] == (s if e == "1" else d)
 
 
 def test_a_mux_is_said_once(capsys, tmp_path) -> None:

@@ -7,9 +7,10 @@ from html.parser import HTMLParser
 
 import pytest
 from backsim.formats.proof import parse_proof
-from backsim.pictures.explain import explain
+from backsim.explanations.cells import explain
+from backsim.explanations.explanation import Explanation
 from backsim.pictures.page import page_of
-from backsim.pictures.rules import read_design
+from backsim.rules import read_design
 from browser import Browser, browser_path
 
 X_PROOF = b"why G17 4 x\ncell 13 1 2 x\ncell 15 1 2 x\ncell 16 2 3 x\ncell 8 3 4 x\ncell 4 4 5 x\nend\n"
@@ -203,3 +204,19 @@ def test_names_cannot_break_the_page(browser, write, tmp_path) -> None:
     browser.open(path)
     assert browser.value(CURRENT) == f"{name} = 1 1 ≤ t < 6"
     assert browser.value("document.querySelectorAll('b').length") == 0
+
+
+def test_it_begins_with_the_causes_and_a_step_opens_to_its_cells(browser, example, tmp_path) -> None:
+    explanation = Explanation(read_design(*example("s27")), "G17", 4, (parse_proof(X_PROOF, "proof"),))
+    path = tmp_path / "why.html"
+    path.write_text(page_of(explanation.graph, 30, explanation), encoding="utf-8")
+    browser.open(path)
+    assert browser.value("[...document.querySelectorAll('#summary .sentences li')].map((line) => line.textContent)") == [
+        "x: 2 signals had no time to get a value, their delays had not passed: G8, G12"]
+    assert browser.value("[...document.querySelectorAll('#summary > details:first-of-type .step b')].map((step) => step.textContent)") == [
+        "G17 = x", "G11 = x", "G9 = x", "G16 = x", "G8 = x"]
+    third = "#summary > details:first-of-type li:nth-child(3)"
+    assert not browser.value(f"document.querySelector('{third} button').checkVisibility()")
+    browser.click(f"{third} summary")
+    browser.click(f"{third} button")
+    is_at(browser, "G9 = x")

@@ -5,7 +5,7 @@ import pytest
 from backsim.errors import FormatError
 from backsim.formats.journal import events_of
 from backsim.needs import needs_of
-from backsim.pictures.rules import read_design
+from backsim.rules import read_design
 from backsim.profile import MOST_STRETCHES, Profile, Room, Stretch, profile_of, profile_of_events
 from backsim.profile_text import profile_lines
 from backsim.session import Session

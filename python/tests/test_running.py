@@ -180,7 +180,7 @@ def test_split_and_join_are_one_session(program: str, example, tools, write, tmp
     run = tools("join", parts)
     assert (run.returncode, run.stdout) == (0, session(program, example("s27"), script, tmp_path))
     again = tools("split", script, 7, parts)
-    assert again.returncode == 2 and again.stderr.decode() == f"{parts}: File exists\n"
+    assert again.returncode == 2 and again.stderr.decode() == f"{parts}: it is there already\n"
 
 
 JOINED = {"1.script": "at a 1\nwave b 0 5\n", "1.replies": "at a 1 0\nwave b 0 5\n0 x\nend\n",

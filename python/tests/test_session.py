@@ -1,19 +1,26 @@
 """Sessions with the program. What is expected is worked out by hand, or by the plain simulator of `stand_in`."""
 from __future__ import annotations
 
+import os
+import pickle
+import signal
 import subprocess
 import sys
+import threading
 from pathlib import Path
+from xml.etree import ElementTree
 
 import pytest
 from backsim import (At, Budget, Dump, Fault, First, FormatError, Past, Proof, Refused, Session, SessionError, Stats, Stuck, Trimmed,
                      Unknown, UsageError, Wave, parse_netlist, read_netlist)
+from backsim.errors import NoValue
 from backsim.formats.proof import write_proof
 from backsim.formats.script import AtLine, BadScriptLine, Go, WaveLine
 from backsim.formats.stimulus import Stimulus
 from backsim.formats.timing import Timing
 from backsim.formats.vcd import read_vcd
 from backsim.values import BadLine
+from conftest import TOP
 from stand_in import Circuit
 
 STAND_IN = str(Path(__file__).with_name("stand_in.py"))
@@ -196,7 +203,7 @@ def test_bad_lines_have_their_numbers(example, program: str) -> None:
     (lambda session: session.at("a b", 3), "is no name"), (lambda session: session.at("", 3), "is no name"),
     (lambda session: session.at("22", -1), "is no time"), (lambda session: session.at("22", 1.5), "is no time"),
     (lambda session: session.wave("22", 0, 5, 500_001), "is no budget"), (lambda session: session.stuck("10", "x", "22", 0, 5), "stuck at"),
-    (lambda session: session.trim(70_000), "trim takes"), (lambda session: session.vcd("a b"), "can name this file"),
+    (lambda session: session.trim(70_000), "is no number of cells"), (lambda session: session.vcd("a b"), "can name this file"),
     (lambda session: session.first("22", 2, 0, 5), "is no value")])
 def test_what_no_line_can_say(example, ask, cause: str) -> None:
     with Session(*example("c17"), program=STAND_IN) as session, pytest.raises(UsageError, match=cause):
@@ -275,10 +282,8 @@ def test_large_pages_unless_the_user_says_otherwise(own: str | None, program: st
 
 def test_a_session_that_was_closed(example) -> None:
     session = Session(*example("c17"), program=STAND_IN)
-    journal = Path(session.journal)
     session.close()
     session.close()
-    assert not journal.parent.exists()
     with pytest.raises(UsageError, match="closed"):
         session.at("22", 3)
 
@@ -290,13 +295,13 @@ def test_a_netlist_that_was_read_may_be_given(example) -> None:
 
 
 def test_options_out_of_range(example) -> None:
-    with pytest.raises(UsageError, match="shards must be from 1 to 64"):
+    with pytest.raises(UsageError, match="65 is no number of shards: a whole number from 1 to 64"):
         Session(*example("c17"), program=STAND_IN, shards=65)
 
 
 def test_the_readers_error_is_one_of_the_session_too(example, write) -> None:
     with Session(*example("c17"), program=STAND_IN) as session:
-        session._netlist_path = str(write("gone", "y = AND(\n"))
+        session._files[0] = str(write("gone", "y = AND(\n"))
         assert session.at("G22", 3) == Unknown("G22")
         with pytest.raises(FormatError):
             session.names()
@@ -311,3 +316,92 @@ def test_values_of_a_wave() -> None:
             wave.value_at(time)
     assert Wave("a", 5, 5, ()) == Wave("a", 5, 5, ()) != wave
     assert sys.getsizeof(wave) < 100
+
+
+@pytest.mark.parametrize("ask", [
+    lambda session: session.trim(50.0), lambda session: session.trim(True), lambda session: session.at("22", True),
+    lambda session: session.at("22", 3.0), lambda session: session.wave("22", 0, 5, True), lambda session: session.first("22", 0, False, 5),
+    lambda session: session.explain("22", True), lambda session: session.batch().at("22", 3.0)])
+def test_what_is_no_whole_number_is_refused_and_the_session_stays(example, ask) -> None:
+    with Session(*example("c17"), program=STAND_IN) as session:
+        with pytest.raises(UsageError, match="a whole number"):
+            ask(session)
+        assert session.at("22", 3).value == "0"
+
+
+def test_numbers_of_numpy(example, program) -> None:
+    numpy = pytest.importorskip("numpy", reason="numpy is missing (Debian's package python3-numpy)")
+    with Session(*example("c17"), program=program, shards=numpy.int64(2)) as session:
+        wave = session.wave("22", numpy.int64(0), numpy.uint8(11), numpy.int32(50))
+        assert session.trim(numpy.int16(500)) == Trimmed(0)
+        with pytest.raises(UsageError, match="is no time"):
+            session.at("22", numpy.float64(3))
+    assert wave == Wave("22", 0, 11, ((0, "x"), (2, "0"))) and len(wave) == 2 and list(wave) == [(0, 2, "x"), (2, 11, "0")]
+    runs = wave.to_numpy()
+    assert runs["start"].tolist() == [0, 2] and runs["stop"].tolist() == [2, 11] and runs["value"].tolist() == ["x", "0"]
+
+
+def test_a_table_of_pandas() -> None:
+    pytest.importorskip("pandas", reason="pandas is missing (Debian's package python3-pandas)")
+    table = Wave("b[1:0]", 0, 9, ((0, "x1"), (4, "10"))).to_pandas()
+    assert table["value"].tolist() == ["x1", "10"] and table["number"].isna().tolist() == [True, False] and table["number"][1] == 2
+    assert Wave("b", 0, 9, ((0, "1" * 70),)).to_pandas()["number"][0] == 2 ** 70 - 1
+
+
+def test_notebooks_show_waves() -> None:
+    wave = Wave("b<c>", 0, 9, ((0, "x"), (4, "1"), (6, "z")))
+    root = ElementTree.fromstring(wave._repr_svg_())
+    assert {child.tag.rpartition("}")[2] for child in root} >= {"polygon", "polyline", "text"} and "b<c>" in "".join(root.itertext())
+    assert "<td>4</td><td>6</td><td>1</td>" in wave._repr_html_() and "b<c>" not in wave._repr_html_()
+    assert "<svg" in Wave("b", 3, 3, ())._repr_html_() and "stuck at 1" in Stuck("s", "1", wave)._repr_html_()
+
+
+def test_what_has_no_value_says_why(example, program) -> None:
+    with Session(*example("c17"), program=program) as session:
+        answers = session.at("G22", 3), session.at("22", 99)
+    for answer, said in zip(answers, ("the netlist has no signal G22; near it: 22", "the time 99 was asked, which is after the horizon")):
+        for use in (lambda: answer.value, lambda: answer.changes, lambda: list(answer)):
+            with pytest.raises(NoValue, match=said):
+                use()
+        assert not hasattr(answer, "value") and pickle.loads(pickle.dumps(answer)) == answer
+    with pytest.raises(AttributeError, match="3 evaluations did not suffice for 22"):
+        Budget("22", 3).value
+
+
+def test_threads_share_a_session(example) -> None:
+    """Each thread gets its own answers, whatever the others ask."""
+    files = example("c17")
+    rows = Circuit(*files).rows()
+    wrong: list[object] = []
+
+    def ask(session: Session, seed: int) -> None:
+        for place in range(40):
+            time = (seed + place) % 11
+            with session.batch() as batch:
+                asked = [batch.at(name, time) for name in ("22", "23", "10")]
+            answers = [session.at("16", time), *(one.result() for one in asked)]
+            wrong.extend(answer for answer in answers if answer.value != rows[time][answer.name])
+
+    with Session(*files, program=STAND_IN) as session:
+        threads = [threading.Thread(target=ask, args=(session, seed)) for seed in range(6)]
+        for thread in threads:
+            thread.start()
+        for thread in threads:
+            thread.join(60)
+        assert not any(thread.is_alive() for thread in threads) and not wrong
+
+
+@pytest.mark.parametrize("ends", ["term", "kill", "exit", "close"])
+def test_no_folder_stays_behind(example, program, tmp_path, ends: str) -> None:
+    """A session that nobody closes, over a netlist that was read, in a process that ends by itself or by a signal."""
+    text = ("import sys\nfrom backsim import Session, read_netlist\n"
+            f"session = Session(read_netlist({example('c17')[0]!r}), *{example('c17')[1:]!r}, program={program!r})\n"
+            "print(session.at('22', 3).value, open(session.journal).readline().split()[0], flush=True)\n"
+            + ("session.close()\n" if ends == "close" else "sys.stdin.readline()\n"))
+    environment = os.environ | {"PYTHONPATH": str(TOP / "python"), "TMPDIR": str(tmp_path)}
+    process = subprocess.Popen([sys.executable, "-c", text], env=environment, stdin=subprocess.PIPE, stdout=subprocess.PIPE)
+    assert process.stdin and process.stdout and process.stdout.readline() == b"0 journal\n"
+    if ends in ("term", "kill"):
+        process.send_signal(signal.SIGTERM if ends == "term" else signal.SIGKILL)
+    process.communicate(b"\n", timeout=60)
+    assert list(tmp_path.iterdir()) == []

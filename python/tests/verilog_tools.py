@@ -14,11 +14,11 @@ def need(program: str, package: str) -> None:
         pytest.skip(f"{program} is not there (Debian's package {package})")
 
 
-def icarus(folder: Path, *sources: Path, top: str, words: tuple[str, ...] = ()) -> str:
+def icarus(folder: Path, *sources: Path, top: str, words: tuple[str, ...] = (), warns: bool = True) -> str:
     """What a design writes to standard output when Icarus Verilog runs it in a folder."""
     need("iverilog", "iverilog")
     compiled = folder / f"{top}.vvp"
-    subprocess.run(["iverilog", "-g2005", "-Wall", "-s", top, "-o", compiled, *sources], check=True, capture_output=True, cwd=folder)
+    subprocess.run(["iverilog", "-g2005", *["-Wall"] * warns, "-s", top, "-o", compiled, *sources], check=True, capture_output=True, cwd=folder)
     return subprocess.run(["vvp", "-n", compiled, *words], check=True, capture_output=True, text=True, cwd=folder).stdout
 
 

@@ -4,7 +4,10 @@ from __future__ import annotations
 import argparse
 from pathlib import Path
 
-from ..errors import UsageError
+from ..arguments import moment, unit_of_session
+from ..errors import WordsError
+from ..formats.units import Unit, units_of
+from ..formats.vcd import Selection, read_vcd
 from ..pictures.figures import FORMS
 from ..pictures.files import form_of, write_picture
 from ..pictures.rows import RADIXES, with_buses
@@ -30,12 +33,13 @@ def add_arguments(parser: argparse.ArgumentParser) -> None:
     source.add_argument("--vcd", type=Path, metavar="FILE", help="draw the waves of this dump")
     parser.add_argument("--scope", metavar="SCOPE",
                         help="the scope of the dump, as top.dut; that of the first variable where it is left out")
-    parser.add_argument("--from", dest="start", type=int, metavar="T", help="the first time")
-    parser.add_argument("--to", dest="stop", type=int, metavar="T", help="the time before which the diagram ends")
+    parser.add_argument("--from", dest="start", type=moment, metavar="T", help="the first time, in units, or such as 15ns where "
+                        "the files state the unit")
+    parser.add_argument("--to", dest="stop", type=moment, metavar="T", help="the time before which the diagram ends")
     parser.add_argument("--budget", type=int, metavar="N", help="how many points a session may evaluate for each wave")
     parser.add_argument("--radix", choices=RADIXES, default="hex", help="how values of buses are written, hex where it is left out")
     parser.add_argument("--bits", action="store_true", help="draw the bits of a bus in rows of their own where no bus is named")
-    parser.add_argument("--mark", type=int, action="append", default=[], metavar="T", help="a vertical line at this time; may be repeated")
+    parser.add_argument("--mark", type=moment, action="append", default=[], metavar="T", help="a vertical line at this time; may be repeated")
     parser.add_argument("--title", default="", metavar="TEXT")
     parser.add_argument("--output", "-o", type=Path, required=True, metavar="FILE", help="the picture, .svg or .png")
 
@@ -43,19 +47,31 @@ def add_arguments(parser: argparse.ArgumentParser) -> None:
 def run(arguments: argparse.Namespace) -> int:
     form = form_of(arguments.output, FORMS)
     if arguments.scope and not arguments.vcd:
-        raise UsageError("--scope goes with --vcd")
+        raise WordsError("--scope goes with --vcd")
     names = arguments.words
+    unit = _unit_of(arguments, names)
+    start, stop, *marks = (time if time is None else units_of(time, unit) for time in (arguments.start, arguments.stop, *arguments.mark))
     if arguments.replies:
         rows = chosen(rows_of_replies(arguments.replies), names, arguments.replies)
     elif arguments.vcd:
         rows = rows_of_vcd(arguments.vcd, arguments.scope, names)
     else:
         if len(names) < 4:
-            raise UsageError("say NETLIST TIMING STIMULUS and the names of the signals, or --replies FILE, or --vcd FILE")
-        rows = rows_of_session(names[:3], names[3:], arguments.start, arguments.stop, arguments.budget)
+            raise WordsError("say NETLIST TIMING STIMULUS and the names of the signals, or --replies FILE, or --vcd FILE")
+        rows = rows_of_session(names[:3], names[3:], start, stop, arguments.budget)
     if not arguments.bits:
         rows = with_buses(rows)
-    picture = waves_picture(rows, form, start=arguments.start, stop=arguments.stop, radix=arguments.radix, marks=arguments.mark,
+    picture = waves_picture(rows, form, start=start, stop=stop, radix=arguments.radix, marks=[mark for mark in marks if mark is not None],
                             title=arguments.title)
     write_picture(arguments.output, picture)
     return 0
+
+
+def _unit_of(arguments: argparse.Namespace, names: list[str]) -> Unit | None:
+    """The unit of what is drawn, where a time is said in seconds: a tick of the dump, or what the files of a session state."""
+    if not any(isinstance(time, str) for time in (arguments.start, arguments.stop, *arguments.mark)):
+        return None
+    if arguments.vcd:
+        vcd = read_vcd(arguments.vcd, lambda header: Selection(set(), 0, 0))
+        return Unit(vcd.ticks, vcd.unit)
+    return unit_of_session(names[1], names[2]) if not arguments.replies and len(names) > 2 else None

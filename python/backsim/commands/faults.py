@@ -1,61 +1,64 @@
-"""Tells which patterns show which stuck-at faults."""
+"""Tells which patterns show which stuck-at and transition faults."""
 from __future__ import annotations
 
 import argparse
-import os
-import tempfile
 from collections.abc import Sequence
 from pathlib import Path
 
 from ..arguments import add_program, count_of
 from ..bars import Bar
 from ..convert.output import say, whole_text
-from ..convert.patterns import read_patterns, stimulus_of
-from ..errors import UsageError
+from ..errors import UsageError, WordsError, type_of_path
+from ..faults import looks as looks_of
 from ..faults.asking import solve_all
-from ..faults.branches import Made, with_branches
-from ..faults.bundle import read_bundle, write_bundle, write_circuit
-from ..faults.collapse import FaultClass, collapse, single
+from ..faults.bundle import read_bundle, write_bundle
+from ..faults.collapse import FaultClass
+from ..faults.confirming import confirm
 from ..faults.coverage import Coverage
-from ..faults.lists import read_faults, write_faults
+from ..faults.dictionary import Dictionary
+from ..faults.finding import Finder, finder_of
+from ..faults.lists import write_faults
 from ..faults.model import Lines
-from ..faults.plan import Good, Outcome, Plan
-from ..formats.netlist import Netlist, read_netlist
+from ..faults.plan import Outcome, Plan
+from ..faults.proving import Kept, prove_left
+from ..faults.request import Looks, add_circuit, add_faults, add_jobs, add_looks, asked_files, classes_of, jobs_of, read_looks
+from ..faults.sequential import Detection
+from ..faults.stopping import stoppable
 from ..formats.script import MOST_BUDGET
-from ..formats.stimulus import MOST_TIME, Stimulus, read_stimulus
-from ..formats.text import read_bytes, rows_of
-from ..formats.timing import read_timing
+from ..main import INTERRUPTED
 
 HELP = "tells which patterns show which stuck-at faults, of stems and branches, and the coverage"
 EXAMPLE = """  backsim-tools faults c17.bench c17.timing patterns.txt --period 10
   backsim-tools faults c17.bench c17.timing patterns.stim --times 9 19 29 39 --left missed.faults
 
-patterns.txt has a line of 0, 1 and x for each pattern, the inputs in order. Status 1: a question was answered by its budget, or a
-reply is missing."""
+patterns.txt has a line of 0, 1 and x for each pattern, the inputs in order. Faults are found by simulation, and each that is found is
+confirmed by a stuck line of the program. Status 1: a question was answered by its budget, or a reply is missing. Status 130: SIGINT or
+SIGTERM came; what was known is written, and marked as partial."""
 _MOST_SAID = 20
-_MOST_JOBS = 1024
+_MOST_DROP = 1000
+# what a question that confirms may need where it works out the past of flip-flops; ten times as much would take minutes in vain
+_SEQUENTIAL_BUDGET = 50_000
 
 
 def add_arguments(parser: argparse.ArgumentParser) -> None:
-    parser.add_argument("netlist", type=Path, metavar="NETLIST")
-    parser.add_argument("timing", type=Path, metavar="TIMING")
-    parser.add_argument("patterns", type=Path, metavar="PATTERNS", help="patterns, or a stimulus file, whose first line is `horizon`")
-    parser.add_argument("--times", nargs="+", default=[], metavar="TIME", help="when the tester looks: times, or FROM:TO:STEP "
-                        "with TO itself; with patterns and without times, one unit before the next pattern")
-    parser.add_argument("--period", type=count_of(1, MOST_TIME), metavar="P", help="the time from one pattern to the next")
-    parser.add_argument("--first", type=count_of(0, MOST_TIME), default=0, metavar="T",
-                        help="the time of the first pattern, 0 where it is left out")
-    parser.add_argument("--list", type=Path, metavar="FILE", help="the faults in question, a line `NAME /0` or `FROM->TO /1` for each; "
-                        "all where it is left out")
-    parser.add_argument("--stems", action="store_true", help="no faults of branches")
-    parser.add_argument("--uncollapsed", action="store_true", help="asks for each fault, also where the gates' tables say that two are one")
-    parser.add_argument("--budget", type=count_of(0, MOST_BUDGET), default=MOST_BUDGET, metavar="N",
-                        help=f"evaluations for a question, {MOST_BUDGET} where it is left out")
-    parser.add_argument("--jobs", type=count_of(1, _MOST_JOBS), metavar="N", help="sessions beside one another; as many as there "
-                        "are processors where it is left out")
+    add_circuit(parser)
+    add_looks(parser)
+    add_faults(parser)
+    parser.add_argument("--transition", action="store_true", help="faults of lines that are slow to rise or to fall, `NAME /str` and `NAME /stf`, "
+                        "in place of stuck ones; of circuits without flip-flops")
+    parser.add_argument("--drop", type=count_of(1, _MOST_DROP), metavar="N", help="follows a fault until N times have shown it, 1 where "
+                        "it is left out, and counts the faults that N times show")
+    parser.add_argument("--budget", type=count_of(0, MOST_BUDGET), metavar="N",
+                        help=f"evaluations for a question, {MOST_BUDGET} where it is left out, but {_SEQUENTIAL_BUDGET} for one that confirms "
+                        "a fault of a circuit with flip-flops")
+    add_jobs(parser)
     add_program(parser)
+    parser.add_argument("--prove-left", type=Path, metavar="FILE", help="asks the program also for the faults that simulation does not show; FILE "
+                        "keeps what came of each, and where it is there already the work goes on behind it")
     parser.add_argument("--csv", type=Path, metavar="FILE", help="a row for each fault: its class, the first time "
-                        "and an output that shows it")
+                        "and an output that shows it, how many times do, and whether the program confirms it")
+    parser.add_argument("--dictionary", type=Path, metavar="FILE", help="a row for each fault and each time that shows it, with the outputs; "
+                        "each fault is followed through all times, or until --drop N have shown it")
     parser.add_argument("--shown", type=Path, metavar="FILE", help="writes the list of the faults that are shown")
     parser.add_argument("--left", type=Path, metavar="FILE", help="writes the list of the faults that are not shown")
     parser.add_argument("--write-list", type=Path, metavar="FILE", help="writes the list of the faults that are asked for, a class by one, "
@@ -67,83 +70,138 @@ def add_arguments(parser: argparse.ArgumentParser) -> None:
 
 
 def run(arguments: argparse.Namespace) -> int:
-    netlist = read_netlist(arguments.netlist)
-    timing = read_timing(arguments.timing, netlist)
-    stimulus, usual_times = _stimulus_of(arguments, netlist)
-    lines = Lines(netlist)
-    classes = _classes_of(arguments, lines)
+    with stoppable():
+        return _run(arguments)
+
+
+def _run(arguments: argparse.Namespace) -> int:
+    looks = read_looks(arguments)
+    lines = Lines(looks.circuit.netlist)
+    classes = classes_of(arguments, lines, arguments.transition)
     if arguments.write_list:
         with whole_text(arguments.write_list) as stream:
             write_faults((own.shown_as for own in classes), lines, stream)
         return 0
-    if not netlist.outputs:
+    if not looks.circuit.netlist.outputs:
         raise UsageError(f"{arguments.netlist}: the netlist has no OUTPUT, so nothing shows a fault")
-    made = with_branches(netlist, timing, stimulus, (own.asked.site for own in classes))
-    plan = Plan(netlist, made, classes, _times_of(arguments, stimulus, usual_times), arguments.budget)
+    if (arguments.write or arguments.read) and any(own.asked.is_transition for own in classes):
+        raise WordsError("--write and --read are for stuck-at faults alone")
+    plan = Plan.of(looks.circuit, classes, looks.times, MOST_BUDGET if arguments.budget is None else arguments.budget)
     if arguments.write:
         say(f"{arguments.write}: {write_bundle(plan, arguments.write)} scripts")
         return 0
-    good, outcomes = read_bundle(plan, arguments.read) if arguments.read else _ask(arguments, plan, made)
-    return _tell(arguments, Coverage(plan, lines, outcomes), good)
+    if arguments.read:
+        good, outcomes = read_bundle(plan, arguments.read)
+        return _tell(arguments, Coverage(plan, lines, outcomes, is_simulated=False), good.unanswered)
+    search = _Search(arguments, looks, lines, plan)
+    is_partial = False
+    try:
+        search.run()
+    except KeyboardInterrupt:
+        is_partial = True
+    if search.dictionary is not None:
+        with whole_text(arguments.dictionary) as stream:
+            search.dictionary.write(search.coverage(), stream, is_partial)
+    status = _tell(arguments, search.coverage(), search.unanswered, is_partial)
+    if search.unconfirmed:
+        say(f"{search.unconfirmed} that are shown need more than {search.budget} evaluations to be confirmed, so simulation alone says it (--budget)")
+    return INTERRUPTED if is_partial else 1 if search.unconfirmed else status
 
 
-def _stimulus_of(arguments: argparse.Namespace, netlist: Netlist) -> tuple[Stimulus, list[int]]:
-    """The stimulus, and the times at which a tester looks who is told none."""
-    row = next(rows_of(read_bytes(arguments.patterns)), None)
-    if row is not None and row.words[0] == "horizon":
-        return read_stimulus(arguments.patterns, netlist), []
-    patterns = read_patterns(arguments.patterns, netlist)
-    if arguments.period is None:
-        raise UsageError("backsim-tools faults: patterns want --period P, the time from one to the next")
-    times = [arguments.first + (number + 1) * arguments.period - 1 for number in range(len(patterns.words))]
-    return stimulus_of(patterns, netlist, arguments.period, arguments.first), times
+class _Search:
+    """Finds, confirms and, where it is wanted, proves; `coverage` is what is known so far."""
+
+    def __init__(self, arguments: argparse.Namespace, looks: Looks, lines: Lines, plan: Plan) -> None:
+        self._arguments, self._looks, self._lines, self._plan = arguments, looks, lines, plan
+        self._jobs = jobs_of(arguments)
+        self._kept = Kept(arguments.prove_left, plan, lines) if arguments.prove_left else None
+        self._outcomes = {own: Outcome() for own in plan.classes}
+        self._is_simulated = True
+        self.dictionary = Dictionary(len(plan.classes)) if arguments.dictionary else None
+        self.unanswered: list[str] = []
+        self.unconfirmed = 0
+        self.budget = _SEQUENTIAL_BUDGET if arguments.budget is None and looks.circuit.netlist.flops() else plan.budget
+
+    def coverage(self) -> Coverage:
+        return Coverage(self._plan, self._lines, self._outcomes, self._arguments.drop or 1, self._is_simulated)
+
+    def run(self) -> None:
+        finder = self._finder()
+        with asked_files(self._arguments, self._looks, self._plan.made) as files:
+            if finder is None:
+                self._ask(self._plan.classes, files)
+                return
+            with Bar(finder.total, "simulated", has_lines=True) as bar:
+                finder.run(self._take, bar.add)
+            if finder.unknown_flops:
+                flops = len(self._looks.circuit.netlist.flops())
+                say(f"{finder.unknown_flops} of {flops} flip-flops are still x at the last look, and x shows no fault")
+            self._confirm(files)
+            if self._kept is not None:
+                self._prove(self._kept, files)
+
+    def _finder(self) -> Finder | None:
+        """What simulates; None where gates make a cycle."""
+        circuit, times = self._looks.circuit, self._looks.times
+        drop = self._arguments.drop or (0 if self.dictionary else 1)
+        try:
+            for warning in looks_of.warnings(circuit, times):
+                say(warning)
+            return finder_of(circuit, self._plan.classes, times, drop, self._jobs)
+        except ValueError as cycle:
+            say(f"the gates of {cycle} make a cycle, so nothing is simulated, and each fault is asked for")
+            return None
+
+    def _take(self, detection: Detection) -> None:
+        outcome = self._outcomes[self._plan.classes[detection.fault]]
+        outcome.count += 1
+        if outcome.time is None:
+            outcome.time = self._plan.times[detection.look]
+            outcome.output = self._plan.outputs[detection.outputs[0]]
+        if self.dictionary is not None:
+            self.dictionary.take(detection)
+
+    def _confirm(self, files: Sequence[type_of_path]) -> None:
+        count = sum(outcome.is_shown for outcome in self._outcomes.values())
+        with Bar(count, "confirmed", has_lines=True) as bar:
+            others = confirm(self._plan, self._outcomes, self.budget, files, self._jobs, self._arguments.program, bar.add)
+        self.unconfirmed = len(others.unanswered)
+        if others.differing:
+            say(f"the program does not confirm {len(others.differing)} of {count}; each of these is asked for at all times")
+            self._ask(others.differing, files)
+
+    def _ask(self, classes: Sequence[FaultClass], files: Sequence[type_of_path]) -> None:
+        """Asks for classes at one time after another, without simulation."""
+        self._is_simulated = len(classes) < len(self._outcomes)
+        for own in classes:
+            self._outcomes[own] = Outcome()
+        with Bar(len(classes), "faults", has_lines=True) as bar:
+            good = solve_all(self._plan, files, min(self._jobs, max(1, len(classes))), self._outcomes, classes, self._arguments.program, bar.add)
+        self.unanswered = good.unanswered
+
+    def _prove(self, kept: Kept, files: Sequence[type_of_path]) -> None:
+        left = [own for own, outcome in self._outcomes.items() if not outcome.is_shown and not outcome.is_confirmed]
+        with Bar(len(left), "asked", has_lines=True) as bar:
+            bar.add(sum(own in kept.outcomes for own in left))
+            prove_left(self._plan, self._outcomes, left, kept, files, self._jobs, self._arguments.program, bar.add)
+        shown = sum(self._outcomes[own].is_shown for own in left)
+        if shown:
+            say(f"the program shows {shown} that simulation does not")
 
 
-def _times_of(arguments: argparse.Namespace, stimulus: Stimulus, usual: Sequence[int]) -> list[int]:
-    times = sorted({time for word in arguments.times for time in _times_in(word)}) or list(usual)
-    if not times:
-        raise UsageError("backsim-tools faults: with a stimulus --times are wanted, when the tester looks, as 9 19 29 or 9:99:10")
-    if times[-1] > stimulus.horizon:
-        raise UsageError(f"backsim-tools faults: the time {times[-1]} is after the horizon, {stimulus.horizon}")
-    return times
-
-
-def _times_in(word: str) -> range:
-    parts = word.split(":")
-    if len(parts) not in (1, 3) or not all(part.isascii() and part.isdigit() and len(part) < 8 for part in parts):
-        raise UsageError(f"backsim-tools faults: `{word}` is neither a time nor FROM:TO:STEP")
-    first, last, step = map(int, parts) if len(parts) == 3 else (int(word), int(word), 1)
-    if step == 0 or last < first:
-        raise UsageError(f"backsim-tools faults: `{word}` has no time")
-    return range(first, last + 1, step)
-
-
-def _classes_of(arguments: argparse.Namespace, lines: Lines) -> list[FaultClass]:
-    faults = read_faults(arguments.list, lines) if arguments.list else lines.faults(not arguments.stems)
-    return single(faults) if arguments.uncollapsed else collapse(lines, faults)
-
-
-def _ask(arguments: argparse.Namespace, plan: Plan, made: Made) -> tuple[Good, dict[FaultClass, Outcome]]:
-    jobs = arguments.jobs or len(os.sched_getaffinity(0))
-    jobs = min(jobs, max(1, len(plan.classes)))
-    with tempfile.TemporaryDirectory(prefix="backsim-") as folder, Bar(len(plan.classes), "faults") as bar:
-        files = (arguments.netlist, arguments.timing, arguments.patterns)
-        if made.scale != 1 or arguments.period is not None:
-            files = write_circuit(made, Path(folder))
-        return solve_all(plan, files, jobs, arguments.program, bar.add)
-
-
-def _tell(arguments: argparse.Namespace, coverage: Coverage, good: Good) -> int:
+def _tell(arguments: argparse.Namespace, coverage: Coverage, unanswered: Sequence[str], is_partial: bool = False) -> int:
+    if is_partial:
+        print("partial: the command was interrupted, and this is what it knew")
     for line in coverage.table():
         print(line)
     for path, is_shown in ((arguments.shown, True), (arguments.left, False)):
         if path:
             with whole_text(path) as stream:
-                write_faults(coverage.faults(is_shown), coverage.lines, stream)
+                write_faults(coverage.faults(is_shown), coverage.lines, stream, is_partial)
     if arguments.csv:
         with whole_text(arguments.csv) as stream:
-            coverage.write_csv(stream)
-    unknown = [f"{name} without a fault" for name in good.unanswered]
+            coverage.write_csv(stream, is_partial)
+    unknown = [f"{name} without a fault" for name in unanswered]
     unknown += [f"{coverage.name(own)} at {', '.join(dict.fromkeys(outcome.unanswered))}" for own, outcome in coverage.outcomes.items()
                 if outcome.unanswered]
     for text in unknown[:_MOST_SAID]:

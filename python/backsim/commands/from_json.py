@@ -4,19 +4,18 @@ from __future__ import annotations
 import argparse
 from pathlib import Path
 
-from ..arguments import count_of
-from ..convert.clocks import Edge, timing_of
-from ..convert.design import Asynchronous, Design, design_of
-from ..convert.dump import Dump, clock_of
+from ..convert.cells import Asynchronous
+from ..convert.clocks import Edge, chain_of, root_of, timing_of
+from ..convert.design import Design, design_of
+from ..convert.dump import Dump, clock_of, read_dump
+from ..convert.dump_options import add_unit, span_of
 from ..convert.output import say, whole_text
 from ..convert.resets import lost_reset
 from ..convert.yosys import read_module
-from ..errors import FormatError, UsageError
-from ..formats.netlist import write_netlist
+from ..errors import FormatError, WordsError
+from ..formats.netlist import with_sources, write_netlist
 from ..formats.text import number_of
 from ..formats.timing import MOST_TIME, Clock, write_timing
-from ..formats.vcd import read_vcd
-from .from_vcd import MOST_TICKS
 
 HELP = "writes a netlist and its timing file from what Yosys's write_json makes of a Verilog design, with the names of its nets"
 EXAMPLE = """  yosys -q -p "read_verilog chip.v; synth -flatten -noabc -top chip; write_json chip.json"
@@ -33,8 +32,7 @@ def add_arguments(parser: argparse.ArgumentParser) -> None:
                         "its signal, with _falls behind it where falls count")
     parser.add_argument("--vcd", type=Path, metavar="VCD", help="a dump from which the edges of the other clocks are taken")
     parser.add_argument("--scope", metavar="SCOPE", help="the instance of the design in the dump, as chip_test.dut")
-    parser.add_argument("--ticks", type=count_of(1, MOST_TICKS), default=1, metavar="N", help="how many ticks of the VCD file are a unit "
-                        "of time, 1 where it is left out")
+    add_unit(parser)
     parser.add_argument("--async-reset", choices=[how.value for how in Asynchronous], help="what becomes of asynchronous resets: edge, "
                         "they act at the next edge, and the register stays a flip-flop; gates, they act at once by gates that have the "
                         "register's name. Where it is left out they are refused")
@@ -43,20 +41,22 @@ def add_arguments(parser: argparse.ArgumentParser) -> None:
 
 def run(arguments: argparse.Namespace) -> int:
     if (arguments.vcd is None) != (arguments.scope is None):
-        raise UsageError("backsim-tools from-json: --vcd and --scope go together")
+        raise WordsError("--vcd and --scope go together")
     given = dict(map(_clock_in, arguments.clock))
     module = read_module(arguments.json, arguments.top)
     how = Asynchronous(arguments.async_reset) if arguments.async_reset else None
     design = design_of(module, how, not arguments.no_aliases)
-    dump = Dump(read_vcd(arguments.vcd), arguments.scope, arguments.ticks) if arguments.vcd else None
+    dump = read_dump(arguments.vcd, arguments.scope, span_of(arguments), _names_for(design)) if arguments.vcd else None
+    _take_roots(design, given, dump)
     strange = given.keys() - {edge.name for edge in design.edges.values()}
     if strange:
         known = ", ".join(sorted({edge.name for edge in design.edges.values()})) or "none"
-        raise UsageError(f"backsim-tools from-json: no flip-flop has the clock {strange.pop()}; the clocks are: {known}")
+        raise WordsError(f"no flip-flop has the clock {strange.pop()}; the clocks are: {known}")
     timing = timing_of(design.edges, design.initials, lambda edge: _times_of(edge, given, dump, arguments.json))
+    timing.unit = dump.unit if dump else arguments.unit
     _check_resets(design, timing.clocks, dump, arguments.json)
     with whole_text(arguments.netlist) as stream:
-        write_netlist(design.netlist, stream)
+        write_netlist(with_sources(design.netlist, design.sources), stream)
     with whole_text(arguments.timing) as stream:
         write_timing(timing, stream)
     for note in design.notes:
@@ -64,11 +64,25 @@ def run(arguments: argparse.Namespace) -> int:
     return 0
 
 
+def _names_for(design: Design) -> set[str]:
+    """The signals whose waves tell the times of clocks and resets."""
+    signals = {own.signal for edge in set(design.edges.values()) for own in chain_of(edge, design.netlist)}
+    return signals | {reset for _, reset, _, _ in design.resets}
+
+
+def _take_roots(design: Design, given: dict[str, Clock], dump: Dump | None) -> None:
+    """Gives each flip-flop the clock from which buffers make its own, where the times of that are known."""
+    dumped = dump.bits(_names_for(design)) if dump else {}
+    roots = {edge: root_of(edge, design.netlist, lambda own: own.name in given or own.signal in dumped) for edge in set(design.edges.values())}
+    design.edges = {flop: roots[edge] for flop, edge in design.edges.items()}
+    design.resets = [(register, reset, active, roots[edge]) for register, reset, active, edge in design.resets]
+
+
 def _clock_in(word: str) -> tuple[str, Clock]:
     name, _, times = word.rpartition("=")
     numbers = [number for number in map(number_of, times.split(",")) if number is not None and number <= MOST_TIME]
     if not name or times.count(",") != 1 or len(numbers) != 2 or numbers[1] == 0:
-        raise UsageError(f"backsim-tools from-json: `{word}` is no NAME=FIRST,PERIOD with times up to {MOST_TIME}")
+        raise WordsError(f"`{word}` is no NAME=FIRST,PERIOD with times up to {MOST_TIME}")
     return name, Clock(*numbers)
 
 

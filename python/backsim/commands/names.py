@@ -6,12 +6,14 @@ import sys
 from collections.abc import Iterable, Iterator, Sequence
 
 from ..arguments import opened
-from ..errors import FormatError, reason_of
+from ..buses import matching, signals_of
+from ..errors import FormatError, UsageError, WordsError, reason_of
 from ..formats.journal import ENTRY_TYPES
 from ..formats.netlist import read_netlist
 
-HELP = "writes a journal, or replies with proofs, with names in place of the signals' numbers"
-EXAMPLE = "  backsim-tools names c17.bench journal"
+HELP = "writes a journal, or replies with proofs, with names in place of the signals' numbers; or lists the signals of a name"
+EXAMPLE = """  backsim-tools names c17.bench journal
+  backsim-tools names chip.bench --list 'u1.*' count"""
 # of the signal among the words of an entry, or of a proof's line
 _PLACES = {"told": 2, "claim": 2, "fill": 2, "evict": 1, "drop": 2, "spent": 2, "cell": 1}
 _COUNTS = {word: count + 1 for word, (_, count) in ENTRY_TYPES.items()} | {"cell": 5}
@@ -20,16 +22,38 @@ _COUNTS = {word: count + 1 for word, (_, count) in ENTRY_TYPES.items()} | {"cell
 def add_arguments(parser: argparse.ArgumentParser) -> None:
     parser.add_argument("netlist", metavar="NETLIST")
     parser.add_argument("file", metavar="FILE", nargs="?", default="-", help="the journal, replies or proof; standard input where left out")
+    parser.add_argument("--list", nargs="+", metavar="NAME", help="writes, in place of a file with names, the signals that these names stand "
+                        "for, a line each: a signal, a bus, with its range or without it, or a pattern, with * for any letters and ? for one")
 
 
 def run(arguments: argparse.Namespace) -> int:
     names = read_netlist(arguments.netlist).names
+    if arguments.list:
+        if arguments.file != "-":
+            raise WordsError("say a FILE or --list, and not both")
+        sys.stdout.writelines(f"{name}\n" for name in listed(arguments.list, names, arguments.netlist))
+        return 0
     try:
         with opened(arguments.file) as stream:
             sys.stdout.writelines(named(stream, names, arguments.file))
     except IsADirectoryError as error:
         raise FormatError(arguments.file, None, reason_of(error)) from None
     return 0
+
+
+def listed(wanted: Iterable[str], names: Sequence[str], path: str) -> list[str]:
+    """The signals that names of signals, buses and patterns stand for, each once. UsageError where one stands for none."""
+    known = set(names)
+    found: dict[str, None] = {}
+    for name in wanted:
+        try:
+            signals = signals_of(name, known) or matching(name, names)
+        except UsageError as error:
+            raise UsageError(f"{path}: {error}") from None
+        if not signals:
+            raise UsageError(f"{path}: no signal, bus or pattern is {name}")
+        found.update(dict.fromkeys(signals))
+    return list(found)
 
 
 def named(lines: Iterable[bytes], names: Sequence[str], path: str) -> Iterator[str]:

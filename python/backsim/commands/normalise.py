@@ -8,7 +8,7 @@ from ..convert.dialect import MuxOrder, read_dialect
 from ..convert.output import add_output, say, whole_text
 from ..formats.netlist import write_netlist
 
-HELP = "rewrites a netlist in another dialect of .bench (vdd, CONST0, INV, MUX, LUT, DFFRSE, a byte order mark) into the nine kinds"
+HELP = "rewrites a netlist in another dialect of .bench (vdd, CONST0, ONE, INV, MUX, MAJ, LUT, SDFF, DFFRSE, a byte order mark) into the nine kinds"
 EXAMPLE = "  backsim-tools normalise luts.bench -o luts9.bench"
 
 

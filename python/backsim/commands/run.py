@@ -112,7 +112,7 @@ def _tell_repeats(journals: Sequence[type_of_path], stats: Counts) -> None:
     if 2 * again <= fills:
         return
     # of each number of shards the room that every process needs
-    rooms = [max(rooms, key=lambda room: room.cells) for rooms in zip(*(profile.rooms() for profile in profiles))]
+    rooms = [max(rooms, key=lambda room: int(room.cells)) for rooms in zip(*(profile.rooms() for profile in profiles))]
     fitting = [room for room in rooms if room.fits and room.shards >= profiles[0].shards]
     what = f"--shards {fitting[0].shards} --cells {fitting[0].cells} would have held all" if fitting else "no memo would have held all"
     _say(f"{again} of {fills} evaluations were of points that were evaluated before, since their cells had been evicted; {what}")

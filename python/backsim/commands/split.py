@@ -2,11 +2,10 @@
 from __future__ import annotations
 
 import argparse
-from pathlib import Path
 
 from ..arguments import count_of
-from ..errors import FormatError, reason_of
 from ..formats.text import opened
+from ..outputs import whole_folder
 from ..parts import check_divisible, divide, read_lines, text_of, with_every_go
 
 HELP = "divides a script into parts that different sessions answer"
@@ -30,12 +29,8 @@ def run(arguments: argparse.Namespace) -> int:
     with opened(arguments.script) as stream:
         lines = read_lines(stream, arguments.script)
     check_divisible(lines, arguments.script)
-    folder = Path(arguments.folder)
-    try:
-        folder.mkdir(parents=True)
+    with whole_folder(arguments.folder) as folder:
         for number, part in enumerate(divide(lines, arguments.parts), 1):
             with open(folder / f"{number}.script", "wb") as stream:
                 stream.writelines(text_of(with_every_go(part, lines)))
-    except (OSError, ValueError) as error:
-        raise FormatError(folder, None, reason_of(error)) from None
     return 0

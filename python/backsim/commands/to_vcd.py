@@ -6,7 +6,7 @@ from pathlib import Path
 
 from ..convert.output import add_output, whole_text
 from ..convert.waves import dumped_of, runs_of
-from ..errors import FormatError, UsageError
+from ..errors import FormatError, WordsError
 from ..formats.replies import read_replies_of
 from ..formats.vcd import TIMESCALE, write_vcd
 from ..values import Refusal
@@ -27,9 +27,9 @@ def add_arguments(parser: argparse.ArgumentParser) -> None:
 
 def run(arguments: argparse.Namespace) -> int:
     if TIMESCALE.fullmatch(arguments.timescale) is None:
-        raise UsageError(f"backsim-tools to-vcd: the time scale {arguments.timescale} is none of 1, 10 or 100 of s, ms, us, ns, ps or fs")
+        raise WordsError(f"the time scale {arguments.timescale} is none of 1, 10 or 100 of s, ms, us, ns, ps or fs")
     if not arguments.top or any(letter <= " " or letter > "~" for letter in arguments.top):
-        raise UsageError("backsim-tools to-vcd: the name of a scope has no blank")
+        raise WordsError("the name of a scope has no blank")
     answers = []
     for reply in read_replies_of(arguments.replies):
         if isinstance(reply.answer, Refusal):

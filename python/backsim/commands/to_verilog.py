@@ -6,7 +6,7 @@ from pathlib import Path
 
 from ..convert.output import add_output, whole_text
 from ..convert.verilog import Source, questions_of, with_dump, with_questions
-from ..errors import UsageError
+from ..errors import WordsError
 from ..formats.circuit import read_files
 from ..formats.script import read_script
 
@@ -33,7 +33,7 @@ def add_arguments(parser: argparse.ArgumentParser) -> None:
 
 def run(arguments: argparse.Namespace) -> int:
     if (arguments.script is None) == (arguments.dump is None):
-        raise UsageError("backsim-tools to-verilog: either a SCRIPT or --dump VCD is wanted")
+        raise WordsError("either a SCRIPT or --dump VCD is wanted")
     circuit = Source(*read_files(arguments.netlist, arguments.timing, arguments.stimulus), arguments.primitives)
     if arguments.dump is not None:
         lines = with_dump(circuit, arguments.dump)

@@ -1,82 +1,133 @@
-"""Draws why a signal has a value."""
+"""Says why a signal or a bus has its value: in sentences, as a picture, as a page, or as JSON."""
 from __future__ import annotations
 
 import argparse
+import json
 import sys
+from collections.abc import Sequence
 from pathlib import Path
 
-from ..errors import FormatError, UsageError
+from ..arguments import count_of, moment, unit_of_session
+from ..buses import full_name, matching, signals_of
+from ..errors import FormatError, UsageError, WordsError
+from ..explanations.cells import explain
+from ..explanations.explanation import Explanation
+from ..explanations.names import listed
+from ..explanations.sentences import USUAL_CHAINS, summary_of, text_of
 from ..formats.replies import Reply, read_replies_of
+from ..formats.script import MOST_BUDGET
+from ..formats.units import units_of
 from ..no_value import no_value_of
-from ..pictures.explain import Explanation, explain
 from ..pictures.files import form_of, write_picture
-from ..pictures.graph import FORMS, dot_text, picture_of
+from ..pictures.graph import FORMS, picture_of, rendered, steps_text
 from ..pictures.page import page_of
-from ..pictures.rules import Design, read_design
-from ..pictures.words import listed
+from ..rules import read_design
 from ..session import Session
 from ..values import Proof
 
-HELP = "an explanation as a graph over time (SVG, PNG or DOT), and as a page in which one goes from a signal to its causes"
+HELP = "the root causes of a value and the chains to them, in sentences, as JSON, as a picture over time, and as a page"
 EXAMPLE = """\
+  backsim-tools why examples/s27/s27.bench examples/s27/s27.timing examples/s27/s27.stim G17 4
   backsim-tools why examples/s27/s27.bench examples/s27/s27.timing examples/s27/s27.stim G17 4 -o why.svg --html why.html
   backsim-tools why examples/c17/c17.bench examples/c17/c17.timing examples/c17/c17.stim --proof examples/c17/c17.proof -o why.png
 
-A node is a cell: a signal, its value, and the times at which it has it for one cause. An arrow goes from a cell to each that it
-follows from, and is dashed where that one was looked at but does not matter to the value. Where the value is x, the picture shows
-only the way of the x; the page has all."""
-USUAL_MOST = 300
+NAME is a signal or a bus, as 'count[7:0]', or count for all of it. A line of a chain has the time from which on the signal has the value, what drives it, and
+the place in the source where the netlist knows it. What one signal of the source does is one step: with gates that only a tool named,
+gates of the same line, the multiplexer of an enable, and the edges at which a register kept its value.
+
+In a picture of up to 60 cells a node is a cell: a signal, its value, and the times at which it has it for one cause. An arrow goes from a cell to each
+that it follows from, and is dashed where that one was looked at but does not matter to the value. A larger picture has a node for each step of the chains."""
+USUAL_MOST = 60
 
 
 def add_arguments(parser: argparse.ArgumentParser) -> None:
     for name in ("netlist", "timing", "stimulus"):
         parser.add_argument(name, type=Path, metavar=name.upper())
-    parser.add_argument("name", nargs="?", metavar="NAME", help="the signal")
-    parser.add_argument("time", nargs="?", type=int, metavar="TIME", help="the time at which it has the value")
+    parser.add_argument("name", nargs="?", metavar="NAME", help="the signal or bus")
+    parser.add_argument("time", nargs="?", type=moment, metavar="TIME", help="the time at which it has the value, in units, or such as "
+                        "15ns where the files state the unit")
     parser.add_argument("--proof", type=Path, metavar="FILE",
                         help="a proof, or replies with a proof, in place of a session; NAME and TIME choose one of several")
-    parser.add_argument("--budget", type=int, metavar="N", help="how many points the session may evaluate, 50,000 where it is left out")
+    parser.add_argument("--budget", type=count_of(0, MOST_BUDGET), metavar="N", help="how many points the session may evaluate; where it "
+                        f"is left out 50,000, and {MOST_BUDGET:,} where these do not suffice")
+    parser.add_argument("--depth", type=count_of(1, 1_000_000), metavar="N", help="go back so many steps at most")
+    parser.add_argument("--until", action="append", default=[], metavar="NAME", help="go back no further than this signal, bus or "
+                        "pattern; may be repeated")
+    parser.add_argument("--chains", type=count_of(0, 1000), default=USUAL_CHAINS, metavar="N", help="how many chains are written, "
+                        f"{USUAL_CHAINS} where it is left out")
+    parser.add_argument("--json", action="store_true", help="write the causes and the chains as JSON")
     parser.add_argument("--output", "-o", type=Path, metavar="FILE",
-                        help="the picture, in the form that the name ends in: .svg, .png or .dot; without this and --html the graph "
-                             "goes to standard output as DOT")
+                        help="the picture, in the form that the name ends in: .svg, .png or .dot")
     parser.add_argument("--html", type=Path, metavar="FILE", help="the page")
-    parser.add_argument("--all", action="store_true", help="draw all cells of the proof, also where the value is x")
-    parser.add_argument("--most", type=int, default=USUAL_MOST, metavar="N",
-                        help=f"draw at most so many cells, the nearest to the value; {USUAL_MOST} where it is left out")
+    parser.add_argument("--all", action="store_true", help="say, draw and write as well what was looked at and does not matter")
+    parser.add_argument("--most", type=count_of(1, 1_000_000), metavar="N",
+                        help=f"draw at most so many cells, the nearest to the value; where it is left out all up to {USUAL_MOST}, and of "
+                        "more the steps of the chains")
 
 
 def run(arguments: argparse.Namespace) -> int:
     form = form_of(arguments.output, FORMS) if arguments.output else None
-    if arguments.most < 1:
-        raise UsageError(f"--most takes a number from 1 on, and not {arguments.most}")
-    design = read_design(arguments.netlist, arguments.timing, arguments.stimulus)
-    explanation = _explanation_of(design, arguments)
-    drawn = explanation.way() if explanation.value == "x" and not arguments.all else explanation
-    shown = drawn.nearest(arguments.most)
-    if len(shown.nodes) < len(drawn.nodes):
-        print(f"{len(shown.nodes)} of {len(drawn.nodes)} cells are drawn; --most draws more", file=sys.stderr)
+    explanation = _explanation_of(arguments)
     if form:
-        write_picture(arguments.output, picture_of(shown, form))
+        write_picture(arguments.output, _picture(explanation, form, arguments))
     if arguments.html:
-        write_picture(arguments.html, page_of(explanation, design.stimulus.horizon).encode())
-    if not (form or arguments.html):
-        sys.stdout.write(dot_text(shown))
+        write_picture(arguments.html, page_of(explanation.graph, explanation.design.stimulus.horizon, explanation).encode())
+    if arguments.json:
+        json.dump(explanation.to_json(arguments.chains), sys.stdout, indent=1)
+        print()
+    elif not (form or arguments.html):
+        print(text_of(explanation, arguments.chains, arguments.all))
     return 0
 
 
-def _explanation_of(design: Design, arguments: argparse.Namespace) -> Explanation:
+def _picture(explanation: Explanation, form: str, arguments: argparse.Namespace) -> bytes:
+    """The cells; of many without --most the steps of the chains."""
+    summary = summary_of(explanation)[1:]
+    drawn = explanation.graph if arguments.all else explanation.graph.way()
+    if arguments.most is None and len(drawn.nodes) > USUAL_MOST:
+        print(f"the steps to the causes are drawn; --most draws that many of the {len(drawn.nodes):,} cells", file=sys.stderr)
+        return rendered(steps_text(explanation, summary, USUAL_MOST), form)
+    shown = drawn if arguments.most is None else drawn.nearest(arguments.most)
+    if len(shown.nodes) < len(drawn.nodes):
+        print(f"{len(shown.nodes)} of {len(drawn.nodes)} cells are drawn; --most draws more", file=sys.stderr)
+    return picture_of(shown, form, summary)
+
+
+def _explanation_of(arguments: argparse.Namespace) -> Explanation:
     """The explanation that is in the file, or that a session gives."""
+    if isinstance(arguments.time, str):
+        arguments.time = units_of(arguments.time, unit_of_session(arguments.timing, arguments.stimulus))
     if arguments.proof:
+        design = read_design(arguments.netlist, arguments.timing, arguments.stimulus)
         reply = _chosen(arguments.proof, arguments.name, arguments.time)
         assert isinstance(reply.answer, Proof)
-        return explain(design, reply.answer, arguments.proof, reply.line)
+        explain(design, reply.answer, arguments.proof, reply.line)
+        until = _signals(arguments.until, arguments.netlist, design.netlist.names)
+        return Explanation(design, reply.answer.name, reply.answer.time, (reply.answer,), until=until, depth=arguments.depth,
+                           has_all=arguments.all)
     if arguments.name is None or arguments.time is None:
-        raise UsageError("say NAME and TIME of what is to be explained, or --proof FILE")
+        raise WordsError("say NAME and TIME of what is to be explained, or --proof FILE")
     with Session(arguments.netlist, arguments.timing, arguments.stimulus) as session:
-        answer = session.why(arguments.name, arguments.time, arguments.budget)
-    if isinstance(answer, Proof):
-        return explain(design, answer, "the session's reply")
+        design = session.design
+        until = _signals(arguments.until, arguments.netlist, design.netlist.names)
+        name = full_name(arguments.name, set(design.netlist.names))
+        answer = session.explain(name, arguments.time, arguments.budget, until=until, depth=arguments.depth,
+                                 has_all=arguments.all)
+    if isinstance(answer, Explanation):
+        return answer
     raise no_value_of(answer, arguments.netlist, arguments.stimulus, f"{answer.name} at {arguments.time}", f", {design.stimulus.horizon}")
+
+
+def _signals(names: Sequence[str], path: Path, known: Sequence[str]) -> list[str]:
+    """The signals that the names stand for. UsageError where one is of none."""
+    every = dict.fromkeys(known)
+    found: list[str] = []
+    for name in names:
+        own = signals_of(name, every) or matching(name, known)
+        if not own:
+            raise UsageError(f"{path}: there is no signal {name}, which --until names")
+        found += own
+    return found
 
 
 def _chosen(path: Path, name: str | None, time: int | None) -> Reply:

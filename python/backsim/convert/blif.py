@@ -2,10 +2,10 @@
 from __future__ import annotations
 
 from collections.abc import Iterator
-from dataclasses import dataclass
 
 from ..errors import FormatError, type_of_path
-from ..formats.text import content_of, lines_of, read_bytes
+from ..formats.text import content_of, lines_of, read_foreign
+from ..records import dataclass
 
 _FALLS = {"re": False, "fe": True}
 
@@ -45,7 +45,7 @@ def read_latches(path: type_of_path) -> dict[str, Latch]:
 def _rows(path: type_of_path) -> Iterator[tuple[int, list[str]]]:
     """The lines that aren't blank, each with what a backslash at its end continues."""
     begin, words = 0, list[str]()
-    for number, line in enumerate(lines_of(read_bytes(path)), 1):
+    for number, line in enumerate(lines_of(read_foreign(path)), 1):
         text = content_of(line).strip(" ")
         begin = begin or number
         words += text.removesuffix("\\").split()

@@ -100,7 +100,13 @@ class Builder:
             zero, one = (self.table(self.fresh(name), part, own[:-1], line) for part in (low, high))
             return self.mux(name, own[-1], zero, one, line=line)
         ones, zeros = (primes_of(part, len(own)) for part in (function.bits, ~function.bits & ((1 << (1 << len(own))) - 1)))
-        chosen, kind = (ones, Kind.OR) if len(ones) <= len(zeros) else (zeros, Kind.NOR)
+        # the shorter sum; of two that are as long the one with fewer inverters
+        chosen, kind = min((ones, Kind.OR), (zeros, Kind.NOR), key=lambda sum_of: (len(sum_of[0]), _inverted_pins(sum_of[0])))
         terms = [[pin if wanted >> place & 1 else self.inverted(pin, line) for place, pin in enumerate(own) if care >> place & 1]
                  for care, wanted in chosen]
         return self.either(name, terms, kind, line)
+
+
+def _inverted_pins(terms: Sequence[tuple[int, int]]) -> int:
+    """How many pins of a sum's terms are inverted."""
+    return sum((care & ~wanted).bit_count() for care, wanted in terms)

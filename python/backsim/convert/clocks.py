@@ -2,9 +2,10 @@
 from __future__ import annotations
 
 from collections.abc import Callable, Mapping
-from dataclasses import dataclass
 
+from ..formats.netlist import Kind, Netlist
 from ..formats.timing import Clock, Timing
+from ..records import dataclass
 
 
 @dataclass(frozen=True, slots=True)
@@ -17,6 +18,24 @@ class Edge:
     @property
     def name(self) -> str:
         return f"{self.signal}_falls" if self.is_falling else self.signal
+
+
+def root_of(edge: Edge, netlist: Netlist, is_known: Callable[[Edge], bool]) -> Edge:
+    """The edge of the signal from which buffers and inverters make that of the given one: the first of which the times are known, or
+    else the given one. So the buffers of a clock take no time until their delays are stated (`convert/annotate_cells.py`)."""
+    return next((own for own in reversed(chain_of(edge, netlist)) if is_known(own)), edge)
+
+
+def chain_of(edge: Edge, netlist: Netlist) -> list[Edge]:
+    """The edge, and those of the signals from which buffers and inverters make its own, the first of them last."""
+    chain = [edge]
+    while len(chain) <= len(netlist.gates):
+        gate = netlist.gates.get(chain[-1].signal)
+        if gate is None or len(gate.pins) != 1 or gate.kind is Kind.DFF:
+            break
+        inverts = gate.kind in (Kind.NOT, Kind.NAND, Kind.NOR, Kind.XNOR)
+        chain.append(Edge(gate.pins[0], chain[-1].is_falling != inverts))
+    return chain
 
 
 def timing_of(edges: Mapping[str, Edge], initials: Mapping[str, str], clock_of: Callable[[Edge], Clock]) -> Timing:

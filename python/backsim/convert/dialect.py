@@ -5,19 +5,25 @@ import codecs
 import enum
 import re
 from collections.abc import Sequence
-from dataclasses import dataclass, field
+from dataclasses import field
 
 from .. import causes
 from ..errors import FormatError, type_of_path
 from ..formats.netlist import Kind, Netlist, kind_of
 from ..formats.text import NAME_LIMIT, content_of, is_name, lines_of, read_bytes
+from ..records import dataclass
 from .build import Builder
 
 MOST_PINS_OF_A_TABLE = 16
+MOST_PINS_OF_A_MAJORITY = 7
 _TOKEN = re.compile(r"[(),=]|[^(),= ]+")
 _CONSTANTS = {"vdd": "1", "vcc": "1", "const1": "1", "gnd": "0", "vss": "0", "const0": "0"}
+# constants that are kinds alone: a pin of such a name is a signal
+_KINDS_OF_CONSTANTS = {"ONE": "1", "ZERO": "0"}
 _SYNONYMS = {"INV": Kind.NOT, "INVERTER": Kind.NOT, "BUFFER": Kind.BUFF, "NXOR": Kind.XNOR}
-_KNOWN = "AND, NAND, OR, NOR, XOR, XNOR, NOT, INV, BUFF, BUFFER, DFF, DFFRSE, MUX, LUT and the constants vdd, gnd, CONST0 and CONST1"
+_LATCHES = ("LATCH", "DLATCH", "LAT")
+_KNOWN = ("AND, NAND, OR, NOR, XOR, XNOR, NOT, INV, BUFF, BUFFER, DFF, DFFRSE, SDFF, MUX, MAJ, LUT and the constants vdd, gnd, CONST0, CONST1, "
+          "ONE and ZERO")
 
 
 class MuxOrder(enum.Enum):
@@ -83,6 +89,7 @@ class _Rewriter:
     def __init__(self, path: str, order: MuxOrder | None) -> None:
         self.path = path
         self.order = order
+        self.has_scan = False
         self.inputs: dict[str, int] = {}
         self.outputs: dict[str, int] = {}
         self.statements: dict[str, _Statement] = {}
@@ -158,6 +165,9 @@ class _Rewriter:
     def make(self, statement: _Statement) -> None:
         """The gates of one statement."""
         name, word, line = statement.name, statement.word.upper(), statement.line
+        if word in _KINDS_OF_CONSTANTS and not statement.pins and statement.word not in {*self.statements, *self.inputs}:
+            self.builder.gate(name, Kind.BUFF, (self.builder.constant(_KINDS_OF_CONSTANTS[word]),), line)
+            return
         if statement.pins is None or not statement.pins and word.lower() in _CONSTANTS:
             self.builder.gate(name, Kind.BUFF, (self.signal(statement.word, line),), line)
             return
@@ -170,6 +180,12 @@ class _Rewriter:
             self.builder.table(name, self.table_of(statement), pins, line)
         elif word == "MUX":
             self.make_mux(statement, pins)
+        elif word == "MAJ":
+            self.make_majority(statement, pins)
+        elif word == "SDFF":
+            self.make_scan(statement, pins)
+        elif word in _LATCHES:
+            raise self.fault(line, f"{name} is a latch ({statement.word}), which no netlist has: make it a flip-flop where the file comes from")
         else:
             kind = Kind.DFF if word == "DFFRSE" else _SYNONYMS.get(word) or kind_of(word)
             if kind is None:
@@ -184,6 +200,26 @@ class _Rewriter:
         if not first or any(_CONSTANTS.get(pin.lower()) != "0" or pin in self.statements or pin in self.inputs for pin in others):
             raise self.fault(statement.line, f"the flip-flop {statement.name} has a reset, set or enable that is not gnd; tools differ "
                              "in what these pins mean, so make gates of them where the file comes from")
+
+    def make_majority(self, statement: _Statement, pins: Sequence[str]) -> None:
+        """A gate that is 1 where more than half of its pins are."""
+        count = len(pins)
+        if count % 2 == 0 or not 3 <= count <= MOST_PINS_OF_A_MAJORITY:
+            raise self.fault(statement.line, f"a MAJ has 3, 5 or {MOST_PINS_OF_A_MAJORITY} pins, and this one {count}")
+        bits = sum(1 << index for index in range(1 << count) if 2 * index.bit_count() > count)
+        self.builder.table(statement.name, bits, pins, statement.line)
+
+    def make_scan(self, statement: _Statement, pins: Sequence[str]) -> None:
+        """A flip-flop that takes its data, or its scan input where the scan enable is 1."""
+        if len(pins) not in (1, 3):
+            raise self.fault(statement.line, f"an SDFF has the pin data, or data, scan input and scan enable, and this one has {len(pins)} pins")
+        if len(pins) == 3:
+            if not self.has_scan:
+                self.has_scan = True
+                self.notes.append(f"{self.path}:{statement.line}: an SDFF is taken as SDFF(data, scan input, scan enable)")
+            data, scan, enable = pins
+            pins = [self.builder.mux(self.builder.fresh(statement.name), enable, data, scan, line=statement.line)]
+        self.builder.gate(statement.name, Kind.DFF, pins, statement.line)
 
     def make_mux(self, statement: _Statement, pins: Sequence[str]) -> None:
         if len(pins) != 3:

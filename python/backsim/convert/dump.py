@@ -5,24 +5,35 @@ change, it is refused."""
 from __future__ import annotations
 
 from collections.abc import Iterable, Iterator, Sequence
-from dataclasses import dataclass
+from contextlib import nullcontext
 
+from ..bars import Bar
 from ..errors import FormatError, type_of_path
+from ..formats.dump_files import MEGABYTE, megabytes_of
 from ..formats.netlist import Netlist
 from ..formats.script import AtLine, FirstLine, Go, Line, WaveLine
 from ..formats.stimulus import MOST_TIME, Stimulus
 from ..formats.timing import Clock
-from ..formats.vcd import Changes, Vcd, value_at
+from ..formats.units import Unit, units_of
+from ..formats.vcd import Changes, Selection, Vcd, read_vcd, value_at
+from ..records import dataclass
 from .build import constant_value
 
 
 @dataclass(frozen=True, slots=True)
 class Dump:
-    """The signals of a scope of a dump, with times in units of so many ticks. `scope` has dots between its parts, as `bench.dut`."""
+    """The signals of a scope of a dump, with times in units of so many ticks. `scope` has dots between its parts, as `bench.dut`. Times
+    count from `start`, in units from the beginning of the file."""
 
     vcd: Vcd
     scope: str
     ticks: int = 1
+    start: int = 0
+
+    @property
+    def unit(self) -> Unit:
+        """What a unit of time is."""
+        return Unit(self.vcd.ticks, self.vcd.unit).times(self.ticks)
 
     @property
     def last(self) -> int:
@@ -58,15 +69,74 @@ class Dump:
         return self.in_units(changes)
 
 
+@dataclass(frozen=True, slots=True)
+class Span:
+    """Which part of a dump is read, and what a unit of it is: so many ticks, or so long. `start` and `stop` are times in units, or such as
+    `3ms`; `stop` is None where the dump is read to its end."""
+
+    ticks: int = 1
+    unit: Unit | None = None
+    start: int | str = 0
+    stop: int | str | None = None
+
+    def ticks_of(self, vcd: Vcd) -> int:
+        """The ticks of a unit. FormatError where the unit is no multiple of the dump's tick."""
+        if self.unit is None:
+            return self.ticks
+        ticks = self.unit.seconds / Unit(vcd.ticks, vcd.unit).seconds
+        if ticks.denominator != 1:
+            raise FormatError(vcd.path, None, f"a tick of it is {vcd.ticks} {vcd.unit}, and {self.unit} is no multiple of that")
+        return int(ticks)
+
+    def units(self, vcd: Vcd) -> tuple[int, int | None]:
+        """The times in units."""
+        unit = Unit(vcd.ticks, vcd.unit).times(self.ticks_of(vcd))
+        return units_of(self.start, unit), None if self.stop is None else units_of(self.stop, unit)
+
+
+def read_dump(path: type_of_path, scope: str, span: Span = Span(), names: Iterable[str] | None = None) -> Dump:
+    """A dump, of which the bits of these names are kept, or all. FormatError as of `read_vcd`, where there is no such scope, and where the
+    window ends before it begins."""
+    wanted = None if names is None else {name for own in names for name in (own, f"{own}[0]")}
+
+    def select(vcd: Vcd) -> Selection:
+        ticks = span.ticks_of(vcd)
+        start, stop = span.units(vcd)
+        if stop is not None and stop < start:
+            raise FormatError(path, None, f"the window ends at {stop}, before its beginning at {start}")
+        vcd.in_scope(scope)
+        return Selection(None if wanted is None else vcd.codes(scope, wanted), start * ticks, None if stop is None else stop * ticks)
+
+    total = megabytes_of(path)
+    bar = Bar(total, "MB", has_lines=True) if total else None
+    with bar or nullcontext():
+        done = 0
+
+        def progress(count: int) -> None:
+            nonlocal done
+            done += count
+            if bar is not None:
+                bar.add((done // MEGABYTE) - (done - count) // MEGABYTE)
+
+        vcd = read_vcd(path, select, progress)
+    return Dump(vcd, scope, span.ticks_of(vcd), span.units(vcd)[0])
+
+
+def warning_of(dump: Dump) -> list[str]:
+    """A line where the dump ends inside a line."""
+    vcd = dump.vcd
+    return [] if vcd.cut is None else [f"{vcd.path}:{vcd.cut}: the dump ends in the middle: it is taken up to {dump.last + dump.start}"]
+
+
 def stimulus_of(netlist: Netlist, dump: Dump) -> Stimulus:
     """The stimulus that sets each input as it changes in the dump; the horizon is the last time of it. An input that stands for a
     constant (`vdd`, `gnd`) and is not dumped is set at the time 0. FormatError where another is not dumped, changes between two
     units, or has a value other than 0, 1, x and z, and where the horizon is above 1,000,000."""
     if dump.last > MOST_TIME:
-        raise FormatError(dump.vcd.path, None, f"its last time is {dump.last} units, above {MOST_TIME}: end the dump earlier, or give a "
-                          "unit more ticks")
+        raise FormatError(dump.vcd.path, None, f"its last time is {dump.last} units, above {MOST_TIME}: take a window of it (--from, "
+                          "--to), or a unit of more ticks")
     bits = dump.bits(netlist.inputs)
-    stimulus = Stimulus(dump.last)
+    stimulus = Stimulus(dump.last, unit=dump.unit)
     for name in netlist.inputs:
         value = constant_value(name)
         if name in bits:

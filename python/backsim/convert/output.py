@@ -9,7 +9,8 @@ from contextlib import contextmanager
 from pathlib import Path
 from typing import TextIO
 
-from ..errors import FormatError, reason_of
+from ..errors import FormatError, printable, reason_of
+from ..outputs import write_whole
 
 
 def add_output(parser: argparse.ArgumentParser, what: str) -> None:
@@ -26,11 +27,12 @@ def whole_text(path: Path | None) -> Iterator[TextIO]:
         sys.stdout.write(stream.getvalue())
         return
     try:
-        path.write_text(stream.getvalue(), encoding="latin-1")
-    except (OSError, ValueError) as error:
+        data = stream.getvalue().encode("latin-1")
+    except UnicodeEncodeError as error:
         raise FormatError(path, None, f"it can't be written: {reason_of(error)}") from None
+    write_whole(path, data)
 
 
 def say(note: str) -> None:
     """A line on standard error."""
-    print(note, file=sys.stderr)
+    print(printable(note), file=sys.stderr)

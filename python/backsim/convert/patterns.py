@@ -2,12 +2,12 @@
 from __future__ import annotations
 
 from collections.abc import Sequence
-from dataclasses import dataclass
 
 from ..errors import FormatError, type_of_path
 from ..formats.netlist import Netlist
 from ..formats.stimulus import MOST_TIME, Stimulus
-from ..formats.text import content_of, lines_of, read_bytes
+from ..formats.text import content_of, lines_of, read_foreign
+from ..records import dataclass
 from .build import constant_value
 
 
@@ -26,7 +26,7 @@ def read_patterns(path: type_of_path, netlist: Netlist) -> Patterns:
     signals = tuple(name for name in netlist.inputs if constant_value(name) is None)
     words: list[str] = []
     inputs: tuple[str, ...] | None = None
-    for number, line in enumerate(lines_of(read_bytes(path)), 1):
+    for number, line in enumerate(lines_of(read_foreign(path)), 1):
         word = content_of(line).replace(" ", "").lower()
         if not word:
             continue

@@ -6,8 +6,8 @@ from __future__ import annotations
 
 import enum
 import re
-from dataclasses import dataclass
 
+from ..records import dataclass
 from .yosys import Cell
 
 _TYPES = (
@@ -18,11 +18,12 @@ _TYPES = (
     (re.compile(r"\$_SDFF_([NP])([NP])([01])_"), ("C", "S", "V")),
     (re.compile(r"\$_SDFFE_([NP])([NP])([01])([NP])_"), ("C", "S", "V", "E")),
     (re.compile(r"\$_SDFFCE_([NP])([NP])([01])([NP])_"), ("C", "T", "V", "E")),
+    (re.compile(r"\$_DFFSR_([NP])([NP])([NP])_"), ("C", "P", "A")),
+    (re.compile(r"\$_DFFSRE_([NP])([NP])([NP])([NP])_"), ("C", "P", "A", "E")),
 )
 _OTHERS = (
     (re.compile(r"\$_(DLATCH|SR)_.*|\$_FF_"), "it is a latch: state the clock's edge in the source"),
     (re.compile(r"\$_ALDFFE?_.*"), "it loads a value asynchronously, which no flip-flop of a netlist does"),
-    (re.compile(r"\$_DFFSRE?_.*"), "it has an asynchronous set and an asynchronous reset: take away one of them in the source"),
     (re.compile(r"\$(a|al|s)?(dff)(e|ce|sr|sre)?"), "it is a register of several bits: run `simplemap` or `techmap`"),
 )
 
@@ -39,7 +40,7 @@ class Reset(enum.Enum):
 @dataclass(frozen=True, slots=True)
 class Register:
     """A flip-flop: the falls of C count where `is_falling`; it takes D where E has the value `enable` (None: always), and is reset to
-    `value` where R has the value `active`."""
+    `value` where R has the value `active`. Where S has the value `set_active` (None: never) and R has not, it is set to 1 at once."""
 
     cell: Cell
     is_falling: bool
@@ -47,6 +48,12 @@ class Register:
     reset: Reset = Reset.NONE
     active: str = "1"
     value: str = "0"
+    set_active: str | None = None
+
+    def controls(self) -> list[tuple[str, str, str]]:
+        """Its set and its reset, as (port, active value, value of the register); of two the later goes before."""
+        sets = [] if self.set_active is None else [("S", self.set_active, "1")]
+        return sets if self.reset is Reset.NONE else [*sets, ("R", self.active, self.value)]
 
 
 _RESETS = {"A": Reset.ASYNCHRONOUS, "S": Reset.BEFORE_ENABLE, "T": Reset.AFTER_ENABLE}
@@ -61,7 +68,8 @@ def register_of(cell: Cell) -> Register | None:
             reset = next((letter for letter in _RESETS if letter in meant), None)
             levels = {"P": "1", "N": "0"}
             return Register(cell, meant["C"] == "N", levels[meant["E"]] if "E" in meant else None,
-                            _RESETS[reset] if reset else Reset.NONE, levels[meant[reset]] if reset else "1", meant.get("V", "0"))
+                            _RESETS[reset] if reset else Reset.NONE, levels[meant[reset]] if reset else "1", meant.get("V", "0"),
+                            levels[meant["P"]] if "P" in meant else None)
     return None
 
 

@@ -1,20 +1,24 @@
 """SDF, the standard delay format of IEEE 1497: the paths of its cells and their delays."""
 from __future__ import annotations
 
+import enum
 import re
 from collections import Counter
-from collections.abc import Iterator
-from dataclasses import dataclass, field
+from collections.abc import Iterable, Iterator, Sequence
+from dataclasses import field
 from fractions import Fraction
+from typing import TypeVar
 
 from ..errors import FormatError, type_of_path
-from ..formats.text import read_bytes
+from ..formats.text import read_foreign
+from ..formats.units import Unit
+from ..records import dataclass
 
 _TOKEN = re.compile(r'\s+|//[^\n]*|/\*.*?\*/|([()])|"((?:[^"\\]|\\.)*)"|((?:\\.|[^\s()"])+)', re.S)
 _NUMBER = re.compile(r"[+-]?(?:[0-9]+(?:\.[0-9]*)?|\.[0-9]+)(?:[eE][+-]?[0-9]{1,2})?")
 _SCALE = re.compile(r"(1|10|100)(?:\.0*)?\s*(s|ms|us|ns|ps|fs)")
-SECONDS = {"s": 0, "ms": 3, "us": 6, "ns": 9, "ps": 12, "fs": 15}
 MOST_DEPTH = 100
+_Number = TypeVar("_Number", int, Fraction)
 _HEADER = ("SDFVERSION", "DESIGN", "DATE", "VENDOR", "PROGRAM", "VERSION", "VOLTAGE", "PROCESS", "TEMPERATURE")
 
 
@@ -36,10 +40,31 @@ class _Form:
         return [part for part in self.parts if isinstance(part, _Form)]
 
 
+class Corner(enum.Enum):
+    """Which number of `min:typ:max` counts; where it is not stated, the greatest of the others. Of rise and fall, of edges and of
+    conditions the greatest counts, and with MIN the least."""
+
+    MIN = "min"
+    TYP = "typ"
+    MAX = "max"
+
+    def of(self, numbers: Iterable[_Number]) -> _Number:
+        """The one that counts of numbers for rise and fall, edges and conditions."""
+        return min(numbers) if self is Corner.MIN else max(numbers)
+
+    def of_triple(self, numbers: Sequence[Fraction | None]) -> Fraction | None:
+        """The one that counts of a triple, or of a single number; None where there is none."""
+        own = numbers[list(Corner).index(self)] if len(numbers) == 3 else None
+        if own is not None:
+            return own
+        stated = [number for number in numbers if number is not None]
+        return max(stated) if stated else None
+
+
 @dataclass(frozen=True, slots=True)
 class Path:
     """An IOPATH: the instance of its cell, the port from which it goes and the one to which, whether it states an edge of the first,
-    and its greatest delay in seconds."""
+    its delay in seconds, and whether it has several numbers of which this is one. A DEVICE is a path from every port, `*`."""
 
     line: int
     instance: str
@@ -47,14 +72,30 @@ class Path:
     target: str
     has_edge: bool
     delay: Fraction
+    is_chosen: bool = False
+
+
+@dataclass(frozen=True, slots=True)
+class Wire:
+    """An INTERCONNECT or PORT: the instance of the cell to whose port it leads, empty for the design itself, the port, and its delay in
+    seconds."""
+
+    line: int
+    word: str
+    instance: str
+    port: str
+    delay: Fraction
 
 
 @dataclass(slots=True)
 class Delays:
-    """The paths of a file, the unit of its numbers in seconds, and how often each other form was left out, with its first line."""
+    """The paths and wires of a file, the unit of its numbers, the corner that was read, and how often each other form was left
+    out, with its first line."""
 
-    unit: Fraction
+    unit: Unit
+    corner: Corner = Corner.MAX
     paths: list[Path] = field(default_factory=list)
+    wires: list[Wire] = field(default_factory=list)
     left_out: Counter[str] = field(default_factory=Counter)
     first_lines: dict[str, int] = field(default_factory=dict)
 
@@ -64,23 +105,18 @@ class Delays:
         self.first_lines.setdefault(what, line)
 
 
-def scale_of(text: str) -> Fraction | None:
-    """The time that a text like `10 ps` states, in seconds; None where it is none."""
-    parts = _SCALE.fullmatch(text.strip())
-    return None if parts is None else Fraction(int(parts[1]), 10 ** SECONDS[parts[2]])
-
-
-def read_sdf(path: type_of_path) -> Delays:
+def read_sdf(path: type_of_path, corner: Corner = Corner.MAX) -> Delays:
     """The delays of a file. FormatError where it can't be read, is no SDF, or is cut."""
-    return _Reader(str(path)).read(read_bytes(path).decode("latin-1"))
+    return _Reader(str(path), corner).read(read_foreign(path).decode("latin-1"))
 
 
 class _Reader:
     """Reads one file."""
 
-    def __init__(self, path: str) -> None:
+    def __init__(self, path: str, corner: Corner) -> None:
         self.path = path
-        self.delays = Delays(Fraction(1, 10 ** 9))
+        self.corner = corner
+        self.delays = Delays(Unit(1, "ns"), corner)
         self.divider = "."
 
     def fault(self, line: int, cause: str) -> FormatError:
@@ -93,10 +129,10 @@ class _Reader:
         for form in whole.forms():
             if form.word == "TIMESCALE":
                 scale = " ".join(form.words())
-                unit = scale_of(scale)
-                if unit is None:
+                parts = _SCALE.fullmatch(scale)
+                if parts is None:
                     raise self.fault(form.line, f"the time scale `{scale[:40]}` is none of 1, 10 or 100 of s, ms, us, ns, ps or fs")
-                self.delays.unit = unit
+                self.delays.unit = Unit(int(parts[1]), parts[2])
             elif form.word == "DIVIDER":
                 self.divider = (form.words() or ["."])[0]
             elif form.word == "CELL":
@@ -147,8 +183,11 @@ class _Reader:
 
     def name_of(self, word: str) -> str:
         """A name without its escapes, and with dots between its parts."""
-        parts = word.split(self.divider) if self.divider != "." else [word]
-        return ".".join(re.sub(r"\\(.)", r"\1", part) for part in parts)
+        return ".".join(re.sub(r"\\(.)", r"\1", part) for part in self.parts_of(word))
+
+    def parts_of(self, word: str) -> list[str]:
+        """The parts of a name between dividers that are not escaped."""
+        return re.split(rf"(?<!\\){re.escape(self.divider)}", word)
 
     def cell(self, form: _Form) -> None:
         instance = ""
@@ -173,6 +212,10 @@ class _Reader:
                     self.entry(instance, inner, line)
         elif form.word == "IOPATH":
             self.path_of(instance, form)
+        elif form.word == "DEVICE":
+            self.device_of(instance, form)
+        elif form.word in ("INTERCONNECT", "PORT"):
+            self.wire_of(instance, form)
         else:
             self.delays.leave_out(form.word, form.line)
 
@@ -182,28 +225,52 @@ class _Reader:
         source = ports[0].words()[-1:] if has_edge else ports[:1]  # type: ignore[union-attr]
         if len(ports) != 2 or not source or not isinstance(source[0], str) or not isinstance(ports[1], str):
             raise self.fault(form.line, "expected `(IOPATH PORT PORT (DELAY) ..)`")
-        numbers: list[Fraction] = []
-        for part in form.parts[3:]:
+        numbers = self.delays_of(form, form.parts[3:])
+        if numbers:
+            self.delays.paths.append(Path(form.line, instance, self.name_of(source[0]), self.name_of(ports[1]), has_edge,
+                                          self.corner.of(numbers), len(set(numbers)) > 1))
+
+    def device_of(self, instance: str, form: _Form) -> None:
+        ports = form.words()[:1]
+        numbers = self.delays_of(form, form.parts[1 + len(ports):])
+        if numbers:
+            target = self.name_of(ports[0]) if ports else "*"
+            self.delays.paths.append(Path(form.line, instance, "*", target, False, self.corner.of(numbers), len(set(numbers)) > 1))
+
+    def wire_of(self, instance: str, form: _Form) -> None:
+        count = 2 if form.word == "INTERCONNECT" else 1
+        ports = form.words()[:count]
+        if len(ports) != count or form.parts[1:1 + count] != ports:
+            raise self.fault(form.line, f"expected `({form.word}{' PORT' * count} (DELAY) ..)`")
+        numbers = self.delays_of(form, form.parts[1 + count:])
+        if numbers:
+            *inner, port = (re.sub(r"\\(.)", r"\1", part) for part in self.parts_of(ports[-1]))
+            whole = ".".join(([instance] if instance else []) + inner)
+            self.delays.wires.append(Wire(form.line, form.word, whole, port, self.corner.of(numbers)))
+
+    def delays_of(self, form: _Form, parts: list[str | _Form]) -> list[Fraction]:
+        """The delays of a rise and a fall, in seconds; those that follow them are of z. Counts a form that has none."""
+        found: list[Fraction | None] = []
+        for part in parts:
             if not isinstance(part, _Form):
                 raise self.fault(form.line, f"expected a delay in brackets, and found `{part[:40]}`")
             if part.word == "RETAIN":
                 self.delays.leave_out("RETAIN", part.line)
             else:
-                numbers += self.numbers(part)
+                found.append(self.number(part))
+        numbers = [number * self.delays.unit.seconds for number in found[:2] if number is not None]
         if not numbers:
-            self.delays.leave_out("IOPATH without a number", form.line)
-            return
-        self.delays.paths.append(Path(form.line, instance, self.name_of(source[0]), self.name_of(ports[1]), has_edge,
-                                      max(numbers) * self.delays.unit))
+            self.delays.leave_out(f"{form.word} without a number", form.line)
+        return numbers
 
-    def numbers(self, form: _Form) -> Iterator[Fraction]:
-        """The numbers of `(1)`, `(1:2:3)`, `(1::3)`, or of several such in brackets; none of `()`."""
-        for part in form.parts:
-            if isinstance(part, _Form):
-                yield from self.numbers(part)
-                continue
-            for word in part.split(":"):
-                if word and not _NUMBER.fullmatch(word):
-                    raise self.fault(form.line, f"`{part[:40]}` is no delay")
-                if word:
-                    yield Fraction(word)
+    def number(self, form: _Form) -> Fraction | None:
+        """The number of `(1)`, `(1:2:3)` or `(1::3)` that counts, and of several such in brackets that of the first, the others being
+        limits of pulses; None of `()`."""
+        inner = form.forms()
+        if inner:
+            return self.number(inner[0])
+        words = " ".join(part for part in form.parts if isinstance(part, str)).replace(" ", "").split(":")
+        for word in words:
+            if word and not _NUMBER.fullmatch(word):
+                raise self.fault(form.line, f"`{':'.join(words)[:40]}` is no delay")
+        return self.corner.of_triple([Fraction(word) if word else None for word in words])

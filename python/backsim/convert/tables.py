@@ -2,9 +2,9 @@
 from __future__ import annotations
 
 from collections.abc import Callable
-from dataclasses import dataclass
 
 from ..formats.netlist import Kind
+from ..records import dataclass
 
 
 @dataclass(frozen=True, slots=True)
@@ -27,7 +27,7 @@ def gate_table(kind: Kind, count: int) -> int:
     values: dict[Kind, Callable[[int], bool]] = {
         Kind.AND: lambda index: index == full, Kind.NAND: lambda index: index != full,
         Kind.OR: lambda index: index != 0, Kind.NOR: lambda index: index == 0,
-        Kind.XOR: lambda index: index.bit_count() % 2 == 1, Kind.XNOR: lambda index: index.bit_count() % 2 == 0,
+        Kind.XOR: lambda index: bin(index).count("1") % 2 == 1, Kind.XNOR: lambda index: bin(index).count("1") % 2 == 0,
         Kind.BUFF: lambda index: index == 1, Kind.NOT: lambda index: index == 0,
     }
     return _table(count, values[kind])

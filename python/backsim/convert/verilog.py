@@ -6,18 +6,19 @@ and shows it after its delay. What the text adds to the names of the netlist has
 from __future__ import annotations
 
 from collections.abc import Iterable, Iterator, Sequence
-from dataclasses import dataclass
+from typing import Union
 
 from ..errors import FormatError, type_of_path
 from ..formats.circuit import Circuit
 from ..formats.netlist import Gate, Kind
 from ..formats.script import AtLine, FirstLine, Go, Line, WaveLine
 from ..formats.timing import Timing
+from ..records import dataclass
 
 _JOIN = {Kind.AND: "&", Kind.OR: "|", Kind.XOR: "^", Kind.NAND: "&", Kind.NOR: "|", Kind.XNOR: "^"}
 _NEGATED = (Kind.NAND, Kind.NOR, Kind.XNOR, Kind.NOT)
 _LINE, _LAST, _TIME, _FOUND = r"\(line) ", r"\(last) ", r"\(time) ", r"\(found) "
-Question = WaveLine | AtLine | FirstLine
+Question = Union[WaveLine, AtLine, FirstLine]
 
 
 @dataclass(frozen=True, slots=True)

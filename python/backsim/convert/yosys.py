@@ -3,16 +3,18 @@ from __future__ import annotations
 
 import json
 from collections.abc import Iterable, Iterator
-from dataclasses import dataclass, field
-from typing import Any
+from dataclasses import field
+from typing import Any, Union
 
 from ..errors import FormatError, reason_of, type_of_path
 from ..formats.text import NAME_LIMIT, is_name
+from ..records import dataclass
 
-Bit = int | str
+Bit = Union[int, str]
 _Object = dict[str, Any]
 CONSTANTS = ("0", "1", "x", "z")
 MOST_BYTES = 1 << 30
+_MARKS = ("whitebox", "blackbox", "keep_hierarchy", "liberty_cell")
 
 
 @dataclass(frozen=True, slots=True)
@@ -52,7 +54,8 @@ class Cell:
 
 @dataclass(slots=True)
 class Module:
-    """A module of the file. Inputs and outputs are bits by names."""
+    """A module of the file. Inputs and outputs are bits by names. `library` has the modules of the cells that stand for cells of a
+    library, by their types."""
 
     path: str
     name: str
@@ -60,6 +63,7 @@ class Module:
     outputs: dict[str, Bit] = field(default_factory=dict)
     nets: list[Net] = field(default_factory=list)
     cells: list[Cell] = field(default_factory=list)
+    library: dict[str, Module] = field(default_factory=dict)
 
     def fault(self, cause: str) -> FormatError:
         """An error of this file."""
@@ -74,7 +78,17 @@ def read_module(path: type_of_path, top: str | None = None) -> Module:
     name = top if top is not None else _top_of(path, modules)
     if name not in modules:
         raise FormatError(path, None, f"there is no module {name}; there are {', '.join(modules) or 'none'}")
-    return _Reader(str(path), name).read(modules)
+    module = _Reader(str(path), name).read(modules)
+    for cell in module.cells:
+        if cell.type not in module.library and cell.type in modules and _is_of_library(modules[cell.type]):
+            module.library[cell.type] = _Reader(str(path), cell.type).read(modules)
+    return module
+
+
+def _is_of_library(module: object) -> bool:
+    """Whether a module stands for a cell of a library: it is marked as one that `flatten` leaves, or is of no Verilog source."""
+    attributes = module.get("attributes") if isinstance(module, dict) else None
+    return isinstance(attributes, dict) and ("src" not in attributes or any(str(attributes.get(mark, "0")).strip("0") for mark in _MARKS))
 
 
 def _parse(path: type_of_path) -> object:
@@ -102,7 +116,7 @@ def _table(path: type_of_path, data: object, key: str) -> _Object:
 def _top_of(path: type_of_path, modules: _Object) -> str:
     marked = [name for name, module in modules.items()
               if isinstance(module, dict) and str((module.get("attributes") or {}).get("top", "0")).strip("0")]
-    found = marked or list(modules)
+    found = marked or [name for name, module in modules.items() if len(modules) == 1 or not _is_of_library(module)]
     if len(found) != 1:
         raise FormatError(path, None, f"say which module by --top: {', '.join(found) or 'there is none'}")
     return found[0]
@@ -226,9 +240,14 @@ class Names:
         return (is_elsewhere, not net.init, net.is_port, depth, name)
 
 
+def plain_name(name: str) -> str:
+    """The name without what no name of a netlist may have, short enough for a number behind it."""
+    return "".join(letter if is_name(letter) else "_" for letter in name)[-NAME_LIMIT + 12:]
+
+
 def _new_name(stem: str, taken: set[str]) -> str:
     """The name, without what no name may have, with a number behind it where it is taken."""
-    stem = "".join(letter if is_name(letter) else "_" for letter in stem)[-NAME_LIMIT + 12:]
+    stem = plain_name(stem)
     name, number = stem, 0
     while name in taken:
         number += 1

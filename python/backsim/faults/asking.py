@@ -5,22 +5,27 @@ budget is asked again for each half of its times."""
 from __future__ import annotations
 
 import os
-import queue
-import threading
 from collections import deque
-from collections.abc import Callable, Iterator, Sequence
+from collections.abc import Callable, Iterable, Sequence
 from concurrent.futures import FIRST_EXCEPTION, ThreadPoolExecutor, wait
+from types import TracebackType
+from typing import TypeVar
 
 from ..errors import BacksimError, type_of_path
 from ..formats.replies import first_line, fits
-from ..formats.script import SCRIPT_LIMIT, Line, StatsLine
+from ..formats.script import Line, StatsLine
+from ..formats.text import SCRIPT_LIMIT
+from ..outcomes import SessionError
 from ..program import Conversation, Options, interrupt_held, looked_up
-from ..values import Answer, Budget
+from ..values import Answer, At, Budget
 from .collapse import FaultClass
 from .plan import Good, Outcome, Plan
 
+T = TypeVar("T")
 _MOST_AT_ONCE = 2048
 _OUTPUTS_AT_ONCE = 8
+# SIGINT and SIGTERM
+_INTERRUPTED = (130, 143)
 
 
 class Incomplete(BacksimError):
@@ -37,6 +42,7 @@ class Asker:
         self._program = program
         self._conversation: Conversation | None = None
         self._sent = 0
+        self._is_stopped = False
 
     def ask(self, lines: Sequence[Line]) -> list[Answer]:
         """The answers to the lines, in order. Incomplete where one is missing, or is one to another line; another error where the
@@ -52,9 +58,14 @@ class Asker:
         data = "".join(f"{line}\n" for line in asked).encode("latin-1")
         if self._sent + len(data) > SCRIPT_LIMIT:
             self.close()
+        if self._is_stopped:
+            raise Incomplete("the questions were interrupted")
         if self._conversation is None:
             with interrupt_held():
                 self._conversation, self._sent = Conversation(self._files, Options(workers=1), self._program), 0
+            if self._is_stopped:
+                # the interrupt came while the process was started, and found none
+                self._conversation.interrupt()
         self._conversation.send(data)
         self._sent += len(data)
         return [self._answer(line) for line in asked][:-1]
@@ -80,6 +91,12 @@ class Asker:
             if error:
                 raise error
 
+    def interrupt(self) -> None:
+        """Ends the session at once, also from another thread; what is asked then fails."""
+        self._is_stopped = True
+        if self._conversation is not None:
+            self._conversation.interrupt()
+
     def kill(self) -> None:
         """Ends the session at once."""
         if self._conversation is not None:
@@ -87,13 +104,30 @@ class Asker:
             self._conversation = None
 
 
-def solve(plan: Plan, own: FaultClass, good: Good, ask: Callable[[Sequence[Line]], list[Answer]]) -> Outcome:
-    """What comes of one class."""
+def solve(plan: Plan, own: FaultClass, good: Good, ask: Callable[[Sequence[Line]], list[Answer]],
+          pieces: Iterable[tuple[int, ...]]) -> Outcome:
+    """What comes of one class that is asked for in these pieces of the times, until one shows it. A line that is slow is asked for at
+    each time before which it has the value that it keeps."""
     outcome = Outcome()
+    if own.asked.is_transition:
+        pieces = _after_held(plan, own, ask)
     if own.asked.site.is_output:
-        plan.judge_output(own, good, outcome)
-        return outcome
-    left = deque(plan.chunks(own))
+        plan.judge_output(own, [time for piece in pieces for time in piece], good, outcome)
+    else:
+        _ask_pieces(plan, own, good, ask, pieces, outcome)
+    outcome.is_confirmed = outcome.is_shown or not outcome.unanswered
+    return outcome
+
+
+def _after_held(plan: Plan, own: FaultClass, ask: Callable[[Sequence[Line]], list[Answer]]) -> list[tuple[int, ...]]:
+    """The times before which the line has the value at which it is held."""
+    values = ask([plan.at_line(own.asked.site.source, time) for time in plan.times[:-1]])
+    return [(time,) for time, answer in zip(plan.times[1:], values) if isinstance(answer, At) and answer.value == own.asked.held]
+
+
+def _ask_pieces(plan: Plan, own: FaultClass, good: Good, ask: Callable[[Sequence[Line]], list[Answer]], pieces: Iterable[tuple[int, ...]],
+                outcome: Outcome) -> None:
+    left = deque(pieces)
     while left and not outcome.is_shown:
         times = left.popleft()
         lines = plan.stuck_lines(own, times, good)
@@ -111,43 +145,69 @@ def solve(plan: Plan, own: FaultClass, good: Good, ask: Callable[[Sequence[Line]
             left.extendleft((times[half:], times[:half]))
         else:
             plan.judge(times, lines, answers, good, outcome)
-    return outcome
 
 
-def solve_all(plan: Plan, files: Sequence[type_of_path], jobs: int, program: type_of_path | None = None,
-              told: Callable[[], None] = lambda: None) -> tuple[Good, dict[FaultClass, Outcome]]:
-    """What comes of each class, by so many sessions beside one another. `told` is called when a class is done."""
-    program = looked_up(program)
-    askers = [Asker(files, program) for _ in range(jobs)]
-    free: queue.SimpleQueue[Asker] = queue.SimpleQueue()
-    for asker in askers:
-        free.put(asker)
-    outcomes: dict[FaultClass, Outcome] = {}
-    lock = threading.Lock()
-    try:
-        good = Good(plan, askers[0].ask(plan.good_lines()))
+class Crew:
+    """A context manager with sessions beside one another over three files, as many as there are jobs."""
 
-        def work(part: Iterator[FaultClass]) -> None:
-            asker = free.get()
+    def __init__(self, files: Sequence[type_of_path], jobs: int, program: type_of_path | None = None) -> None:
+        program = looked_up(program)
+        self._askers = [Asker(files, program) for _ in range(jobs)]
+
+    def __enter__(self) -> Crew:
+        return self
+
+    def __exit__(self, kind: type[BaseException] | None, error: BaseException | None, trace: TracebackType | None) -> None:
+        try:
+            if kind is None:
+                for asker in self._askers:
+                    asker.close()
+        finally:
+            for asker in self._askers:
+                asker.kill()
+
+    def ask(self, lines: Sequence[Line]) -> list[Answer]:
+        """The answers to lines, in order, of one session."""
+        return self._askers[0].ask(lines)
+
+    def share(self, parts: Sequence[T], work: Callable[[Asker, T], None]) -> None:
+        """Has the sessions do parts of a work, each the next that is left. Nothing further is begun where one has failed, and an
+        interrupt ends all at once."""
+        left = iter(parts)
+
+        def serve(asker: Asker) -> None:
             # next() of one iterator is whole in each thread
-            for own in part:
-                outcomes[own] = solve(plan, own, good, asker.ask)
-                with lock:
-                    told()
+            for part in left:
+                work(asker, part)
 
-        classes = iter(plan.classes)
-        with ThreadPoolExecutor(jobs) as pool:
+        with ThreadPoolExecutor(len(self._askers)) as pool:
+            running = [pool.submit(serve, asker) for asker in self._askers]
             try:
-                running = [pool.submit(work, classes) for _ in askers]
                 wait(running, return_when=FIRST_EXCEPTION)
-            finally:
-                # nothing further is begun where a session has failed, or Ctrl-C came
-                deque(classes, 0)
-            for job in running:
-                job.result()
-        for asker in askers:
-            asker.close()
-    finally:
-        for asker in askers:
-            asker.kill()
-    return good, {own: outcomes[own] for own in plan.classes}
+                deque(left, 0)
+                for job in running:
+                    job.result()
+            except BaseException as error:
+                deque(left, 0)
+                if not isinstance(error, Exception):
+                    for asker in self._askers:
+                        asker.interrupt()
+                # the terminal interrupts the sessions too, and one may be heard of first
+                if isinstance(error, SessionError) and error.status in _INTERRUPTED:
+                    raise KeyboardInterrupt from None
+                raise
+
+
+def solve_all(plan: Plan, files: Sequence[type_of_path], jobs: int, outcomes: dict[FaultClass, Outcome], classes: Sequence[FaultClass],
+              program: type_of_path | None = None, told: Callable[[], None] = lambda: None) -> Good:
+    """Asks for these classes at one time after another, and takes what comes of each into `outcomes`. `told` is called when a class is
+    done. Gives the values without a fault."""
+    with Crew(files, jobs, program) as crew:
+        good = Good(plan, crew.ask(plan.good_lines()))
+
+        def work(asker: Asker, own: FaultClass) -> None:
+            outcomes[own] = solve(plan, own, good, asker.ask, plan.chunks(own))
+            told()
+
+        crew.share(classes, work)
+    return good

@@ -8,15 +8,16 @@ even time before. What a signal has at t in the circuit, it has at 2t in this on
 from __future__ import annotations
 
 from collections.abc import Iterable
-from dataclasses import dataclass, replace
+from dataclasses import replace
 from itertools import count
 
-from ..errors import UsageError
+from ..errors import WordsError
 from ..formats.circuit import Circuit
 from ..formats.netlist import Gate, Kind, Netlist
 from ..formats.stimulus import Stimulus
 from ..formats.text import NAME_LIMIT
 from ..formats.timing import MOST_TIME, Clock, Timing
+from ..records import dataclass
 from .model import Site
 
 MOST_HORIZON = MOST_TIME // 2 - 1
@@ -36,12 +37,12 @@ class Made(Circuit):
 
 def with_branches(netlist: Netlist, timing: Timing, stimulus: Stimulus, branches: Iterable[Site]) -> Made:
     """The circuit with these branches as signals; the circuit itself where there are none. The branch to an output needs none.
-    UsageError where the horizon is above 499,999, so that it can't be doubled."""
+    WordsError where the horizon is above 499,999, so that it can't be doubled."""
     branches = [site for site in branches if not site.is_stem and not site.is_output]
     if not branches:
         return Made(netlist, timing, stimulus, {}, 1)
     if stimulus.horizon > MOST_HORIZON:
-        raise UsageError(f"for faults of branches all times are doubled, so the horizon may be at most {MOST_HORIZON}, and is "
+        raise WordsError(f"for faults of branches all times are doubled, so the horizon may be at most {MOST_HORIZON}, and is "
                          f"{stimulus.horizon}: divide all times by a number, or ask for stems alone (--stems)")
     signals = dict(zip(branches, _new_names(netlist, branches)))
     pins = {(site.reader, site.place): name for site, name in signals.items()}

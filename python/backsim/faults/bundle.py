@@ -4,15 +4,18 @@ The folder has `netlist.bench`, `timing`, `stimulus`, and the scripts `1.script`
 to them are looked for in `1.replies`, `2.replies` and so on. Each fault is asked for at all times."""
 from __future__ import annotations
 
+import io
 from collections.abc import Iterable, Iterator
 from pathlib import Path
 
-from ..errors import FormatError, UsageError, reason_of
+from ..errors import FormatError, reason_of
 from ..formats.netlist import write_netlist
 from ..formats.replies import pairs, read_replies_of
-from ..formats.script import SCRIPT_LIMIT, Line, read_script
+from ..formats.script import Line, read_script
 from ..formats.stimulus import write_stimulus
+from ..formats.text import SCRIPT_LIMIT
 from ..formats.timing import write_timing
+from ..outputs import whole_folder
 from ..values import Answer
 from .asking import Incomplete
 from .branches import Made
@@ -26,28 +29,25 @@ SIZE = SCRIPT_LIMIT - 4096
 def write_circuit(made: Made, folder: Path) -> tuple[Path, Path, Path]:
     """Writes the three files of the circuit, and gives their names. FormatError where one can't be written."""
     paths = (folder / NETLIST, folder / TIMING, folder / STIMULUS)
+    texts = [io.StringIO() for _ in paths]
+    write_netlist(made.netlist, texts[0])
+    write_timing(made.timing, texts[1])
+    write_stimulus(made.stimulus, texts[2])
     try:
-        for path, write in zip(paths, (lambda stream: write_netlist(made.netlist, stream), lambda stream: write_timing(made.timing, stream),
-                                       lambda stream: write_stimulus(made.stimulus, stream))):
-            with open(path, "w", encoding="latin-1") as stream:
-                write(stream)
+        for path, text in zip(paths, texts):
+            path.write_text(text.getvalue(), encoding="latin-1")
     except OSError as error:
         raise FormatError(folder, None, f"it can't be written: {reason_of(error)}") from None
     return paths
 
 
 def write_bundle(plan: Plan, folder: Path) -> int:
-    """Makes the folder, and gives the number of scripts. UsageError where it is there already."""
-    try:
-        folder.mkdir(parents=True)
-    except FileExistsError:
-        raise UsageError(f"{folder}: it is there already") from None
-    except OSError as error:
-        raise FormatError(folder, None, f"it can't be made: {reason_of(error)}") from None
-    write_circuit(plan.made, folder)
+    """Makes the folder, whole or not at all, and gives the number of scripts. FormatError where it is there already."""
     count = 0
-    for count, part in enumerate(_parts(_questions(plan)), 1):
-        (folder / f"{count}.script").write_text(part, encoding="latin-1")
+    with whole_folder(folder) as made:
+        write_circuit(plan.made, made)
+        for count, part in enumerate(_parts(_questions(plan)), 1):
+            (made / f"{count}.script").write_text(part, encoding="latin-1")
     return count
 
 
@@ -81,9 +81,9 @@ def read_bundle(plan: Plan, folder: Path) -> tuple[Good, dict[FaultClass, Outcom
     every = Good.unknown(plan)
     outcomes: dict[FaultClass, Outcome] = {}
     for own in plan.classes:
-        outcome = outcomes[own] = Outcome()
+        outcome = outcomes[own] = Outcome(is_confirmed=True)
         if own.asked.site.is_output:
-            plan.judge_output(own, good, outcome)
+            plan.judge_output(own, plan.times, good, outcome)
             continue
         for times in plan.chunks(own):
             lines = plan.stuck_lines(own, times, every)

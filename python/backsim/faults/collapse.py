@@ -7,19 +7,19 @@ pin: the branch, or the stem of a signal that is read in one place."""
 from __future__ import annotations
 
 from collections.abc import Iterable
-from dataclasses import dataclass
 
 from ..formats.netlist import Gate, Kind
+from ..records import dataclass
 from .model import Fault, Lines, Site
 
 _CONTROLLED = {Kind.AND: ("0", "0"), Kind.NAND: ("0", "1"), Kind.OR: ("1", "1"), Kind.NOR: ("1", "0")}
 _NEGATED = (Kind.NAND, Kind.NOR, Kind.XNOR, Kind.NOT)
 
 
-@dataclass(frozen=True, slots=True)
+@dataclass(frozen=True, slots=True, eq=False)
 class FaultClass:
     """Equivalent faults: `members` are those of the list in its order, `asked` is the one of them all that is nearest the outputs,
-    which the program is asked for; it need not be a member."""
+    which the program is asked for; it need not be a member. A class is equal to itself alone."""
 
     asked: Fault
     members: tuple[Fault, ...]

@@ -1,7 +1,8 @@
 """Fault lists in the form of the field: a line `NAME /0` for a stem, `FROM->TO /1` for a branch.
 
 Where TO reads FROM at several pins, the branch is `FROM->TO(1) /1`, with the place of the pin counted from 0. The branch to an output
-is `NAME->(output) /0`. Blank lines and what follows `#` count as nothing."""
+is `NAME->(output) /0`. Of a line that is slow to rise or to fall `/str` or `/stf` stands there. Blank lines and what follows `#` count
+as nothing, but that a list which an interrupted command left begins with the line `PARTIAL`."""
 from __future__ import annotations
 
 import re
@@ -12,7 +13,8 @@ from ..errors import FormatError, type_of_path
 from ..formats.text import content_of, lines_of, read_bytes
 from .model import OUTPUT, Fault, Lines, Site
 
-_FAULT = re.compile(r" *(\S+?) */([01]) *")
+PARTIAL = "# partial: the command was interrupted"
+_FAULT = re.compile(r" *(\S+?) */([01]|str|stf) *")
 _PLACED = re.compile(r"(.+)\(([0-9]{1,2})\)")
 
 
@@ -30,6 +32,7 @@ def read_faults(path: type_of_path, lines: Lines) -> list[Fault]:
     netlist."""
     found: dict[Fault, None] = {}
     for number, line in enumerate(lines_of(read_bytes(path)), 1):
+        refuse_partial(line, path, number)
         text = content_of(line).strip(" ")
         if not text:
             continue
@@ -40,6 +43,12 @@ def read_faults(path: type_of_path, lines: Lines) -> list[Fault]:
     if not found:
         raise FormatError(path, None, "the list has no fault")
     return list(found)
+
+
+def refuse_partial(line: bytes, path: type_of_path, number: int) -> None:
+    """FormatError where the line says that an interrupted command left the file."""
+    if line.decode("latin-1").strip() == PARTIAL:
+        raise FormatError(path, number, "an interrupted command left this file, so it is not whole; without this line it is taken as it is")
 
 
 def _site_of(word: str, lines: Lines, path: type_of_path, number: int) -> Site:
@@ -70,6 +79,8 @@ def _branches_of(source: str, reader: str, lines: Lines) -> list[Site]:
     return [site if len(own) > 1 else Site(source) for site in found]
 
 
-def write_faults(faults: Iterable[Fault], lines: Lines, stream: TextIO) -> None:
+def write_faults(faults: Iterable[Fault], lines: Lines, stream: TextIO, is_partial: bool = False) -> None:
     """Writes a list, a line for each fault."""
+    if is_partial:
+        stream.write(f"{PARTIAL}\n")
     stream.writelines(f"{text_of(fault, lines)}\n" for fault in faults)

@@ -1,16 +1,19 @@
-"""The lines of a circuit and their stuck-at faults.
+"""The lines of a circuit and their stuck-at and transition faults.
 
 A signal that is read in one place has one line, its stem. A signal that is read in several places, being an output counting as one,
-has a stem and a branch to each place. A fault holds a line at 0 or at 1, whatever drives it; of a branch only the one place sees it."""
+has a stem and a branch to each place. A fault holds a line at 0 or at 1, whatever drives it; of a branch only the one place sees it.
+A transition fault is a line that is slow to rise (`str`) or to fall (`stf`): at a look that should find it risen it still holds 0."""
 from __future__ import annotations
 
-from collections.abc import Iterable, Iterator
-from dataclasses import dataclass
+from collections.abc import Iterable, Iterator, Sequence
 
-from ..formats.netlist import Netlist
+from ..formats.netlist import Gate, Netlist, in_order
+from ..records import dataclass
 
 OUTPUT = "(output)"
 VALUES = ("0", "1")
+TRANSITIONS = ("str", "stf")
+_HELD = {"0": "0", "1": "1", "str": "0", "stf": "1"}
 
 
 @dataclass(frozen=True, slots=True, order=True)
@@ -34,10 +37,20 @@ class Site:
 
 @dataclass(frozen=True, slots=True, order=True)
 class Fault:
-    """A line that is stuck at `0` or `1`."""
+    """A line that is stuck at `0` or `1`, or slow to rise (`str`) or to fall (`stf`)."""
 
     site: Site
     value: str
+
+    @property
+    def held(self) -> str:
+        """The value at which the line is held: `0` or `1`."""
+        return _HELD[self.value]
+
+    @property
+    def is_transition(self) -> bool:
+        """Whether the line is held only where it should have changed since the look before."""
+        return self.value in TRANSITIONS
 
 
 class Lines:
@@ -68,9 +81,9 @@ class Lines:
             yield Site(name)
             yield from self.branches(name)
 
-    def faults(self, has_branches: bool = True) -> list[Fault]:
-        """All faults, without collapsing; with `has_branches` false those of stems alone."""
-        return [Fault(site, value) for site in self.sites() if has_branches or site.is_stem for value in VALUES]
+    def faults(self, has_branches: bool = True, values: Sequence[str] = VALUES) -> list[Fault]:
+        """All faults of these values, without collapsing; with `has_branches` false those of stems alone."""
+        return [Fault(site, value) for site in self.sites() if has_branches or site.is_stem for value in values]
 
     def has_site(self, site: Site) -> bool:
         """Whether the netlist has this line."""
@@ -97,14 +110,26 @@ def outputs_reached(netlist: Netlist) -> dict[str, tuple[str, ...]]:
     masks = dict.fromkeys(netlist.names, 0)
     for place, name in enumerate(netlist.outputs):
         masks[name] |= 1 << place
-    left = dict.fromkeys(netlist.outputs)
-    while left:
-        name, _ = left.popitem()
-        for pin in netlist.gates[name].pins if name in netlist.gates else ():
-            if masks[name] & ~masks[pin]:
-                masks[pin] |= masks[name]
-                left[pin] = None
+    readers = _readers_first(netlist)
+    is_changed = True
+    while is_changed:
+        is_changed = False
+        for gate in readers:
+            mask = masks[gate.name]
+            for pin in gate.pins:
+                if mask & ~masks[pin]:
+                    masks[pin] |= mask
+                    is_changed = True
     lists: dict[int, tuple[str, ...]] = {}
     for mask in set(masks.values()):
         lists[mask] = tuple(name for place, name in enumerate(netlist.outputs) if mask >> place & 1)
     return {name: lists[mask] for name, mask in masks.items()}
+
+
+def _readers_first(netlist: Netlist) -> list[Gate]:
+    """The gates, each after those that read it where none make a cycle, and then the flip-flops; so a walk over them comes to its end
+    after as many rounds as flip-flops follow one another, and one more."""
+    try:
+        return [*reversed(tuple(in_order(netlist))), *netlist.flops()]
+    except ValueError:
+        return list(netlist.gates.values())

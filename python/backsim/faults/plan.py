@@ -1,13 +1,16 @@
 """What is asked about the faults of a circuit, and what the answers say."""
 from __future__ import annotations
 
+from bisect import bisect_left
 from collections.abc import Iterable, Iterator, Sequence
-from dataclasses import dataclass, field
+from dataclasses import field
 
+from ..formats.circuit import Circuit
 from ..formats.netlist import Netlist
 from ..formats.script import AtLine, StuckLine
+from ..records import dataclass
 from ..values import Answer, At, Stuck
-from .branches import Made
+from .branches import Made, with_branches
 from .collapse import FaultClass
 from .model import Site, cone_of, outputs_reached
 
@@ -18,11 +21,14 @@ _MOST_TIMES = 64
 
 @dataclass(slots=True)
 class Outcome:
-    """What came of a class: the first time and an output that show it, or None; and the questions that were answered by their
-    budget, so that nothing is known of them."""
+    """What came of a class: the first time and an output that show it, or None; how many times show it, of those that were looked at;
+    whether the program says so, of one that is shown this time and output, of another all times and outputs; and the questions that
+    were answered by their budget, so that nothing is known of them."""
 
     time: int | None = None
     output: str | None = None
+    count: int = 0
+    is_confirmed: bool = False
     unanswered: list[str] = field(default_factory=list)
 
     @property
@@ -44,6 +50,12 @@ class Plan:
         self._before_flops = cone_of(netlist, (gate.pins[0] for gate in netlist.flops()))
         self.outputs = netlist.outputs
 
+    @classmethod
+    def of(cls, circuit: Circuit, classes: Sequence[FaultClass], times: Sequence[int], budget: int) -> Plan:
+        """The plan over the circuit in which the branches of these classes are signals."""
+        made = with_branches(circuit.netlist, circuit.timing, circuit.stimulus, (own.asked.site for own in classes))
+        return cls(circuit.netlist, made, classes, times, budget)
+
     def reached(self, site: Site) -> tuple[str, ...]:
         """The outputs that a fault of this line can reach."""
         if site.is_output:
@@ -52,14 +64,26 @@ class Plan:
 
     def good_lines(self) -> list[AtLine]:
         """What asks for each output at each time without a fault."""
-        return [AtLine(output, self.made.scale * time, self.budget) for time in self.times for output in self.outputs]
+        return [self.at_line(output, time) for time in self.times for output in self.outputs]
+
+    def at_line(self, name: str, time: int, budget: int | None = None) -> AtLine:
+        """What asks for a signal at a time without a fault, with the plan's budget or another."""
+        return AtLine(name, self.made.scale * time, self.budget if budget is None else budget)
+
+    def stuck_line(self, own: FaultClass, output: str, times: Sequence[int], budget: int | None = None) -> StuckLine:
+        """What asks for an output with the fault, from the first of the times to the last, with the plan's budget or another."""
+        scale = self.made.scale
+        return StuckLine(self.made.signal(own.asked.site), own.asked.held, output, scale * times[0], scale * times[-1] + 1,
+                         self.budget if budget is None else budget)
+
+    def time_before(self, time: int) -> int:
+        """The look before the one at this time."""
+        return self.times[bisect_left(self.times, time) - 1]
 
     def stuck_lines(self, own: FaultClass, times: Sequence[int], good: Good) -> list[StuckLine]:
         """What asks for the outputs that the fault reaches, from the first of the times to the last. An output that has no known
         value at any of them is left out, and so is the branch to an output, whose value is that of the fault."""
-        site, scale = own.asked.site, self.made.scale
-        return [StuckLine(self.made.signal(site), own.asked.value, output, scale * times[0], scale * times[-1] + 1, self.budget)
-                for output in self.reached(site) if good.is_known(output, times)]
+        return [self.stuck_line(own, output, times) for output in self.reached(own.asked.site) if good.is_known(output, times)]
 
     def chunks(self, own: FaultClass) -> Iterator[tuple[int, ...]]:
         """The times in the pieces for which a class is asked, one question each. A question for one time evaluates what is settled then,
@@ -78,21 +102,22 @@ class Plan:
 
     def judge(self, times: Sequence[int], lines: Sequence[StuckLine], answers: Sequence[Answer], good: Good, outcome: Outcome) -> None:
         """Takes the answers to lines of `stuck_lines` into the outcome."""
-        for line, answer in zip(lines, answers, strict=True):
+        assert len(lines) == len(answers)
+        for line, answer in zip(lines, answers):
             if isinstance(answer, Stuck):
                 self._take(((time, answer.wave.value_at(self.made.scale * time)) for time in times), line.name, good, outcome)
             else:
                 outcome.unanswered.append(line.name)
 
-    def judge_output(self, own: FaultClass, good: Good, outcome: Outcome) -> None:
-        """Takes what the branch to an output shows into the outcome: its value is that of the fault."""
-        self._take(((time, own.asked.value) for time in self.times), own.asked.site.source, good, outcome)
+    def judge_output(self, own: FaultClass, times: Iterable[int], good: Good, outcome: Outcome) -> None:
+        """Takes what the branch to an output shows at these times into the outcome: its value is that of the fault."""
+        self._take(((time, own.asked.held) for time in times), own.asked.site.source, good, outcome)
 
     def _take(self, values: Iterable[tuple[int, str]], output: str, good: Good, outcome: Outcome) -> None:
         """Takes the first time at which the output has a wrong value, where none before is known."""
         shown = next((time for time, value in values if good.differs(output, time, value)), None)
         if shown is not None and (outcome.time is None or shown < outcome.time):
-            outcome.time, outcome.output = shown, output
+            outcome.time, outcome.output, outcome.count = shown, output, 1
 
 
 class Good:
@@ -101,7 +126,9 @@ class Good:
     def __init__(self, plan: Plan, answers: Sequence[Answer]) -> None:
         self._values: dict[tuple[str, int], str] = {}
         self.unanswered: list[str] = []
-        for line, answer in zip(plan.good_lines(), answers, strict=True):
+        lines = list(plan.good_lines())
+        assert len(lines) == len(answers)
+        for line, answer in zip(lines, answers):
             time = line.time // plan.made.scale
             if isinstance(answer, At):
                 self._values[line.name, time] = answer.value
@@ -121,6 +148,10 @@ class Good:
         return any(self._values.get((output, time)) in _KNOWN for time in times)
 
     def differs(self, output: str, time: int, value: str) -> bool:
-        """Whether a tester sees the value as wrong: both are known, and another."""
-        own = self._values.get((output, time))
-        return own in _KNOWN and value in _KNOWN and own != value
+        """Whether a tester sees the value as wrong."""
+        return is_wrong(self._values.get((output, time)), value)
+
+
+def is_wrong(right: str | None, value: str) -> bool:
+    """Whether a tester sees the value as wrong: both are known, and another."""
+    return right in _KNOWN and value in _KNOWN and right != value

@@ -1,11 +1,12 @@
 """The journal of a session, in its grammar (docs/use/FORMATS.md, The journal). Which journals are legal is told by `backsim.legality`."""
 from __future__ import annotations
 
-from collections.abc import Iterable, Iterator
-from dataclasses import dataclass, field
+from collections.abc import Callable, Iterable, Iterator
+from dataclasses import field
 from typing import Union
 
 from ..errors import FormatError, type_of_path
+from ..records import dataclass
 from ..values import LOGIC
 from .proof import plain_number
 from .text import opened
@@ -126,12 +127,13 @@ def entry_of(words: list[str]) -> Entry | None:
     numbers = list(map(plain_number, words[1:-1] if is_cell else words[1:]))
     if None in numbers:
         return None
+    make: Callable[..., Entry] = kind
     if is_cell:
         _, _, _, start, end = numbers
         if words[-1] not in LOGIC or not start < end <= MOST_END:  # type: ignore[operator]
             return None
-        return kind(*numbers, words[-1])
-    return kind(*numbers)
+        return make(*numbers, words[-1])
+    return make(*numbers)
 
 
 def read_events(path: type_of_path) -> Iterator[tuple[int, Event]]:
@@ -221,15 +223,14 @@ def collect(events: Iterable[tuple[int, Event]]) -> Journal:
     """The journal that the events make."""
     journal = Journal(0, 0)
     for _, event in events:
-        match event:
-            case Head():
-                journal = Journal(event.shards, event.cells)
-            case SectionBegin():
-                journal.sections.append(Section(event.kind, event.number))
-            case ShardBegin():
-                journal.sections[-1].shards.append([])
-            case SectionEnd():
-                pass
-            case _:
-                journal.sections[-1].shards[-1].append(event)
+        if isinstance(event, Head):
+            journal = Journal(event.shards, event.cells)
+        elif isinstance(event, SectionBegin):
+            journal.sections.append(Section(event.kind, event.number))
+        elif isinstance(event, ShardBegin):
+            journal.sections[-1].shards.append([])
+        elif isinstance(event, SectionEnd):
+            pass
+        else:
+            journal.sections[-1].shards[-1].append(event)
     return journal

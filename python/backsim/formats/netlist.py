@@ -3,18 +3,28 @@ from __future__ import annotations
 
 import enum
 import re
-from collections.abc import Iterable, Iterator
-from dataclasses import dataclass, field
+from collections.abc import Callable, Iterable, Iterator, Mapping
+from dataclasses import field, replace
 from typing import TextIO
 
 from .. import causes
 from ..errors import FormatError, type_of_path
-from .text import NAME_LIMIT, content_of, is_name, lines_of, read_bytes
+from ..records import dataclass
+from .text import NAME_LIMIT, check_mark, content_of, is_name, lines_of, read_bytes
 
+# a gate that a converter adds for a signal
+_PART = re.compile(r"(.+)\$[0-9]+")
 MOST_PINS_OF_A_GATE = 64
 MOST_NAMES = 1_048_576
 MOST_PINS = 4_194_304
 _TOKEN = re.compile(r"[(),=]|[^(),= ]+")
+_BLANKS = rb"[ \t\r]*"
+_NAME = rb"[!\"$-'*+\--<>-~]+"
+# a line that is most likely that of a gate, as `y = AND(a, b)`: its name, the word of its kind, and its pins
+_GATE = re.compile(rb"%b(%b)%b=%b([A-Za-z]+)%b\(%b(%b(?:%b,%b%b)*)%b\)%b(?:#.*)?" % (
+    _BLANKS, _NAME, _BLANKS, _BLANKS, _BLANKS, _BLANKS, _NAME, _BLANKS, _BLANKS, _NAME, _BLANKS, _BLANKS))
+# a comment that is a place in the source, as `# chip.v:12` or `# chip.v:12.5-14.8`
+_SOURCE = re.compile(rb"#[ \t]*([!-~]+:[0-9]+(?:\.[0-9]+(?:-[0-9]+\.[0-9]+)?)?)[ \t\r]*")
 
 
 class Kind(enum.Enum):
@@ -45,12 +55,14 @@ def kind_of(word: str) -> Kind | None:
 @dataclass(frozen=True, slots=True)
 class Gate:
     """A gate or flip-flop: the signal that it drives, its kind, the signals at its pins in order (1 to 64, exactly one for NOT,
-    BUFF and DFF), and its line in the file, 0 where it is of no file."""
+    BUFF and DFF), its line in the file, 0 where it is of no file, and its place in the source that the netlist was made of, as
+    `chip.v:12`, or an empty text."""
 
     name: str
     kind: Kind
     pins: tuple[str, ...]
     line: int = 0
+    source: str = field(default="", compare=False)
 
 
 @dataclass(frozen=True, slots=True)
@@ -108,7 +120,7 @@ class Netlist:
         return _closure(name, lambda signal: fanout[signal])
 
 
-def _closure(start, followers) -> set[str]:
+def _closure(start: str, followers: Callable[[str], Iterable[str]]) -> set[str]:
     found, left = {start}, [start]
     while left:
         for name in followers(left.pop()):
@@ -120,7 +132,9 @@ def _closure(start, followers) -> set[str]:
 
 def read_netlist(path: type_of_path) -> Netlist:
     """The netlist of a file. FormatError where the program refuses the file, with the same line and cause, or it can't be read."""
-    return parse_netlist(read_bytes(path), str(path))
+    data = read_bytes(path)
+    check_mark(data, path)
+    return parse_netlist(data, str(path))
 
 
 def parse_netlist(data: bytes, path: str) -> Netlist:
@@ -129,10 +143,31 @@ def parse_netlist(data: bytes, path: str) -> Netlist:
 
 
 def write_netlist(netlist: Netlist, stream: TextIO) -> None:
-    """Writes the INPUT lines, the OUTPUT lines, and a line for each gate, in order."""
+    """Writes the INPUT lines, the OUTPUT lines, and a line for each gate, in order, with its place in the source as a comment."""
     stream.writelines(f"INPUT({name})\n" for name in netlist.inputs)
     stream.writelines(f"OUTPUT({name})\n" for name in netlist.outputs)
-    stream.writelines(f"{gate.name} = {gate.kind.value}({', '.join(gate.pins)})\n" for gate in netlist.gates.values())
+    stream.writelines(f"{gate.name} = {gate.kind.value}({', '.join(gate.pins)}){f'  # {gate.source}' if gate.source else ''}\n"
+                      for gate in netlist.gates.values())
+
+
+def source_of(line: bytes) -> str:
+    """The place in the source that the comment of a line is, or an empty text."""
+    mark = line.find(b"#")
+    found = _SOURCE.fullmatch(line, mark) if mark >= 0 else None
+    return found[1].decode("ascii") if found else ""
+
+
+def with_sources(netlist: Netlist, sources: Mapping[str, str]) -> Netlist:
+    """The netlist with the place in the source of each gate whose signal has one in `sources`, or whose name begins as such a signal's,
+    with `$` and a number behind it."""
+
+    def placed(gate: Gate) -> Gate:
+        name = gate.name
+        while name not in sources and (parts := _PART.fullmatch(name)):
+            name = parts[1]
+        return replace(gate, source=sources.get(name, ""))
+
+    return replace(netlist, gates={name: placed(gate) for name, gate in netlist.gates.items()})
 
 
 class _Parser:
@@ -145,42 +180,67 @@ class _Parser:
         self.gates: dict[str, Gate] = {}
         self.names: dict[str, None] = {}
         self.used: dict[str, int] = {}
+        self.kinds: dict[bytes, Kind | None] = {}
         self.pins = 0
 
     def parse(self, data: bytes) -> Netlist:
         for number, line in enumerate(lines_of(data), 1):
+            gate = self.usual_gate(number, line)
+            if gate is not None:
+                self.add_gate(gate)
+                continue
             text = content_of(line)
             if text.strip(" "):
-                self.take(number, text)
+                self.take(number, text, source_of(line))
         for name, number in self.used.items():
             if name not in self.gates and name not in self.inputs:
                 raise self.fault(number, 5, name)
         return Netlist(tuple(self.inputs), tuple(self.outputs), self.gates, tuple(self.names))
 
+    def usual_gate(self, number: int, line: bytes) -> Gate | None:
+        """The gate of a line, where it is seen at once that nothing is wrong with it; else None."""
+        found = _GATE.fullmatch(line)
+        if found is None or len(line) > NAME_LIMIT:
+            return None
+        name, word, pins = found[1].decode("ascii"), found[2], found[3].translate(None, b" \t\r").decode("ascii").split(",")
+        if word not in self.kinds:
+            self.kinds[word] = kind_of(word.decode("ascii"))
+        kind = self.kinds[word]
+        if kind is None or len(pins) > MOST_PINS_OF_A_GATE or len(pins) > 1 and kind.is_unary or name in self.gates or name in self.inputs:
+            return None
+        return Gate(name, kind, tuple(pins), number, source_of(line))
+
+    def add_gate(self, gate: Gate) -> None:
+        """Adds a gate, and the first line that uses each of its pins."""
+        self.gates[gate.name] = gate
+        self.pins += len(gate.pins)
+        self.names[gate.name] = None
+        for pin in gate.pins:
+            self.names[pin] = None
+            self.used.setdefault(pin, gate.line)
+        self.check_counts(gate.line)
+
     def fault(self, number: int, cause: int, what: str = "") -> FormatError:
         return FormatError(self.path, number, causes.NETLIST[cause] + (f": {what}" if what else ""))
 
-    def take(self, number: int, text: str) -> None:
+    def take(self, number: int, text: str, source: str) -> None:
         tokens = _TOKEN.findall(text)
         if tokens[1:2] == ["="]:
             name, kind, pins = self.gate_of(number, tokens)
             self.check_names(number, (name, *pins))
             if name in self.gates or name in self.inputs:
                 raise self.fault(number, 4, name)
-            self.gates[name] = Gate(name, kind, pins, number)
-            self.pins += len(pins)
-            self.add_names(number, (name, *pins))
-            used: Iterable[str] = pins
-        else:
-            word, name = self.port_of(number, tokens)
-            self.check_names(number, (name,))
-            if word == "INPUT" and name in self.gates:
-                raise self.fault(number, 4, name)
-            (self.inputs if word == "INPUT" else self.outputs)[name] = None
-            self.add_names(number, (name,))
-            used = (name,) if word == "OUTPUT" else ()
-        for pin in used:
-            self.used.setdefault(pin, number)
+            self.add_gate(Gate(name, kind, pins, number, source))
+            return
+        word, name = self.port_of(number, tokens)
+        self.check_names(number, (name,))
+        if word == "INPUT" and name in self.gates:
+            raise self.fault(number, 4, name)
+        (self.inputs if word == "INPUT" else self.outputs)[name] = None
+        self.names[name] = None
+        self.check_counts(number)
+        if word == "OUTPUT":
+            self.used.setdefault(name, number)
 
     def gate_of(self, number: int, tokens: list[str]) -> tuple[str, Kind, tuple[str, ...]]:
         inner = tokens[4:-1]
@@ -208,8 +268,7 @@ class _Parser:
         if any(len(name) > NAME_LIMIT for name in names):
             raise self.fault(number, 6)
 
-    def add_names(self, number: int, names: Iterable[str]) -> None:
-        self.names.update(dict.fromkeys(names))
+    def check_counts(self, number: int) -> None:
         if len(self.names) > MOST_NAMES or self.pins > MOST_PINS:
             raise self.fault(number, 7)
 

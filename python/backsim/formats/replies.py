@@ -2,11 +2,11 @@
 from __future__ import annotations
 
 from collections.abc import Callable, Iterable, Iterator
-from dataclasses import dataclass
 from operator import lt
 from typing import BinaryIO
 
 from ..errors import FormatError, type_of_path
+from ..records import dataclass
 from ..values import (LOGIC, Answer, At, BadLine, Budget, Dump, First, Past, Proof, ProofCell, Refusal, Stats, Stuck, Trimmed,
                       Unknown, Wave)
 from .proof import cell_of, claim_of, plain_number
@@ -245,32 +245,30 @@ def read_replies_of(path: type_of_path) -> Iterator[Reply]:
 
 def fits(line: Line, answer: Answer) -> bool:
     """Whether the answer is one to the line: it must name what the line asks, signal, values and times."""
-    match answer:
-        case Unknown() | Past() | Budget():
-            return isinstance(line, (WaveLine, AtLine, FirstLine, WhyLine, StuckLine)) and _fits_without_value(line, answer)
-        case Wave():
-            return isinstance(line, WaveLine) and (answer.name, answer.start, answer.stop) == (line.name, line.start, line.stop)
-        case At():
-            return isinstance(line, AtLine) and (answer.name, answer.time) == (line.name, line.time)
-        case First():
-            return isinstance(line, FirstLine) and (answer.name, answer.value, answer.start, answer.stop) == (
-                line.name, line.value, line.start, line.stop)
-        case Proof():
-            return isinstance(line, WhyLine) and (answer.name, answer.time) == (line.name, line.time)
-        case Stuck():
-            wave = answer.wave
-            return isinstance(line, StuckLine) and (answer.site, answer.value, wave.name, wave.start, wave.stop) == (
-                line.site, line.value, line.name, line.start, line.stop)
-        case BadLine():
-            return isinstance(line, BadScriptLine) and answer.number == line.number
-        case Trimmed():
-            return isinstance(line, Trim)
-        case Stats():
-            return isinstance(line, StatsLine)
-        case Dump():
-            return isinstance(line, VcdLine) and answer.file in (None, line.file)
-        case _:
-            return False
+    if isinstance(answer, (Unknown, Past, Budget)):
+        return isinstance(line, (WaveLine, AtLine, FirstLine, WhyLine, StuckLine)) and _fits_without_value(line, answer)
+    if isinstance(answer, Wave):
+        return isinstance(line, WaveLine) and (answer.name, answer.start, answer.stop) == (line.name, line.start, line.stop)
+    if isinstance(answer, At):
+        return isinstance(line, AtLine) and (answer.name, answer.time) == (line.name, line.time)
+    if isinstance(answer, First):
+        return isinstance(line, FirstLine) and (answer.name, answer.value, answer.start, answer.stop) == (
+            line.name, line.value, line.start, line.stop)
+    if isinstance(answer, Proof):
+        return isinstance(line, WhyLine) and (answer.name, answer.time) == (line.name, line.time)
+    if isinstance(answer, Stuck):
+        wave = answer.wave
+        return isinstance(line, StuckLine) and (answer.site, answer.value, wave.name, wave.start, wave.stop) == (
+            line.site, line.value, line.name, line.start, line.stop)
+    if isinstance(answer, BadLine):
+        return isinstance(line, BadScriptLine) and answer.number == line.number
+    if isinstance(answer, Trimmed):
+        return isinstance(line, Trim)
+    if isinstance(answer, Stats):
+        return isinstance(line, StatsLine)
+    if isinstance(answer, Dump):
+        return isinstance(line, VcdLine) and answer.file in (None, line.file)
+    return False
 
 
 def _fits_without_value(line: WaveLine | AtLine | FirstLine | WhyLine | StuckLine, answer: Unknown | Past | Budget) -> bool:

@@ -3,11 +3,11 @@ from __future__ import annotations
 
 import re
 from collections.abc import Iterable, Iterator
-from dataclasses import dataclass
 from typing import ClassVar, TextIO, Union
 
 from ..errors import FormatError, type_of_path
 from ..evaluations import MOST_CELLS
+from ..records import dataclass
 from .text import LINE_LIMIT, NAME, SCRIPT_LIMIT, is_name, lines_of, logic_of, number_of, read_bytes, words_of
 
 MOST_TIME = 4_294_967_294
@@ -200,27 +200,33 @@ class _NoForm(Exception):
     """A line has none of the forms, or a number above its limit."""
 
 
+# how many words each line has behind its first one, without a budget
+_STATED = {"wave": 3, "at": 2, "first": 4, "why": 2, "stuck": 5, "go": 0, "stats": 0, "vcd": 1, "trim": 1}
+
+
 def _form_of(words: tuple[str, ...], number: int, text: str) -> Line:
     """The line of one of the forms."""
-    match words:
-        case ("wave", name, start, stop, *budget) if is_name(name):
-            return WaveLine(name, _time(start), _time(stop), _budget(budget), number=number, text=text)
-        case ("at", name, time, *budget) if is_name(name):
-            return AtLine(name, _time(time), _budget(budget), number=number, text=text)
-        case ("first", name, word, start, stop, *budget) if is_name(name) and (value := logic_of(word)):
-            return FirstLine(name, value, _time(start), _time(stop), _budget(budget), number=number, text=text)
-        case ("why", name, time, *budget) if is_name(name):
-            return WhyLine(name, _time(time), _budget(budget), number=number, text=text)
-        case ("stuck", site, "0" | "1" as value, name, start, stop, *budget) if is_name(site) and is_name(name):
-            return StuckLine(site, value, name, _time(start), _time(stop), _budget(budget), number=number, text=text)
-        case ("go",):
-            return Go(number=number, text=text)
-        case ("stats",):
-            return StatsLine(number=number, text=text)
-        case ("vcd", file) if is_name(file):
-            return VcdLine(file, number=number, text=text)
-        case ("trim", cells):
-            return Trim(_at_most(cells, MOST_CELLS), number=number, text=text)
+    word, count = words[0], _STATED.get(words[0], len(words))
+    stated, more = words[1:count + 1], list(words[count + 1:])
+    if len(stated) < count or more and word in ("go", "stats", "vcd", "trim"):
+        raise _NoForm
+    if word in ("wave", "at", "why") and is_name(stated[0]):
+        if word == "wave":
+            return WaveLine(stated[0], _time(stated[1]), _time(stated[2]), _budget(more), number=number, text=text)
+        kind: type[AtLine] | type[WhyLine] = AtLine if word == "at" else WhyLine
+        return kind(stated[0], _time(stated[1]), _budget(more), number=number, text=text)
+    if word == "first" and is_name(stated[0]) and (value := logic_of(stated[1])):
+        return FirstLine(stated[0], value, _time(stated[2]), _time(stated[3]), _budget(more), number=number, text=text)
+    if word == "stuck" and is_name(stated[0]) and stated[1] in ("0", "1") and is_name(stated[2]):
+        return StuckLine(stated[0], stated[1], stated[2], _time(stated[3]), _time(stated[4]), _budget(more), number=number, text=text)
+    if word == "go":
+        return Go(number=number, text=text)
+    if word == "stats":
+        return StatsLine(number=number, text=text)
+    if word == "vcd" and is_name(stated[0]):
+        return VcdLine(stated[0], number=number, text=text)
+    if word == "trim":
+        return Trim(_at_most(stated[0], MOST_CELLS), number=number, text=text)
     raise _NoForm
 
 

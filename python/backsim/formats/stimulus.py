@@ -2,13 +2,16 @@
 from __future__ import annotations
 
 from bisect import bisect_right
-from dataclasses import dataclass, field
+from dataclasses import field
 from typing import TextIO
 
 from .. import causes
 from ..errors import FormatError, type_of_path
+from ..records import dataclass
+from ..values import AFTER_VALUES
 from .netlist import Netlist
-from .text import Row, is_name, logic_of, number_of, read_for, rows_of
+from .text import Row, is_name, logic_of, number_of, read_bytes, read_for, rows_of
+from .units import Unit, comment_of, unit_in
 
 MOST_TIME = 1_000_000
 
@@ -16,16 +19,17 @@ MOST_TIME = 1_000_000
 @dataclass(slots=True)
 class Stimulus:
     """The horizon, 0 to 1,000,000, is the last time of the simulation. `settings` has for each input the (time, value) of its
-    settings by ascending time. `lines` has the line of each setting, by name and time, where the stimulus was read from a file."""
+    settings by ascending time. `unit` says what a unit of time is, where a comment of the file does. `lines` has the line of each setting, by name and time, where the stimulus was read from a file."""
 
     horizon: int
     settings: dict[str, list[tuple[int, str]]] = field(default_factory=dict)
+    unit: Unit | None = None
     lines: dict[tuple[str, int], int] = field(default_factory=dict, repr=False, compare=False)
 
     def value_at(self, name: str, time: int) -> str:
         """The value of an input at a time: that of its last setting at or before it, and x before its first setting."""
         settings = self.settings.get(name, [])
-        place = bisect_right(settings, time, key=lambda setting: setting[0])
+        place = bisect_right(settings, (time, AFTER_VALUES))
         return settings[place - 1][1] if place else "x"
 
     def times(self) -> list[int]:
@@ -38,6 +42,13 @@ def read_stimulus(path: type_of_path, netlist: Netlist | None = None) -> Stimulu
     return read_for(netlist, path, parse_stimulus, check_stimulus)
 
 
+def read_horizon(path: type_of_path) -> int:
+    """The horizon that a file states in its first line that isn't blank; the other lines are not looked at. FormatError where it is none."""
+    for row in rows_of(read_bytes(path)):
+        return _horizon_of(row, str(path))
+    raise FormatError(path, None, f"{causes.STIMULUS[2]}: the file has no such line")
+
+
 def parse_stimulus(data: bytes, path: str) -> Stimulus:
     """The stimulus of a file's bytes; `path` is what errors name."""
     stimulus = None
@@ -46,7 +57,7 @@ def parse_stimulus(data: bytes, path: str) -> Stimulus:
             horizon = _horizon_of(row, path)
             if stimulus is not None:
                 raise FormatError(path, row.number, f"{causes.STIMULUS[4]}: horizon")
-            stimulus = Stimulus(horizon)
+            stimulus = Stimulus(horizon, unit=unit_in(data))
         else:
             _take(stimulus, row, path)
     if stimulus is None:
@@ -92,7 +103,7 @@ def check_stimulus(stimulus: Stimulus, netlist: Netlist, path: str) -> None:
 
 def write_stimulus(stimulus: Stimulus, stream: TextIO) -> None:
     """Writes the horizon and a line for each setting, by time and then in the order of the inputs in `settings`."""
-    stream.write(f"horizon {stimulus.horizon}\n")
+    stream.write(f"{comment_of(stimulus.unit)}horizon {stimulus.horizon}\n")
     order = {name: place for place, name in enumerate(stimulus.settings)}
     rows = [(time, order[name], name, value) for name, settings in stimulus.settings.items() for time, value in settings]
     stream.writelines(f"set {name} {time} {value}\n" for time, _, name, value in sorted(rows))

@@ -1,6 +1,7 @@
 """The rules that the text files share: lines, comments, words, names and numbers (docs/use/FORMATS.md, Common rules)."""
 from __future__ import annotations
 
+import codecs
 import re
 from collections.abc import Callable, Iterator
 from contextlib import contextmanager
@@ -46,9 +47,23 @@ def read_bytes(path: type_of_path, limit: int = FILE_LIMIT) -> bytes:
     return data
 
 
+def read_foreign(path: type_of_path) -> bytes:
+    """The bytes of a file of another program, without the byte order mark that it may begin with. FormatError as of `read_bytes`."""
+    return read_bytes(path).removeprefix(codecs.BOM_UTF8)
+
+
+def check_mark(data: bytes, path: type_of_path) -> None:
+    """FormatError where bytes of a file that the simulator reads begin with a byte order mark, which it refuses as a bad line 1."""
+    if data.startswith((codecs.BOM_UTF8, codecs.BOM_UTF16_LE, codecs.BOM_UTF16_BE)):
+        raise FormatError(path, 1, "the file begins with a byte order mark, which the program refuses: `backsim-tools normalise` takes it from "
+                          "a netlist, and `tail -c +4` the one of UTF-8 from any file")
+
+
 def read_for(netlist: N | None, path: type_of_path, parse: Callable[[bytes, str], T], check: Callable[[T, N, str], None]) -> T:
     """What `parse` makes of the bytes of a file, where `check` lets it stand for the netlist; it is not asked where there is none."""
-    made = parse(read_bytes(path), str(path))
+    data = read_bytes(path)
+    check_mark(data, path)
+    made = parse(data, str(path))
     if netlist is not None:
         check(made, netlist, str(path))
     return made

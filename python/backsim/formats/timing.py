@@ -1,17 +1,19 @@
 """The timing file: delays, clocks and initial values (docs/use/FORMATS.md, The timing file)."""
 from __future__ import annotations
 
-from dataclasses import dataclass, field
-from typing import Any, TextIO
+from dataclasses import field
+from typing import Any, TextIO, Union
 
 from .. import causes
 from ..errors import FormatError, type_of_path
+from ..records import dataclass
 from .netlist import MOST_PINS_OF_A_GATE, Gate, Kind, Netlist, kind_of
 from .text import is_name, number_of, read_for, rows_of
+from .units import Unit, comment_of, unit_in
 
 MOST_TIME = 1_000_000
 INITIALS = ("0", "1", "x")
-Key = tuple[str | int, ...]
+Key = tuple[Union[str, int], ...]
 
 
 @dataclass(frozen=True, slots=True)
@@ -29,7 +31,7 @@ class Clock:
 @dataclass(slots=True)
 class Timing:
     """What a timing file states. Delays are 1 to 1,000,000. `clock` is the clock without a name; `clocks` are those with one, and
-    `clocked` has the clock's name of a flip-flop. `lines` has the line of each statement, by its form and what it is about, where
+    `clocked` has the clock's name of a flip-flop. `unit` says what a unit of time is, where a comment of the file does. `lines` has the line of each statement, by its form and what it is about, where
     the timing was read from a file."""
 
     default: int | None = None
@@ -40,6 +42,7 @@ class Timing:
     clocks: dict[str, Clock] = field(default_factory=dict)
     clocked: dict[str, str] = field(default_factory=dict)
     initials: dict[str, str] = field(default_factory=dict)
+    unit: Unit | None = None
     lines: dict[Key, int] = field(default_factory=dict, repr=False, compare=False)
 
     def delay(self, gate: Gate, pin: int = 0) -> int:
@@ -64,7 +67,7 @@ def read_timing(path: type_of_path, netlist: Netlist | None = None) -> Timing:
 
 def parse_timing(data: bytes, path: str) -> Timing:
     """The timing of a file's bytes; `path` is what errors name."""
-    timing = Timing()
+    timing = Timing(unit=unit_in(data))
     is_second = False
     for place, row in enumerate(rows_of(data)):
         if place == 0 and row.words == ("version", "2"):
@@ -91,24 +94,25 @@ class _Cause(Exception):
 
 def _statement(words: tuple[str, ...], is_second: bool) -> tuple[Key, Any]:
     """What a line states, as its form with what it is about, and the value."""
-    match words:
-        case ("clock", first, period):
-            return ("clock",), Clock(*_numbers((first, 0, MOST_TIME), (period, 1, MOST_TIME)))
-        case ("clock", name, first, period) if is_second and is_name(name):
-            return ("clock", name), Clock(*_numbers((first, 0, MOST_TIME), (period, 1, MOST_TIME)))
-        case ("default", delay):
-            return ("default",), _numbers((delay, 1, MOST_TIME))[0]
-        case ("default", word, delay) if kind := kind_of(word):
-            return ("default", kind.value), _numbers((delay, 1, MOST_TIME))[0]
-        case ("delay", name, delay) if is_name(name):
-            return ("delay", name), _numbers((delay, 1, MOST_TIME))[0]
-        case ("init", name, value) if is_name(name) and value.lower() in INITIALS:
+    word, stated = words[0], words[1:]
+    if word == "clock" and (len(stated) == 2 or len(stated) == 3 and is_second and is_name(stated[0])):
+        first, period = stated[-2:]
+        return ("clock", *stated[:-2]), Clock(*_numbers((first, 0, MOST_TIME), (period, 1, MOST_TIME)))
+    if word == "default" and len(stated) == 1:
+        return ("default",), _numbers((stated[0], 1, MOST_TIME))[0]
+    if len(stated) == 2:
+        name, value = stated
+        if word == "default" and (kind := kind_of(name)):
+            return ("default", kind.value), _numbers((value, 1, MOST_TIME))[0]
+        if word == "delay" and is_name(name):
+            return ("delay", name), _numbers((value, 1, MOST_TIME))[0]
+        if word == "init" and is_name(name) and value.lower() in INITIALS:
             return ("init", name), value.lower()
-        case ("pin", name, place, delay) if is_second and is_name(name):
-            numbers = _numbers((place, 0, MOST_PINS_OF_A_GATE - 1), (delay, 1, MOST_TIME))
-            return ("pin", name, numbers[0]), numbers[1]
-        case ("clocked", flop, name) if is_second and is_name(flop) and is_name(name):
-            return ("clocked", flop), name
+        if word == "clocked" and is_second and is_name(name) and is_name(value):
+            return ("clocked", name), value
+    if word == "pin" and len(stated) == 3 and is_second and is_name(stated[0]):
+        numbers = _numbers((stated[1], 0, MOST_PINS_OF_A_GATE - 1), (stated[2], 1, MOST_TIME))
+        return ("pin", stated[0], numbers[0]), numbers[1]
     raise _Cause(1)
 
 
@@ -123,23 +127,23 @@ def _numbers(*parts: tuple[str, int, int]) -> tuple[int, ...]:
 
 
 def _store(timing: Timing, key: Key, value: Any) -> None:
-    match key:
-        case ("clock",):
-            timing.clock = value
-        case ("clock", name):
-            timing.clocks[str(name)] = value
-        case ("default",):
-            timing.default = value
-        case ("default", kind):
-            timing.kind_delays[Kind(kind)] = value
-        case ("delay", name):
-            timing.delays[str(name)] = value
-        case ("init", name):
-            timing.initials[str(name)] = value
-        case ("pin", name, place):
-            timing.pin_delays[str(name), int(place)] = value
-        case ("clocked", flop):
-            timing.clocked[str(flop)] = value
+    form, about = key[0], key[1:]
+    if not about:
+        setattr(timing, str(form), value)
+        return
+    name = str(about[0])
+    if form == "clock":
+        timing.clocks[name] = value
+    elif form == "default":
+        timing.kind_delays[Kind(name)] = value
+    elif form == "delay":
+        timing.delays[name] = value
+    elif form == "init":
+        timing.initials[name] = value
+    elif form == "pin":
+        timing.pin_delays[name, int(about[1])] = value
+    elif form == "clocked":
+        timing.clocked[name] = value
 
 
 def check_timing(timing: Timing, netlist: Netlist, path: str) -> None:
@@ -170,7 +174,8 @@ def _join_cause(key: Key, timing: Timing, netlist: Netlist) -> int | None:
 
 
 def write_timing(timing: Timing, stream: TextIO) -> None:
-    """Writes a timing file, with `version 2` first where a form needs it."""
+    """Writes a timing file, with a comment for the unit, and then `version 2`, where a form needs it, first."""
+    stream.write(comment_of(timing.unit))
     if timing.pin_delays or timing.clocks or timing.clocked:
         stream.write("version 2\n")
     if timing.clock:

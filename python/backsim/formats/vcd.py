@@ -4,15 +4,19 @@ The extended form (EVCD, `$dumpports`) is another format and is refused. Some si
 the reader keeps them, and refuses them where a signal's values are asked for."""
 from __future__ import annotations
 
+import codecs
 import re
 from bisect import bisect_right
-from collections.abc import Iterable, Iterator, Sequence
-from dataclasses import dataclass, field
+from collections.abc import Callable, Iterable, Iterator, Sequence
+from dataclasses import field
 from difflib import get_close_matches
 from itertools import groupby
-from typing import TextIO
+from typing import IO, TextIO, Union
 
-from ..errors import FormatError, reason_of, type_of_path
+from ..errors import FormatError, type_of_path
+from ..records import dataclass
+from ..values import AFTER_VALUES
+from .dump_files import BLOCK, opened_dump
 
 Changes = tuple[tuple[int, str], ...]
 TIMESCALE = re.compile(r"(1|10|100)\s*(s|ms|us|ns|ps|fs)")
@@ -50,7 +54,8 @@ class Variable:
 @dataclass(slots=True)
 class Vcd:
     """A dump that was read. `ticks` is the size of a tick in units of `unit`, `s`, `ms`, `us`, `ns`, `ps` or `fs`; times count ticks.
-    `scopes` lists every scope, with dots between its parts; `last` is the last time that the file reaches."""
+    `scopes` lists every scope, with dots between its parts; `last` is the last time that the file reaches. `cut` is the line in which it
+    ends, where it ends inside one."""
 
     path: str
     ticks: int = 1
@@ -58,6 +63,7 @@ class Vcd:
     scopes: list[str] = field(default_factory=list)
     variables: list[Variable] = field(default_factory=list)
     last: int = 0
+    cut: int | None = None
     _changes: dict[str, list[tuple[int, str]]] = field(default_factory=dict, repr=False)
     _foreign: dict[str, tuple[int, str]] = field(default_factory=dict, repr=False)
 
@@ -99,6 +105,12 @@ class Vcd:
                     found[name] = tuple(_without_repeats((time, value[place]) for time, value in self.changes(variable)))
         return found
 
+    def codes(self, scope: str, names: Iterable[str]) -> set[str]:
+        """The codes of the variables of which a bit has one of these names in the scope."""
+        wanted = {*names}
+        return {variable.code for variable in self.in_scope(scope)
+                if variable.width and not wanted.isdisjoint(_names_of(_below(scope, variable), variable))}
+
     def changes(self, variable: Variable) -> list[tuple[int, str]]:
         """The changes of a variable. FormatError where it has values other than 0, 1, x and z, or is a real number."""
         if variable.width == 0:
@@ -110,9 +122,19 @@ class Vcd:
         return self._changes[variable.code]
 
 
+@dataclass(frozen=True, slots=True)
+class Selection:
+    """What is kept of a dump: the codes whose changes are, all where it is None, and a window from the tick `start` up to the tick `stop`,
+    both in it, or to the end. Times then count from `start`, and what was before is the value at 0."""
+
+    codes: set[str] | None = None
+    start: int = 0
+    stop: int | None = None
+
+
 def value_at(changes: Sequence[tuple[int, str]], time: int) -> str:
     """The value of a bit at a time, x before its first change."""
-    place = bisect_right(changes, time, key=lambda change: change[0])
+    place = bisect_right(changes, (time, AFTER_VALUES))
     return changes[place - 1][1] if place else "x"
 
 
@@ -132,41 +154,160 @@ def _without_repeats(changes: Iterable[tuple[int, str]]) -> Iterator[tuple[int, 
             before = value
 
 
-def read_vcd(path: type_of_path) -> Vcd:
-    """The dump of a file. FormatError where it can't be read, is no four-state dump, or its header is cut."""
-    try:
-        with open(path, encoding="latin-1", newline="\n") as stream:
-            return _Reader(str(path)).read(stream)
-    except (OSError, ValueError) as error:
-        raise FormatError(path, None, reason_of(error)) from None
+def read_vcd(path: type_of_path, select: Callable[[Vcd], Selection] | None = None, progress: Callable[[int], None] | None = None) -> Vcd:
+    """The dump of a file, or of what fst2vcd makes of an FST file. FormatError where it can't be read, is no four-state dump, its header
+    is cut, or it ends before its window.
+
+    `select` says, of a dump whose header is read, what is kept of the rest. Memory grows with that alone. `progress` is told each block's
+    count of bytes. A file that ends inside a line is taken up to directly before its last time, and `cut` has the number of the line."""
+    with opened_dump(path) as stream:
+        return _Reader(str(path), select).read(stream, progress or (lambda count: None))
+
+
+# what a line that is known means: its code's changes and its value, or nothing
+_Meaning = Union[tuple[list[tuple[int, str]], str], tuple[()]]
+_UNWANTED: _Meaning = ()
+_NONE: dict[bytes, _Meaning] = {}
+_MOST_KNOWN = 1 << 16
 
 
 class _Reader:
-    """Reads one dump."""
+    """Reads one dump. The header is read word by word. The rest is read by blocks, and a line that came before, as most did, is looked up."""
 
-    def __init__(self, path: str) -> None:
+    def __init__(self, path: str, select: Callable[[Vcd], Selection] | None) -> None:
         self.vcd = Vcd(path)
+        self.select = select
+        self.start = 0
+        self.stop: int | None = None
         self.line = 0
-        self.now = 0
+        self.now = 0        # in ticks of the file
+        self.shown = 0      # from the start on
+        self.has_ended = False
+        self.has_value = False
         self.here: list[str] = []
         self.widths: dict[str, int] = {}
         self.is_doubled = False  # Icarus Verilog writes each backslash of a name twice
+        self.known: dict[bytes, _Meaning] = {}
+        self.pending = ""        # a word of a vector whose code is to follow
+        self.is_comment = False
 
     def fault(self, cause: str) -> FormatError:
         return FormatError(self.vcd.path, self.line, cause)
 
-    def words_of(self, stream: Iterable[str]) -> Iterator[str]:
-        for line in stream:
+    def words_of(self, lines: Iterable[str]) -> Iterator[str]:
+        for line in lines:
             self.line += 1
             yield from line.split()
 
-    def read(self, stream: TextIO) -> Vcd:
-        words = self.words_of(stream)
-        self.header(words)
-        self.body(words)
-        if self.vcd.variables and not any(self.vcd._changes.values()):
+    def read(self, stream: IO[bytes], progress: Callable[[int], None]) -> Vcd:
+        head, rest = self.split_header(stream, progress)
+        self.header(self.words_of(head.decode("latin-1").removesuffix("\n").split("\n") if head else ()))
+        self.line = head.count(b"\n")
+        if self.select is not None:
+            selection = self.select(self.vcd)
+            self.start, self.stop = selection.start, selection.stop
+            if selection.codes is not None:
+                self.vcd._changes = {code: changes for code, changes in self.vcd._changes.items() if code in selection.codes}
+        self.blocks(stream, rest, progress)
+        if not self.has_ended and self.now < self.start:
+            raise FormatError(self.vcd.path, None, f"the dump ends at {self.now} ticks, before {self.start}, where the window begins")
+        if self.vcd.variables and not (self.has_value if self.select else any(self.vcd._changes.values())):
             raise self.fault("the dump is cut after its header: it has no value")
         return self.vcd
+
+    def split_header(self, stream: IO[bytes], progress: Callable[[int], None]) -> tuple[bytes, bytes]:
+        """The bytes up to the `$end` of `$enddefinitions`, or all, and what was read behind them."""
+        data = b""
+        while True:
+            block = stream.read(BLOCK)
+            progress(len(block))
+            data += block
+            place = data.find(b"$enddefinitions")
+            end = data.find(b"$end", place + len(b"$enddefinitions")) if place >= 0 else -1
+            if end >= 0 or not block or not _may_be_header(data):
+                data = data.removeprefix(codecs.BOM_UTF8) if place < 0 else data
+                return (data, b"") if end < 0 else (data[:end + 4].removeprefix(codecs.BOM_UTF8), data[end + 4:])
+
+    def blocks(self, stream: IO[bytes], rest: bytes, progress: Callable[[int], None]) -> None:
+        """What follows the header."""
+        while not self.has_ended:
+            block = stream.read(BLOCK)
+            progress(len(block))
+            data = rest + block
+            end = data.rfind(b"\n") + 1
+            rest = data[end:]
+            whole = data[:end].replace(b"\r", b"") if b"\r" in data else data[:end]
+            if self.now < self.start and not self.pending and not self.is_comment and self.is_before(whole):
+                self.skim(whole)
+            else:
+                self.lines(whole.split(b"\n"))
+            if not block:
+                self.last_line(rest)
+                return
+
+    def last_line(self, rest: bytes) -> None:
+        """What is behind the last line feed. A time is left open there that may lack changes: it is taken back."""
+        if rest.strip() and not self.has_ended:
+            self.line += 1
+            self.vcd.cut = self.line
+            for changes in self.vcd._changes.values():
+                if changes and changes[-1][0] == self.shown and self.shown > 0:
+                    changes.pop()
+            self.vcd.last = max(0, self.shown - 1)
+        elif self.pending:
+            raise self.fault(f"the file is cut after `{self.pending[:40]}`: a code was to follow")
+        elif self.is_comment:
+            raise self.fault("the file ends inside $comment")
+
+    def is_before(self, block: bytes) -> bool:
+        """Whether the last time of a block is before the start, and nothing in it needs more than a look at each line."""
+        place = block.rfind(b"\n#")
+        digits = block[place + 2:block.find(b"\n", place + 1)].strip() if place >= 0 else b""
+        return digits.isdigit() and int(digits) < self.start and b"$comment" not in block
+
+    def skim(self, block: bytes) -> None:
+        """Takes the last value of each code of a block before the start."""
+        lines = block.split(b"\n")
+        done: set[bytes] = set()
+        time = b""
+        # each text once, the last first
+        for line in dict.fromkeys(reversed(lines)):
+            first = line[:1]
+            if first == b"#":
+                time = time or line
+            elif line and line not in (b"$end", b"$dumpvars", b"$dumpall", b"$dumpon", b"$dumpoff"):
+                code = line.rpartition(b" ")[2] if first in b"bBrRsS" else line[1:]
+                if code not in done:
+                    done.add(code)
+                    if self.known.get(line) != _UNWANTED:
+                        self.words(line, len(lines) - 1)
+        self.words(time, 0)
+        self.line += len(lines) - 1
+
+    def lines(self, lines: Sequence[bytes]) -> None:
+        """Takes the lines of a block, of which the last is empty."""
+        base, known = self.line, self.known
+        for place, line in enumerate(lines, 1):
+            entry = known.get(line)
+            if entry is None:
+                self.line = base + place
+                if line:
+                    self.words(line, 0)
+                if self.has_ended:
+                    return
+                known = _NONE if self.pending or self.is_comment else self.known
+            elif entry:
+                changes, value = entry
+                if changes:
+                    time, before = changes[-1]
+                    if before == value:
+                        continue
+                    if time == self.shown:
+                        changes.pop()
+                        if changes and changes[-1][1] == value:
+                            continue
+                changes.append((self.shown, value))
+        self.line = base + len(lines) - 1
 
     def command(self, words: Iterator[str], command: str) -> list[str]:
         """The words up to `$end`."""
@@ -249,19 +390,31 @@ class _Reader:
         self.vcd.variables.append(variable)
         self.vcd._changes.setdefault(code, [])
 
-    def body(self, words: Iterator[str]) -> None:
+    def words(self, line: bytes, lines_before: int) -> None:
+        """Takes the words of a line that is not known."""
+        words = line.decode("latin-1").split()
+        code = ""
         for word in words:
             first = word[0].lower()
-            if first in _FOUR or first in _NINE:
-                self.change(word[1:], first)
+            if self.is_comment:
+                self.is_comment = word != "$end"
+            elif self.pending:
+                code, before = word, self.pending
+                self.pending = ""
+                if before[0] in "bB":
+                    self.change(code, before[1:].lower(), line if len(words) == 2 else b"")
+                else:
+                    self.width_of(code)
+            elif first in _FOUR or first in _NINE:
+                self.change(word[1:], first, line if len(words) == 1 else b"")
             elif first == "#":
                 self.time(word[1:])
-            elif first == "b":
-                self.change(self.code_of(words, word), word[1:].lower())
-            elif first in "rs":
-                self.known(self.code_of(words, word))
+                if self.has_ended:
+                    return
+            elif first in "brs":
+                self.pending = word
             elif word == "$comment":
-                self.command(words, word)
+                self.is_comment = True
             elif word in _BODY_COMMANDS:
                 continue
             elif first == "p" or word.startswith("$dumpports") or word == "$vcdclose":
@@ -275,34 +428,50 @@ class _Reader:
         time = int(digits)
         if time < self.now:
             raise self.fault(f"the time {time} comes after {self.now}")
-        self.now = self.vcd.last = time
+        if self.stop is not None and time > self.stop:
+            self.has_ended = True
+            time = self.stop
+        self.now = time
+        self.shown = self.vcd.last = max(0, time - self.start)
 
-    def code_of(self, words: Iterator[str], word: str) -> str:
-        code = next(words, None)
-        if code is None:
-            raise self.fault(f"the file is cut after `{word[:40]}`: a code was to follow")
-        return code
-
-    def known(self, code: str) -> int:
+    def width_of(self, code: str) -> int:
         width = self.widths.get(code)
         if width is None:
             raise self.fault(f"no variable has the code `{code[:40]}`")
         return width
 
-    def change(self, code: str, value: str) -> None:
-        width = self.known(code)
+    def change(self, code: str, value: str, line: bytes) -> None:
+        """A change. `line` is what stands for it, where a line has nothing else."""
+        width = self.width_of(code)
+        self.has_value = True
         if not value or len(value) > max(1, width) or value.strip(_FOUR + _NINE):
             raise self.fault(f"`{value[:40]}` is no value of {width} bits")
+        changes = self.vcd._changes.get(code)
+        if changes is None:
+            self.keep(line, _UNWANTED)
+            return
         foreign = value.strip(_FOUR)
         if foreign:
             self.vcd._foreign.setdefault(code, (self.line, foreign[0]))
         if width > 1:
             value = value.rjust(width, value[0] if value[0] in "xz" else "0")
-        changes = self.vcd._changes[code]
-        if changes and changes[-1][0] == self.now:
+        if changes and changes[-1][0] == self.shown:
             changes.pop()
         if not changes or changes[-1][1] != value:
-            changes.append((self.now, value))
+            changes.append((self.shown, value))
+        self.keep(line, (changes, value))
+
+    def keep(self, line: bytes, entry: _Meaning) -> None:
+        if line:
+            if len(self.known) >= _MOST_KNOWN:
+                self.known.clear()
+            self.known[line] = entry
+
+
+def _may_be_header(data: bytes) -> bool:
+    """Whether the bytes may go on as a header of a VCD file: its first word is a command."""
+    begin = data.removeprefix(codecs.BOM_UTF8).lstrip()
+    return not begin or begin.startswith(b"$")
 
 
 class VcdWriter:

@@ -11,12 +11,12 @@
     page = page_of(why, horizon=30)
 
 matplotlib is imported, and the program `dot` started, when a picture is made."""
-from .explain import Edge, Explanation, Node, explain
+from ..explanations.cells import CellGraph, Edge, Node, explain
 from .graph import dot_text, picture_of
 from .page import page_of
 from .rows import Row, bus_row, row_of, with_buses
-from .rules import Cell, Design, Role, read_design
+from ..rules import Cell, Design, Role, read_design
 from .waves import waves_picture
 
-__all__ = ["Cell", "Design", "Edge", "Explanation", "Node", "Role", "Row", "bus_row", "dot_text", "explain", "page_of", "picture_of",
+__all__ = ["Cell", "Design", "Edge", "CellGraph", "Node", "Role", "Row", "bus_row", "dot_text", "explain", "page_of", "picture_of",
            "read_design", "row_of", "waves_picture", "with_buses"]

@@ -56,4 +56,5 @@ def width_of(figure: Figure, text: str, size: float, **style: Any) -> float:
     """How wide a text is in inches, at a size in points."""
     from matplotlib.text import Text
     measured = Text(0, 0, text, fontsize=size, figure=figure, **style)
-    return measured.get_window_extent(figure.canvas.get_renderer(), dpi=figure.dpi).width / figure.dpi
+    width: float = measured.get_window_extent(figure.canvas.get_renderer(), dpi=figure.dpi).width / figure.dpi
+    return width

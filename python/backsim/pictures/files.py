@@ -4,7 +4,8 @@ from __future__ import annotations
 from collections.abc import Sequence
 from pathlib import Path
 
-from ..errors import FormatError, UsageError, reason_of
+from ..errors import UsageError
+from ..outputs import write_whole
 
 
 def form_of(path: Path, forms: Sequence[str]) -> str:
@@ -18,7 +19,4 @@ def form_of(path: Path, forms: Sequence[str]) -> str:
 
 def write_picture(path: Path, data: bytes) -> None:
     """Writes a file whole. FormatError where that can't be."""
-    try:
-        path.write_bytes(data)
-    except (OSError, ValueError) as error:
-        raise FormatError(path, None, f"it can't be written: {reason_of(error)}") from None
+    write_whole(path, data)

@@ -31,15 +31,17 @@ nodes.forEach((node, number) => {
 });
 for (const cells of ofSignal.values()) cells.sort((a, b) => nodes[a].start - nodes[b].start);
 
+const roots = new Set(data.roots);
+
 function wayTo(number) {
   const way = [number];
-  while (way[way.length - 1] !== 0) way.push(effects[way[way.length - 1]].reduce((least, effect) => Math.min(least, effect)));
+  while (!roots.has(way[way.length - 1])) way.push(effects[way[way.length - 1]].reduce((least, effect) => Math.min(least, effect)));
   return way.reverse();
 }
 
 function wayOfAddress() {
   const way = location.hash.slice(1).split(".").map(Number);
-  const leads = way[0] === 0 && way.every((number, place) => place === 0
+  const leads = roots.has(way[0]) && way.every((number, place) => place === 0
     || (nodes[way[place - 1]].causes.some((cause) => cause.node === number)));
   return leads ? way : [0];
 }
@@ -209,6 +211,10 @@ document.addEventListener("keydown", (event) => {
   const act = acts[event.key] || (/^[1-9]$/.test(event.key) ? () => follow(all[Number(event.key) - 1]) : null);
   if (act) { event.preventDefault(); act(); }
 });
+
+for (const button of document.querySelectorAll("[data-cell]")) {
+  button.addEventListener("click", () => go(wayTo(Number(button.dataset.cell))));
+}
 
 part("find").addEventListener("submit", (event) => {
   event.preventDefault();

@@ -3,9 +3,9 @@ from __future__ import annotations
 
 import re
 from collections.abc import Iterable, Sequence
-from dataclasses import dataclass
 
 from ..buses import wave_of
+from ..records import dataclass
 from ..values import Wave
 
 RADIXES = ("hex", "dec", "bin")

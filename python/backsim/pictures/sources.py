@@ -4,8 +4,9 @@ from __future__ import annotations
 from collections.abc import Mapping, Sequence
 from pathlib import Path
 
-from ..buses import bits_of, matching
+from ..buses import bits_of, full_name, matching
 from ..errors import FormatError, UsageError
+from ..explanations.names import listed
 from ..formats.netlist import read_netlist
 from ..formats.replies import read_replies_of
 from ..formats.stimulus import read_stimulus
@@ -14,8 +15,6 @@ from ..no_value import no_value_of
 from ..session import Session
 from ..values import At, Stuck, Wave
 from .rows import Row, bus_row, row_of
-from .words import listed
-
 
 _WILD = set("*?")
 
@@ -25,13 +24,13 @@ def rows_of_replies(path: Path) -> list[Row]:
     replies. FormatError where the file can't be read, is no file of replies, or has no wave."""
     waves: dict[str, list[Wave]] = {}
     for reply in read_replies_of(path):
-        match reply.answer:
-            case Wave() as wave:
-                waves.setdefault(wave.name, []).append(wave)
-            case At() as at:
-                waves.setdefault(at.name, []).append(Wave(at.name, at.time, at.time + 1, ((at.time, at.value),)))
-            case Stuck() as stuck:
-                waves.setdefault(f"{stuck.wave.name} ({stuck.site} stuck at {stuck.value})", []).append(stuck.wave)
+        answer = reply.answer
+        if isinstance(answer, Wave):
+            waves.setdefault(answer.name, []).append(answer)
+        elif isinstance(answer, At):
+            waves.setdefault(answer.name, []).append(Wave(answer.name, answer.time, answer.time + 1, ((answer.time, answer.value),)))
+        elif isinstance(answer, Stuck):
+            waves.setdefault(f"{answer.wave.name} ({answer.site} stuck at {answer.value})", []).append(answer.wave)
     if not waves:
         raise FormatError(path, None, "no reply to a `wave`, `at` or `stuck` line is in this file")
     return [row_of(label, own) for label, own in waves.items()]
@@ -120,12 +119,21 @@ def rows_of_session(files: Sequence[str], names: Sequence[str], start: int | Non
 
 
 def _without_patterns(path: str, names: Sequence[str]) -> list[str]:
-    """The names, each once, with the signals that are of a pattern in its place. The netlist is read only where there is a pattern."""
-    known = read_netlist(path).names if any(set(name) & _WILD for name in names) else ()
+    """The names, each once, with the signals that are of a pattern in its place, and the range of a bus that is named without it."""
+    known = read_netlist(path).names
+    signals = set(known)
     found: list[str] = []
     for name in names:
-        labels = matching(name, known) if set(name) & _WILD and name not in known else (name,)
+        labels = matching(name, known) if set(name) & _WILD and name not in signals else (_bus_of(path, name, signals),)
         if not labels:
             raise UsageError(f"{path}: no signal is of the pattern {name}")
         found += labels
     return list(dict.fromkeys(found))
+
+
+def _bus_of(path: str, name: str, signals: set[str]) -> str:
+    """The name, with its range where it is that of a bus. UsageError, of the netlist's file, where bits of the bus are missing."""
+    try:
+        return full_name(name, signals)
+    except UsageError as error:
+        raise UsageError(f"{path}: {error}") from None

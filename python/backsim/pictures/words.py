@@ -3,13 +3,8 @@ from __future__ import annotations
 
 from collections.abc import Sequence
 
-from .explain import Edge, Node
-from .rules import Role, decides
-
-
-def listed(labels: Sequence[str], most: int = 8) -> str:
-    """The labels, of more than `most` the first and a count."""
-    return ", ".join(labels[:most]) + (f" and {len(labels) - most} more" if len(labels) > most else "")
+from ..explanations.cells import Edge, Node
+from ..rules import Role, decides
 
 
 def times_of(node: Node) -> str:
@@ -24,7 +19,7 @@ def what_of(node: Node) -> str:
     if node.role is Role.FLOP:
         return f"flip-flop, takes {node.pins[0]}"
     if node.kind is None or node.role is Role.INITIAL:
-        return node.role.value
+        return str(node.role.value)
     return f"{node.kind.value}, x before its delay" if node.role is Role.EARLY else f"{node.kind.value} of {pins_of(node)}"
 
 
@@ -45,17 +40,18 @@ def shortened(name: str, most: int) -> str:
 
 def sentence_of(node: Node, causes: Sequence[Edge], nodes: Sequence[Node]) -> str:
     """How the value of a cell comes about, in a sentence."""
-    match node.role:
-        case Role.INPUT:
-            return "An input: the stimulus gives it this value."
-        case Role.INITIAL:
-            return "A flip-flop before its first shown edge: this is its initial value."
-        case Role.EARLY:
-            return f"A gate before its least delay, {node.end}: nothing has come through it yet, so it is x."
-        case Role.UNSEEN:
-            return f"A pin with the delay {node.end}, before that has passed: it sees x."
-        case Role.FLOP:
-            return f"A flip-flop: it shows what {node.pins[0]} was at the edge at {causes[0].time}."
+    if not causes and not node.role.is_leaf:
+        return "It was looked at, and the value does not come from it: what it follows from is left out."
+    if node.role is Role.INPUT:
+        return "An input: the stimulus gives it this value."
+    if node.role is Role.INITIAL:
+        return "A flip-flop before its first shown edge: this is its initial value."
+    if node.role is Role.EARLY:
+        return f"A gate before its least delay, {node.end}: nothing has come through it yet, so it is x."
+    if node.role is Role.UNSEEN:
+        return f"A pin with the delay {node.end}, before that has passed: it sees x."
+    if node.role is Role.FLOP:
+        return f"A flip-flop: it shows what {node.pins[0]} was at the edge at {causes[0].time}."
     kind = node.kind.value if node.kind else ""
     if len(node.pins) == 1:
         return f"{kind} of one pin, {node.pins[0]}."

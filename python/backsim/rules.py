@@ -6,12 +6,13 @@ from __future__ import annotations
 import enum
 from bisect import bisect_right
 from collections.abc import Sequence
-from dataclasses import dataclass
 
-from ..errors import type_of_path
-from ..formats.circuit import Circuit, read_files
-from ..formats.netlist import Gate, Kind
-from ..formats.timing import Clock
+from .errors import type_of_path
+from .formats.circuit import Circuit, read_files
+from .formats.netlist import Gate, Kind
+from .formats.timing import Clock
+from .records import dataclass
+from .values import AFTER_VALUES
 
 _DECIDING = {Kind.AND: "0", Kind.NAND: "0", Kind.OR: "1", Kind.NOR: "1", Kind.XOR: "xz", Kind.XNOR: "xz"}
 _NEGATING = (Kind.NAND, Kind.NOR, Kind.XNOR, Kind.NOT)
@@ -32,6 +33,11 @@ class Role(enum.Enum):
     def is_leaf(self) -> bool:
         """Whether a cell of this role follows from no other."""
         return self not in (Role.GATE, Role.FLOP)
+
+    @property
+    def is_seen(self) -> bool:
+        """Whether a cell of this role has a time of its signal; what a pin sees before its delay has none."""
+        return self is not Role.UNSEEN
 
 
 @dataclass(frozen=True, slots=True)
@@ -99,7 +105,7 @@ class Design(Circuit):
 
     def _input_cell(self, name: str, time: int) -> Cell:
         settings = self.stimulus.settings.get(name, [])
-        place = bisect_right(settings, time, key=lambda setting: setting[0])
+        place = bisect_right(settings, (time, AFTER_VALUES))
         start, value = settings[place - 1] if place else (0, "x")
         return Cell(start, settings[place][0] if place < len(settings) else self.stimulus.horizon + 1, value)
 

@@ -1,0 +1,90 @@
+#!/usr/bin/env python3
+"""Times `from-vcd` on a long dump of a simulation of 400 signals, as a whole and in windows.
+
+    bench/long_dumps/run.py [MEGABYTES]
+
+The dump, of 100 MB where nothing is said, is drawn anew: a clock with a period of 10 ns, and in each half of it 120 changes at twenty
+times, an eighth of them of a byte. The netlist has the clock, an input and a flip-flop. For each case the seconds of the process and its
+greatest memory are told, the shortest of three runs."""
+import os
+import random
+import subprocess
+import sys
+import tempfile
+import time
+
+TOP = os.path.dirname(os.path.dirname(os.path.dirname(os.path.abspath(__file__))))
+SIGNALS, TIMES, CHANGES, HALF = 400, 20, 6, 5000
+HEAD = "$timescale 1ps $end\n$scope module test $end\n$var wire 1 ! clk $end\n$var wire 1 \" a $end\n$var wire 1 # q $end\n"
+
+
+def code(place):
+    text = ""
+    while True:
+        text = chr(33 + place % 94) + text
+        if place < 94:
+            return text
+        place = place // 94 - 1
+
+
+def write(path, megabytes):
+    """Writes the dump; gives its last time in ticks."""
+    draw = random.Random(1)
+    with open(path, "w") as file:
+        file.write(HEAD)
+        for place in range(3, SIGNALS):
+            file.write(f"$var wire {1 if place % 8 else 8} {code(place)} s{place}{'' if place % 8 else ' [7:0]'} $end\n")
+        file.write("$upscope $end\n$enddefinitions $end\n#0\n0!\n0\"\nx#\n")
+        tick, size, value = 0, 0, 0
+        while size < megabytes * 1_000_000:
+            tick += HALF
+            rises = tick // HALF % 2
+            parts = [f"#{tick}\n{rises}!\n"]
+            if rises:
+                parts.append(f"{value}#\n")
+            else:
+                value = draw.getrandbits(1)
+                parts.append(f"{value}\"\n")
+            for step in range(TIMES):
+                parts.append(f"#{tick + 10 + 37 * step}\n")
+                for place in (draw.randrange(3, SIGNALS) for _ in range(CHANGES)):
+                    parts.append(f"{draw.getrandbits(1)}{code(place)}\n" if place % 8 else f"b{draw.getrandbits(8):b} {code(place)}\n")
+            text = "".join(parts)
+            size += len(text)
+            file.write(text)
+        file.write(f"#{tick + HALF}\n")
+    return tick + HALF
+
+
+def run(words):
+    """The seconds of the processor and the megabytes of one run."""
+    environment = os.environ | {"PYTHONPATH": os.path.join(TOP, "python")}
+    begun = time.monotonic()
+    child = subprocess.Popen([sys.executable, "-m", "backsim", "from-vcd", *words], env=environment, stderr=subprocess.DEVNULL)
+    _, status, usage = os.wait4(child.pid, 0)
+    if status:
+        raise SystemExit(f"from-vcd ended with the status {status}")
+    return usage.ru_utime + usage.ru_stime, time.monotonic() - begun, usage.ru_maxrss / 1024
+
+
+def main():
+    megabytes = int(sys.argv[1]) if len(sys.argv) > 1 else 100
+    with tempfile.TemporaryDirectory() as folder:
+        files = {name: os.path.join(folder, name) for name in ("vcd", "bench", "timing", "window", "stim")}
+        last = write(files["vcd"], megabytes)
+        with open(files["bench"], "w") as file:
+            file.write("INPUT(clk)\nINPUT(a)\nq = DFF(a)\n")
+        with open(files["timing"], "w") as file:
+            file.write("version 2\nclock clk 500 1000\nclocked q clk\n")
+        window = ["--unit", "10ps", "--timing", files["timing"], "--window", files["window"]]
+        cases = {"whole": ["--unit", f"{-(-last // 1_000_000_000)}ns" if last > 5_000_000_000 else "5ns"],
+                 "a window of 2 us at the end": [*window, "--from", str(last // 10 - 200_000)],
+                 "a window of 2 us near the beginning": [*window, "--from", "200000", "--to", "400000"]}
+        for name, words in cases.items():
+            runs = [run([files["bench"], files["vcd"], "test", *words, "-o", files["stim"]]) for _ in range(3)]
+            own, taken, memory = min(runs)
+            print(f"{name}: {own:.1f} s of a processor, {taken:.1f} s in all, {memory:.0f} MB, of a dump of {megabytes} MB", flush=True)
+
+
+if __name__ == "__main__":
+    main()

@@ -1,0 +1,96 @@
+"""`backsim-tools patterns`: random patterns that show faults."""
+from __future__ import annotations
+
+import argparse
+import random
+
+from ..arguments import count_of
+from ..bars import Bar
+from ..convert.build import constant_value
+from ..convert.output import add_output, say, whole_text
+from ..errors import FormatError, UsageError
+from ..faults.coverage import percent
+from ..faults.generating import Search, search_combinational, search_sequential
+from ..faults.lists import PARTIAL
+from ..faults.model import Lines
+from ..faults.request import add_circuit, add_faults, add_jobs, add_period, jobs_of, stuck_classes_of
+from ..faults.stopping import stoppable
+from ..formats.circuit import Circuit
+from ..formats.netlist import read_netlist
+from ..formats.stimulus import Stimulus
+from ..formats.timing import read_timing
+from ..main import INTERRUPTED
+
+HELP = "makes random patterns and keeps those that show further stuck-at faults"
+EXAMPLE = """  backsim-tools patterns chip.bench chip.timing --coverage 95 --output patterns.txt
+  backsim-tools patterns cpu.bench cpu.timing --period 100 --first 20 --output patterns.txt
+
+With flip-flops the patterns are a sequence, and say when they are applied. What they show is simulated; `backsim-tools faults` has it
+confirmed by the program. Status 1: the coverage was not reached."""
+_MOST_TRIED = 10_000_000
+
+
+def add_arguments(parser: argparse.ArgumentParser) -> None:
+    add_circuit(parser)
+    add_period(parser)
+    parser.add_argument("--coverage", type=count_of(1, 100), default=100, metavar="P", help="ends when P percent of the faults are shown, 100 "
+                        "where it is left out")
+    parser.add_argument("--idle", type=count_of(1, _MOST_TRIED), default=4096, metavar="N", help="ends when N patterns in turn show nothing new, "
+                        "4096 where it is left out")
+    parser.add_argument("--most", type=count_of(1, _MOST_TRIED), default=100_000, metavar="N", help="tries at most so many patterns, 100000 where "
+                        "it is left out")
+    parser.add_argument("--seed", type=count_of(0, 10 ** 9), default=1, metavar="N", help="other patterns for another number")
+    add_faults(parser)
+    add_jobs(parser)
+    add_output(parser, "the patterns")
+
+
+def run(arguments: argparse.Namespace) -> int:
+    with stoppable():
+        return _run(arguments)
+
+
+def _run(arguments: argparse.Namespace) -> int:
+    netlist = read_netlist(arguments.netlist)
+    circuit = Circuit(netlist, read_timing(arguments.timing, netlist), Stimulus(0))
+    if not netlist.outputs:
+        raise UsageError(f"{arguments.netlist}: the netlist has no OUTPUT, so nothing shows a fault")
+    if netlist.flops() and arguments.period is None:
+        raise UsageError(f"{arguments.netlist}: with flip-flops --period P is wanted, the time from one pattern to the next")
+    classes = stuck_classes_of(arguments, Lines(netlist))
+    inputs = tuple(name for name in netlist.inputs if constant_value(name) is None)
+    if not inputs:
+        raise UsageError(f"{arguments.netlist}: the netlist has no INPUT to apply patterns to")
+    search = Search(classes, inputs, random.Random(arguments.seed), -(-len(classes) * arguments.coverage // 100), arguments.idle, arguments.most)
+    is_partial = False
+    try:
+        _search(arguments, circuit, search)
+    except KeyboardInterrupt:
+        is_partial = True
+    with whole_text(arguments.output) as stream:
+        if is_partial:
+            stream.write(f"{PARTIAL}\n")
+        stream.writelines(f"{word}\n" for word in search.kept)
+    say(f"{len(search.kept)} patterns of {search.tried} show {search.shown} of {len(classes)} faults, {percent(search.shown, len(classes))}")
+    if is_partial:
+        return INTERRUPTED
+    return 0 if search.shown >= search.wanted else 1
+
+
+def _search(arguments: argparse.Namespace, circuit: Circuit, search: Search) -> None:
+    with Bar(search.wanted, "shown", has_lines=True) as bar:
+        before = 0
+
+        def told() -> None:
+            nonlocal before
+            bar.add(search.shown - before)
+            before = search.shown
+
+        try:
+            if circuit.netlist.flops():
+                search_sequential(search, circuit, arguments.period, arguments.first, told)
+            else:
+                search_combinational(search, circuit, jobs_of(arguments), told)
+        except ValueError as cycle:
+            line = circuit.netlist.gates[str(cycle)].line
+            raise FormatError(arguments.netlist, line, f"the gates of {cycle} make a cycle, so nothing can be simulated") from None

@@ -1,0 +1,107 @@
+"""What a unit of time is: `10 ps` in a comment `# unit 10 ps` at the head of a timing file or a stimulus, which the program passes over,
+and times that are said in seconds, as `15ns`."""
+from __future__ import annotations
+
+import os
+import re
+from fractions import Fraction
+from typing import Union
+
+from ..errors import FormatError, UsageError, type_of_path
+from ..records import dataclass
+
+# a time in units, or such as `15ns`
+Moment = Union[int, str]
+_HEAD = 4096
+SECONDS = {"s": 0, "ms": 3, "us": 6, "ns": 9, "ps": 12, "fs": 15}
+_TIME = re.compile(r"([0-9]{1,18}(?:\.[0-9]{1,18})?)\s*(s|ms|us|ns|ps|fs)")
+_COMMENT = re.compile(rb"[ \t]*#[ \t]*unit[ \t]+([0-9]{1,18})[ \t]*(s|ms|us|ns|ps|fs)[ \t\r]*")
+
+
+@dataclass(frozen=True, slots=True)
+class Unit:
+    """A unit of time: so many of `s`, `ms`, `us`, `ns`, `ps` or `fs`, at least one."""
+
+    count: int
+    word: str
+
+    @property
+    def seconds(self) -> Fraction:
+        return Fraction(self.count, 10 ** SECONDS[self.word])
+
+    def __str__(self) -> str:
+        return f"{self.count} {self.word}"
+
+    def times(self, count: int) -> Unit:
+        """So many of it, in words of at most 999."""
+        whole, words = self.count * count, list(SECONDS)
+        place = words.index(self.word)
+        while whole % 1000 == 0 and place > 0:
+            whole, place = whole // 1000, place - 1
+        return Unit(whole, words[place])
+
+
+def is_time(text: str) -> bool:
+    """Whether the text is a time such as `15ns`."""
+    return _TIME.fullmatch(text.strip()) is not None
+
+
+def unit_of(text: str) -> Unit | None:
+    """The unit that a text like `10ps` or `10 ps` states; None where it is none."""
+    parts = _TIME.fullmatch(text.strip())
+    return Unit(int(parts[1]), parts[2]).times(1) if parts and parts[1].isdigit() and int(parts[1]) else None
+
+
+def unit_in(data: bytes) -> Unit | None:
+    """The unit that a comment above the first line of a file that isn't blank states; None where none does."""
+    begin = 0
+    while begin < len(data):
+        end = data.find(b"\n", begin)
+        line = data[begin:end if end >= 0 else len(data)]
+        parts = _COMMENT.fullmatch(line)
+        if parts and int(parts[1]):
+            return Unit(int(parts[1]), parts[2].decode()).times(1)
+        if line.partition(b"#")[0].strip() or end < 0:
+            return None
+        begin = end + 1
+    return None
+
+
+def unit_of_file(path: type_of_path) -> Unit | None:
+    """The unit that a file states at its head; None where none is stated, it can't be read, or it is a pipe."""
+    try:
+        if not os.path.isfile(path):
+            return None
+        with open(path, "rb") as file:
+            return unit_in(file.read(_HEAD))
+    except (OSError, ValueError):
+        return None
+
+
+def comment_of(unit: Unit | None) -> str:
+    """The line that states the unit; nothing where it is not known."""
+    return f"# unit {unit}\n" if unit else ""
+
+
+def check_units(first: Unit | None, second: Unit | None, path: type_of_path) -> None:
+    """FormatError, of the second's file, where both units are known and differ."""
+    if first and second and first.seconds != second.seconds:
+        raise FormatError(path, None, f"its unit of time is {second}, and that of the timing file is {first}")
+
+
+def units_of(time: Moment, unit: Unit | None) -> int:
+    """A time in units: a number as it is, a text like `15ns` by the unit. UsageError where it is no time, the unit is not known, or the
+    time is between two units."""
+    if not isinstance(time, str):
+        return time
+    if re.fullmatch("[0-9]{1,18}", time):
+        return int(time)
+    parts = _TIME.fullmatch(time.strip())
+    if parts is None:
+        raise UsageError(f"`{time}` is no time: a number of units is wanted, or one of s, ms, us, ns, ps or fs, as 15ns")
+    if unit is None:
+        raise UsageError(f"what {time} is in units is not known: the files have no line `# unit ..`")
+    units = Fraction(parts[1]) / 10 ** SECONDS[parts[2]] / unit.seconds
+    if units.denominator != 1:
+        raise UsageError(f"{time} is between two units of {unit}")
+    return int(units)

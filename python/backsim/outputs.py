@@ -1,0 +1,85 @@
+"""Files that come whole or not at all.
+
+What is written stands beside its place first, under a name of its own, and is renamed when all of it is there. So whatever ends the
+writing, a full disk or a signal, leaves what stood there before."""
+from __future__ import annotations
+
+import os
+import shutil
+import stat
+from collections.abc import Iterator
+from contextlib import contextmanager
+from pathlib import Path
+
+from .errors import FormatError, reason_of, type_of_path
+
+
+def write_whole(path: type_of_path, data: bytes) -> None:
+    """Writes a file whole. What is no regular file, as a pipe or /dev/null, is written to where it stands. FormatError where it can't be
+    written; the file is as it was then."""
+    try:
+        # a link stays one: what it leads to is renamed over
+        place = os.path.realpath(path)
+        mode = _mode_of(place)
+        if mode is not None and not stat.S_ISREG(mode):
+            with open(place, "wb") as stream:
+                stream.write(data)
+        else:
+            _replace(place, data, mode)
+    except (OSError, ValueError) as error:
+        raise FormatError(path, None, f"it can't be written: {reason_of(error)}") from None
+
+
+def _mode_of(place: str) -> int | None:
+    try:
+        return os.stat(place).st_mode
+    except FileNotFoundError:
+        return None
+
+
+def _replace(place: str, data: bytes, mode: int | None) -> None:
+    """Makes the file anew; `mode` is that of the file that stands there, whose permissions the new one has."""
+    if mode is not None and not os.access(place, os.W_OK):
+        raise PermissionError(0, "the file may not be written")
+    beside = _beside(place)
+    try:
+        with open(beside, "xb") as stream:
+            if mode is not None:
+                os.fchmod(stream.fileno(), stat.S_IMODE(mode))
+            stream.write(data)
+        os.replace(beside, place)
+    except BaseException:
+        try:
+            os.unlink(beside)
+        except OSError:
+            pass
+        raise
+
+
+@contextmanager
+def whole_folder(path: type_of_path) -> Iterator[Path]:
+    """A new folder, which has its name when the block ends, with all that was put into it; where the block ends with an error there is
+    none. FormatError where something of this name is there already, or the folder can't be made."""
+    place = os.fspath(path).rstrip("/") or "/"
+    try:
+        if os.path.lexists(place):
+            raise FormatError(path, None, "it is there already")
+        os.makedirs(os.path.dirname(place) or ".", exist_ok=True)
+        beside = Path(_beside(place))
+        beside.mkdir()
+    except (OSError, ValueError) as error:
+        raise FormatError(path, None, reason_of(error)) from None
+    try:
+        yield beside
+        os.rename(beside, place)
+    except BaseException as error:
+        shutil.rmtree(beside, ignore_errors=True)
+        if isinstance(error, OSError):
+            raise FormatError(path, None, reason_of(error)) from None
+        raise
+
+
+def _beside(place: str) -> str:
+    """A name in the folder of the place that no other process takes."""
+    folder, name = os.path.split(place)
+    return os.path.join(folder, f".{name[:100]}.{os.getpid()}.new")

@@ -1,0 +1,300 @@
+"""The names of a large netlist, found while the page is up already: a first look takes the ports alone, and the rest is read in the
+background, block by block, so that the page is answered in between. The program has read the same file, so its lines are well formed."""
+from __future__ import annotations
+
+import re
+import threading
+from bisect import bisect_left
+from collections.abc import Iterable, Iterator
+from difflib import get_close_matches
+from typing import NamedTuple
+
+from ..buses import bits_of
+from ..errors import UsageError, type_of_path
+from ..formats.netlist import Gate, Netlist, kind_of, source_of
+from ..formats.text import read_bytes
+from ..records import dataclass
+
+_BLOCK = 1 << 15
+_BLANKS = bytes.maketrans(b"\t\r", b"  ")
+_NAME = rb"[^(),=# \n]+"
+_PORT = re.compile(rb"(?m)^ *(?i:(INPUT|OUTPUT)) *\( *(" + _NAME + rb") *\)")
+_LINE = re.compile(rb"(?m)^ *(?:((?i:INPUT|OUTPUT)) *\( *(" + _NAME + rb") *\)|(" + _NAME + rb") *= *(" + _NAME + rb") *\(([^)\n]*)\)([^\n]*))")
+_BIT = re.compile(r"(.+)\[([0-9]{1,6})\]")
+_NUMBERS = re.compile(r"([0-9]+)")
+_SEPARATORS = re.compile(r"[./]")
+_KINDS = ("input", "output", "register", "gate")
+_MADE_UP, GENERATED = "$", "made by tools"
+_NEAREST = 3
+# of names that are like another, those of the same beginning are compared at most
+_COMPARED = 2000
+
+
+class Found(NamedTuple):
+    """A signal or a bus of the netlist. `kind` is `input`, `output`, `register` or `gate`; of a bus that of its first bit."""
+
+    name: str
+    kind: str
+    bits: int
+
+
+@dataclass(frozen=True, slots=True)
+class Level:
+    """What stands in a scope of the hierarchy: the scopes in it, each with its full prefix, and the signals and buses; of more than were
+    wanted the first, and how many there are in all."""
+
+    scopes: list[tuple[str, str]]
+    signals: list[Found]
+    count: int
+
+
+class Index:
+    """The names of a netlist. `begin` has all of them read in a thread; what needs all names begins that too, and waits for it."""
+
+    def __init__(self, path: type_of_path) -> None:
+        self._data = read_bytes(path).translate(_BLANKS)
+        ports = _PORT.findall(self._data)
+        self.inputs = _decoded(name for word, name in ports if word.upper() == b"INPUT")
+        self.outputs = _decoded(name for word, name in ports if word.upper() == b"OUTPUT")
+        self._lines: list[tuple[bytes, ...]] = []
+        self._kinds: dict[str, str] = {}
+        self._sorted: list[str] = []
+        self._is_read = threading.Event()
+        self._netlist: Netlist | None = None
+        self._making = threading.Lock()
+        self._reader: threading.Thread | None = None
+
+    def begin(self) -> None:
+        """Has all names read, in a thread, where that was not begun before."""
+        with self._making:
+            if self._reader is None:
+                self._reader = threading.Thread(target=self._read, daemon=True, name="names")
+                self._reader.start()
+
+    def _wait(self) -> None:
+        """Waits until all names are read."""
+        if not self._is_read.is_set():
+            self.begin()
+            self._is_read.wait()
+
+    def _read(self) -> None:
+        try:
+            for block in _blocks(self._data):
+                self._lines += _LINE.findall(block)
+            kinds = dict.fromkeys(self.inputs, "input")
+            for place in range(0, len(self._lines), _BLOCK >> 4):
+                kinds |= {gate.decode("latin-1"): "register" if kind in (b"DFF", b"dff") else "gate"
+                          for _, _, gate, kind, *_ in self._lines[place:place + (_BLOCK >> 4)] if gate}
+            kinds |= {name: "output" for name in self.outputs if kinds.get(name) == "gate"}
+            self._kinds = kinds
+            self._sorted = sorted(kinds)
+        finally:
+            self._data = b""
+            self._is_read.set()
+
+    @property
+    def _names(self) -> list[str]:
+        self._wait()
+        return self._sorted
+
+    def __len__(self) -> int:
+        return len(self._names)
+
+    @property
+    def count(self) -> int | None:
+        """How many signals there are; None before all are read."""
+        return len(self._sorted) if self._is_read.is_set() else None
+
+    def bits(self, name: str) -> tuple[str, ...]:
+        """The signals that a name stands for: the bits of a bus, the leftmost first, or the signal alone. UsageError where there is no
+        such signal, with names that are like it."""
+        found = bits_of(name) if name.endswith("]") else ()
+        if not self._is_read.is_set() and all(bit in self._known_ports for bit in found or (name,)):
+            return found or (name,)
+        self._wait()
+        if name in self._kinds:
+            return (name,)
+        missing = next((bit for bit in found or (name,) if bit not in self._kinds), None)
+        if missing is None:
+            return found
+        near = self.nearest(missing)
+        raise UsageError(f"there is no signal {missing}" + (f"; near it: {', '.join(near)}" if near else ""))
+
+    @property
+    def _known_ports(self) -> frozenset[str]:
+        return frozenset((*self.inputs, *self.outputs))
+
+    def nearest(self, name: str) -> list[str]:
+        """At most three names that are like the name."""
+        begins = [known for known in self._names if known[:2] == name[:2]][:_COMPARED]
+        return get_close_matches(name, begins or self._names[:_COMPARED], _NEAREST)
+
+    def first(self, count: int) -> list[str]:
+        """The signals and buses to begin with: the outputs, and where these are few the inputs above them."""
+        outputs, inputs = ([found.name for found in self._folded(names)] for names in (self.outputs, self.inputs))
+        return [*inputs[:max(0, count - len(outputs))], *outputs[:count]]
+
+    def find(self, pattern: str, most: int) -> tuple[list[Found], int]:
+        """The signals and buses of a pattern, at most so many, and how many there are. Where the pattern has neither `*` nor `?`, those
+        that have it anywhere in their name, in either case; a bus that is named as one is found too."""
+        words = pattern.split()
+        found: dict[str, Found] = {}
+        for word in words:
+            if word.endswith("]") and ":" in word:
+                try:
+                    found[word] = Found(word, self.kind(self.bits(word)[0]), len(self.bits(word)))
+                except UsageError:
+                    pass
+        form = re.compile("|".join(map(_form_of, words)) or "", re.IGNORECASE if not set("*?") & set(pattern) else 0)
+        begins = tuple(words)
+        for one in sorted(self._folded(name for name in self._names if form.fullmatch(name)),
+                          key=lambda one: (not one.name.startswith(begins), _order(one))):
+            found.setdefault(one.name, one)
+        return list(found.values())[:most], len(found)
+
+    def level(self, prefix: str, most: int) -> Level:
+        """What stands in the scope of this prefix, as `u1.alu.`; the empty one is the top. The names that a tool has made up, with `$`
+        at their beginning, are in a scope of their own."""
+        names = self._names
+        scopes: list[tuple[str, str]] = []
+        own: list[str] = []
+        place = bisect_left(names, prefix)
+        while place < len(names) and names[place].startswith(prefix):
+            name = names[place]
+            scope = self._scope_of(name, prefix)
+            if scope is None:
+                own.append(name)
+                place += 1
+                continue
+            scopes.append((scope[len(prefix):-1] or GENERATED, scope))
+            place = bisect_left(names, scope[:-1] + chr(ord(scope[-1]) + 1), place)
+        signals = sorted(self._folded(own), key=lambda one: (_KINDS.index(one.kind), _order(one)))
+        return Level(sorted(scopes, key=lambda scope: (scope[0] == GENERATED, _natural(scope[0])))[:most], signals[:most], len(signals))
+
+    @staticmethod
+    def _scope_of(name: str, prefix: str) -> str | None:
+        """The prefix of the scope below this one in which the name is; None where it is in none."""
+        if name[0] == _MADE_UP:
+            return None if prefix else _MADE_UP
+        mark = _SEPARATORS.search(name, len(prefix) + 1)
+        return name[:mark.end()] if mark and mark.end() < len(name) else None
+
+    def kind(self, name: str) -> str:
+        """What drives a signal."""
+        if not self._is_read.is_set():
+            return "input" if name in self.inputs else "output"
+        return self._kinds.get(name, "gate")
+
+    def _folded(self, names: Iterable[str]) -> list[Found]:
+        """The names, with neighbouring bits of one name as a bus where the first of them stands."""
+        stems: dict[str, list[int]] = {}
+        for name in names:
+            parts = _BIT.fullmatch(name) if name[-1] == "]" else None
+            if parts is None:
+                stems[name] = []
+            else:
+                stems.setdefault(f"{parts[1]}[", []).append(int(parts[2]))
+        found: list[Found] = []
+        for stem, places in stems.items():
+            if not places:
+                found.append(Found(stem, self.kind(stem), 1))
+            for first, last in _ranges(places):
+                name = f"{stem}{last}:{first}]" if last > first else f"{stem}{first}]"
+                found.append(Found(name, self.kind(f"{stem}{first}]"), last - first + 1))
+        return found
+
+    def netlist(self) -> Netlist:
+        """The whole netlist, made of the lines when it is first wanted; a gate is made when it is asked for."""
+        self._wait()
+        with self._making:
+            if self._netlist is None:
+                self._netlist = self._made()
+            return self._netlist
+
+    def _made(self) -> Netlist:
+        names: dict[bytes, None] = {}
+        gates = _Gates()
+        for word, port, gate, kind, pins, comment in self._lines:
+            if word:
+                names.setdefault(port)
+                continue
+            names.setdefault(gate)
+            for pin in pins.split(b","):
+                names.setdefault(pin.strip(b" "))
+            gates.lines[gate.decode("latin-1")] = (kind, pins, comment)
+        self._lines = []
+        return Netlist(tuple(self.inputs), tuple(self.outputs), gates, _decoded(names))
+
+
+class _Gates(dict[str, Gate]):
+    """The gates of a netlist, each made of its line when it is first asked for."""
+
+    def __init__(self) -> None:
+        super().__init__()
+        self.lines: dict[str, tuple[bytes, bytes, bytes]] = {}
+
+    def __missing__(self, name: str) -> Gate:
+        word, pins, comment = self.lines[name]
+        kind = kind_of(word.decode("latin-1"))
+        assert kind is not None
+        self[name] = gate = Gate(name, kind, tuple(pin.strip() for pin in pins.decode("latin-1").split(",")),
+                                 source=source_of(comment))
+        return gate
+
+    def __contains__(self, name: object) -> bool:
+        return name in self.lines
+
+    def __iter__(self) -> Iterator[str]:
+        return iter(self.lines)
+
+    def __len__(self) -> int:
+        return len(self.lines)
+
+    def get(self, name: str, default: Gate | None = None) -> Gate | None:  # type: ignore[override]
+        return self[name] if name in self.lines else default
+
+    def values(self) -> Iterator[Gate]:  # type: ignore[override]
+        return (self[name] for name in self.lines)
+
+
+def _decoded(names: Iterable[bytes]) -> tuple[str, ...]:
+    """The names as text, each once."""
+    return tuple(dict.fromkeys(name.decode("latin-1") for name in names))
+
+
+def _blocks(data: bytes) -> Iterator[bytes]:
+    """The data in blocks of whole lines."""
+    place = 0
+    while place < len(data):
+        end = data.find(b"\n", place + _BLOCK) + 1 or len(data)
+        yield data[place:end]
+        place = end
+
+
+def _form_of(word: str) -> str:
+    """A pattern as a regular expression for a whole name."""
+    form = "".join({"*": ".*", "?": "."}.get(letter) or re.escape(letter) for letter in word)
+    return form if set("*?") & set(word) else f".*{form}.*"
+
+
+def _ranges(places: Iterable[int]) -> Iterator[tuple[int, int]]:
+    """The ranges of neighbouring places, as (first, last)."""
+    first = last = -1
+    for place in sorted(places):
+        if place != last + 1 or first < 0:
+            if first >= 0:
+                yield first, last
+            first = place
+        last = place
+    if first >= 0:
+        yield first, last
+
+
+def _order(found: Found) -> tuple[bool, list[tuple[int, int | str]]]:
+    """A key by which names that tools made up stand last."""
+    return found.name[0] == _MADE_UP, _natural(found.name)
+
+
+def _natural(name: str) -> list[tuple[int, int | str]]:
+    """A key by which g2 stands before g10."""
+    return [(0, int(part)) if part.isdigit() else (1, part) for part in _NUMBERS.split(name) if part]

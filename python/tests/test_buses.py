@@ -1,0 +1,45 @@
+"""Buses that are named without their range, by a netlist."""
+from __future__ import annotations
+
+import pytest
+from backsim.buses import full_name, signals_of
+from backsim.errors import UsageError
+from backsim.main import main
+
+NAMES = ("a", "part.count[0]", "part.count[1]", "part.count[2]", "mem[1][3]", "mem[1][4]", "gap[0]", "gap[2]", "wide", "wide[1]", "wide[0]")
+NETLIST = "".join(f"INPUT({name})\n" for name in NAMES)
+
+
+@pytest.mark.parametrize("name, full", [("a", "a"), ("part.count", "part.count[2:0]"), ("mem[1]", "mem[1][4:3]"), ("mem", "mem"), ("none", "none"),
+                                        ("part.count[0:2]", "part.count[0:2]"), ("wide", "wide"), ("part", "part"), ("part.count[1]", "part.count[1]")])
+def test_the_range_of_a_bus(name: str, full: str) -> None:
+    assert full_name(name, set(NAMES)) == full
+
+
+@pytest.mark.parametrize("name, signals", [("part.count", ("part.count[2]", "part.count[1]", "part.count[0]")), ("mem[1][3:4]", ("mem[1][3]", "mem[1][4]")),
+                                           ("a", ("a",)), ("none", ()), ("part.count[3:0]", ()), ("mem[1]", ("mem[1][4]", "mem[1][3]"))])
+def test_the_signals_of_a_name(name: str, signals: tuple[str, ...]) -> None:
+    assert signals_of(name, set(NAMES)) == signals
+
+
+def test_a_bus_with_a_gap_is_told() -> None:
+    with pytest.raises(UsageError, match=r"the bus gap\[2:0\] has no bit gap\[1\]"):
+        full_name("gap", set(NAMES))
+
+
+def test_names_lists_signals(write, capsys) -> None:
+    netlist = str(write("n", NETLIST))
+    assert main(["names", netlist, "--list", "part.count", "m*", "a"]) == 0
+    assert capsys.readouterr().out.split() == ["part.count[2]", "part.count[1]", "part.count[0]", "mem[1][3]", "mem[1][4]", "a"]
+    assert main(["names", netlist, "--list", "none"]) == 2
+    assert capsys.readouterr().err == f"{netlist}: no signal, bus or pattern is none\n"
+
+
+def test_draw_takes_a_bus_by_its_name(write, tmp_path, program, monkeypatch, capsys) -> None:
+    pytest.importorskip("matplotlib", reason="matplotlib is missing (Debian's package python3-matplotlib)")
+    monkeypatch.setenv("BACKSIM", program)
+    files = [str(write("n", NETLIST)), str(write("t", "")), str(write("s", "horizon 5\nset part.count[1] 2 1\n"))]
+    assert main(["draw", *files, "part.count", "-o", str(tmp_path / "p.svg")]) == 0
+    assert "part.count[2:0]" in (tmp_path / "p.svg").read_text()
+    assert main(["draw", *files, "gap", "-o", str(tmp_path / "q.svg")]) == 2
+    assert capsys.readouterr().err == f"{files[0]}: the bus gap[2:0] has no bit gap[1]: name its bits, or a range that has all\n"

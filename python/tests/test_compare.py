@@ -1,0 +1,95 @@
+"""`compare`: the first mismatches of a netlist with a dump, worked out by hand."""
+from __future__ import annotations
+
+import subprocess
+
+import pytest
+from backsim.main import main
+
+# q counts the rises of clk at 10, 30 and so on modulo 4; y is its parity, two gates deep
+NETLIST = """INPUT(clk)
+INPUT(a)
+OUTPUT(y)
+q[0] = DFF(n)  # chip.v:7
+n = NOT(q[0])
+q[1] = DFF(m)  # chip.v:7
+m = XOR(q[1], q[0])
+p = XOR(q[0], q[1])  # chip.v:9
+y = AND(p, a)  # chip.v:10
+"""
+TIMING = "# unit 1 ns\nversion 2\nclock clk 10 20\ndefault 1\nclocked q[0] clk\nclocked q[1] clk\ninit q[0] 0\ninit q[1] 0\n"
+HEADER = ("$timescale 1 ns $end\n$scope module test $end\n$var wire 1 ! clk $end\n$var wire 1 % a $end\n$var reg 2 & q [1:0] $end\n"
+          "$var wire 1 ( p $end\n$var wire 1 ) y $end\n$upscope $end\n$enddefinitions $end\n")
+# at 11, 31, 51 and so on q is 1, 2, 3, 0; p and y are its parity
+WORDS = ["00", "01", "10", "11", "00"]
+
+
+def dump(words: list[str] = WORDS, parity: str = "01100", p_of: str = "", begin: str = "1%") -> str:
+    text = HEADER + f"#0\n0!\n{begin}\nb00 &\n{(p_of or parity)[0]}(\n{parity[0]})\n"
+    for number in range(1, 5):
+        text += f"#{20 * number - 10}\n1!\n#{20 * number - 9}\nb{words[number]} &\n{(p_of or parity)[number]}(\n{parity[number]})\n#{20 * number}\n0!\n"
+    return text + "#89\n"
+
+
+@pytest.fixture
+def compared(write, program, capsys, monkeypatch):
+    monkeypatch.setenv("BACKSIM", program)
+    netlist, timing = write("n", NETLIST), write("t", TIMING)
+
+    def run(text: str, *words: object) -> tuple[int, list[str]]:
+        status = main(["compare", str(netlist), str(timing), str(write("d.vcd", text)), "test", *map(str, words)])
+        said = capsys.readouterr()
+        return status, said.out.splitlines() or said.err.splitlines()
+
+    return run
+
+
+def test_nothing_differs(compared) -> None:
+    # edges are at 10, 30 .. 70 and clk, an input, falls at 20 .. 80; the longest path is 3: q, p, y. So 9, 19, 29 .. 89 are compared
+    assert compared(dump()) == (0, ["4 signals compared at 9 times; nets and buses that differ: 0"])
+
+
+def test_the_first_of_each_bus_and_what_follows_from_it(compared, tmp_path) -> None:
+    # from 31 on q[1] is wrong in the dump, and so is what is made of it
+    words = ["00", "01", "00", "01", "00"]
+    status, lines = compared(dump(words, "01010"), "--stimulus", tmp_path / "s")
+    assert (status, lines) == (1, ["39: q[1:0] is 10 here, and 00 in the dump; chip.v:7; what it is made of does not differ; why q[1] 39",
+                                   "39: p is 1 here, and 0 in the dump; chip.v:9; why p 39",
+                                   "39: y is 1 here, and 0 in the dump; chip.v:10; why y 39",
+                                   "4 signals compared at 9 times; nets and buses that differ: 3"])
+    assert (tmp_path / "s").read_text().startswith("# unit 1 ns\nhorizon 89\nset clk 0 0\nset a 0 1\n")
+
+
+def test_x_in_the_dump_is_told_apart(compared) -> None:
+    assert compared(dump(["00", "0x", "10", "11", "00"])) == (0, ["x in the dump, and not here: q[1:0] from 19 on",
+                                                                   "4 signals compared at 9 times; nets and buses that differ: 0"])
+    # an a that is x makes y x where the parity is 1
+    status, lines = compared(dump(begin="x%"))
+    assert status == 1 and lines[0] == "19: y is x here, and 1 in the dump; chip.v:10; what it is made of does not differ; why y 19"
+
+
+def test_every_time(compared) -> None:
+    # gates take a unit each, which the dump does not have
+    status, lines = compared(dump(), "--every-time", "--only", "q", "p")
+    assert (status, lines) == (1, ["0: p is x here, and 0 in the dump; chip.v:9; what it is made of does not differ; why p 0", "3 signals compared at 90 times; nets and buses that differ: 1"])
+
+
+def test_a_window(compared, tmp_path) -> None:
+    words = ["00", "01", "10", "10", "00"]
+    # the window begins at 25; the flip-flops are those of the dump directly before 50, so 49 and 59 are compared, of which 59 differs
+    status, lines = compared(dump(words, "01110"), "--from", "25ns", "--to", 65, "--stimulus", tmp_path / "s", "--window", tmp_path / "w")
+    assert status == 1 and lines[0] == "34, 59 in the dump: q[1:0] is 11 here, and 10 in the dump; chip.v:7; what it is made of does not differ; why q[0] 34"
+    assert (tmp_path / "w").read_text().startswith("# unit 1 ns\nversion 2\nclock clk 25 20\n")
+
+
+@pytest.mark.parametrize("words, cause", [(("--only", "none"), "no signal, bus or pattern is none"), (("--unit", "2ns"), "its unit of time is 2 ns, and that of the timing file is 1 ns"),
+                                          (("--ticks", 3), "its unit of time is 3 ns"), (("--from", 88), "never is the longest path's time")])
+def test_bad_words(words: tuple, cause: str, compared) -> None:
+    status, lines = compared(dump(), *words)
+    assert status == 2 and len(lines) == 1 and cause in lines[0]
+
+
+def test_a_command_of_its_own(write, program, tools) -> None:
+    files = write("n", NETLIST), write("t", TIMING), write("d.vcd", dump(["00", "01", "00", "01", "00"], "01010"))
+    done: subprocess.CompletedProcess[bytes] = tools("compare", *files, "test", "--program", program)
+    assert done.returncode == 1 and b"why q[1] 39" in done.stdout and done.stderr == b""

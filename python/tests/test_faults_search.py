@@ -1,0 +1,205 @@
+"""What finding by simulation and confirming by the program say of one another, and what is left of work that is interrupted."""
+from __future__ import annotations
+
+import csv
+import os
+import signal
+import subprocess
+import sys
+import time
+from pathlib import Path
+
+import pytest
+from conftest import TOP
+from forward_faults import made_up
+from test_faults import C17, GATES, PATTERNS, STAND_IN, outputs_of, without_progress
+
+LINES = ["1", "2", "3", "3->10", "3->11", "6", "7", "10", "11", "11->16", "11->19", "16", "16->22", "16->23", "19", "22", "23"]
+CHAIN = "INPUT(a)\nOUTPUT(y)\nb = NOT(a)\nc = NOT(b)\nd = NOT(c)\ny = NOT(d)\n"
+
+
+@pytest.fixture
+def patterns(write):
+    return write("patterns.txt", "".join(f"{pattern}\n" for pattern in PATTERNS))
+
+
+def faults(tools, *words: object, program: str = STAND_IN):
+    return without_progress(tools("faults", *words, "--jobs", "1", env={"BACKSIM": program}))
+
+
+def value_of(line: str, pattern: str) -> str:
+    """The value of a line of c17 without a fault."""
+    values = dict(zip("12367", pattern))
+    for gate, pins in GATES.items():
+        values[gate] = "0" if all(values[pin] == "1" for pin in pins.split()) else "1"
+    return values[line.split("->")[0]]
+
+
+def test_a_slow_line_is_shown_where_it_should_have_changed(tools, patterns, tmp_path) -> None:
+    run = faults(tools, *C17, patterns, "--period", 10, "--transition", "--csv", tmp_path / "table")
+    assert (run.returncode, run.stderr) == (0, b"")
+    rows = {row["fault"]: row for row in csv.DictReader((tmp_path / "table").open())}
+    expected = {}
+    for line in LINES:
+        for word, held in (("str", "0"), ("stf", "1")):
+            shown = [number for number in range(1, len(PATTERNS)) if value_of(line, PATTERNS[number - 1]) == held
+                     and outputs_of(PATTERNS[number], line, held) != outputs_of(PATTERNS[number])]
+            expected[f"{line} /{word}"] = str(10 * shown[0] + 9) if shown else ""
+    assert {fault: row["time"] for fault, row in rows.items()} == expected
+    assert all((row["confirmed"] == "yes") == (row["time"] != "") for row in rows.values())
+
+
+def test_a_dictionary_has_each_time_and_output(tools, patterns, tmp_path) -> None:
+    run = faults(tools, *C17, patterns, "--period", 10, "--uncollapsed", "--dictionary", tmp_path / "all")
+    assert (run.returncode, run.stderr) == (0, b"")
+    found = {(row["fault"], row["time"]): row["outputs"] for row in csv.DictReader((tmp_path / "all").open())}
+    expected = {}
+    for line in LINES:
+        for value in "01":
+            for number, pattern in enumerate(PATTERNS):
+                pairs = zip(("22", "23"), outputs_of(pattern, line, value), outputs_of(pattern))
+                wrong = " ".join(name for name, bad, good in pairs if bad != good)
+                if wrong:
+                    expected[f"{line} /{value}", str(10 * number + 9)] = wrong
+    assert found == expected
+
+
+def test_faults_that_several_times_show_are_counted(tools, patterns, tmp_path) -> None:
+    run = faults(tools, *C17, patterns, "--period", 10, "--uncollapsed", "--drop", 2, "--csv", tmp_path / "table")
+    counts = {f"{line} /{value}": sum(outputs_of(pattern, line, value) != outputs_of(pattern) for pattern in PATTERNS)
+              for line in LINES for value in "01"}
+    assert {row["fault"]: row["times"] for row in csv.DictReader((tmp_path / "table").open())} == {
+        fault: str(min(2, count)) for fault, count in counts.items()}
+    often = sum(count >= 2 for count in counts.values())
+    assert f"shown at 2 times or more: {often} of 34 faults" in run.stdout.decode()
+
+
+def test_what_has_not_settled_is_said_and_asked_again(tools, write) -> None:
+    # y follows a by 4 units, and the tester looks after 2: what pattern k shows is seen with pattern k + 1 or not at all
+    files = write("n", CHAIN), write("t", "default 1\n"), write("p", "0\n1\n1\n")
+    run = faults(tools, *files, "--period", 3)
+    assert run.returncode == 0
+    first, second = run.stderr.decode().splitlines()
+    assert first == "outputs may not have settled at 2 of 3 looks: the longest path to them is 4, and a look comes 2 after a change"
+    assert second == "the program does not confirm 2 of 2; each of these is asked for at all times"
+    # at 2 y is x; at 5 it is 0, after the pattern 0; at 8 it is 1
+    assert run.stdout.decode().splitlines()[:2] == ["5: y /1", "8: y /0"]
+
+
+def test_what_simulation_does_not_show_is_asked_of_the_program(tools, write, tmp_path) -> None:
+    # settled, y is never 1; but at each change of a it is, for two units, and then the tester looks
+    netlist = "INPUT(a)\nOUTPUT(y)\nb = NOT(a)\nc = BUFF(b)\ny = AND(a, c)\n"
+    files = write("n", netlist), write("t", "default 1\n"), write("s", "horizon 40\nset a 0 0\nset a 20 1\n")
+    words = *files, "--times", 22, "--list", write("list", "y /0\n")
+    run = faults(tools, *words)
+    assert run.stdout.decode().splitlines()[-1] == "simulation alone says of 1 that no time shows them (--prove-left FILE asks the program)"
+    run = faults(tools, *words, "--prove-left", tmp_path / "kept")
+    assert run.returncode == 0
+    assert run.stderr.decode().splitlines()[-1] == "the program shows 1 that simulation does not"
+    assert run.stdout.decode().splitlines()[0] == "22: y /0"
+    assert (tmp_path / "kept").read_text().splitlines()[1:] == ["y /0\tshown 22 y"]
+
+
+def test_proofs_are_taken_up_where_they_were(tools, patterns, tmp_path) -> None:
+    kept = tmp_path / "kept"
+    words = *C17, patterns, "--period", 10, "--prove-left", kept
+    whole = faults(tools, *words)
+    assert whole.stdout.decode().splitlines()[-1] == "asked of the program at all times: the 2 that none shows"
+    text = kept.read_text()
+    assert sorted(text.splitlines()[1:]) == ["11->16 /1\tnot shown", "3->10 /1\tnot shown"]
+    # one line is there, and one was cut while it was written
+    kept.write_text("".join(text.splitlines(keepends=True)[:2]) + "3->1")
+    again = faults(tools, *words)
+    assert (again.returncode, again.stdout) == (0, whole.stdout)
+    assert sorted(kept.read_text().splitlines()) == sorted(text.splitlines())
+    # a file of other faults or times is refused, and stays
+    other = faults(tools, *C17, patterns, "--period", 20, "--prove-left", kept)
+    assert other.returncode == 2 and other.stderr.decode().startswith(f"{kept}:1: ") and other.stdout == b""
+    kept.write_text(text.replace("not shown", "shown 99 22"))
+    bad = faults(tools, *words)
+    assert bad.returncode == 2 and bad.stderr.decode().startswith(f"{kept}:2: ") and bad.stderr.count(b"\n") == 1
+
+
+def test_gates_in_a_cycle_are_asked_for_without_simulation(tools, write) -> None:
+    files = write("n", "INPUT(s)\nINPUT(r)\nOUTPUT(q)\nq = NOR(r, p)\np = NOR(s, q)\n"), write("t", "default 1\n"), write("p", "10\n01\n")
+    run = faults(tools, *files, "--period", 10)
+    assert run.returncode == 0
+    assert b"make a cycle, so nothing is simulated" in run.stderr
+    # 10 sets q, and 01 resets it; with r held at 0 it stays, and without s it is x until it is reset
+    assert run.stdout.decode().splitlines()[:3] == ["9: q /0, q->(output) /0", "19: r /0, q /1, q->(output) /1", "not shown: s /0, p /0, q->p /0"]
+    assert run.stdout.decode().splitlines()[-2:] == ["confirmed by the program: 5 of 5 that are shown",
+                                                     "asked of the program at all times: the 3 that none shows"]
+
+
+def test_x_in_flip_flops_is_said(tools, write) -> None:
+    netlist = "INPUT(a)\nOUTPUT(y)\nq = DFF(a)\nr = DFF(r)\ny = AND(q, r)\n"
+    run = faults(tools, write("n", netlist), write("t", "clock 5 10\n"), write("p", "0\n1\n"), "--period", 10)
+    assert run.stderr.decode() == "1 of 2 flip-flops are still x at the last look, and x shows no fault\n"
+
+
+@pytest.fixture
+def long_work(write):
+    """Words of a command that has much to ask."""
+    circuit = made_up(3, 24, 900, 0, 20)
+    return ["faults", write("n", circuit.netlist()), write("t", circuit.timing(1, 1)), write("p", "01" * 12 + "\n" + "10" * 12 + "\n" + "0011" * 6 + "\n"),
+            "--period", circuit.longest() + 2]
+
+
+def children_of(process: int) -> list[str]:
+    found = subprocess.run(["ps", "-o", "pid=", "--ppid", str(process)], capture_output=True, text=True)
+    return found.stdout.split()
+
+
+@pytest.mark.parametrize("number", [signal.SIGINT, signal.SIGTERM])
+def test_an_interrupt_leaves_what_is_known(number, long_work, tmp_path, program) -> None:
+    files = {name: tmp_path / name for name in ("kept", "table", "shown", "left")}
+    words = [*map(str, long_work), "--prove-left", str(files["kept"]), "--csv", str(files["table"]), "--shown", str(files["shown"]),
+             "--left", str(files["left"]), "--jobs", "2"]
+    environment = os.environ | {"PYTHONPATH": str(TOP / "python"), "BACKSIM": program}
+    running = subprocess.Popen([sys.executable, "-m", "backsim", *words], env=environment, stdout=subprocess.PIPE, stderr=subprocess.PIPE, text=True)
+    until = time.monotonic() + 60
+    while time.monotonic() < until and (not files["kept"].exists() or files["kept"].read_text().count("\n") < 4):
+        assert running.poll() is None, running.stderr.read()
+        time.sleep(0.02)
+    children = children_of(running.pid)
+    assert len(children) == 2
+    running.send_signal(number)
+    out, err = running.communicate(timeout=60)
+    assert running.returncode == 130 and "Traceback" not in err
+    assert not any(Path(f"/proc/{child}").exists() for child in children)
+    lines = out.splitlines()
+    assert lines[0].startswith("partial: ")
+    assert any(line.startswith("simulation alone says of ") for line in lines)
+    mark = "# partial: the command was interrupted"
+    assert files["shown"].read_text().splitlines()[0] == files["left"].read_text().splitlines()[0] == mark
+    assert files["table"].read_text().splitlines()[-1] == mark
+    # the lists are refused as they are, and the proofs go on
+    again = subprocess.run([sys.executable, "-m", "backsim", *map(str, long_work), "--list", str(files["left"])], env=environment, capture_output=True,
+                           text=True)
+    assert again.returncode == 2 and again.stdout == "" and again.stderr.startswith(f"{files['left']}:1: an interrupted command left this file")
+    assert files["kept"].read_text().endswith("\n")
+
+
+@pytest.mark.parametrize("words, cause", [
+    (["--drop", "0"], "from 1 to"), (["--transition", "--write", "folder"], "--write and --read are for stuck-at faults alone"),
+    (["--list", "empty"], "the list has no fault"), (["--times", "99"], "the time 99 is after the horizon, 39")])
+def test_bad_words_are_said_in_one_line(words: list[str], cause: str, tools, patterns, tmp_path) -> None:
+    (tmp_path / "empty").write_text("# nothing\n")
+    table = tmp_path / "table"
+    run = tools("faults", *C17, patterns, "--period", 10, "--csv", table, *words, cwd=tmp_path, env={"BACKSIM": STAND_IN})
+    assert run.returncode == 2 and cause in run.stderr.decode() and run.stderr.count(b"\n") == 1 and run.stdout == b""
+    assert not table.exists()
+
+
+def test_patterns_of_another_number_of_inputs_are_refused(tools, write) -> None:
+    path = write("p", "0101\n")
+    run = faults(tools, *C17, path, "--period", 10)
+    assert (run.returncode, run.stdout) == (2, b"")
+    assert run.stderr.decode() == f"{path}:1: the pattern has 4 letters, and there are 5 inputs\n"
+
+
+def test_transition_faults_want_no_flip_flops(tools, write) -> None:
+    netlist = write("n", "INPUT(a)\nOUTPUT(q)\nq = DFF(a)\n")
+    run = faults(tools, netlist, write("t", "clock 5 10\n"), write("p", "0\n1\n"), "--period", 10, "--transition")
+    assert (run.returncode, run.stdout) == (2, b"")
+    assert run.stderr.decode().startswith(f"{netlist}: transition faults are for circuits without flip-flops")

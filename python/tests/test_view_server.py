@@ -1,0 +1,204 @@
+"""What `backsim-tools view` lets in, and what it leaves behind."""
+from __future__ import annotations
+
+import http.client
+import http.server
+import json
+import os
+import signal
+import threading
+import time
+from collections.abc import Iterator
+from pathlib import Path
+from urllib.parse import urlsplit
+
+import pytest
+from backsim.view.store import Known, Span, shown
+from backsim.view.index import Index
+from array import array
+from browser import Browser, browser_path
+from view_page import served
+
+
+@pytest.fixture
+def files(example) -> list[str]:
+    return example("s27")
+
+
+@pytest.fixture
+def address(files, program) -> Iterator[str]:
+    with served(*files, "--program", program) as (_, found):
+        yield found
+
+
+def asked(address: str, path: str, method: str = "GET", body: str = "", **headers: str) -> tuple[int, bytes]:
+    """The status and the text of a request, to the address's port with its token unless the path begins with /."""
+    parts = urlsplit(address)
+    connection = http.client.HTTPConnection("127.0.0.1", parts.port, timeout=20)
+    connection.putrequest(method, path if path.startswith("/") else parts.path + path, skip_host="Host" in headers)
+    for name, value in headers.items():
+        connection.putheader(name.replace("_", "-"), value)
+    connection.putheader("Content-Length", str(len(body)))
+    connection.endheaders(body.encode())
+    answer = connection.getresponse()
+    found = answer.status, answer.read()
+    connection.close()
+    return found
+
+
+def test_only_who_has_the_address_is_answered(address: str) -> None:
+    own = urlsplit(address)
+    assert own.hostname == "127.0.0.1" and len(own.path) > 30
+    assert asked(address, "state")[0] == 200
+    assert asked(address, "state", Origin=f"http://{own.netloc}")[0] == 200
+    assert asked(address, "state", Host=f"localhost:{own.port}")[0] == 200
+    for path, headers in (("/", {}), ("/state", {}), (f"/{'x' * 32}/state", {}), (f"{own.path[:-3]}/state", {}), ("/../state", {}),
+                          ("state", {"Host": "evil.example"}), ("state", {"Host": f"evil.example:{own.port}"}), ("state", {"Host": ""}),
+                          ("state", {"Origin": "http://evil.example"}), ("state", {"Origin": "null"}),
+                          ("state", {"Origin": f"http://localhost:{own.port}"}), ("view.html", {"Sec_Fetch_Site": "cross-site"}),
+                          ("main.js", {"Sec_Fetch_Site": "same-site"})):
+        status, text = asked(address, path, **headers)
+        assert status == 403 and b"s27" not in text, (path, headers)
+        status, text = asked(address, path.replace("state", "values"), "POST", '{"time":1,"rows":[{"row":1,"name":"G17"}]}', **headers)
+        assert status == 403 and b"values" not in text, (path, headers)
+
+
+def test_bad_requests_are_answered_with_a_sentence(address: str) -> None:
+    for path, body in (("values", "{"), ("values", "[]"), ("values", "{}"), ("waves", '{"page":"a","step":1}'), ("search", '{"name":"G17"}'),
+                       ("why", '{"name":"G99","time":1}'), ("why", '{"name":"G17","time":99}'), ("dump", '{"rows":[],"start":9,"stop":3,"x":0}')):
+        status, text = asked(address, path, "POST", body)
+        assert status == 400 and json.loads(text)["error"], (path, body)
+    assert asked(address, "nothing")[0] == 404
+    assert asked(address, "../server.py")[0] == 404
+    assert asked(address, "server.py")[0] == 404
+    told = json.loads(asked(address, "why", "POST", '{"name":"G99","time":1}')[1])["error"]
+    assert told.startswith("there is no signal G99; near it: G9")
+
+
+class _Evil(http.server.BaseHTTPRequestHandler):
+    """A page of another origin that knows the whole address, and tries to read it in every way that a page has."""
+
+    address = ""
+
+    def do_GET(self) -> None:
+        text = f"""<!DOCTYPE html><body><script>
+        const got = [], there = {self.address!r};
+        const note = (what) => (value) => got.push([what, String(value)]);
+        Promise.allSettled([
+          fetch(there + 'state').then((r) => r.text()).then(note('fetch')),
+          fetch(there + 'reload', {{method: 'POST', body: '{{}}', mode: 'no-cors'}}).then((r) => r.text()).then((t) => t && note('post')(t)),
+          new Promise((done) => {{ const s = document.createElement('script'); s.src = there + 'main.js'; s.onload = () => {{ note('script')('loaded'); done(); }};
+            s.onerror = done; document.body.append(s); }}),
+          new Promise((done) => {{ const f = document.createElement('iframe'); f.src = there; f.onload = () => {{
+            try {{ if (f.contentDocument && f.contentDocument.querySelector('canvas')) note('frame')('read'); }} catch {{}} done(); }}; document.body.append(f); }}),
+          new Promise((done) => {{ const w = new WebSocket(there.replace('http', 'ws')); w.onopen = () => {{ note('socket')('open'); done(); }}; w.onerror = done; }}),
+        ]).then(() => {{ window.got = got; }});
+        </script>""".encode()
+        self.send_response(200)
+        self.send_header("Content-Type", "text/html")
+        self.send_header("Content-Length", str(len(text)))
+        self.end_headers()
+        self.wfile.write(text)
+
+    def log_message(self, format: str, *args: object) -> None:
+        """Nothing is logged."""
+
+
+def test_a_page_of_another_origin_gets_nothing(address: str) -> None:
+    path = browser_path()
+    if path is None:
+        pytest.skip("no Chromium is installed (Debian's package chromium), and BROWSER_FOR_TESTS does not name one")
+    _Evil.address = address
+    evil = http.server.ThreadingHTTPServer(("127.0.0.1", 0), _Evil)
+    threading.Thread(target=evil.serve_forever, daemon=True).start()
+    browser = Browser(path)
+    try:
+        browser.visit(f"http://127.0.0.1:{evil.server_port}/")
+        browser.wait("window.got !== undefined")
+        assert browser.value("window.got") == []
+        # it did not load the files anew
+        assert json.loads(asked(address, "state")[1])["loaded"] == 1
+    finally:
+        browser.close()
+        evil.shutdown()
+        evil.server_close()
+
+
+@pytest.mark.parametrize("number", [signal.SIGINT, signal.SIGTERM])
+def test_a_signal_ends_all_and_leaves_nothing(files, program, tmp_path: Path, number: signal.Signals) -> None:
+    environment = {"TMPDIR": str(tmp_path)}
+    with served(*files, "--program", program, env=environment) as (process, address):
+        assert asked(address, "state")[0] == 200
+        body = json.dumps({"page": "a", "step": 1, "rows": [{"row": 1, "name": "G17", "fault": ["G8", "1"], "windows": [[0, 31]]}]})
+        assert b'"end":true' in asked(address, "waves", "POST", body)[1]
+        children = _children(process.pid)
+        assert len(children) == 2
+        process.send_signal(number)
+        assert process.wait(timeout=20) == 0
+    assert list(tmp_path.iterdir()) == []
+    deadline = time.monotonic() + 10
+    while any(Path(f"/proc/{child}").exists() for child in children) and time.monotonic() < deadline:
+        time.sleep(0.05)
+    assert not any(Path(f"/proc/{child}").exists() for child in children)
+
+
+def _children(parent: int) -> list[int]:
+    return [int(path.name) for path in Path("/proc").iterdir() if path.name.isdigit() and _parent_of(path) == parent]
+
+
+def _parent_of(path: Path) -> int | None:
+    try:
+        return int((path / "stat").read_text().rpartition(")")[2].split()[1])
+    except OSError:
+        return None
+
+
+def test_bad_words_and_files_are_refused_in_a_line(tools, files, write) -> None:
+    bad = write("bad.stim", "horizon 5\nset G0 0 0\nset G0 9 1\n")
+    view = write("bad.view", '{"format": "another"}')
+    for words, said in (((*files[:2], bad), f"{bad}:3: "), (files[:2], "say NETLIST TIMING STIMULUS"), ((*files, "G99"), "there is no signal G99"),
+                        ((*files, "--from", "9", "--to", "4"), "a window from 9 to 4"), ((view,), f"{view}: this is no saved view"),
+                        ((*files, "nothing*"), "no signal is of the pattern nothing*")):
+        ran = tools("view", *words, "--no-browser")
+        assert ran.returncode == 2 and said in ran.stderr.decode() and ran.stderr.count(b"\n") == 1 and ran.stdout == b"", (words, ran.stderr)
+
+
+def test_what_is_shown_has_each_change_or_counts_it() -> None:
+    """A wave that changes at 1, 2, 3, 50, 97, 98 and 99, at ten times for a pixel."""
+    times = [0, 1, 2, 3, 50, 97, 98, 99]
+    values = ["x", "1", "0", "1", "0", "1", "0", "1"]
+    span = Span(0, 120, array("I", times), values)
+    assert shown(span, 1) == list(zip(times, values))
+    assert shown(span, 10) == [(0, "x"), (1, "#", 3), (3, "1"), (50, "0"), (97, "#", 3), (99, "1")]
+    # activity with less than a pixel between is one
+    assert shown(Span(0, 40, array("I", [0, 7, 8, 11, 12, 30]), list("010101")), 10) == [(0, "0"), (7, "#", 4), (12, "0"), (30, "1")]
+
+
+def test_spans_are_joined_and_gaps_told() -> None:
+    known = Known()
+    known.add(Span(10, 20, array("I", [10, 15]), ["0", "1"]))
+    known.add(Span(30, 40, array("I", [30]), ["1"]))
+    assert known.gaps(5, 50) == [(5, 10), (20, 30), (40, 50)]
+    known.add(Span(20, 30, array("I", [20, 25]), ["1", "0"]))
+    assert [(span.start, span.stop, list(span.times), span.values) for span in known.spans] == [
+        (10, 40, [10, 15, 25, 30], ["0", "1", "0", "1"])]
+    assert known.gaps(10, 40) == [] and [span.start for span in known.within(12, 14)] == [12]
+
+
+def test_names_are_found_without_the_whole_netlist(write) -> None:
+    path = write("n.bench", "# a comment = AND(x)\nINPUT(clk)\n input ( a[0] )\nINPUT(a[1])\nOUTPUT(q)\nq = DFF(u1.n)\nu1.n = AND(a[0], a[1]) # q = NOT(clk)\n"
+                            "u1.alu.s[0] = NOT(clk)\nu1.alu.s[1] = NOT(clk)\n$made.up$1 = BUFF(q)\n")
+    index = Index(path)
+    assert index.first(10) == ["clk", "a[1:0]", "q"]
+    assert len(index) == 8
+    top = index.level("", 10)
+    assert [one.name for one in top.signals] == ["a[1:0]", "clk", "q"] and [one.kind for one in top.signals] == ["input", "input", "register"]
+    assert [scope for scope in top.scopes] == [("u1", "u1."), ("made by tools", "$")]
+    assert [one.name for one in index.level("u1.", 10).signals] == ["u1.n"]
+    assert [one.name for one in index.level("u1.alu.", 10).signals] == ["u1.alu.s[1:0]"]
+    assert [one.name for one in index.find("u1.*s*", 10)[0]] == ["u1.alu.s[1:0]"]
+    assert [one.name for one in index.find("ALU", 10)[0]] == ["u1.alu.s[1:0]"]
+    netlist = index.netlist()
+    assert netlist.names == ("clk", "a[0]", "a[1]", "q", "u1.n", "u1.alu.s[0]", "u1.alu.s[1]", "$made.up$1")
+    assert netlist.gates["u1.n"].pins == ("a[0]", "a[1]")
+    assert os.path.exists(path)
