@@ -265,9 +265,12 @@ module _ (nodes : List Node) (heads : ℕ → Head) (mapped : Key → Option Pla
           (same_or_not key.signal k.signal);
     }
 
+    pub left_listed : (q : Key) → listed new q ≡ cond (is_eq (key_cmp key q)) None (listed nodes q)
+    left_listed = listed_less nodes new once left_lists.once i key place was gone left_others
+
     pub left_places : (q : Key) → or_else (listed new q) (mapped q) ≡ cond (is_eq (key_cmp key q)) None (or_else (listed nodes q) (mapped q))
     left_places q =
-        ap (λ (o : Option Place). or_else o (mapped q)) (listed_less nodes new once left_lists.once i key place was gone left_others q)
+        ap (λ (o : Option Place). or_else o (mapped q)) (left_listed q)
         ∙ else_less (is_eq (key_cmp key q)) (listed nodes q) (mapped q) (λ t. ap mapped (sym (equal_keys key q t)) ∙ index.apart i key place was)
 
   -- ---- the map changes at a key that no list has
@@ -300,14 +303,6 @@ pub gap_here : (nodes items : List Node) (first : Option ℕ) (heads : ℕ → H
     → IsGap (held_at items) (link_at items) first signal start gap → IsGap (held_at nodes) (link_at nodes) (firsts heads signal) signal start gap
 gap_here nodes items first heads head signal start gap list is at g =
     subst (λ (o : Option ℕ). IsGap (held_at nodes) (link_at nodes) o signal start gap) (is ∙ ap first_in at) (subst (λ (l : List Node). IsGap (held_at l) (link_at l) first signal start gap) list g)
-
-pub told_map : (heads : ℕ → Head) (mapped : Key → Option Place) (k : Key) → (IsSome (mapped k) → (heads k.signal).more ≡ true) → (b : Bool) → b ≡ (heads k.signal).more → cond b (mapped k) None ≡ mapped k
-told_map heads mapped k told true is = refl
-told_map heads mapped k told false is =
-    (elim (mapped k) as (λ o. mapped k ≡ o → None ≡ o) [
-      | None ↦ λ e. refl
-      | Some p ↦ λ e. absurd (true≢false (sym (told (subst (λ (o : Option Place). IsSome o) (sym e) refl)) ∙ sym is))
-    ]) refl
 
 -- ---- a head says that the map may have more
 pub record IsMore (heads new : ℕ → Head) (signal : ℕ) : Type 0 where

@@ -20,3 +20,4 @@ pub mod Indexed
 pub mod Nodes
 pub mod Pages
 pub mod Results
+pub mod Moved

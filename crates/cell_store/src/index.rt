@@ -1,15 +1,15 @@
 //! The index of a store: the place of each cell by its key.
 //!
 //! The cells of a signal are a list, the latest first, behind its [`Head`]. The nodes of all lists are in one array. Where a list has
-//! [`MOST_LISTED`] nodes, further cells of its signal go into an ordered map, and so do those of signals with no place among the heads.
-//! So a search reads at most so many nodes, and then the map if it may have cells of the signal.
+//! [`MOST_LISTED`] nodes, the further cells of its signal go into an ordered map, and each takes the first cell of the list with it. So
+//! the list is empty soon, and a search reads the map alone. The signal stays with the map. So do signals with no place among the heads.
 
 ghost use Rattle.std.specs.Prelude.{◌≡◌, true, if◌then◌else◌, ◌+◌, ◌<◌, ◌≤◌, ⊤, ℕ, None, Some, IfNone, IfOk, IfSome, OnErr, false, length, nat_eq, option_map, slice_get, unwrap_or};
-ghost use Rattle.std.specs.BTreeMap.{get};
+ghost use Rattle.std.specs.BTreeMap.{get, IsUnchanged, Updates};
 ghost use Rattle.cell_store.specs.declared.Key.{Key};
 ghost use Rattle.cell_store.specs.inner.Heads.{head_for};
 ghost use Rattle.cell_store.specs.inner.Index.{key_cmp};
-ghost use Rattle.cell_store.specs.inner.Lists.{AreAllSteady, AreSteady, IsFree, IsGap, IsHeld, IsLastAt, IsListedOr, IsNoneAt, IsPutIn, IsSearchable, IsTakenOut, Same, Sets, Within, bound, first_in, held_at, held_in, later_of, link_at, link_in, longer_first, place_of, place_starting, shorter_first, start_and_place, starts_at};
+ghost use Rattle.cell_store.specs.inner.Lists.{AreAllSteady, AreSteady, IsFree, IsGap, IsHeld, IsIndex, IsLastAt, IsListedOr, IsNoneAt, IsPutIn, IsSearchable, IsTakenOut, Same, Sets, Within, bound, first_in, held_at, held_in, later_of, link_at, link_in, listed, longer_first, or_else, place_in, place_of, place_starting, shorter_first, start_and_place, starts_at};
 
 use crate::Key;
 use crate::heads::{Head, Heads};
@@ -115,16 +115,14 @@ impl CellIndex {
         if let Some(had) = place_starting(&self.nodes, gap.after, key.start) {
             return Ok(Some(had.slot as u32));
         }
-        if let Some(had) = mapped_place(&self.more, head.more, &key) {
-            return Ok(Some(had.slot as u32));
-        }
         let (heads, nodes, free) = (&mut self.heads, &mut self.nodes, &mut self.free);
         if add_listed(heads, nodes, free, key, place, gap)? {
             return Ok(None);
         }
         self.heads.set(key.signal, Head { more: true, ..head })?;
-        self.more.insert(key, place)?;
-        Ok(None)
+        let (heads, nodes, free) = (&mut self.heads, &mut self.nodes, &mut self.free);
+        move_first(heads, nodes, free, &mut self.more, key.signal)?;
+        insert_mapped(&mut self.more, key, place)
     }
 
     /// Takes the place of a key away.
@@ -202,14 +200,7 @@ fn listed_at(nodes: &[Node], at: Option<u16>) -> Option<(u32, Place)>
 {
     let i = at?;
     let node = nodes[i as usize];
-    Some((
-        node.start,
-        Place {
-            end: node.end,
-            slot: node.slot,
-            value: node.value,
-        },
-    ))
+    Some((node.start, place_in(&node)))
 }
 
 // The place of a node that begins at this time.
@@ -234,11 +225,22 @@ fn node_starting(nodes: &[Node], at: Option<u16>, start: u32) -> Option<u16>
     }
 }
 
-// What the map has of a key, where it may have something.
-fn mapped_place(more: &BTreeMap<Key, Place>, told: bool, key: &Key) -> Option<Place>
-    ensures { result ≡ (if told then get key_cmp more.now key.now else None) }
+// Gives a key this place in the map, in one search. A key that has a place keeps it, by a second search, and its slot is returned.
+fn insert_mapped(
+    more: &mut BTreeMap<Key, Place>,
+    key: Key,
+    place: Place,
+) -> Result<Option<u32>, OutOfMemory>
+    ensures had { IfOk result (λ had. had ≡ option_map (λ p. p.slot) (get key_cmp more.old key)) }
+    ensures new { IfOk result (λ had. IfNone had (Updates key_cmp more.old more.new key (Some place))) }
+    ensures stays { IfOk result (λ had. IfSome had (λ _. (k : Key) → get key_cmp more.new k ≡ get key_cmp more.old k)) }
+    ensures err { OnErr result (IsUnchanged more.old more.new) }
 {
-    if told { more.get(key).copied() } else { None }
+    let Some(had) = more.insert(key, place)? else {
+        return Ok(None);
+    };
+    more.insert(key, had)?;
+    Ok(Some(had.slot as u32))
 }
 
 fn last_mapped(more: &BTreeMap<Key, Place>, told: bool, p: Point) -> Option<(u32, Place)>
@@ -270,7 +272,7 @@ fn later(a: Option<(u32, Place)>, b: Option<(u32, Place)>) -> Option<(u32, Place
     }
 }
 
-// Puts a cell into a list, where its signal has a place among the heads and there can be a node. Returns whether it did.
+// Puts a cell into a list, where the map has no cell of its signal, the list has room, and there can be a node. Returns whether it did.
 fn add_listed(
     heads: &mut Heads,
     nodes: &mut Vec<Node>,
@@ -282,11 +284,12 @@ fn add_listed(
     requires before { IfSome gap.before (IsHeld nodes.old.items) }
     requires after { IfSome gap.after (IsHeld nodes.old.items) }
     requires head { IfSome gap.before (λ _. 0 < (head_for heads.old key.signal).many) }
+    ensures alone { IfOk result (λ listed. listed ≡ true → (head_for heads.old key.signal).more ≡ false) }
     ensures listed { IfOk result (λ listed. IsListedOr listed nodes.old.items nodes.new.items (head_for heads.old) (head_for heads.new) key place gap) }
     ensures err { OnErr result (AreAllSteady nodes.old.items nodes.new.items (head_for heads.old) (head_for heads.new)) }
 {
     let head = heads.at(key.signal);
-    if head.many >= MOST_LISTED {
+    if head.more || head.many >= MOST_LISTED {
         return Ok(false);
     }
     let Some(i) = free_node(nodes, free)? else {
@@ -297,6 +300,48 @@ fn add_listed(
     }
     *free = put_in(nodes, i, key, place, gap);
     Ok(true)
+}
+
+// Takes the first cell of a signal's list into the map, if it has one there.
+fn move_first(
+    heads: &mut Heads,
+    nodes: &mut Vec<Node>,
+    free: &mut u16,
+    more: &mut BTreeMap<Key, Place>,
+    signal: u32,
+) -> Result<(), OutOfMemory>
+    requires index { IsIndex nodes.old.items (head_for heads.old) (get key_cmp more.old) }
+    requires told { (head_for heads.old signal).more ≡ true }
+    ensures index { IsIndex nodes.new.items (head_for heads.new) (get key_cmp more.new) }
+    ensures told { (head_for heads.new signal).more ≡ true }
+    ensures listed { (q : Key) → listed nodes.old.items q ≡ None → listed nodes.new.items q ≡ None }
+    ensures same { (q : Key) → or_else (listed nodes.new.items q) (get key_cmp more.new q) ≡ or_else (listed nodes.old.items q) (get key_cmp more.old q) }
+{
+    let head = heads.at(signal);
+    let Some(i) = first_of(head) else {
+        return Ok(());
+    };
+    let node = nodes[i as usize];
+    let key = Key {
+        signal,
+        start: node.start,
+    };
+    more.insert(key, place_in(&node))?;
+    let next = link_of(i, &node);
+    take_out(nodes, i, None, next, *free);
+    *free = i;
+    heads.replace(signal, shorter(head, None, next));
+    Ok(())
+}
+
+fn place_in(node: &Node) -> Place
+    ensures { result ≡ place_in node.now }
+{
+    Place {
+        end: node.end,
+        slot: node.slot,
+        value: node.value,
+    }
 }
 
 // The number of a free node, if there can be one. It is free as the next that will be taken.

@@ -11,9 +11,10 @@
 //! it. The cell in front is tried before the index.
 //!
 //! In the index the cells of a signal are a list, the latest first, behind a head in a table by the signal's number. The nodes of all
-//! lists are in one array. A list has at most 16 nodes: further cells of its signal go into an ordered map, and so do the cells of
-//! signals that have no head, which are those of another residue than the store was made for, and very great numbers. The table has
-//! pages of 64 heads, made when they are needed.
+//! lists are in one array. A list has at most 16 nodes: further cells of its signal go into an ordered map, and each takes the first
+//! cell of the list with it, until the list is empty. From then on the signal is searched in the map alone, and what comes goes there,
+//! also when it has few cells again. Signals that have no head, which are those of another residue than the store was made for, and
+//! very great numbers, are in the map from the start. The table has pages of 64 heads, made when they are needed.
 //!
 //! The kit's `lru` cache, which has the slots, tells which one was used longest ago. It is filled only when it is asked: each use is
 //! noted by its slot, and the notes are put into the cache, in their order, when a full store takes a new cell, and at a trim. There is
