@@ -1,9 +1,8 @@
 -- What an entry says of the very point for which it was recorded is right, and found.
-use Rattle.std.proofs.Common.{◌≡◌, ◌≤◌, ◌<◌, ℕ, zero, suc, List, [], ◌∷◌, length, get_or, Contains, Option, Some, None, IfSome, sym, ap, subst, arith, refl}
+use Rattle.std.proofs.Common.{◌≡◌, ◌≤◌, ◌<◌, ℕ, zero, suc, List, [], ◌∷◌, length, get_or, Contains, Option, Some, None, IfSome, OnSome, sym, ap, subst, arith, refl}
 use Rattle.std.proofs.lemmas.List.Elements.{Contains-append_left, Contains-append_right}
 use Rattle.valid_intervals.specs.declared.Cell.{Cell}
 use Rattle.valid_intervals.specs.declared.Point.{Point}
-use Rattle.valid_intervals.specs.declared.SignalCell.{SignalCell}
 use Rattle.valid_intervals.specs.Spans.{Span, IsIn}
 use Rattle.circuit_meaning.specs.Circuit.{Circuit}
 use Rattle.circuit_meaning.specs.Cells.{span, cell_at}
@@ -14,10 +13,7 @@ use Rattle.journal_meaning.specs.inner.Grown.{IsRightEntry}
 use Rattle.journal_meaning.specs.inner.Index.{SaidCell, cell_said, cells_said, IsFound}
 use Rattle.batch_meaning.specs.Batches.{Batch}
 use Rattle.batch_meaning.specs.Lawful.{IsLawful}
-use Rattle.plan_machine.specs.Sound.{IsFresh}
-use Rattle.plan_machine.proofs.Settle.{right-of}
 use Rattle.memo_shards.specs.KeptShards.{KeptShard}
-use Rattle.plan_core.specs.Parts.{shards_in}
 use Rattle.asked_cells.specs.Memos.{entries_of}
 use Rattle.asked_cells.specs.inner.Exact.{IsSaidFor}
 use Rattle.asked_cells.proofs.Index.{said-to}
@@ -37,6 +33,11 @@ pub if-some : {A : Type 0} (o : Option A) (P Q : A → Type 0) → ((x : A) → 
 if-some None P Q f h = tt
 if-some (Some x) P Q f h = f x h
 
+-- what follows from what is there
+pub on-some : {A : Type 0} (o : Option A) (P : A → Type 0) (Q : Type 0) → ((x : A) → P x → Q) → IfSome o P → OnSome o Q
+on-some None P Q f h = tt
+on-some (Some x) P Q f h = f x h
+
 -- the cell that a right entry says
 right-cell : (c : Circuit) (e : Entry) (f : SaidCell) → cell_said e ≡ Some f → IsRightEntry c e → (f.point.time ≤ c.horizon) × (f.cell ≡ cell_at c f.point)
 right-cell c (Told q p x) f same r = let is : record { point = p; cell = x } ≡ f = cc same in subst (λ (g : SaidCell). (g.point.time ≤ c.horizon) × (g.cell ≡ cell_at c g.point)) is r
@@ -46,12 +47,12 @@ right-cell c (Evicted s t) f same r = absurd (cc same)
 right-cell c (Dropped q p) f same r = absurd (cc same)
 right-cell c (Spent q p n) f same r = absurd (cc same)
 
-module _ (b : Batch) (lawful : IsLawful b) (opening : ℕ → List SignalCell) (ms : List KeptShard) (fresh : IsFresh b opening (shards_in ms)) (p : Point) (x : Cell) (h : IsSaidFor (entries_of ms) p x) where
+module _ (b : Batch) (lawful : IsLawful b) (ms : List KeptShard) (rights : (e : Entry) → Contains (entries_of ms) e → IsRightEntry b.circuit e) (p : Point) (x : Cell) (h : IsSaidFor (entries_of ms) p x) where
   here : SaidCell
   here = record { point = p; cell = x }
 
   right : (p.time ≤ b.circuit.horizon) × (x ≡ cell_at b.circuit p)
-  right = right-cell b.circuit h.0 (record { point = p; cell = x }) h.2 (right-of b lawful opening (shards_in ms) fresh h.0 h.1)
+  right = right-cell b.circuit h.0 (record { point = p; cell = x }) h.2 (rights h.0 h.1)
 
   -- it is the cell of the point
   pub exact-right : x ≡ cell_at b.circuit p

@@ -10,3 +10,5 @@ pub mod Chains
 pub mod Marks
 pub mod Pairs
 pub mod Asking
+pub mod Pins
+pub mod Known

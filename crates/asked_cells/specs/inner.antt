@@ -1,4 +1,5 @@
 pub mod Exact
 pub mod Places
+pub mod Sources
 pub mod Standings
 pub mod Tails

@@ -22,6 +22,10 @@
 //! - the first other point takes O(n log n) steps, once, and from then on each other look-up and each entry that is added O(log n);
 //! - a call that finds nothing starts a strand, and takes a step for each shard besides.
 //!
+//! [`has_heard`] says of a shard whether all that it evaluated has heard its children, as far as entries say that were recorded for
+//! these very points. It changes nothing, so threads may look at several shards side by side, by the places ([`said_places`]) of all.
+//! With p pins in all, of the fills of the shard, it takes O(p) steps.
+//!
 //! A call that is refused memory may give up the shards: the memo is empty from then on.
 //!
 //! ```
@@ -36,10 +40,13 @@
 #![tactic(auto)]
 
 mod cells;
+mod heard;
 mod memo;
 mod places;
 mod reading;
 mod wanted;
 
+pub use heard::{has_heard, said_places};
 pub use memo::{Memo, begin, reach};
+pub use places::Places;
 pub use wanted::Wanted;

@@ -1,5 +1,4 @@
 pub mod FillCounts
 pub mod Fills
 pub mod Phases
-pub mod Sources
 pub mod Starts

@@ -14,7 +14,7 @@ ghost use Rattle.plan_core.specs.Parts.{shards_in};
 ghost use Rattle.asked_cells.specs.Asked.{AsksOn};
 ghost use Rattle.asked_cells.specs.Memos.{IsChargedMemo, entries_of, is_missing};
 ghost use Rattle.asked_cells.specs.inner.Standings.{live, standing};
-ghost use Rattle.window_answers.specs.inner.Sources.{IsSourceCovered};
+ghost use Rattle.asked_cells.specs.inner.Sources.{IsSourceCovered};
 
 use asked_cells::{Memo, reach};
 use batch_meaning::Query;

@@ -10,7 +10,9 @@
 //! shard stands behind a lock of its own, with a count of the claims and fills of each strand: a claim or a fill takes no other lock. A
 //! strand that has ended goes to its place on the board, which is one lock more. No worker holds two locks, and each tries a lock for
 //! some microseconds before it sleeps for it. One that finds no strand ready sleeps at the board, and a push wakes one of those that
-//! sleep. Such workers do not know what points have heard, so [`Ran::heard`] is false.
+//! sleep. Such workers do not know what points have heard. So, once they are joined, as many threads look at the journals side by side,
+//! each for the fills of some shards: [`Ran::heard`] is true where entries say the cell of each child of each point that was evaluated,
+//! as they do where no worker left. Where the journals are short, one thread looks.
 //!
 //! What a caller may rely on, under every schedule of the threads:
 //!
@@ -21,7 +23,7 @@
 //!   number, is spent only at its full budget, and its charge and its fills make up its count.
 //! - Where the gate is open, every strand comes back.
 //! - Where [`Ran::heard`] is true, and each strand was handed in as it was started, the children of each point that was evaluated are
-//!   covered by the entries of all journals.
+//!   covered by the entries of all journals. Settlement need not visit them then.
 //!
 //! What is under one lock is not known under another, so a worker tests it: that the shard is there with its number, that it has the
 //! claim and a count for the strand, that the place on the board is empty. No worker makes one of these tests false; where one is, the
@@ -50,6 +52,7 @@
 mod board;
 mod crew;
 mod gate;
+mod hearing;
 mod in_turn;
 mod ran;
 mod run;

@@ -107,7 +107,6 @@ pub struct Ran<B: BatchName> {
     pub shards: ShardList<B>,
     pub strands: EndedList<B>,
     pub counts: CountList,
-    /// True only where each point that was evaluated is known to have heard its children. Workers that share the shards by locks do not
-    /// know it.
+    /// True only where each point that was evaluated is known to have heard its children.
     pub heard: bool,
 }

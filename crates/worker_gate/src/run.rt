@@ -1,11 +1,15 @@
 //! Runs the workers, and takes out what they leave.
 
 ghost use Rattle.std.specs.Prelude.{◌≡◌, ℕ, ◌+◌, ◌^◌, ◌<◌, ◌≤◌, true, false, [], map, length, sum, sum_by, vec_len, All, IfOk, IfSome};
+ghost use Rattle.plan_core.specs.InTurn.{AllChildrenCovered};
+ghost use Rattle.plan_core.specs.Parts.{shards_in};
+ghost use Rattle.plan_machine.specs.Settle.{entries_in};
 ghost use Rattle.ready_queue.specs.Queue.{IsPassOf, IsFreshPassOf};
 ghost use Rattle.worker_gate.specs.Ends.{task_of, AreEnds, AreFilled, AreInOrder, AreNew, booked_in};
 
 use crate::board::Board;
 use crate::gate::Gate;
+use crate::hearing::have_all_heard;
 use crate::ran::{CountList, EndedList, Ran, ShardList};
 use crate::slot::{CountedShard, Slot};
 use crate::worker::{Shared, Worker};
@@ -266,7 +270,8 @@ pub fn run_workers<B: BatchName + Send + Sync, G: Gate, R: Threads + Wait + Sync
     ensures counts { IfOk result (λ r. length r.counts ≡ vec_len strands) }
     ensures shards { IfOk result (λ r. length r.shards ≡ vec_len shards) }
     ensures order { IfOk result (λ r. AreInOrder r.shards) }
-    ensures heard { IfOk result (λ r. r.heard ≡ false) }
+    ensures heard { IfOk result (λ r. r.heard ≡ true → AllChildrenCovered B.batch.circuit
+        (entries_in (shards_in r.shards))) }
 {
     let tasks = tasks_of(alloc, strands.as_slice())?;
     let kept = tasks_of(alloc, strands.as_slice())?;
@@ -295,10 +300,11 @@ pub fn run_workers<B: BatchName + Send + Sync, G: Gate, R: Threads + Wait + Sync
     };
     let (shards, counts) = take_all(rt, alloc, slots.as_slice(), tasks.len())?;
     let places = match_counts(rt, board, counts.as_slice());
+    let heard = have_all_heard(rt, alloc, design, shards.as_slice(), workers as usize)?;
     Ok(Ran {
         shards: ShardList::new(shards),
         strands: EndedList::new(places),
         counts: CountList::new(counts),
-        heard: false,
+        heard,
     })
 }

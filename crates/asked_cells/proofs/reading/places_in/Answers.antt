@@ -1,4 +1,4 @@
-use Rattle.std.proofs.Common.{◌+◌, ◌∷◌, [], length, length-append, sym, ap, subst, ◌∙◌}
+use Rattle.std.proofs.Common.{◌+◌, ◌∷◌, [], length, length-append, ap, subst, ◌∙◌}
 use Rattle.memo_shards.specs.KeptShards.{KeptShard}
 use Rattle.asked_cells.specs.declared.places.Places.{Places}
 use Rattle.asked_cells.specs.inner.Places.{ArePlaces}

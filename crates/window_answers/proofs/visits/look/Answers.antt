@@ -7,7 +7,7 @@ use Rattle.plan_core.specs.Parts.{shards_in}
 use Rattle.asked_cells.specs.Asked.{AsksOn, Nothing}
 use Rattle.asked_cells.specs.Memos.{entries_of, is_missing}
 use Rattle.asked_cells.specs.inner.Standings.{live, standing}
-use Rattle.window_answers.specs.inner.Sources.{IsSourceCovered}
+use Rattle.asked_cells.specs.inner.Sources.{IsSourceCovered}
 use Rattle.plan_machine.specs.Settle.{sub_query}
 use Rattle.asked_cells.proofs.Asked.{reaches}
 use Rattle.asked_cells.proofs.Asking.{asks-point}

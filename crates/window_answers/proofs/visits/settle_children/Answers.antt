@@ -11,10 +11,11 @@ use Rattle.plan_core.specs.Parts.{shards_in}
 use Rattle.asked_cells.specs.Asked.{AsksOn, Nothing}
 use Rattle.asked_cells.specs.Memos.{entries_of, is_missing}
 use Rattle.asked_cells.specs.inner.Standings.{live, standing}
-use Rattle.window_answers.specs.inner.Sources.{IsSourceCovered}
+use Rattle.asked_cells.specs.inner.Sources.{IsSourceCovered}
 use Rattle.asked_cells.proofs.Alone.{some-of}
 use Rattle.asked_cells.proofs.Asking.{asks-then}
-use Rattle.window_answers.proofs.Pins.{needed-has, needed-point, pins-visited, source-kept}
+use Rattle.asked_cells.proofs.Pins.{pins-visited}
+use Rattle.window_answers.proofs.Pins.{needed-has, needed-point, source-kept}
 use Rattle.window_answers.proofs.visits.settle_children.Goals as goal
 
 pub new-walk-requires-clause-point : goal.new-walk-requires-clause-point

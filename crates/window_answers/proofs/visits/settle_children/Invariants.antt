@@ -7,7 +7,7 @@ use Rattle.plan_core.specs.Parts.{shards_in}
 use Rattle.asked_cells.specs.Asked.{AsksOn}
 use Rattle.asked_cells.specs.Memos.{IsChargedMemo, entries_of}
 use Rattle.asked_cells.specs.inner.Standings.{live}
-use Rattle.window_answers.specs.inner.Sources.{IsSourceCovered}
+use Rattle.asked_cells.specs.inner.Sources.{IsSourceCovered}
 use Rattle.window_answers.proofs.visits.settle_children.Given as goal
 
 abbrev pub invariant-pins : goal.invariant-pins

@@ -2,6 +2,9 @@ use Rattle.std.proofs.Common.{◌≡◌, ◌∙◌, ap, subst, sym, ℕ, List, m
 use Rattle.demand_points.specs.declared.strand.Task.{Task}
 use Rattle.demand_points.specs.Demands.{Demand}
 use Rattle.worker_gate.specs.Ends.{task_of, AreEnds, AreInOrder}
+use Rattle.memo_shards.specs.KeptShards.{KeptShard}
+use Rattle.plan_core.specs.InTurn.{AllChildrenCovered}
+use Rattle.asked_cells.specs.Memos.{entries_of}
 use Rattle.worker_gate.proofs.run.run_workers.Goals as goal
 
 pub returns-clause-ended : goal.returns-clause-ended
@@ -15,3 +18,8 @@ returns-clause-ended g c =
 
 pub returns-clause-order : goal.returns-clause-order
 returns-clause-order g c = subst AreInOrder (sym c.new-3.ensures) c.in_ok-shards.ensures.numbers
+
+pub returns-clause-heard : goal.returns-clause-heard
+returns-clause-heard g c = λ heard.
+    let P : List KeptShard → Type 0 = λ ms. AllChildrenCovered g.B.BatchName.batch.circuit (entries_of ms) in
+    subst P (sym c.new-3.ensures) (subst P c.as_slice-6.ensures.value (c.in_ok-heard.ensures heard))

@@ -5,6 +5,7 @@ use Rattle.journal_meaning.specs.inner.Index.{cells_said, IsFound, IsCellIndex}
 use Rattle.journal_meaning.proofs.Lists.{Each}
 use Rattle.valid_intervals.specs.Cells.{point_cmp}
 use Rattle.plan_machine.specs.Sound.{IsFresh}
+use Rattle.plan_machine.proofs.Settle.{right-of}
 use Rattle.memo_shards.specs.KeptShards.{KeptShard}
 use Rattle.plan_core.specs.Parts.{shards_in}
 use Rattle.asked_cells.specs.declared.cells.SaidCells.{SaidCells}
@@ -20,7 +21,7 @@ returns-in-Some-clause-cell g c =
     let ms = c.self.inside.shards.items in
     let fresh : IsFresh b g.B.BatchName.opening (shards_in ms) = subst (λ (l : List KeptShard). IsFresh b g.B.BatchName.opening (shards_in l)) (sym c.self.view_is) c.requires.fresh in
     let said : IsSaidFor (entries_of ms) c.args.p c.in-Some.cell = subst (λ (l : List KeptShard). IsSaidFor (entries_of l) c.args.p c.in-Some.cell) c.deref.ensures.value c.in-Some.ensures in
-    exact-right b c.requires.lawful g.B.BatchName.opening ms fresh c.args.p c.in-Some.cell said
+    exact-right b c.requires.lawful ms (right-of b c.requires.lawful g.B.BatchName.opening (shards_in ms) fresh) c.args.p c.in-Some.cell said
 
 pub returns-in-Some-clause-some : goal.returns-in-Some-clause-some
 returns-in-Some-clause-some g c =
@@ -28,7 +29,7 @@ returns-in-Some-clause-some g c =
     let ms = c.self.inside.shards.items in
     let fresh : IsFresh b g.B.BatchName.opening (shards_in ms) = subst (λ (l : List KeptShard). IsFresh b g.B.BatchName.opening (shards_in l)) (sym c.self.view_is) c.requires.fresh in
     let said : IsSaidFor (entries_of ms) c.args.p c.in-Some.cell = subst (λ (l : List KeptShard). IsSaidFor (entries_of l) c.args.p c.in-Some.cell) c.deref.ensures.value c.in-Some.ensures in
-    subst (λ (l : List KeptShard). IsFound (cells_said (entries_of l)) c.args.p) c.self.view_is (exact-found b c.requires.lawful g.B.BatchName.opening ms fresh c.args.p c.in-Some.cell said)
+    subst (λ (l : List KeptShard). IsFound (cells_said (entries_of l)) c.args.p) c.self.view_is (exact-found b c.requires.lawful ms (right-of b c.requires.lawful g.B.BatchName.opening (shards_in ms) fresh) c.args.p c.in-Some.cell said)
 
 pub invariant_of-self-2 : goal.invariant_of-self-2
 invariant_of-self-2 g c =

@@ -1,0 +1,34 @@
+-- The pins of an evaluated point, and the points that are needed.
+use Rattle.std.proofs.Common.{ℕ, zero, suc, ◌<◌, List, [], ◌∷◌, length, get_or, All, Option, Some, None, sym, subst, arith}
+use Rattle.std.proofs.lemmas.List.Elements.{All-from_recursion}
+use Rattle.valid_intervals.specs.declared.Point.{Point}
+use Rattle.circuit_meaning.specs.Circuit.{Circuit, Driver, Input}
+use Rattle.circuit_meaning.specs.declared.Window.{Window}
+use Rattle.circuit_meaning.specs.Need.{HasChildren, IsEvaluable, IsNeeded, Root, Child, children}
+use Rattle.circuit_meaning.specs.Looks.{somes}
+use Rattle.circuit_meaning.proofs.Looking.{children-somes}
+use Rattle.journal_meaning.specs.declared.Entry.{Entry}
+use Rattle.journal_meaning.specs.Answers.{IsCovered}
+use Rattle.journal_meaning.proofs.Lists.{Each}
+use Rattle.pin_walks.specs.PinWalks.{looked_at}
+use Rattle.asked_cells.specs.inner.Sources.{IsSourceCovered}
+
+pins-each : (c : Circuit) (es : List Entry) (os : List (Option Point)) → ((i : ℕ) → i < length os → IsSourceCovered c es (get_or os i None)) → Each (IsCovered c es) (somes os)
+pins-each c es [] h = tt
+pins-each c es (None ∷ os) h = pins-each c es os (λ i l. h (suc i) (omega arith))
+pins-each c es (Some y ∷ os) h = (h 0 (omega arith), pins-each c es os (λ i l. h (suc i) (omega arith)))
+
+-- once all are seen, the children are covered
+pub pins-visited : (c : Circuit) (es : List Entry) (p : Point) → ((i : ℕ) → i < length (looked_at c p) → IsSourceCovered c es (get_or (looked_at c p) i None)) → All (IsCovered c es) (children c p.signal p.time)
+pins-visited c es p h = subst (All (IsCovered c es)) (sym (children-somes c p.signal p.time)) (All-from_recursion (IsCovered c es) (somes (looked_at c p)) (pins-each c es (looked_at c p) h))
+
+-- a needed point is evaluable
+pub needed-evaluable : (c : Circuit) (w : Window) (s t : ℕ) → IsNeeded c w s t → IsEvaluable c s t
+needed-evaluable c w s t (Root r e) = e
+needed-evaluable c w s t (Child n k e) = e
+
+-- and is of a signal of the circuit
+pub evaluable-signal : (t : ℕ) (ds : List Driver) (s : ℕ) → HasChildren t (get_or ds s (Input [])) → s < length ds
+evaluable-signal t [] s h = absurd h
+evaluable-signal t (d ∷ ds) zero h = omega arith
+evaluable-signal t (d ∷ ds) (suc s) h = let k = evaluable-signal t ds s h in omega arith
