@@ -188,7 +188,7 @@ no-memory before (Some (Workload number journal workers)) started created places
   one = λ is. absurd (let e : OutOfMemory ≡ Ended = is in cc);
   finished = λ is. absurd (let e : OutOfMemory ≡ Ended = is in cc);
   cause = tt;
-  leaves = inl (record { unreplied = λ start h. h; same_files = λ start h. h });
+  leaves = inl (record { unreplied = λ start h. h; same_files = λ start h. h; no_file = refl });
   unread = refl;
 }
 no-memory before (Some (Session netlist timing stimulus journal workers shards cells)) started created places =

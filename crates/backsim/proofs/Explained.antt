@@ -10,7 +10,7 @@ use Rattle.circuit_files.specs.declared.refusal.CircuitFile.{CircuitFile}
 use Rattle.circuit_files.specs.declared.refusal.CircuitFile.TheVariants as circuit
 use Rattle.circuit_files.specs.declared.stop.FilesStop.{FilesStop}
 use Rattle.circuit_files.specs.declared.stop.FilesStop.TheVariants as stopped
-use Rattle.session_loop.specs.Outside.{Outputs, Outside, Dumped, with_file, with_journal, Served, SessionHalts}
+use Rattle.session_loop.specs.Outside.{Outputs, Outside, Dumped, with_file, Served, SessionHalts}
 use Rattle.session_loop.specs.declared.halt.Halt.{Halt}
 use Rattle.session_loop.specs.declared.halt.Halt.TheVariants.{JournalUnmade, Stopped, JournalUnfinished}
 use Rattle.session_loop.specs.declared.stop.Stop.TheVariants as stops

@@ -1,5 +1,5 @@
 -- What stands where the session's loop ends or halts.
-use Rattle.std.proofs.Common.{◌≡◌, ℕ, List, [], ◌∷◌, ◌++◌, take, drop, Option, Some, Ok, Err, ◌⊎◌, inl, inr, refl, sym, subst, ◌∙◌, append_assoc, append-nil, length}
+use Rattle.std.proofs.Common.{◌≡◌, ℕ, List, [], ◌++◌, take, drop, Option, Some, Ok, Err, ◌⊎◌, inl, inr, refl, sym, subst, ◌∙◌, append_assoc, append-nil, length}
 use Rattle.std.proofs.lemmas.List.{take-append-drop}
 use Rattle.std.specs.Prelude.{◌≤◌, IsErrOf}
 use Rattle.owned_text.specs.Made.{Made}
@@ -10,14 +10,14 @@ use Rattle.design.specs.Joined.{Joined, IsDesign}
 use Rattle.session_meaning.specs.Session.{Setup, IsSessionOf}
 use Rattle.session_meaning.specs.Laws.{SessionsAreWhole}
 use Rattle.session_meaning.specs.Whole.{IsWhole}
-use Rattle.session_meaning.specs.Broken.{IsPrefix, IsCutOff, IsBrokenIn, IsDumpBroken}
-use Rattle.session_loop.specs.Serving.{IsServedUntil}
+use Rattle.session_meaning.specs.Broken.{IsPrefix, IsCutOff}
+use Rattle.session_loop.specs.Serving.{IsServedUntil, IsBrokenIn, IsJournalBroken, IsDumpBroken}
 use Rattle.session_loop.specs.Halting.{WroteFiles, IsEarly, IsUnbegun, IsHalted}
 use Rattle.session_loop.specs.declared.halt.Halt.{Halt}
 use Rattle.session_loop.specs.declared.halt.Halt.TheVariants.{JournalUnmade, Stopped, JournalUnfinished}
 use Rattle.session_loop.specs.declared.stop.Stop.{Stop as SessionStop}
 use Rattle.session_loop.specs.declared.stop.Stop.TheVariants as stops
-use Rattle.backsim.specs.Broken.{IsBroken, BrokeOff, Leaves, OnFileFault}
+use Rattle.backsim.specs.Broken.{IsInHeadOr, Leaves, OnFileFault}
 use Rattle.backsim.specs.Commands.{Command}
 use Rattle.backsim.specs.Refused.{Followed, IsScriptRefused, IsRefused}
 use Rattle.backsim.specs.Seen.{Seen, left_in, created_in, IsUntouched}
@@ -120,17 +120,17 @@ module _ (command : Command) (given : Given) (design : Joined) (accepted : desig
   late stop such read (inl begun) = absurd (read begun.are.early)
   late stop such read (inr wrote) = wrote
 
-  -- what it wrote where it broke off
-  broken-off : (stop : SessionStop) → Stays w' after.written
-      → LoopWrote (IsUnbegun (setup_of command design) (Some given.script) (left_in after) stop) ⊎ LoopWrote (IsBrokenIn (setup_of command design) given.script)
-      → BrokeOff command given before after
-  broken-off stop stays (inl begun) =
-      stands (λ setup. IsBroken setup given.script (left_in after)) stays
-      (wrote-as (IsUnbegun (setup_of command design) (Some given.script) (left_in after) stop) (IsBroken (setup_of command design) given.script (left_in after)) command.journal before.written w' m' after.made (created_in after)
+  -- what it wrote where it broke off in this way, or in the head of its journal
+  broken-off : (way : Setup → List ℕ → List ℕ → List Made → Type 0) (stop : SessionStop) → Stays w' after.written
+      → LoopWrote (IsUnbegun (setup_of command design) (Some given.script) (left_in after) stop) ⊎ LoopWrote (way (setup_of command design))
+      → Wrote command given before after (IsInHeadOr way given.script (left_in after))
+  broken-off way stop stays (inl begun) =
+      stands (IsInHeadOr way given.script (left_in after)) stays
+      (wrote-as (IsUnbegun (setup_of command design) (Some given.script) (left_in after) stop) (IsInHeadOr way given.script (left_in after) (setup_of command design)) command.journal before.written w' m' after.made (created_in after)
       (λ replies journal dumps is. inl (is.unread, is.head)) begun)
-  broken-off stop stays (inr wrote) =
-      stands (λ setup. IsBroken setup given.script (left_in after)) stays
-      (wrote-as (IsBrokenIn (setup_of command design) given.script) (IsBroken (setup_of command design) given.script (left_in after)) command.journal before.written w' m' after.made (created_in after)
+  broken-off way stop stays (inr wrote) =
+      stands (IsInHeadOr way given.script (left_in after)) stays
+      (wrote-as (way (setup_of command design)) (IsInHeadOr way given.script (left_in after) (setup_of command design)) command.journal before.written w' m' after.made (created_in after)
       (λ replies journal dumps is. inr is) wrote)
 
   -- under status 2 the script was too long, and its line was written
@@ -171,20 +171,20 @@ module _ (command : Command) (given : Given) (design : Joined) (accepted : desig
       long-leaves status (late stops.ScriptTooLong (IsCutOff (setup_of command design) given.script) (λ early. early) halted) told
   halt-leaves whole_sessions facts (Stopped stops.RepliesUnwritten) status untouched halted told =
       subst (Leaves command given before after) (sym told.0)
-      (inl (stands (λ setup. IsBrokenIn setup given.script) told.1 (late stops.RepliesUnwritten (IsBrokenIn (setup_of command design) given.script) (λ early. early) halted)))
+      (inl (stands (λ setup. IsBrokenIn setup given.script (left_in after)) told.1 (late stops.RepliesUnwritten (IsBrokenIn (setup_of command design) given.script (left_in after)) (λ early. early) halted)))
   halt-leaves whole_sessions facts (Stopped stops.JournalUnwritten) status untouched halted told =
-      subst (Leaves command given before after) (sym told.0) (broken-off stops.JournalUnwritten told.1 halted)
+      subst (Leaves command given before after) (sym told.0) (broken-off (λ setup. IsJournalBroken setup given.script (left_in after)) stops.JournalUnwritten told.1 halted)
   halt-leaves whole_sessions facts (Stopped stops.DumpUnmade) status untouched halted told =
       subst (Leaves command given before after) (sym told.0)
-      (stands (λ setup. IsDumpBroken setup given.script) told.1 (late stops.DumpUnmade (IsDumpBroken (setup_of command design) given.script) (λ early. early) halted))
+      (stands (λ setup. IsDumpBroken setup given.script (left_in after)) told.1 (late stops.DumpUnmade (IsDumpBroken (setup_of command design) given.script (left_in after)) (λ early. early) halted))
   halt-leaves whole_sessions facts (Stopped stops.DumpUnwritten) status untouched halted told =
       subst (Leaves command given before after) (sym told.0)
-      (stands (λ setup. IsDumpBroken setup given.script) told.1 (late stops.DumpUnwritten (IsDumpBroken (setup_of command design) given.script) (λ early. early) halted))
+      (stands (λ setup. IsDumpBroken setup given.script (left_in after)) told.1 (late stops.DumpUnwritten (IsDumpBroken (setup_of command design) given.script (left_in after)) (λ early. early) halted))
   halt-leaves whole_sessions facts (Stopped stops.DumpUnfinished) status untouched halted told =
       subst (Leaves command given before after) (sym told.0)
-      (stands (λ setup. IsDumpBroken setup given.script) told.1 (late stops.DumpUnfinished (IsDumpBroken (setup_of command design) given.script) (λ early. early) halted))
+      (stands (λ setup. IsDumpBroken setup given.script (left_in after)) told.1 (late stops.DumpUnfinished (IsDumpBroken (setup_of command design) given.script (left_in after)) (λ early. early) halted))
   halt-leaves whole_sessions facts (Stopped stops.OutOfMemory) status untouched halted told =
-      subst (Leaves command given before after) (sym told.0) (inr (inl (broken-off stops.OutOfMemory told.1 halted)))
+      subst (Leaves command given before after) (sym told.0) (inr (inl (broken-off (λ setup. IsBrokenIn setup given.script (left_in after)) stops.OutOfMemory told.1 halted)))
 
 -- no halt is a fault of one of the three files
 told-no_fault : (says : Type 0) (refusal : Refusal) (w w' : List ℕ → Type 0) (status : Status) → IsTold refusal w w' status → OnFileFault says status

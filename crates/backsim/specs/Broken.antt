@@ -4,34 +4,40 @@ use Rattle.owned_text.specs.Made.{Made}
 use Rattle.backsim_io.specs.Counts.{GrowsByPrefix}
 use Rattle.backsim_io.specs.State.{FilesState}
 use Rattle.session_meaning.specs.Session.{Setup}
-use Rattle.session_meaning.specs.Broken.{IsPrefix, IsHeadBegun, IsBrokenIn, IsDumpBroken}
-use Rattle.session_loop.specs.Serving.{IsServedUntil}
+use Rattle.session_meaning.specs.Broken.{IsPrefix, IsHeadBegun}
+use Rattle.session_loop.specs.Serving.{IsServedUntil, IsBrokenIn, IsJournalBroken, IsDumpBroken}
 use Rattle.backsim.specs.declared.status.Place.TheVariants.{Journal, Script, Replies, Vcd}
 use Rattle.backsim.specs.declared.status.Status.{Status}
 use Rattle.backsim.specs.declared.status.Status.TheVariants.{Ended, Words, Refused, ReadFault, WriteFault, FileFault, OutOfMemory}
 use Rattle.backsim.specs.Commands.{Command}
 use Rattle.backsim.specs.Seen.{Seen, left_in, IsUntouched}
 use Rattle.backsim.specs.Places.{OnFile}
-use Rattle.backsim.specs.Session.{Given, Wrote, ServedAll, IsServed}
+use Rattle.backsim.specs.Session.{Given, Wrote, IsServed}
 use Rattle.backsim.specs.Refused.{AreRefused, IsScriptRefused}
 use Rattle.backsim.specs.Texts.{too_long}
 
--- a session with these replies, this journal and these dumps broke off in a unit, or before its journal's head was whole
-abbrev pub IsBroken : Setup → List ℕ → Option (List ℕ) → List ℕ → List ℕ → List Made → Type 0
-IsBroken setup script left replies journal dumps =
-    ((left ≡ Some script) × IsHeadBegun setup replies journal dumps) ⊎ IsBrokenIn setup script replies journal dumps
+-- a session with these replies, this journal and these dumps broke off before its journal's head was whole, or in this way
+abbrev pub IsInHeadOr : (Setup → List ℕ → List ℕ → List Made → Type 0) → List ℕ → Option (List ℕ) → Setup → List ℕ → List ℕ → List Made → Type 0
+IsInHeadOr way script left setup replies journal dumps =
+    ((left ≡ Some script) × IsHeadBegun setup replies journal dumps) ⊎ way setup replies journal dumps
 
 -- the session broke off
 abbrev pub BrokeOff : Command → Given → Seen → Seen → Type 0
-BrokeOff command given before after = Wrote command given before after (λ setup. IsBroken setup given.script (left_in after))
+BrokeOff command given before after =
+    Wrote command given before after (IsInHeadOr (λ setup. IsBrokenIn setup given.script (left_in after)) given.script (left_in after))
+
+-- it broke off in its journal: in the head, or in the sections of a unit, of which all replies stand
+abbrev pub BrokeOffInJournal : Command → Given → Seen → Seen → Type 0
+BrokeOffInJournal command given before after =
+    Wrote command given before after (IsInHeadOr (λ setup. IsJournalBroken setup given.script (left_in after)) given.script (left_in after))
 
 -- it broke off in a unit
 abbrev pub BrokeOffIn : Command → Given → Seen → Seen → Type 0
-BrokeOffIn command given before after = Wrote command given before after (λ setup. IsBrokenIn setup given.script)
+BrokeOffIn command given before after = Wrote command given before after (λ setup. IsBrokenIn setup given.script (left_in after))
 
 -- it broke off in a dump, of which no reply was written
 abbrev pub BrokeOffInDump : Command → Given → Seen → Seen → Type 0
-BrokeOffInDump command given before after = Wrote command given before after (λ setup. IsDumpBroken setup given.script)
+BrokeOffInDump command given before after = Wrote command given before after (λ setup. IsDumpBroken setup given.script (left_in after))
 
 -- a refusal was told in part: of the files, or of the script
 abbrev pub ToldInPart : Command → Given → Seen → Seen → Type 0
@@ -51,7 +57,7 @@ Leaves command given before after (ReadFault Script) = ServedUntil command given
 Leaves command given before after (ReadFault place) = IsUntouched before after
 Leaves command given before after (WriteFault Replies) = BrokeOffIn command given before after ⊎ ToldInPart command given before after
 Leaves command given before after (WriteFault Vcd) = BrokeOffInDump command given before after
-Leaves command given before after (WriteFault place) = BrokeOff command given before after
+Leaves command given before after (WriteFault place) = BrokeOffInJournal command given before after
 Leaves command given before after (FileFault Journal) = IsUntouched before after ⊎ IsServed command given before after
 Leaves command given before after (FileFault Vcd) = BrokeOffInDump command given before after
 Leaves command given before after (FileFault place) = IsUntouched before after

@@ -15,7 +15,7 @@ use Rattle.session_loop.specs.Halting as session
 use Rattle.session_loop.specs.Halting.{WroteJournal, IsWorkDone, IsWorkBegun}
 use Rattle.workload.specs.declared.Work.{Work}
 use Rattle.workload.specs.Workload.{IsWork}
-use Rattle.backsim.specs.Seen.{Seen}
+use Rattle.backsim.specs.Seen.{Seen, created_in}
 use Rattle.backsim.specs.declared.status.Place.TheVariants.{Journal, Replies}
 use Rattle.backsim.specs.declared.status.Status.{Status}
 use Rattle.backsim.specs.declared.status.Status.TheVariants.{Ended, Words, Refused, ReadFault, WriteFault, FileFault, OutOfMemory}
@@ -90,6 +90,7 @@ DidWork = LeftJournal (λ work. IsWorkDone (setup_of_work work) work.items)
 pub record NoWork (before after : Seen) : Type 0 where
   pub unreplied : Stays before.written after.written
   pub same_files : SameMade before.made after.made
+  pub no_file : created_in after ≡ created_in before
 
 -- What a fault or a lack of memory leaves. The other statuses are not those of a workload.
 abbrev pub LeavesWork : ℕ → Text → Seen → Seen → Status → Type 0
@@ -100,7 +101,7 @@ LeavesWork number journal before after (ReadFault place) = ⊥
 LeavesWork number journal before after (WriteFault Replies) = OfWork number (Answered GrowsByPrefix number journal before after)
 LeavesWork number journal before after (WriteFault Journal) = BrokeOffWork number journal before after
 LeavesWork number journal before after (WriteFault place) = ⊥
-LeavesWork number journal before after (FileFault Journal) = NoWork before after ⊎ DidWork number journal before after
+LeavesWork number journal before after (FileFault Journal) = NoWork before after ⊎ IsWorkServed number journal before after
 LeavesWork number journal before after (FileFault place) = ⊥
 LeavesWork number journal before after OutOfMemory =
     NoWork before after ⊎ (BrokeOffWork number journal before after ⊎ DidWork number journal before after)

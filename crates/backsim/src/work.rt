@@ -1,11 +1,12 @@
 //! A run of the workload, from its number to the status.
 
-ghost use Rattle.std.specs.Prelude.{◌≡◌, ◌<◌, ◌≤◌, IfOk, IfSome, filter, length, string_bytes};
+ghost use Rattle.std.specs.Prelude.{◌≡◌, ◌<◌, ◌≤◌, Contains, IfOk, IfSome, filter, length, string_bytes};
+ghost use Rattle.backsim_io.specs.FilesInMemory.{SameMade};
 ghost use Rattle.backsim_io.specs.State.{SourceState};
 ghost use Rattle.backsim.specs.Serves.{ServesWorkload};
 ghost use Rattle.backsim.specs.Work as work;
 ghost use Rattle.backsim.specs.Work.{counts_line, run_count, one_count, work_line, runs_in};
-ghost use Rattle.backsim.specs.inner.Work.{IsLineTold, LineExplains};
+ghost use Rattle.backsim.specs.inner.Work.{IsLineTold, LineExplains, EndsWork};
 
 use crate::refusal::Stop;
 use crate::serve::end_stopped;
@@ -14,7 +15,7 @@ use backsim_io::{Files, Sink, write_all};
 use gate_values::Value;
 use query_lines::script_units_are_fit;
 use reply_lines::Reply;
-use session_loop::{Setting, serve_work};
+use session_loop::{Halt, Setting, finish_journal, serve_work};
 use std::alloc::{AllocError, Global};
 use std::mem;
 use std::sync::Wait;
@@ -35,7 +36,8 @@ pub struct Workload<'a> {
     pub workers: u32,
 }
 
-/// Serves the workload of this number, of 31 bits. In place of the replies one line is written, which counts them.
+/// Serves the workload of this number, of 31 bits. In place of the replies one line is written, which counts them; then the journal is
+/// finished.
 pub fn serve_workload<F: Files, S: Sink, G: Gate, R: Threads + Wait + Sync>(
     rt: &R,
     alloc: Global,
@@ -95,7 +97,8 @@ pub fn serve_workload<F: Files, S: Sink, G: Gate, R: Threads + Wait + Sync>(
             // their memory goes with the process
             mem::forget(work);
             mem::forget(done.stores);
-            tell(alloc, number, &done.replies, out)
+            let told = tell(alloc, number, &done.replies, out);
+            end_work(told, files)
         }
         Err(halt) => end_stopped(alloc, Stop::from(halt), out),
     }
@@ -119,6 +122,28 @@ fn tell<S: Sink>(alloc: Global, number: u32, replies: &[Reply], out: &mut S) -> 
     match write_all(out, text.as_bytes()) {
         Ok(()) => Status::Ended,
         Err(_) => Status::WriteFault(Place::Replies),
+    }
+}
+
+/// Finishes the journal behind the line, if that was written.
+fn end_work<F: Files>(told: Status, files: &mut F) -> Status
+    requires { Contains (F.state files.old).unfinished 0 }
+    ensures made { SameMade (F.made files.old) (F.made files.new) }
+    ensures state { EndsWork told (F.state files.old) (F.state files.new) result }
+{
+    match told {
+        Status::Ended => match finish_journal(files) {
+            Ok(()) => Status::Ended,
+            Err(Halt::JournalUnfinished) => Status::FileFault(Place::Journal),
+            Err(Halt::JournalUnmade) => unreachable!(),
+            Err(Halt::Stopped(_)) => unreachable!(),
+        },
+        Status::Words => Status::Words,
+        Status::Refused => Status::Refused,
+        Status::ReadFault(place) => Status::ReadFault(place),
+        Status::WriteFault(place) => Status::WriteFault(place),
+        Status::FileFault(place) => Status::FileFault(place),
+        Status::OutOfMemory => Status::OutOfMemory,
     }
 }
 

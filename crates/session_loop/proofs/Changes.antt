@@ -8,8 +8,8 @@ use Rattle.session_loop.specs.declared.stop.Stop.{Stop}
 use Rattle.session_loop.specs.declared.stop.Stop.TheVariants.{ScriptUnread, ScriptTooLong, RepliesUnwritten, JournalUnwritten, DumpUnmade, DumpUnwritten, DumpUnfinished, OutOfMemory}
 use Rattle.session_loop.specs.declared.halt.Halt.{Halt}
 use Rattle.session_loop.specs.declared.halt.Halt.TheVariants.{JournalUnmade, Stopped, JournalUnfinished}
-use Rattle.session_loop.specs.Outside.{Outputs, Outside, OfFiles, Dumped, DumpedThenFault, JournalStops, StopsAt, UnitsStop, Served, ServedThenUnread, ScriptStops, SessionChanges, WorkChanges, with_file, with_journal}
-use Rattle.session_loop.specs.inner.Outside.{RepliesStops, UnitStops, UnitChanges, DumpStops, UnitsChanges, BeginChanges, FinishChanges}
+use Rattle.session_loop.specs.Outside.{Outputs, Outside, OfFiles, Dumped, DumpedThenFault, JournalStops, StopsAt, UnitsStop, Served, ServedThenUnread, ScriptStops, SessionChanges, WorkChanges, FinishChanges, with_file, with_journal}
+use Rattle.session_loop.specs.inner.Outside.{RepliesStops, UnitStops, UnitChanges, DumpStops, UnitsChanges, BeginChanges}
 
 -- what holds of an error holds of the result that hands it on
 pub handed-on : {T E : Type 0} (C : Result T E → Type 0) (was : E) (result : Result T E) → IsErrAnd result (λ e. e ≡ was) → C (Err was) → C result
@@ -294,14 +294,8 @@ work-unbegun old new JournalUnmade h = h
 work-unbegun old new (Stopped stop) h = h
 work-unbegun old new JournalUnfinished h = absurd h
 
--- it was not finished
-pub work-unfinished : (old mid new : FilesState) (halt : Halt) → mid ≡ with_file old → FinishChanges {A = ℕ} mid new (Err halt) → WorkChanges {A = ℕ} old new (Err halt)
-work-unfinished old mid new JournalUnmade is h = absurd h
-work-unfinished old mid new (Stopped stop) is h = absurd h
-work-unfinished old mid new JournalUnfinished is fault = subst (λ (f : FilesState). FileFault f new) is fault
-
--- it was finished
-pub work-done : (old mid new : FilesState) → old.created ≡ 0 → Places old.created old.unfinished → mid ≡ with_file old
+-- it was begun, and then finished
+pub work-finished : (old mid new : FilesState) → old.created ≡ 0 → Places old.created old.unfinished → mid ≡ with_file old
     → new ≡ record mid { unfinished = list_without mid.unfinished 0 } → new ≡ record old { created = old.created + 1 }
-work-done old mid new none places is ends =
+work-finished old mid new none places is ends =
     journal-done old (with_file old) new none places (dumped-none (with_file old)) (ends ∙ ap (λ (f : FilesState). record f { unfinished = list_without f.unfinished 0 }) is)

@@ -24,13 +24,13 @@ use Rattle.vcd_answers.specs.Dumps.{vcd_of}
 use Rattle.session_meaning.specs.Dumps.{wires_of}
 use Rattle.session_meaning.specs.Session.{Setup, Course, Served, is_taken, with_reply, with_dump, with_last, with_vcd}
 use Rattle.session_meaning.specs.Broken.{IsPrefix, journal_of, AreBegun, IsBroken, IsBrokenInDump}
-use Rattle.session_meaning.proofs.Journals.{broken-none, broken-more, broken-at, prefix-same, prefix-more, prefix-behind}
-use Rattle.session_meaning.proofs.Dumps.{begun-same, begun-one, begun-less, dump-broken-at}
+use Rattle.session_meaning.proofs.Journals.{prefix-same, prefix-more, prefix-behind}
+use Rattle.session_meaning.proofs.Dumps.{begun-same, begun-one, begun-less}
 use Rattle.session_loop.specs.declared.desk.Desk.{Desk}
 use Rattle.session_loop.specs.declared.desk.Dumps.{Dumps}
 use Rattle.session_loop.specs.declared.desk.LastBatch.{LastBatch}
 use Rattle.session_loop.specs.declared.stop.Stop.{Stop}
-use Rattle.session_loop.specs.declared.stop.Stop.TheVariants.{ScriptUnread, ScriptTooLong, RepliesUnwritten, JournalUnwritten, DumpUnmade, DumpUnwritten, DumpUnfinished, OutOfMemory}
+use Rattle.session_loop.specs.declared.stop.Stop.TheVariants.{OutOfMemory}
 use Rattle.unit_answers.specs.Stores.{cells_of}
 use Rattle.session_loop.specs.Halting.{session_files}
 use Rattle.session_loop.specs.Outside.{with_file}
@@ -38,6 +38,7 @@ use Rattle.session_loop.specs.inner.Desks.{IsCount, Keeps, KeepsDumps, Shows, re
 use Rattle.session_loop.specs.inner.Outside.{RepliesStops, DumpStops}
 use Rattle.session_loop.specs.inner.Growing.{Adds, GrowsPart, IsDumpPart}
 use Rattle.session_loop.specs.inner.Serving.{BreaksAt, Serves, Stops}
+use Rattle.session_loop.proofs.Breaking.{within-map, within-none, broken-none, broken-at, dump-broken-at, breaks-in-reply, breaks-in-dump}
 use Rattle.session_loop.proofs.Growing.{goes-none}
 
 -- ---- calls
@@ -123,35 +124,9 @@ names-are-ascii (b ∷ word) is (suc i) = names-are-ascii word (and_parts _ _ is
 pub names-are-text : (word : List ℕ) → is_name word ≡ true → IsUtf8 word
 names-are-text word is = IsUtf8-from_ascii word (names-are-ascii word (and_parts _ _ is).1)
 
--- ---- stops
+-- ---- what the line leads to
 
 module _ (setup : Setup) where
-  -- a stop that is none of a dump breaks off in any unit
-  breaks-in-reply : (units : List ScriptUnit) (out journal : List ℕ) (dumps : List Made) (a a' : ℕ) (stop : Stop) → RepliesStops a a' stop
-      → IsBroken setup units out journal dumps → BreaksAt setup units out journal dumps stop
-  breaks-in-reply units out journal dumps a a' ScriptUnread cause broken = broken
-  breaks-in-reply units out journal dumps a a' ScriptTooLong cause broken = broken
-  breaks-in-reply units out journal dumps a a' RepliesUnwritten cause broken = broken
-  breaks-in-reply units out journal dumps a a' JournalUnwritten cause broken = broken
-  breaks-in-reply units out journal dumps a a' DumpUnmade cause broken = absurd cause
-  breaks-in-reply units out journal dumps a a' DumpUnwritten cause broken = absurd cause
-  breaks-in-reply units out journal dumps a a' DumpUnfinished cause broken = absurd cause
-  breaks-in-reply units out journal dumps a a' OutOfMemory cause broken = broken
-
-  -- a stop of a dump breaks off before its reply
-  breaks-in-dump : (units : List ScriptUnit) (out journal : List ℕ) (dumps : List Made) (old new : FilesState) (stop : Stop) → DumpStops old new stop → IsBrokenInDump setup units out journal dumps
-      → BreaksAt setup units out journal dumps stop
-  breaks-in-dump units out journal dumps old new ScriptUnread kind broken = absurd kind
-  breaks-in-dump units out journal dumps old new ScriptTooLong kind broken = absurd kind
-  breaks-in-dump units out journal dumps old new RepliesUnwritten kind broken = absurd kind
-  breaks-in-dump units out journal dumps old new JournalUnwritten kind broken = absurd kind
-  breaks-in-dump units out journal dumps old new DumpUnmade kind broken = broken
-  breaks-in-dump units out journal dumps old new DumpUnwritten kind broken = broken
-  breaks-in-dump units out journal dumps old new DumpUnfinished kind broken = broken
-  breaks-in-dump units out journal dumps old new OutOfMemory kind broken = absurd kind
-
-  -- ---- what the line leads to
-
   -- three dumps are the most
   room-or-full : (n : ℕ) → nat_lt n 3 ≡ not (nat_le 3 n)
   room-or-full n = grind (arith, nat_tests)
@@ -230,7 +205,7 @@ module _ (setup : Setup) where
       replies = now.out;
       journal = journal_of setup now;
       dumps = now.dumps;
-      broken = broken-more setup units more now.out (journal_of setup now) now.dumps (broken-none setup units now session);
+      broken = within-none units more (BreaksAt setup now.out (journal_of setup now) now.dumps OutOfMemory) (broken-none setup units more now session);
       replied = goes-none out now.out;
       recorded = λ name was. was;
       count = count-is now files keeps is;
@@ -263,7 +238,8 @@ module _ (setup : Setup) where
               replies = now.out ++ replied.0;
               journal = journal;
               dumps = now.dumps;
-              broken = breaks-in-reply (units ++ Vcd file ∷ []) (now.out ++ replied.0) journal now.dumps a a' stop cause
+              broken = within-map units (Vcd file ∷ []) (λ done later. IsBroken setup done later (now.out ++ replied.0) journal now.dumps) (BreaksAt setup (now.out ++ replied.0) journal now.dumps stop)
+                  (breaks-in-reply setup (now.out ++ replied.0) journal now.dumps a a' stop cause)
                   (broken-at setup units (Vcd file) now next (now.out ++ replied.0) journal now.dumps session (sym (line-refused now file desk.dumps keeps.dumps reply is))
                   (prefix-more now.out replied.0) (prefix-same journal) (prefix-behind now.out replied.0 (vcd_line file reply) replied.1) (prefix-same journal)
                   ([], sym (append-nil now.dumps)) (begun-same now.dumps) (inr refl) (inr refl) (λ o j. refl));
@@ -301,7 +277,8 @@ module _ (setup : Setup) where
           replies = now.out;
           journal = journal_of setup now;
           dumps = now.dumps ++ more;
-          broken = breaks-in-dump (units ++ Vcd file ∷ []) now.out (journal_of setup now) (now.dumps ++ more) old new stop kind
+          broken = within-map units (Vcd file ∷ []) (λ done later. IsBrokenInDump setup done later now.out (journal_of setup now) (now.dumps ++ more)) (BreaksAt setup now.out (journal_of setup now) (now.dumps ++ more) stop)
+              (breaks-in-dump setup now.out (journal_of setup now) (now.dumps ++ more) old new stop kind)
               (dump-broken-at setup units file now (now.dumps ++ more) session (more, refl) (subst (λ (c : Course). AreBegun (now.dumps ++ more) c.dumps) (leads now keeps) begun));
           replied = goes-none out now.out;
           recorded = λ name. go-on now more keeps adds name (journal_of setup now);
@@ -350,7 +327,8 @@ module _ (setup : Setup) where
                 replies = now.out ++ replied.0;
                 journal = journal;
                 dumps = all;
-                broken = breaks-in-reply (units ++ Vcd file ∷ []) (now.out ++ replied.0) journal all a a' stop cause
+                broken = within-map units (Vcd file ∷ []) (λ done later. IsBroken setup done later (now.out ++ replied.0) journal all) (BreaksAt setup (now.out ++ replied.0) journal all stop)
+                    (breaks-in-reply setup (now.out ++ replied.0) journal all a a' stop cause)
                     (broken-at setup units (Vcd file) now next (now.out ++ replied.0) journal all session (leads now keeps)
                     (prefix-more now.out replied.0) (prefix-same journal)
                     (prefix-behind now.out replied.0 (vcd_line file (replies.Made (length wires))) (subst (IsPrefix replied.0) line-is replied.1)) (prefix-same journal)

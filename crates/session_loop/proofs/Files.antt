@@ -12,8 +12,8 @@ use Rattle.session_loop.specs.declared.stop.Stop.{Stop}
 use Rattle.session_loop.specs.declared.stop.Stop.TheVariants.{ScriptUnread, ScriptTooLong, RepliesUnwritten, JournalUnwritten, DumpUnmade, DumpUnwritten, DumpUnfinished, OutOfMemory}
 use Rattle.session_loop.specs.declared.halt.Halt.{Halt}
 use Rattle.session_loop.specs.declared.halt.Halt.TheVariants.{JournalUnmade, Stopped, JournalUnfinished}
-use Rattle.session_loop.specs.Outside.{JournalStops, with_file}
-use Rattle.session_loop.specs.inner.Outside.{BeginChanges, FinishChanges}
+use Rattle.session_loop.specs.Outside.{JournalStops, FinishChanges, with_file}
+use Rattle.session_loop.specs.inner.Outside.{BeginChanges}
 use Rattle.session_loop.specs.inner.Serving.{Wrote}
 use Rattle.session_loop.specs.Halting.{Stands, session_files, WroteFiles, IsEarly, IsUnbegun, IsHalted}
 use Rattle.session_loop.specs.inner.Halting.{IsHeadHalted}

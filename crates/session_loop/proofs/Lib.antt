@@ -1,6 +1,7 @@
 pub mod Growing
 pub mod Changes
 pub mod Named
+pub mod Breaking
 pub mod Served
 pub mod Questions
 pub mod Units

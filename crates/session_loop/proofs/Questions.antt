@@ -37,7 +37,7 @@ use Rattle.unit_answers.specs.Done.{IsQuestionDone}
 use Rattle.session_loop.specs.inner.Desks.{IsCount, IsCounted, IsHeldCounted, Keeps}
 use Rattle.session_loop.specs.inner.Serving.{Serves, Stops, IsAnswered, forced_sections, held_text}
 use Rattle.session_loop.proofs.Growing.{file-none}
-use Rattle.session_loop.proofs.Served.{IsOfUnit, WritesPart, counts-more, cells-more, kept-dumps, sections-served, sections-stopped}
+use Rattle.session_loop.proofs.Served.{WritesPart, counts-more, cells-more, kept-dumps, sections-served, sections-stopped}
 
 -- The section of a memo of its own, if there is one.
 
@@ -112,11 +112,11 @@ module _ (setup : Setup) where
         (done.serves now keeps) (question-journal now keeps) later (question-keeps now keeps later same stores dumps) replied recorded
 
     -- a part of the reply and a part of the sections
-    pub question-stopped : (files : ℕ) (stop : Stop) → files ≡ length desk.dumps.made.items + 1 → IsOfUnit stop
-        → WritesPart out new_out made new_made text question-text → Stops setup desk (unit ∷ []) out new_out made new_made files stop
-    question-stopped files stop many cause wrote us now session keeps =
+    pub question-stopped : (files : ℕ) (stop : Stop) → files ≡ length desk.dumps.made.items + 1
+        → WritesPart out new_out made new_made text question-text stop → Stops setup desk (unit ∷ []) out new_out made new_made files stop
+    question-stopped files stop many wrote us now session keeps =
         sections-stopped setup us unit now desk session keeps out new_out made new_made ((now.sections ++ section ∷ []) ++ forced_sections own held) text now.waves question-text
-        (done.serves now keeps) (question-journal now keeps) files stop many cause wrote
+        (done.serves now keeps) (question-journal now keeps) stop wrote files many
 
   module _ (line : ℕ) where
     -- the batch of the memo of its own where a signal is stuck and a query is asked, and else any

@@ -1,5 +1,5 @@
 -- A script that was served, or in which the session stopped.
-use Rattle.std.proofs.Common.{◌≡◌, ℕ, ◌+◌, ◌<◌, ◌≤◌, List, [], ◌++◌, length, take, drop, Option, Some, None, refl, sym, ap, subst, ◌∙◌, append_assoc, append-nil, length-append, length-take, arith, inl, inr}
+use Rattle.std.proofs.Common.{◌≡◌, ℕ, ◌+◌, ◌<◌, ◌≤◌, List, [], ◌++◌, length, take, drop, Option, Some, None, refl, sym, ap, subst, ◌∙◌, append_assoc, append-nil, length-append, length-take, arith, ◌⊎◌, inl, inr}
 use Rattle.std.proofs.lemmas.List.{take-append-drop, take-append-le, take-take, take_all}
 use Rattle.std.specs.Io.KnownBytes.{Consumes, IsAtEnd}
 use Rattle.std.proofs.KnownBytes.{Consumes-trans}
@@ -10,7 +10,7 @@ use Rattle.query_lines.specs.Reading.{script_units, completed_units}
 use Rattle.query_lines.specs.Readers.{Reader, HasRead}
 use Rattle.query_lines.proofs.Completed.{given-completed}
 use Rattle.session_meaning.specs.Session.{Setup, Opened, first_course, IsSession, IsSessionOf}
-use Rattle.session_meaning.specs.Broken.{journal_of, BreaksIn, IsCutOff}
+use Rattle.session_meaning.specs.Broken.{journal_of, IsCutOff}
 use Rattle.session_loop.specs.declared.desk.Desk.{Desk}
 use Rattle.session_loop.specs.declared.desk.LastBatch.{LastBatch}
 use Rattle.session_loop.specs.declared.stop.Stop.{Stop}
@@ -18,17 +18,21 @@ use Rattle.session_loop.specs.declared.stop.Stop.TheVariants.{ScriptUnread, Scri
 use Rattle.unit_answers.specs.Stores.{cells_of}
 use Rattle.session_loop.specs.inner.Desks.{Shows, Keeps as KeepsDesk, no_counts}
 use Rattle.session_loop.specs.Outside.{Outputs, UnitsStop}
-use Rattle.session_loop.specs.inner.Serving.{BreaksAt, Serves, Stops, TakesServed, TakesStopped, EndsServed, EndsStopped, HasServed, Wrote}
-use Rattle.session_loop.specs.Serving.{IsServedUntil, IsStopped}
-use Rattle.session_loop.proofs.Served.{count-of, serves-none, serves-more, stops-more}
+use Rattle.session_loop.specs.inner.Serving.{BreaksAt, Within, Serves, StopsAfter, TakesServed, TakesStopped, EndsServed, EndsStopped, HasServed, Wrote}
+use Rattle.session_loop.specs.Serving.{BreaksIn, IsServedUntil, IsStopped}
+use Rattle.session_loop.proofs.Growing.{goes-more, files-more}
+use Rattle.session_loop.proofs.Served.{count-of, serves-none, serves-more, stops-now}
+
+-- the source is at its end, and gave nothing more
+took-none : (script : List ℕ) (first left next : Option (List ℕ)) (bytes into : List ℕ) (n : ℕ) → first ≡ Some script → Consumes first left bytes → Consumes left next (take n into) → n ≡ 0 → Consumes (Some script) next (bytes ++ [])
+took-none script first left next bytes into n is took took_none none =
+    Consumes-trans (Some script) left next bytes [] (subst (λ (f : Option (List ℕ)). Consumes f left bytes) is took) (subst (λ (k : ℕ). Consumes left next (take k into)) none took_none)
 
 -- all of a script was taken
 all-taken : (script : List ℕ) (first left next : Option (List ℕ)) (bytes into : List ℕ) (n : ℕ) → first ≡ Some script → Consumes first left bytes → Consumes left next (take n into) → n ≡ 0 → IsAtEnd next → script ≡ bytes
-all-taken script first left next bytes into n is took took_none none end = of_next next (subst (λ (l : List ℕ). Consumes (Some script) next l) (append-nil bytes) both) end
+all-taken script first left next bytes into n is took took_none none end =
+    of_next next (subst (λ (l : List ℕ). Consumes (Some script) next l) (append-nil bytes) (took-none script first left next bytes into n is took took_none none)) end
   where
-    both : Consumes (Some script) next (bytes ++ [])
-    both = Consumes-trans (Some script) left next bytes [] (subst (λ (f : Option (List ℕ)). Consumes f left bytes) is took) (subst (λ (k : ℕ). Consumes left next (take k into)) none took_none)
-
     of_next : (o : Option (List ℕ)) → Consumes (Some script) o bytes → IsAtEnd o → script ≡ bytes
     of_next None gone end = absurd gone
     of_next (Some rest) all end = all ∙ ap (λ (l : List ℕ). bytes ++ l) end ∙ append-nil bytes
@@ -48,7 +52,7 @@ block-front n m into rest small within =
 
 -- where a stop of a unit breaks off, the session of the script stopped
 stopped-is : (setup : Setup) (script : List ℕ) (left : Option (List ℕ)) (old new : Outputs) (stop : Stop) (replies journal : List ℕ) (dumps : List Made) → UnitsStop old new stop
-    → BreaksIn setup script (λ units. BreaksAt setup units replies journal dumps stop) → IsStopped setup script left stop replies journal dumps
+    → BreaksIn setup script left (λ done later. BreaksAt setup replies journal dumps stop done later) → IsStopped setup script left stop replies journal dumps
 stopped-is setup script left old new ScriptUnread replies journal dumps h b = absurd h.stops
 stopped-is setup script left old new ScriptTooLong replies journal dumps h b = absurd h.stops
 stopped-is setup script left old new RepliesUnwritten replies journal dumps h b = b
@@ -57,6 +61,26 @@ stopped-is setup script left old new DumpUnmade replies journal dumps h b = b
 stopped-is setup script left old new DumpUnwritten replies journal dumps h b = b
 stopped-is setup script left old new DumpUnfinished replies journal dumps h b = b
 stopped-is setup script left old new OutOfMemory replies journal dumps h b = b
+
+-- where it breaks off within the units that a byte completes, or the end, the units before them being whole
+breaks-there : (setup : Setup) (script : List ℕ) (left : Option (List ℕ)) (before last ahead : List ℕ) (units more : List ScriptUnit) (says : List ScriptUnit → List ScriptUnit → Type 0)
+    → Consumes (Some script) left (before ++ (last ++ ahead)) → length last ≤ 1 → length (last ++ ahead) ≤ 4096 → units ≡ completed_units setup.design.circuit.horizon before
+    → (units ++ more ≡ completed_units setup.design.circuit.horizon (before ++ last)) ⊎ ((script ≡ before) × (units ++ more ≡ script_units setup.design.circuit.horizon script))
+    → Within units more says → BreaksIn setup script left says
+breaks-there setup script left before last ahead units more says read one block whole completed w = record {
+  before = before;
+  last = last;
+  ahead = ahead;
+  read = read;
+  one = one;
+  block = block;
+  done = units ++ w.done;
+  later = w.later;
+  completed = subst (λ l. (l ≡ completed_units setup.design.circuit.horizon (before ++ last)) ⊎ ((script ≡ before) × (l ≡ script_units setup.design.circuit.horizon script)))
+      (ap (λ l. units ++ l) w.split ∙ sym (append_assoc units w.done w.later)) completed;
+  whole = (w.done, ap (λ l. l ++ w.done) whole);
+  broken = w.broken;
+}
 
 module _ (setup : Setup) (desk : Desk) (fresh : KeepsDesk setup desk first_course) where
   -- nothing was read
@@ -110,11 +134,22 @@ module _ (setup : Setup) (desk : Desk) (fresh : KeepsDesk setup desk first_cours
   wrote-map are such out new_out made new_made files f w =
       record { replies = w.replies; journal = w.journal; dumps = w.dumps; are = f w.replies w.journal w.dumps w.are; replied = w.replied; recorded = w.recorded; count = w.count }
 
-  wrote-broken : (units : List ScriptUnit) (out new_out : List ℕ → Type 0) (made new_made : List Made → Type 0) (files : ℕ) (stop : Stop)
-      → Stops setup desk units out new_out made new_made files stop → Wrote setup (λ replies journal dumps. BreaksAt setup units replies journal dumps stop) out new_out made new_made files
-  wrote-broken units out new_out made new_made files stop stopped =
-      let s = stopped [] first_course Opened fresh in
-      record { replies = s.replies; journal = s.journal; dumps = s.dumps; are = s.broken; replied = s.replied; recorded = s.recorded; count = s.count }
+  -- units were served, and further ones, and then the session broke off
+  wrote-broken : (x : Desk) (units first more : List ScriptUnit) (out mid new_out : List ℕ → Type 0) (made mid_made new_made : List Made → Type 0) (files : ℕ) (stop : Stop)
+      → Serves setup desk x units out mid made mid_made → StopsAfter setup x first more mid new_out mid_made new_made files stop
+      → Wrote setup (λ replies journal dumps. Within (units ++ first) more (λ done later. BreaksAt setup replies journal dumps stop done later)) out new_out made new_made files
+  wrote-broken x units first more out mid new_out made mid_made new_made files stop served stopped =
+      let s = served [] first_course Opened fresh in
+      let g = stopped units s.next s.session s.keeps in
+      record {
+        replies = g.replies;
+        journal = g.journal;
+        dumps = g.dumps;
+        are = g.broken;
+        replied = goes-more out mid new_out [] s.next.out g.replies s.replied g.replied;
+        recorded = files-more made mid_made new_made (journal_of setup first_course) (journal_of setup s.next) g.journal [] s.next.dumps g.dumps s.recorded g.recorded;
+        count = g.count;
+      }
 
   module _ (script : List ℕ) (first : Option (List ℕ)) (is : first ≡ Some script) where
     -- the script ended, and what was left of it was served
@@ -133,49 +168,51 @@ module _ (setup : Setup) (desk : Desk) (fresh : KeepsDesk setup desk first_cours
         omega (arith, ap length (all-taken script first left next so_far.bytes into n is so_far.took took none end), so_far.long, most)
 
     -- the script ended, and the session broke off in what was left of it
-    pub end-stopped : (taken : ℕ) (left next after : Option (List ℕ)) (n : ℕ) (into : List ℕ) (reader : Reader) (x : Desk) (old new : Outputs) (stop : Stop) (out mid new_out : List ℕ → Type 0) (made mid_made new_made : List Made → Type 0) (files : ℕ)
+    pub end-stopped : (taken : ℕ) (left next : Option (List ℕ)) (n : ℕ) (into : List ℕ) (reader : Reader) (x : Desk) (old new : Outputs) (stop : Stop) (out mid new_out : List ℕ → Type 0) (made mid_made new_made : List Made → Type 0) (files : ℕ)
         → setup.design.circuit.horizon ≤ 1000000 → HasServed setup taken first left reader desk x out mid made mid_made → Consumes left next (take n into) → n ≡ 0 → IsAtEnd next → UnitsStop old new stop
-        → EndsStopped setup reader x mid new_out mid_made new_made files stop → Wrote setup (IsStopped setup script after stop) out new_out made new_made files
-    end-stopped taken left next after n into reader x old new stop out mid new_out made mid_made new_made files bound so_far took none end cause ends =
+        → EndsStopped setup reader x mid new_out mid_made new_made files stop → Wrote setup (IsStopped setup script next stop) out new_out made new_made files
+    end-stopped taken left next n into reader x old new stop out mid new_out made mid_made new_made files bound so_far took none end cause ends =
         let all = all-taken script first left next so_far.bytes into n is so_far.took took none end in
         let horizon = setup.design.circuit.horizon in
-        wrote-map (λ replies journal dumps. BreaksAt setup (so_far.units ++ ends.units) replies journal dumps stop) (IsStopped setup script after stop) out new_out made new_made files
-        (λ replies journal dumps broken. stopped-is setup script after old new stop replies journal dumps cause (record {
-          taken = so_far.bytes;
-          taken_are = ([], all ∙ sym (append-nil so_far.bytes));
-          units = so_far.units ++ ends.units;
-          completed = elim ends.whole [
-            | inl whole ↦ inr (sym all, sym (ap (script_units horizon) all ∙ whole horizon so_far.bytes so_far.units so_far.read))
-            | inr empty ↦ inl (ap (λ us. so_far.units ++ us) empty ∙ append-nil so_far.units ∙ given-completed horizon so_far.bytes so_far.units reader so_far.read bound)
-          ];
-          broken = broken;
-        }))
-        (wrote-broken (so_far.units ++ ends.units) out new_out made new_made files stop (stops-more setup desk x so_far.units ends.units out mid new_out made mid_made new_made files stop so_far.served ends.stopped))
+        let given = given-completed horizon so_far.bytes so_far.units reader so_far.read bound in
+        wrote-map (λ replies journal dumps. Within (so_far.units ++ []) ends.units (λ done later. BreaksAt setup replies journal dumps stop done later)) (IsStopped setup script next stop) out new_out made new_made files
+        (λ replies journal dumps within. stopped-is setup script next old new stop replies journal dumps cause
+        (breaks-there setup script next so_far.bytes [] [] (so_far.units ++ []) ends.units (λ done later. BreaksAt setup replies journal dumps stop done later)
+        (took-none script first left next so_far.bytes into n is so_far.took took none) (omega arith) (omega arith) (append-nil so_far.units ∙ given)
+        (elim ends.whole [
+          | inl whole ↦ inr (all, ap (λ l. l ++ ends.units) (append-nil so_far.units) ∙ sym (ap (script_units horizon) all ∙ whole horizon so_far.bytes so_far.units so_far.read))
+          | inr empty ↦ inl (ap (λ us. (so_far.units ++ []) ++ us) empty ∙ append-nil (so_far.units ++ []) ∙ append-nil so_far.units ∙ given ∙ ap (completed_units horizon) (sym (append-nil so_far.bytes)))
+        ]) within))
+        (wrote-broken x so_far.units [] ends.units out mid new_out made mid_made new_made files stop so_far.served (stops-now setup x ends.units mid new_out mid_made new_made files stop ends.stopped))
 
     -- the session broke off in a block
-    pub block-stopped : (taken : ℕ) (left next after : Option (List ℕ)) (reader : Reader) (x : Desk) (n m : ℕ) (into rest : List ℕ) (old new : Outputs) (stop : Stop) (out mid new_out : List ℕ → Type 0) (made mid_made new_made : List Made → Type 0) (files : ℕ)
-        → setup.design.circuit.horizon ≤ 1000000 → HasServed setup taken first left reader desk x out mid made mid_made → Consumes left next (take n into) → m ≤ n → n ≤ length into → UnitsStop old new stop
-        → TakesStopped setup reader (take m (into ++ rest)) x mid new_out mid_made new_made files stop → Wrote setup (IsStopped setup script after stop) out new_out made new_made files
-    block-stopped taken left next after reader x n m into rest old new stop out mid new_out made mid_made new_made files bound so_far took small within cause stops =
-        let split = split-script script first left next so_far.bytes (take n into) is so_far.took took in
-        let tail = stops.front_is.0 ++ (drop m (take n into) ++ split.0) in
+    pub block-stopped : (taken : ℕ) (left next : Option (List ℕ)) (reader : Reader) (x : Desk) (n m : ℕ) (into rest : List ℕ) (old new : Outputs) (stop : Stop) (out mid new_out : List ℕ → Type 0) (made mid_made new_made : List Made → Type 0) (files : ℕ)
+        → setup.design.circuit.horizon ≤ 1000000 → HasServed setup taken first left reader desk x out mid made mid_made → Consumes left next (take n into) → m ≤ n → n ≤ length into → n ≤ 4096 → UnitsStop old new stop
+        → TakesStopped setup reader (take m (into ++ rest)) x mid new_out mid_made new_made files stop → Wrote setup (IsStopped setup script next stop) out new_out made new_made files
+    block-stopped taken left next reader x n m into rest old new stop out mid new_out made mid_made new_made files bound so_far took small within block cause stops =
         let horizon = setup.design.circuit.horizon in
-        let script-is : script ≡ (so_far.bytes ++ stops.front) ++ tail =
-        split.1
-        ∙ ap (λ (l : List ℕ). (so_far.bytes ++ l) ++ split.0) (block-front n m into rest small within ∙ ap (λ (l : List ℕ). l ++ drop m (take n into)) stops.front_is.1)
-        ∙ regroup so_far.bytes stops.front stops.front_is.0 (drop m (take n into)) split.0 in
-        wrote-map (λ replies journal dumps. BreaksAt setup (so_far.units ++ stops.units) replies journal dumps stop) (IsStopped setup script after stop) out new_out made new_made files
-        (λ replies journal dumps broken. stopped-is setup script after old new stop replies journal dumps cause (record {
-          taken = so_far.bytes ++ stops.front;
-          taken_are = (tail, script-is);
-          units = so_far.units ++ stops.units;
-          completed = inl (given-completed horizon (so_far.bytes ++ stops.front) (so_far.units ++ stops.units) stops.later (stops.reads horizon so_far.bytes so_far.units so_far.read) bound);
-          broken = broken;
-        }))
-        (wrote-broken (so_far.units ++ stops.units) out new_out made new_made files stop (stops-more setup desk x so_far.units stops.units out mid new_out made mid_made new_made files stop so_far.served stops.stopped))
+        let unused = drop m (take n into) in
+        let ahead = stops.front_is.0 ++ unused in
+        let given : take n into ≡ ((stops.front ++ stops.last) ++ stops.front_is.0) ++ unused =
+        block-front n m into rest small within ∙ ap (λ (l : List ℕ). l ++ unused) stops.front_is.1 in
+        let gave = stops.gave horizon so_far.bytes so_far.units so_far.read in
+        wrote-map (λ replies journal dumps. Within (so_far.units ++ stops.first) stops.units (λ done later. BreaksAt setup replies journal dumps stop done later)) (IsStopped setup script next stop) out new_out made new_made files
+        (λ replies journal dumps within. stopped-is setup script next old new stop replies journal dumps cause
+        (breaks-there setup script next (so_far.bytes ++ stops.front) stops.last ahead (so_far.units ++ stops.first) stops.units (λ done later. BreaksAt setup replies journal dumps stop done later)
+        (subst (λ (l : List ℕ). Consumes (Some script) next l) (ap (λ (l : List ℕ). so_far.bytes ++ l) given ∙ regroup so_far.bytes stops.front stops.last stops.front_is.0 unused)
+        (Consumes-trans (Some script) left next so_far.bytes (take n into) (subst (λ (f : Option (List ℕ)). Consumes f left so_far.bytes) is so_far.took) took))
+        stops.one (few stops.front stops.last stops.front_is.0 unused given)
+        (given-completed horizon (so_far.bytes ++ stops.front) (so_far.units ++ stops.first) stops.middle gave bound)
+        (inl (given-completed horizon ((so_far.bytes ++ stops.front) ++ stops.last) ((so_far.units ++ stops.first) ++ stops.units) stops.later (stops.reads horizon (so_far.bytes ++ stops.front) (so_far.units ++ stops.first) gave) bound))
+        within))
+        (wrote-broken x so_far.units stops.first stops.units out mid new_out made mid_made new_made files stop so_far.served stops.stopped)
       where
-        regroup : (a b c d e : List ℕ) → (a ++ ((b ++ c) ++ d)) ++ e ≡ (a ++ b) ++ (c ++ (d ++ e))
+        regroup : (a b c d e : List ℕ) → a ++ (((b ++ c) ++ d) ++ e) ≡ (a ++ b) ++ (c ++ (d ++ e))
         regroup a b c d e = simp append_assoc
+
+        few : (a b c d : List ℕ) → take n into ≡ ((a ++ b) ++ c) ++ d → length (b ++ (c ++ d)) ≤ 4096
+        few a b c d whole =
+            omega (arith, ap length whole, length-take n into, length-append b (c ++ d), length-append c d, length-append ((a ++ b) ++ c) d, length-append (a ++ b) c, length-append a b, within, block)
 
     -- the next block was not read
     pub unread : (taken : ℕ) (left next : Option (List ℕ)) (reader : Reader) (x : Desk) (out mid : List ℕ → Type 0) (made mid_made : List Made → Type 0) (files : ℕ)

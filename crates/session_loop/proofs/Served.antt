@@ -1,6 +1,5 @@
 -- A unit that its parts served is a unit of the session; where a part failed, the session breaks off in it.
 use Rattle.std.proofs.Common.{◌≡◌, ℕ, Bool, suc, ◌+◌, ◌<◌, List, [], ◌∷◌, ◌++◌, length, get_or, map, filter, sum_by, Option, Some, refl, sym, ap, subst, ◌∙◌, append_assoc, append-nil, length-append, arith, ◌⊎◌, inl, inr}
-use Rattle.std.specs.Prelude.{⊤}
 use Rattle.std.proofs.Math.ListN.{length-map}
 use Rattle.std.proofs.lemmas.List.Sums.{fold-append, sum_by-append, sum_by-cons}
 use Rattle.std.specs.List.{range_with_len}
@@ -26,24 +25,25 @@ use Rattle.journal_text.specs.declared.sections.SectionKind.TheVariants.{Batch, 
 use Rattle.session_meaning.specs.Replies.{replies_text}
 use Rattle.session_meaning.specs.Written.{kind_of, numbered_section}
 use Rattle.session_meaning.specs.Session.{Setup, Course, IsServed, Session, Served, batch_of, with_section, with_reply, counts_line, cells_stored, trim_entries, is_batch, is_fill, is_eviction, entries_that}
-use Rattle.session_meaning.specs.Broken.{IsPrefix, journal_of, IsBroken}
+use Rattle.session_meaning.specs.Broken.{IsPrefix, journal_of, IsBroken, IsBrokenInJournal}
 use Rattle.session_meaning.specs.Dumps.{wires_of}
-use Rattle.session_meaning.proofs.Journals.{journal-more, broken-none, broken-more, broken-at, prefix-same, prefix-more, prefix-behind}
-use Rattle.session_meaning.proofs.Dumps.{begun-same, dump-broken-more}
+use Rattle.session_meaning.proofs.Journals.{journal-more, prefix-same, prefix-more, prefix-behind}
+use Rattle.session_meaning.proofs.Dumps.{begun-same}
 use Rattle.vcd_answers.specs.Wires.{Wire}
 use Rattle.session_loop.specs.declared.desk.Counts.{Counts}
 use Rattle.session_loop.specs.declared.desk.Desk.{Desk}
 use Rattle.session_loop.specs.declared.desk.Dumps.{Dumps}
 use Rattle.session_loop.specs.declared.desk.LastBatch.{LastBatch}
 use Rattle.session_loop.specs.declared.stop.Stop.{Stop}
-use Rattle.session_loop.specs.declared.stop.Stop.TheVariants.{ScriptUnread, ScriptTooLong, RepliesUnwritten, JournalUnwritten, DumpUnmade, DumpUnwritten, DumpUnfinished, OutOfMemory}
+use Rattle.session_loop.specs.declared.stop.Stop.TheVariants.{OutOfMemory}
 use Rattle.session_loop.specs.Outside.{JournalStops}
 use Rattle.session_loop.specs.inner.Outside.{RepliesStops}
 use Rattle.session_loop.specs.inner.Growing.{FilesGoOn, GrowsPart, FileGrowsPart}
 use Rattle.unit_answers.specs.Stores.{AreStores, cells_of}
 use Rattle.unit_answers.specs.Done.{IsBatchDone, IsTrimDone}
 use Rattle.session_loop.specs.inner.Desks.{IsCount, IsCounted, batches_in, counted_lists, Shows, KeepsDumps, Keeps}
-use Rattle.session_loop.specs.inner.Serving.{ServedTo, BreaksAt, StoppedIn, Serves, Stops}
+use Rattle.session_loop.specs.inner.Serving.{ServedTo, BreaksAt, Within, StoppedIn, Serves, Stops, StopsAfter}
+use Rattle.session_loop.proofs.Breaking.{within-front, within-longer, within-map, within-none, broken-none, broken-at, breaks-longer, breaks-in-reply, breaks-in-journal}
 use Rattle.session_loop.proofs.Growing.{goes-none, goes-more, file-none, files-none, files-more, journal-grows}
 
 -- no entry of a memo of its own is counted
@@ -88,52 +88,35 @@ pub cells-more : (shard : ℕ) (cells left : List SignalCell) (sections : List S
 cells-more shard cells left sections section was leaves =
     leaves ∙ ap (λ l. cells_left shard l section) was ∙ sym (fold-append (cells_left shard) [] sections (section ∷ []))
 
--- a stop of a unit that makes no dump
-abbrev pub IsOfUnit : Stop → Type 0
-IsOfUnit ScriptUnread = ⊥
-IsOfUnit ScriptTooLong = ⊥
-IsOfUnit RepliesUnwritten = ⊤
-IsOfUnit JournalUnwritten = ⊤
-IsOfUnit DumpUnmade = ⊥
-IsOfUnit DumpUnwritten = ⊥
-IsOfUnit DumpUnfinished = ⊥
-IsOfUnit OutOfMemory = ⊤
+-- a stop in the writing of replies, or of the journal
+abbrev pub OfReplies : Stop → Type 0
+OfReplies stop = (old : ℕ) × (new : ℕ) × RepliesStops old new stop
 
--- what it changes of the outside tells so
-pub replies-of-unit : (old new : ℕ) (stop : Stop) → RepliesStops old new stop → IsOfUnit stop
-replies-of-unit old new ScriptUnread h = h
-replies-of-unit old new ScriptTooLong h = h
-replies-of-unit old new RepliesUnwritten h = tt
-replies-of-unit old new JournalUnwritten h = tt
-replies-of-unit old new DumpUnmade h = h
-replies-of-unit old new DumpUnwritten h = h
-replies-of-unit old new DumpUnfinished h = h
-replies-of-unit old new OutOfMemory h = tt
+abbrev pub OfJournal : Stop → Type 0
+OfJournal stop = (old : FilesState) × (new : FilesState) × JournalStops old new stop
 
-pub journal-of-unit : (old new : FilesState) (stop : Stop) → JournalStops old new stop → IsOfUnit stop
-journal-of-unit old new ScriptUnread h = h
-journal-of-unit old new ScriptTooLong h = h
-journal-of-unit old new RepliesUnwritten h = tt
-journal-of-unit old new JournalUnwritten h = tt
-journal-of-unit old new DumpUnmade h = h
-journal-of-unit old new DumpUnwritten h = h
-journal-of-unit old new DumpUnfinished h = h
-journal-of-unit old new OutOfMemory h = tt
-
--- A part of a text was written, and a part of the lines after it: of the lines only once all of the text was.
-pub record WritesPart (out new_out : List ℕ → Type 0) (made new_made : List Made → Type 0) (text lines : List ℕ) : Type 0 where
+-- A part of a text was written, and a part of the lines after it: of the lines only once all of the text was. The stop is one of the text,
+-- or of the lines, behind all of the text.
+pub record WritesPart (out new_out : List ℕ → Type 0) (made new_made : List Made → Type 0) (text lines : List ℕ) (stop : Stop) : Type 0 where
   pub replied : GrowsPart out new_out text
   pub recorded : FileGrowsPart made new_made 0 lines
   pub first : (replied.0 ≡ text) ⊎ (recorded.0 ≡ [])
+  pub cause : OfReplies stop ⊎ (OfJournal stop × (replied.0 ≡ text))
 
 -- the text was begun
-pub text-begun : (out new_out : List ℕ → Type 0) (made : List Made → Type 0) (text lines : List ℕ) → GrowsPart out new_out text → WritesPart out new_out made made text lines
-text-begun out new_out made text lines replied = record { replied = replied; recorded = ([], (lines, refl), file-none made 0); first = inr refl }
+pub text-begun : (old new : ℕ) (stop : Stop) → RepliesStops old new stop → (out new_out : List ℕ → Type 0) (made : List Made → Type 0) (text lines : List ℕ) → GrowsPart out new_out text
+    → WritesPart out new_out made made text lines stop
+text-begun old new stop cause out new_out made text lines replied = record { replied = replied; recorded = ([], (lines, refl), file-none made 0); first = inr refl; cause = inl (old, new, cause) }
 
 -- the lines were begun
-pub lines-begun : (out new_out : List ℕ → Type 0) (made new_made : List Made → Type 0) (text lines : List ℕ) → Grows out new_out text → FileGrowsPart made new_made 0 lines
-    → WritesPart out new_out made new_made text lines
-lines-begun out new_out made new_made text lines replied recorded = record { replied = (text, prefix-same text, replied); recorded = recorded; first = inl refl }
+pub lines-begun : (old new : FilesState) (stop : Stop) → JournalStops old new stop → (out new_out : List ℕ → Type 0) (made new_made : List Made → Type 0) (text lines : List ℕ)
+    → Grows out new_out text → FileGrowsPart made new_made 0 lines → WritesPart out new_out made new_made text lines stop
+lines-begun old new stop cause out new_out made new_made text lines replied recorded = record {
+  replied = (text, prefix-same text, replied);
+  recorded = recorded;
+  first = inl refl;
+  cause = inr ((old, new, cause), refl);
+}
 
 module _ (setup : Setup) where
   -- what is kept for dumps, where no dump is made
@@ -150,17 +133,6 @@ module _ (setup : Setup) where
   -- how many files are created: the journal, and the dumps
   pub count-of : (desk : Desk) (now : Course) (files : ℕ) → Keeps setup desk now → files ≡ length desk.dumps.made.items + 1 → files ≡ length now.dumps + 1
   count-of desk now files keeps many = many ∙ ap (λ n. n + 1) (ap length keeps.dumps.made ∙ length-map now.dumps (λ (dump : Made). dump.name))
-
-  -- a stop that isn't one of a dump
-  breaks-in : (us : List ScriptUnit) (replies journal : List ℕ) (dumps : List Made) (stop : Stop) → IsOfUnit stop → IsBroken setup us replies journal dumps → BreaksAt setup us replies journal dumps stop
-  breaks-in us replies journal dumps ScriptUnread cause broken = absurd cause
-  breaks-in us replies journal dumps ScriptTooLong cause broken = absurd cause
-  breaks-in us replies journal dumps RepliesUnwritten cause broken = broken
-  breaks-in us replies journal dumps JournalUnwritten cause broken = broken
-  breaks-in us replies journal dumps DumpUnmade cause broken = absurd cause
-  breaks-in us replies journal dumps DumpUnwritten cause broken = absurd cause
-  breaks-in us replies journal dumps DumpUnfinished cause broken = absurd cause
-  breaks-in us replies journal dumps OutOfMemory cause broken = broken
 
   module _ (units : List ScriptUnit) (unit : ScriptUnit) (now : Course) (desk : Desk) (session : Session setup units now) (keeps : Keeps setup desk now) (out new_out : List ℕ → Type 0) (made new_made : List Made → Type 0) where
     module _ (sections : List SectionEntries) (text : List ℕ) (waves : Option (List Wire)) (lines : List ℕ) where
@@ -181,25 +153,57 @@ module _ (setup : Setup) where
         }
 
         -- a part of the text and a part of the lines
-        pub sections-stopped : (files : ℕ) (stop : Stop) → files ≡ length desk.dumps.made.items + 1 → IsOfUnit stop
-            → WritesPart out new_out made new_made text lines → StoppedIn setup (units ++ unit ∷ []) now out new_out made new_made files stop
-        sections-stopped files stop many cause wrote = let replied = wrote.replied in let recorded = wrote.recorded in record {
-          replies = now.out ++ replied.0;
-          journal = journal_of setup now ++ recorded.0;
-          dumps = now.dumps;
-          broken = breaks-in (units ++ unit ∷ []) (now.out ++ replied.0) (journal_of setup now ++ recorded.0) now.dumps stop cause
-              (broken-at setup units unit now leads-to (now.out ++ replied.0) (journal_of setup now ++ recorded.0) now.dumps session served
-              (prefix-more now.out replied.0) (prefix-more (journal_of setup now) recorded.0) (prefix-behind now.out replied.0 text replied.1)
-              (subst (λ j. IsPrefix (journal_of setup now ++ recorded.0) j) (sym journal-is) (prefix-behind (journal_of setup now) recorded.0 lines recorded.1))
-              ([], sym (append-nil now.dumps)) (begun-same now.dumps) (replies-first wrote.first) (inr refl) (λ _ _. refl));
-          replied = (replied.0, refl, replied.2);
-          recorded = journal-grows made new_made (journal_of setup now) recorded.0 now.dumps recorded.2;
-          count = count-of desk now files keeps many;
-        }
-          where
-            replies-first : (wrote.replied.0 ≡ text) ⊎ (wrote.recorded.0 ≡ []) → (now.out ++ wrote.replied.0 ≡ now.out ++ text) ⊎ (journal_of setup now ++ wrote.recorded.0 ≡ journal_of setup now)
-            replies-first (inl whole) = inl (ap (λ l. now.out ++ l) whole)
-            replies-first (inr none) = inr (ap (λ l. journal_of setup now ++ l) none ∙ append-nil (journal_of setup now))
+        module _ (stop : Stop) (wrote : WritesPart out new_out made new_made text lines stop) where
+          abbrev replies : List ℕ
+          replies = now.out ++ wrote.replied.0
+
+          abbrev journal : List ℕ
+          journal = journal_of setup now ++ wrote.recorded.0
+
+          within-lines : IsPrefix journal (journal_of setup leads-to)
+          within-lines = subst (λ j. IsPrefix journal j) (sym journal-is) (prefix-behind (journal_of setup now) wrote.recorded.0 lines wrote.recorded.1)
+
+          replies-first : (wrote.replied.0 ≡ text) ⊎ (wrote.recorded.0 ≡ []) → (replies ≡ now.out ++ text) ⊎ (journal ≡ journal_of setup now)
+          replies-first (inl whole) = inl (ap (λ l. now.out ++ l) whole)
+          replies-first (inr none) = inr (ap (λ l. journal_of setup now ++ l) none ∙ append-nil (journal_of setup now))
+
+          in-unit : Within units (unit ∷ []) (λ done later. IsBroken setup done later replies journal now.dumps)
+          in-unit =
+              broken-at setup units unit now leads-to replies journal now.dumps session served
+              (prefix-more now.out wrote.replied.0) (prefix-more (journal_of setup now) wrote.recorded.0) (prefix-behind now.out wrote.replied.0 text wrote.replied.1) within-lines
+              ([], sym (append-nil now.dumps)) (begun-same now.dumps) (replies-first wrote.first) (inr refl) (λ _ _. refl)
+
+          in-journal : wrote.replied.0 ≡ text → IsBrokenInJournal setup units (unit ∷ []) replies journal now.dumps
+          in-journal whole = record {
+            unit = unit;
+            rest = [];
+            later_is = refl;
+            now = now;
+            served = session;
+            next = leads-to;
+            answered = served;
+            out_is = ap (λ l. now.out ++ l) whole;
+            dumps_are = refl;
+            recorded = prefix-more (journal_of setup now) wrote.recorded.0;
+            begun = within-lines;
+          }
+
+          by-cause : OfReplies stop ⊎ (OfJournal stop × (wrote.replied.0 ≡ text)) → Within units (unit ∷ []) (BreaksAt setup replies journal now.dumps stop)
+          by-cause (inl cause) =
+              within-map units (unit ∷ []) (λ done later. IsBroken setup done later replies journal now.dumps) (BreaksAt setup replies journal now.dumps stop)
+              (breaks-in-reply setup replies journal now.dumps cause.0 cause.1 stop cause.2) in-unit
+          by-cause (inr (cause, whole)) = breaks-in-journal setup units (unit ∷ []) replies journal now.dumps cause.0 cause.1 stop cause.2 (in-journal whole) in-unit
+
+          pub sections-stopped : (files : ℕ) → files ≡ length desk.dumps.made.items + 1 → StoppedIn setup units (unit ∷ []) now out new_out made new_made files stop
+          sections-stopped files many = record {
+            replies = replies;
+            journal = journal;
+            dumps = now.dumps;
+            broken = by-cause wrote.cause;
+            replied = (wrote.replied.0, refl, wrote.replied.2);
+            recorded = journal-grows made new_made (journal_of setup now) wrote.recorded.0 now.dumps wrote.recorded.2;
+            count = count-of desk now files keeps many;
+          }
 
     module _ (purpose : Purpose) (lists : List (List Entry)) (text : List ℕ) (waves : Option (List Wire)) where
       abbrev section : SectionEntries
@@ -229,9 +233,9 @@ module _ (setup : Setup) where
             })
 
         -- a part of its replies and a part of its section
-        pub section-stopped : (files : ℕ) (stop : Stop) → files ≡ length desk.dumps.made.items + 1 → IsOfUnit stop
-            → WritesPart out new_out made new_made text section-text → StoppedIn setup (units ++ unit ∷ []) now out new_out made new_made files stop
-        section-stopped = sections-stopped (now.sections ++ section ∷ []) text waves section-text served journal-is
+        pub section-stopped : (files : ℕ) (stop : Stop) → files ≡ length desk.dumps.made.items + 1
+            → WritesPart out new_out made new_made text section-text stop → StoppedIn setup units (unit ∷ []) now out new_out made new_made files stop
+        section-stopped files stop many wrote = sections-stopped (now.sections ++ section ∷ []) text waves section-text served journal-is stop wrote files many
 
     -- a reply alone
     pub reply-served : (text : List ℕ) → IsServed setup now unit (with_reply now text) → Grows out new_out text → ServedTo setup (units ++ unit ∷ []) now desk out new_out made made
@@ -243,13 +247,14 @@ module _ (setup : Setup) where
       recorded = files-none made (journal_of setup now) now.dumps;
     }
 
-    pub reply-stopped : (text : List ℕ) (files : ℕ) (stop : Stop) → IsServed setup now unit (with_reply now text) → files ≡ length desk.dumps.made.items + 1 → IsOfUnit stop
-        → GrowsPart out new_out text → StoppedIn setup (units ++ unit ∷ []) now out new_out made made files stop
-    reply-stopped text files stop served many cause replied = record {
+    pub reply-stopped : (text : List ℕ) (files old new : ℕ) (stop : Stop) → IsServed setup now unit (with_reply now text) → files ≡ length desk.dumps.made.items + 1 → RepliesStops old new stop
+        → GrowsPart out new_out text → StoppedIn setup units (unit ∷ []) now out new_out made made files stop
+    reply-stopped text files old new stop served many cause replied = record {
       replies = now.out ++ replied.0;
       journal = journal_of setup now;
       dumps = now.dumps;
-      broken = breaks-in (units ++ unit ∷ []) (now.out ++ replied.0) (journal_of setup now) now.dumps stop cause
+      broken = within-map units (unit ∷ []) (λ done later. IsBroken setup done later (now.out ++ replied.0) (journal_of setup now) now.dumps) (BreaksAt setup (now.out ++ replied.0) (journal_of setup now) now.dumps stop)
+          (breaks-in-reply setup (now.out ++ replied.0) (journal_of setup now) now.dumps old new stop cause)
           (broken-at setup units unit now (with_reply now text) (now.out ++ replied.0) (journal_of setup now) now.dumps session served
           (prefix-more now.out replied.0) (prefix-same (journal_of setup now)) (prefix-behind now.out replied.0 text replied.1) (prefix-same (journal_of setup now))
           ([], sym (append-nil now.dumps)) (begun-same now.dumps) (inr refl) (inr refl) (λ _ _. refl));
@@ -264,7 +269,7 @@ module _ (setup : Setup) where
     replies = now.out;
     journal = journal_of setup now;
     dumps = now.dumps;
-    broken = broken-more setup units more now.out (journal_of setup now) now.dumps (broken-none setup units now session);
+    broken = within-none units more (BreaksAt setup now.out (journal_of setup now) now.dumps OutOfMemory) (broken-none setup units more now session);
     replied = goes-none out now.out;
     recorded = files-none made (journal_of setup now) now.dumps;
     count = count-of desk now files keeps many;
@@ -299,12 +304,12 @@ module _ (setup : Setup) where
         })
         replied recorded
 
-    pub batch-stopped : (files : ℕ) (stop : Stop) → files ≡ length desk.dumps.made.items + 1 → IsOfUnit stop
-        → WritesPart out new_out made new_made (replies_text items replies) (section_lines (record { kind = Batch; number = counts.sections; shards = lists }))
+    pub batch-stopped : (files : ℕ) (stop : Stop) → files ≡ length desk.dumps.made.items + 1
+        → WritesPart out new_out made new_made (replies_text items replies) (section_lines (record { kind = Batch; number = counts.sections; shards = lists })) stop
         → Stops setup desk (units.Batch items ∷ []) out new_out made new_made files stop
-    batch-stopped files stop many cause wrote us now session keeps =
+    batch-stopped files stop many wrote us now session keeps =
         section-stopped us (units.Batch items) now desk session keeps out new_out made new_made (Asks (batch_of setup items)) lists (replies_text items replies) shown (is-served now keeps) counts.sections counted.sections
-        files stop many cause wrote
+        files stop many wrote
 
   -- A trim.
   module _ (most : ℕ) (desk : Desk) (lists : List (List Entry)) (left : List Contents) (done : IsTrimDone setup most desk.stores.items lists left) (counts : Counts) (counted : IsCounted desk.counts Trim lists counts) (out new_out : List ℕ → Type 0) (made new_made : List Made → Type 0) where
@@ -325,12 +330,12 @@ module _ (setup : Setup) where
         later (subst (λ c. IsCounted desk.counts Trim lists c) (sym same) counted) (λ shard h. ap (λ l. cells_of l shard) stores ∙ done.leaves shard h)
         (kept-dumps desk.dumps later.dumps now (with_section now Trims lists text) dumps refl refl keeps.dumps) replied recorded
 
-    pub trim-stopped : (files : ℕ) (stop : Stop) → files ≡ length desk.dumps.made.items + 1 → IsOfUnit stop
-        → WritesPart out new_out made new_made (trimmed_line (sum_by length lists)) (section_lines (record { kind = Trim; number = counts.sections; shards = lists }))
+    pub trim-stopped : (files : ℕ) (stop : Stop) → files ≡ length desk.dumps.made.items + 1
+        → WritesPart out new_out made new_made (trimmed_line (sum_by length lists)) (section_lines (record { kind = Trim; number = counts.sections; shards = lists })) stop
         → Stops setup desk (units.Trim most ∷ []) out new_out made new_made files stop
-    trim-stopped files stop many cause wrote us now session keeps =
+    trim-stopped files stop many wrote us now session keeps =
         section-stopped us (units.Trim most) now desk session keeps out new_out made new_made Trims lists (trimmed_line (sum_by length lists)) now.waves (is-trimmed now keeps) counts.sections counted.sections
-        files stop many cause wrote
+        files stop many wrote
 
   -- The counts.
   stored-from : (stores : List Contents) (first : ℕ) (cells : ℕ → List SignalCell) → ((i : ℕ) → i < length stores → cells_of stores i ≡ cells (first + i))
@@ -356,8 +361,8 @@ module _ (setup : Setup) where
     pub stats-served : Grows out new_out told → Serves setup desk desk (units.Stats ∷ []) out new_out made made
     stats-served replied us now session keeps = reply-served us units.Stats now desk session keeps out new_out made made told (ap (with_reply now) (told-is now keeps)) replied
 
-    pub stats-stopped : (files : ℕ) (stop : Stop) → files ≡ length desk.dumps.made.items + 1 → IsOfUnit stop → GrowsPart out new_out told → Stops setup desk (units.Stats ∷ []) out new_out made made files stop
-    stats-stopped files stop many cause replied us now session keeps = reply-stopped us units.Stats now desk session keeps out new_out made made told files stop (ap (with_reply now) (told-is now keeps)) many cause replied
+    pub stats-stopped : (files old new : ℕ) (stop : Stop) → files ≡ length desk.dumps.made.items + 1 → RepliesStops old new stop → GrowsPart out new_out told → Stops setup desk (units.Stats ∷ []) out new_out made made files stop
+    stats-stopped files old new stop many cause replied us now session keeps = reply-stopped us units.Stats now desk session keeps out new_out made made told files old new stop (ap (with_reply now) (told-is now keeps)) many cause replied
 
   -- One unit after another.
   pub serves-none : (desk : Desk) (out : List ℕ → Type 0) (made : List Made → Type 0) → Serves setup desk desk [] out out made made
@@ -383,30 +388,40 @@ module _ (setup : Setup) where
       }
 
   -- a stop after units that were served
-  pub stops-more : (a b : Desk) (us vs : List ScriptUnit) (out mid new_out : List ℕ → Type 0) (made mid_made new_made : List Made → Type 0) (files : ℕ) (stop : Stop)
-      → Serves setup a b us out mid made mid_made → Stops setup b vs mid new_out mid_made new_made files stop → Stops setup a (us ++ vs) out new_out made new_made files stop
-  stops-more a b us vs out mid new_out made mid_made new_made files stop first then units now session keeps =
+  pub stops-after : (a b : Desk) (us vs : List ScriptUnit) (out mid new_out : List ℕ → Type 0) (made mid_made new_made : List Made → Type 0) (files : ℕ) (stop : Stop)
+      → Serves setup a b us out mid made mid_made → Stops setup b vs mid new_out mid_made new_made files stop → StopsAfter setup a us vs out new_out made new_made files stop
+  stops-after a b us vs out mid new_out made mid_made new_made files stop first then units now session keeps =
       let f = first units now session keeps in
       let g = then (units ++ us) f.next f.session f.keeps in
       record {
         replies = g.replies;
         journal = g.journal;
         dumps = g.dumps;
-        broken = subst (λ l. BreaksAt setup l g.replies g.journal g.dumps stop) (append_assoc units us vs) g.broken;
+        broken = g.broken;
         replied = goes-more out mid new_out now.out f.next.out g.replies f.replied g.replied;
         recorded = files-more made mid_made new_made (journal_of setup now) (journal_of setup f.next) g.journal now.dumps f.next.dumps g.dumps f.recorded g.recorded;
         count = g.count;
       }
 
-  breaks-more : (us more : List ScriptUnit) (replies journal : List ℕ) (dumps : List Made) (stop : Stop) → BreaksAt setup us replies journal dumps stop → BreaksAt setup (us ++ more) replies journal dumps stop
-  breaks-more us more replies journal dumps ScriptUnread broken = broken-more setup us more replies journal dumps broken
-  breaks-more us more replies journal dumps ScriptTooLong broken = broken-more setup us more replies journal dumps broken
-  breaks-more us more replies journal dumps RepliesUnwritten broken = broken-more setup us more replies journal dumps broken
-  breaks-more us more replies journal dumps JournalUnwritten broken = broken-more setup us more replies journal dumps broken
-  breaks-more us more replies journal dumps DumpUnmade broken = dump-broken-more setup us more replies journal dumps broken
-  breaks-more us more replies journal dumps DumpUnwritten broken = dump-broken-more setup us more replies journal dumps broken
-  breaks-more us more replies journal dumps DumpUnfinished broken = dump-broken-more setup us more replies journal dumps broken
-  breaks-more us more replies journal dumps OutOfMemory broken = broken-more setup us more replies journal dumps broken
+  -- no unit was served before
+  pub stops-now : (desk : Desk) (more : List ScriptUnit) (out new_out : List ℕ → Type 0) (made new_made : List Made → Type 0) (files : ℕ) (stop : Stop)
+      → Stops setup desk more out new_out made new_made files stop → StopsAfter setup desk [] more out new_out made new_made files stop
+  stops-now desk more out new_out made new_made files stop stopped units now session keeps =
+      subst (λ l. StoppedIn setup l more now out new_out made new_made files stop) (sym (append-nil units)) (stopped units now session keeps)
+
+  pub stops-more : (a b : Desk) (us vs : List ScriptUnit) (out mid new_out : List ℕ → Type 0) (made mid_made new_made : List Made → Type 0) (files : ℕ) (stop : Stop)
+      → Serves setup a b us out mid made mid_made → Stops setup b vs mid new_out mid_made new_made files stop → Stops setup a (us ++ vs) out new_out made new_made files stop
+  stops-more a b us vs out mid new_out made mid_made new_made files stop first then units now session keeps =
+      let g = stops-after a b us vs out mid new_out made mid_made new_made files stop first then units now session keeps in
+      record {
+        replies = g.replies;
+        journal = g.journal;
+        dumps = g.dumps;
+        broken = within-front units us vs (BreaksAt setup g.replies g.journal g.dumps stop) g.broken;
+        replied = g.replied;
+        recorded = g.recorded;
+        count = g.count;
+      }
 
   -- a stop in the first of these units
   pub stops-longer : (desk : Desk) (us more : List ScriptUnit) (out new_out : List ℕ → Type 0) (made new_made : List Made → Type 0) (files : ℕ) (stop : Stop)
@@ -417,7 +432,7 @@ module _ (setup : Setup) where
         replies = s.replies;
         journal = s.journal;
         dumps = s.dumps;
-        broken = subst (λ l. BreaksAt setup l s.replies s.journal s.dumps stop) (append_assoc units us more) (breaks-more (units ++ us) more s.replies s.journal s.dumps stop s.broken);
+        broken = within-longer units us more (BreaksAt setup s.replies s.journal s.dumps stop) (λ done later. breaks-longer setup s.replies s.journal s.dumps stop done later more) s.broken;
         replied = s.replied;
         recorded = s.recorded;
         count = s.count;

@@ -13,7 +13,7 @@ use Rattle.session_loop.specs.declared.desk.Desk.{Desk}
 use Rattle.session_loop.specs.declared.stop.Stop.{Stop}
 use Rattle.session_loop.specs.declared.stop.Stop.TheVariants.{OutOfMemory}
 use Rattle.session_loop.specs.inner.Serving.{Serves, Stops, HasTaken, Reads, Ends, TakesServed, TakesStopped, EndsServed, EndsStopped}
-use Rattle.session_loop.proofs.Served.{serves-none, serves-more, stops-none, stops-more}
+use Rattle.session_loop.proofs.Served.{serves-none, serves-more, stops-none, stops-after}
 
 -- one byte more was taken
 pub taken-more : (horizon : ℕ) (reader later : Reader) (taken byte : ℕ) (units : List ScriptUnit) → Reads reader later (byte ∷ []) units → HasTaken horizon taken reader → HasTaken horizon (taken + 1) later
@@ -58,11 +58,16 @@ module _ (setup : Setup) where
       → TakesServed setup a b (take i bytes) x y out mid made mid_made → TakesStopped setup a bytes x out mid made mid_made files OutOfMemory
   takes-rest a b bytes i x y out mid made mid_made files count first = record {
     front = take i bytes;
-    front_is = (drop i bytes, sym (take-append-drop i bytes));
+    last = [];
+    one = omega arith;
+    front_is = (drop i bytes, sym (take-append-drop i bytes) ∙ ap (λ l. l ++ drop i bytes) (sym (append-nil (take i bytes))));
+    middle = b;
     later = b;
-    units = first.units ++ [];
-    reads = subst (Reads a b (take i bytes)) (sym (append-nil first.units)) first.reads;
-    stopped = stops-more setup x y first.units [] out mid mid made mid_made mid_made files OutOfMemory first.served (stops-none setup y [] mid mid_made files count);
+    first = first.units;
+    units = [];
+    gave = first.reads;
+    reads = reads-none b;
+    stopped = stops-after setup x y first.units [] out mid mid made mid_made mid_made files OutOfMemory first.served (stops-none setup y [] mid mid_made files count);
   }
 
   -- the session broke off in the units that a byte gave
@@ -70,12 +75,17 @@ module _ (setup : Setup) where
       → TakesServed setup a b (take i bytes) x y out mid made mid_made → Reads b c (get_or bytes i 0 ∷ []) units
       → Stops setup y units mid new_out mid_made new_made files stop → TakesStopped setup a bytes x out new_out made new_made files stop
   takes-stop a b c bytes i units x y out mid new_out made mid_made new_made files stop within first reads stopped = record {
-    front = take i bytes ++ get_or bytes i 0 ∷ [];
+    front = take i bytes;
+    last = get_or bytes i 0 ∷ [];
+    one = omega arith;
     front_is = (drop (i + 1) bytes, sym (take-append-drop (i + 1) bytes) ∙ ap (λ l. l ++ drop (i + 1) bytes) (take_more bytes i 0 within));
+    middle = b;
     later = c;
-    units = first.units ++ units;
-    reads = reads-more a b c (take i bytes) (get_or bytes i 0 ∷ []) first.units units first.reads reads;
-    stopped = stops-more setup x y first.units units out mid new_out made mid_made new_made files stop first.served stopped;
+    first = first.units;
+    units = units;
+    gave = first.reads;
+    reads = reads;
+    stopped = stops-after setup x y first.units units out mid new_out made mid_made new_made files stop first.served stopped;
   }
 
   pub ends-served : {E : Type 0} (reader : Reader) (units : List ScriptUnit) (x : Desk) (result : Result Desk E) (out new_out : List ℕ → Type 0) (made new_made : List Made → Type 0) → Ends reader units

@@ -1,9 +1,8 @@
 -- The journal of a session of one batch.
-use Rattle.std.proofs.Common.{◌≡◌, ℕ, ◌<◌, List, [], ◌++◌, get_or, refl, sym, ap, subst, ◌∙◌, append-nil, Err, inl, inr}
+use Rattle.std.proofs.Common.{◌≡◌, ℕ, ◌<◌, List, [], ◌++◌, get_or, refl, sym, ap, subst, ◌∙◌, append-nil, inl, inr}
 use Rattle.cell_store.specs.Recency.{Contents}
 use Rattle.owned_text.specs.Made.{Made}
-use Rattle.backsim_io.specs.FilesInMemory.{FileGrows, SameMade}
-use Rattle.backsim_io.specs.State.{FilesState}
+use Rattle.backsim_io.specs.FilesInMemory.{FileGrows}
 use Rattle.journal_meaning.specs.declared.Entry.{Entry}
 use Rattle.journal_meaning.specs.Replay.{IsLegalBatch}
 use Rattle.journal_meaning.specs.Sections.{Asks}
@@ -16,16 +15,15 @@ use Rattle.session_meaning.specs.Replies.{replies_text}
 use Rattle.session_meaning.specs.Dumps.{wires_of}
 use Rattle.session_meaning.specs.Session.{Setup, Course, Opened, first_course, batch_of, with_section, with_waves, IsBatchServed}
 use Rattle.session_meaning.specs.Broken.{IsPrefix, journal_of}
-use Rattle.session_meaning.proofs.Journals.{journal-more, broken-at, prefix-same, prefix-behind}
+use Rattle.session_meaning.proofs.Journals.{journal-more, prefix-same, prefix-behind}
 use Rattle.unit_answers.specs.Stores.{cells_of}
 use Rattle.unit_answers.specs.Done.{IsBatchDone}
 use Rattle.session_loop.specs.declared.halt.Halt.{Halt}
 use Rattle.session_loop.specs.declared.halt.Halt.TheVariants.{JournalUnmade, Stopped, JournalUnfinished}
 use Rattle.session_loop.specs.inner.Growing.{FileGrowsPart}
-use Rattle.session_loop.specs.Halting.{Stands, WroteJournal, IsWork, IsWorkDone, IsWorkBegun, IsWorkHalted}
+use Rattle.session_loop.specs.Halting.{Stands, WroteJournal, IsWork, IsWorkBegun, IsWorkHalted}
 use Rattle.session_loop.specs.inner.Halting.{IsHeadHalted}
-use Rattle.session_loop.specs.inner.Outside.{FinishChanges}
-use Rattle.session_loop.proofs.Files.{stands-same, stands-more}
+use Rattle.session_loop.proofs.Files.{stands-more}
 
 module _ (setup : Setup) (items : List Item) (name : List ℕ) where
   -- the head at most was written
@@ -80,22 +78,19 @@ module _ (setup : Setup) (items : List Item) (name : List ℕ) where
           journal = head ++ part.0;
           are = inr (
             replies,
-            broken-at setup [] (units.Batch items) first_course next (replies_text items replies) (head ++ part.0) [] Opened served (replies_text items replies, refl)
-                (part.0, ap (λ l. l ++ part.0) (sym (append-nil head))) (prefix-same (replies_text items replies))
-                (subst (IsPrefix (head ++ part.0)) (sym whole) (prefix-behind head part.0 work_text part.1))
-                ([], refl) tt (inl refl) (inr refl) (λ _ _. refl),
+            record {
+              unit = units.Batch items;
+              rest = [];
+              later_is = refl;
+              now = first_course;
+              served = Opened;
+              next = next;
+              answered = served;
+              out_is = refl;
+              dumps_are = refl;
+              recorded = (part.0, ap (λ l. l ++ part.0) (sym (append-nil head)));
+              begun = subst (IsPrefix (head ++ part.0)) (sym whole) (prefix-behind head part.0 work_text part.1);
+            },
           );
           created = stands-more name head part.0 m0 m1 m2 stands part.2;
         }
-
-  -- the journal stays as it is while it is finished
-  pub work-same : (such : List ℕ → Type 0) (m0 m1 m2 : List Made → Type 0) → WroteJournal such name m0 m1 → SameMade m1 m2 → WroteJournal such name m0 m2
-  work-same such m0 m1 m2 wrote same = record { journal = wrote.journal; are = wrote.are; created = stands-same name wrote.journal m0 m1 m2 wrote.created same }
-
-  pub work-done : (replies : List Reply) (m0 m1 : List Made → Type 0) → WroteJournal (IsWork setup items replies) name m0 m1 → WroteJournal (IsWorkDone setup items) name m0 m1
-  work-done replies m0 m1 wrote = record { journal = wrote.journal; are = (replies, wrote.are); created = wrote.created }
-
-  pub work-halted : (m0 m1 : List Made → Type 0) (mid new : FilesState) (halt : Halt) → WroteJournal (IsWorkDone setup items) name m0 m1 → FinishChanges {A = ℕ} mid new (Err halt) → IsWorkHalted setup items name m0 m1 halt
-  work-halted m0 m1 mid new JournalUnmade wrote h = absurd h
-  work-halted m0 m1 mid new (Stopped stop) wrote h = absurd h
-  work-halted m0 m1 mid new JournalUnfinished wrote fault = wrote

@@ -9,7 +9,7 @@ use Rattle.query_lines.specs.declared.unit.Unit.TheVariants.{Batch}
 use Rattle.reply_lines.specs.declared.reply.Reply.{Reply}
 use Rattle.session_meaning.specs.Replies.{replies_text}
 use Rattle.session_meaning.specs.Session.{Setup, Course, first_course, IsBatchServed, IsSessionOf}
-use Rattle.session_meaning.specs.Broken.{IsPrefix, journal_of, IsHeadBegun, IsBroken}
+use Rattle.session_meaning.specs.Broken.{IsPrefix, journal_of, IsHeadBegun, IsBrokenInJournal}
 use Rattle.session_loop.specs.declared.stop.Stop.{Stop}
 use Rattle.session_loop.specs.declared.stop.Stop.TheVariants.{ScriptUnread, ScriptTooLong, RepliesUnwritten, JournalUnwritten, DumpUnmade, DumpUnwritten, DumpUnfinished, OutOfMemory}
 use Rattle.session_loop.specs.declared.halt.Halt.{Halt}
@@ -90,10 +90,10 @@ IsWorkDone setup items journal = (replies : List Reply) × IsWork setup items re
 -- after it
 abbrev pub IsWorkBegun : Setup → List Item → List ℕ → Type 0
 IsWorkBegun setup items journal = IsPrefix journal (head_line setup.shards setup.capacity)
-    ⊎ ((replies : List Reply) × IsBroken setup (Batch items ∷ []) (replies_text items replies) journal [])
+    ⊎ ((replies : List Reply) × IsBrokenInJournal setup [] (Batch items ∷ []) (replies_text items replies) journal [])
 
 -- what stands where a session of one batch halts
 abbrev pub IsWorkHalted : Setup → List Item → List ℕ → (List Made → Type 0) → (List Made → Type 0) → Halt → Type 0
 IsWorkHalted setup items name made new_made JournalUnmade = SameMade made new_made
 IsWorkHalted setup items name made new_made (Stopped stop) = WroteJournal (IsWorkBegun setup items) name made new_made
-IsWorkHalted setup items name made new_made JournalUnfinished = WroteJournal (IsWorkDone setup items) name made new_made
+IsWorkHalted setup items name made new_made JournalUnfinished = ⊥

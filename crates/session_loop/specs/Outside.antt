@@ -1,6 +1,7 @@
 -- What a session changes of the outside: of its files, of its script's source and of the sink of its
 -- replies. The bytes that it writes are told elsewhere.
 use Rattle.std.specs.Prelude.{◌≡◌, ◌≤◌, ℕ, ◌+◌, [], ◌∷◌, ◌++◌, Result, Ok, Err}
+use Rattle.backsim_io.specs.FilesInMemory.{list_without}
 use Rattle.backsim_io.specs.State.{FilesState, SourceState, FileFault, WriteFault, Rises}
 use Rattle.session_loop.specs.declared.stop.Stop.{Stop}
 use Rattle.session_loop.specs.declared.stop.Stop.TheVariants.{ScriptUnread, ScriptTooLong, RepliesUnwritten, JournalUnwritten, DumpUnmade, DumpUnwritten, DumpUnfinished, OutOfMemory}
@@ -135,12 +136,19 @@ abbrev pub SessionChanges : {A : Type 0} → Outside → Outside → Result A Ha
 SessionChanges old new (Ok done) = Served old new
 SessionChanges old new (Err halt) = SessionHalts old new halt
 
--- what a session of one batch changes of files, by its outcome
+-- What a session of one batch changes of files, by its outcome. Its journal is left to be finished.
 abbrev pub WorkHalts : FilesState → FilesState → Halt → Type 0
 WorkHalts old new JournalUnmade = FileFault old new
 WorkHalts old new (Stopped stop) = JournalStops (with_file old) new stop
-WorkHalts old new JournalUnfinished = FileFault (with_file old) new
+WorkHalts old new JournalUnfinished = ⊥
 
 abbrev pub WorkChanges : {A : Type 0} → FilesState → FilesState → Result A Halt → Type 0
-WorkChanges old new (Ok done) = new ≡ record old { created = old.created + 1 }
+WorkChanges old new (Ok done) = new ≡ with_file old
 WorkChanges old new (Err halt) = WorkHalts old new halt
+
+-- what the end of a journal changes of files, by its outcome
+abbrev pub FinishChanges : {A : Type 0} → FilesState → FilesState → Result A Halt → Type 0
+FinishChanges old new (Ok done) = new ≡ record old { unfinished = list_without old.unfinished 0 }
+FinishChanges old new (Err JournalUnmade) = ⊥
+FinishChanges old new (Err (Stopped stop)) = ⊥
+FinishChanges old new (Err JournalUnfinished) = FileFault old new

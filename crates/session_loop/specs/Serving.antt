@@ -1,9 +1,11 @@
--- How far a session was served, and where it stopped.
-use Rattle.std.specs.Prelude.{ℕ, List, Option, Some}
+-- How far a session was served, and where in its script it stopped.
+use Rattle.std.specs.Prelude.{◌≡◌, ◌≤◌, ◌⊎◌, ℕ, List, ◌++◌, length, Option, Some}
 use Rattle.std.specs.Io.KnownBytes.{Consumes}
 use Rattle.owned_text.specs.Made.{Made}
+use Rattle.query_lines.specs.declared.unit.Unit.{Unit as ScriptUnit}
+use Rattle.query_lines.specs.Reading.{script_units, completed_units}
 use Rattle.session_meaning.specs.Session.{Setup}
-use Rattle.session_meaning.specs.Broken.{IsBrokenIn, IsDumpBroken, IsServedUpTo, IsCutOff}
+use Rattle.session_meaning.specs.Broken.{IsServedUpTo, IsCutOff, IsBroken, IsBrokenInJournal, IsBrokenInDump}
 use Rattle.design.specs.Joined.{Joined}
 use Rattle.unit_answers.specs.Stores.{setup_of}
 use Rattle.unit_answers.specs.declared.sizes.Sizes.{Sizes}
@@ -22,13 +24,42 @@ pub record IsServedUntil (setup : Setup) (script : List ℕ) (left : Option (Lis
   pub took : Consumes (Some script) left taken
   pub served : IsServedUpTo setup taken replies journal dumps
 
+-- Where in its script a session broke off, of which this is left to be read. Every unit that the ended lines in the bytes `before` complete
+-- is whole. After them at most one byte was taken, or the script ended: that completes the unit that broke off. What was read beyond
+-- `before` is at most one block of 4,096 bytes, so nothing was read while a complete unit waited.
+pub record BreaksIn (setup : Setup) (script : List ℕ) (left : Option (List ℕ)) (says : List ScriptUnit → List ScriptUnit → Type 0) : Type 0 where
+  pub before : List ℕ
+  pub last : List ℕ
+  pub ahead : List ℕ
+  pub read : Consumes (Some script) left (before ++ (last ++ ahead))
+  pub one : length last ≤ 1
+  pub block : length (last ++ ahead) ≤ 4096
+  pub done : List ScriptUnit
+  pub later : List ScriptUnit
+  pub completed : (done ++ later ≡ completed_units setup.design.circuit.horizon (before ++ last))
+      ⊎ ((script ≡ before) × (done ++ later ≡ script_units setup.design.circuit.horizon script))
+  pub whole : (more : List ScriptUnit) × (done ≡ completed_units setup.design.circuit.horizon before ++ more)
+  pub broken : says done later
+
+-- The session of a script broke off in one of its units, or between two of them.
+abbrev pub IsBrokenIn : Setup → List ℕ → Option (List ℕ) → List ℕ → List ℕ → List Made → Type 0
+IsBrokenIn setup script left replies journal dumps = BreaksIn setup script left (λ done later. IsBroken setup done later replies journal dumps)
+
+-- It broke off in the sections of a unit.
+abbrev pub IsJournalBroken : Setup → List ℕ → Option (List ℕ) → List ℕ → List ℕ → List Made → Type 0
+IsJournalBroken setup script left replies journal dumps = BreaksIn setup script left (λ done later. IsBrokenInJournal setup done later replies journal dumps)
+
+-- It broke off in a dump.
+abbrev pub IsDumpBroken : Setup → List ℕ → Option (List ℕ) → List ℕ → List ℕ → List Made → Type 0
+IsDumpBroken setup script left replies journal dumps = BreaksIn setup script left (λ done later. IsBrokenInDump setup done later replies journal dumps)
+
 -- what was written of the session of a script that stopped
 abbrev pub IsStopped : Setup → List ℕ → Option (List ℕ) → Stop → List ℕ → List ℕ → List Made → Type 0
 IsStopped setup script left ScriptUnread replies journal dumps = IsServedUntil setup script left replies journal dumps
 IsStopped setup script left ScriptTooLong replies journal dumps = IsCutOff setup script replies journal dumps
-IsStopped setup script left RepliesUnwritten replies journal dumps = IsBrokenIn setup script replies journal dumps
-IsStopped setup script left JournalUnwritten replies journal dumps = IsBrokenIn setup script replies journal dumps
-IsStopped setup script left DumpUnmade replies journal dumps = IsDumpBroken setup script replies journal dumps
-IsStopped setup script left DumpUnwritten replies journal dumps = IsDumpBroken setup script replies journal dumps
-IsStopped setup script left DumpUnfinished replies journal dumps = IsDumpBroken setup script replies journal dumps
-IsStopped setup script left OutOfMemory replies journal dumps = IsBrokenIn setup script replies journal dumps
+IsStopped setup script left RepliesUnwritten replies journal dumps = IsBrokenIn setup script left replies journal dumps
+IsStopped setup script left JournalUnwritten replies journal dumps = IsJournalBroken setup script left replies journal dumps
+IsStopped setup script left DumpUnmade replies journal dumps = IsDumpBroken setup script left replies journal dumps
+IsStopped setup script left DumpUnwritten replies journal dumps = IsDumpBroken setup script left replies journal dumps
+IsStopped setup script left DumpUnfinished replies journal dumps = IsDumpBroken setup script left replies journal dumps
+IsStopped setup script left OutOfMemory replies journal dumps = IsBrokenIn setup script left replies journal dumps

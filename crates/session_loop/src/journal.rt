@@ -5,7 +5,8 @@ ghost use Rattle.backsim_io.specs.FilesInMemory.{SameMade};
 ghost use Rattle.journal_text.specs.Spelling.{head_line};
 ghost use Rattle.session_loop.specs.Halting.{Stands};
 ghost use Rattle.session_loop.specs.inner.Halting.{IsHeadHalted};
-ghost use Rattle.session_loop.specs.inner.Outside.{BeginChanges, FinishChanges};
+ghost use Rattle.session_loop.specs.Outside.{FinishChanges};
+ghost use Rattle.session_loop.specs.inner.Outside.{BeginChanges};
 
 use crate::halt::Halt;
 use crate::section::write_piece;
@@ -43,7 +44,7 @@ pub fn begin_journal<F: Files>(
     Ok(())
 }
 
-/// Finishes the journal.
+/// Finishes the journal, whose place is 0.
 pub fn finish_journal<F: Files>(files: &mut F) -> Result<(), Halt>
     requires { Contains (F.state files.old).unfinished 0 }
     ensures made { SameMade (F.made files.old) (F.made files.new) }

@@ -2,7 +2,7 @@
 //! and the dumps that the script asks for.
 //!
 //! [`serve_session`] is a session of a script, and [`serve_work`] one of a single batch without a script. Both create the journal,
-//! write its head, serve over empty stores and finish the journal. What a unit comes to is the matter of `unit_answers`, and who
+//! write its head and serve over empty stores. The first finishes the journal; behind the other [`finish_journal`] does. What a unit comes to is the matter of `unit_answers`, and who
 //! runs the strands of a batch that of a `worker_gate::Crew`: no handle appears here. What a session means, whole or broken off, is
 //! `session_meaning`; `specs/Halting` says what stands in the journal, in the replies and of the dumps at each end, and
 //! `specs/Outside` what the files, the source and the sink did.
@@ -50,6 +50,7 @@ mod unit;
 mod work;
 
 pub use halt::Halt;
+pub use journal::finish_journal;
 pub use session::serve_session;
 pub use setting::Setting;
 pub use stop::Stop;

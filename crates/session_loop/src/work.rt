@@ -10,7 +10,7 @@ ghost use Rattle.session_loop.specs.Halting.{WroteJournal, IsWork, IsWorkHalted}
 ghost use Rattle.session_loop.specs.Outside.{WorkChanges};
 
 use crate::halt::Halt;
-use crate::journal::{JOURNAL, begin_journal, finish_journal};
+use crate::journal::{JOURNAL, begin_journal};
 use crate::section::write_section;
 use crate::setting::Setting;
 use crate::stores::empty_stores;
@@ -20,8 +20,9 @@ use query_lines::Item;
 use unit_answers::{BatchDone, answer_batch};
 use worker_gate::Crew;
 
-/// Creates the journal and writes its head, answers the items as one batch over empty stores, writes the section of the batch, and
-/// finishes the journal. The replies are handed back, in the order of the items, and with them the journal and the stores.
+/// Creates the journal and writes its head, answers the items as one batch over empty stores, and writes the section of the batch. The
+/// replies are handed back, in the order of the items, and with them the journal and the stores. The journal is left to the caller to
+/// finish, once he has told of the replies.
 pub fn serve_work<C: Crew, F: Files>(
     crew: &C,
     setting: &Setting<'_>,
@@ -53,6 +54,5 @@ pub fn serve_work<C: Crew, F: Files>(
     let stores = empty_stores(alloc, sizes)?;
     let done = answer_batch(crew, alloc, design, items, sizes, stores)?;
     write_section(alloc, SectionKind::Batch, 1, &done.lists, JOURNAL, files)?;
-    finish_journal(files)?;
     Ok(done)
 }

@@ -1,4 +1,4 @@
--- What a line that asks for a dump writes, and where a session breaks off in a dump.
+-- What a line that asks for a dump writes.
 use Rattle.std.proofs.Common.{◌≡◌, ℕ, ◌<◌, Bool, true, false, cond, nat_lt, List, [], ◌∷◌, ◌++◌, length, Option, Some, None, refl, sym, ap, ◌∙◌, append_assoc, append-nil, length-append, arith, inl, inr}
 use Rattle.std.specs.Prelude.{codes}
 use Rattle.std.specs.Fmt.{decimal}
@@ -10,7 +10,7 @@ use Rattle.reply_lines.specs.declared.reply.VcdReply.TheVariants as dumps
 use Rattle.reply_lines.specs.Replies.{text_line, vcd_line}
 use Rattle.vcd_answers.specs.Wires.{Wire}
 use Rattle.session_meaning.specs.Session.{Setup, Course, Session, is_taken, with_reply, with_dump, with_last, with_vcd}
-use Rattle.session_meaning.specs.Broken.{IsPrefix, journal_of, AreBegun, IsBrokenInDump}
+use Rattle.session_meaning.specs.Broken.{IsPrefix, journal_of, AreBegun}
 use Rattle.session_meaning.specs.Written.{journal_text}
 
 -- ---- what the line writes
@@ -88,51 +88,3 @@ pub begun-less : (files more : List Made) → AreBegun files (files ++ more)
 begun-less [] more = tt
 begun-less (file ∷ []) more = (refl, ([], sym (append-nil file.bytes)))
 begun-less (file ∷ next ∷ files) more = (refl, begun-less (next ∷ files) more)
-
--- ---- a session that breaks off in a dump
-
-module _ (setup : Setup) where
-  -- within more units
-  pub dump-broken-more : (units more : List ScriptUnit) (out journal : List ℕ) (dumps : List Made)
-      → IsBrokenInDump setup units out journal dumps → IsBrokenInDump setup (units ++ more) out journal dumps
-  dump-broken-more units more out journal dumps b = record {
-    done = b.done;
-    file = b.file;
-    later = b.later ++ more;
-    units_are = ap (λ l. l ++ more) b.units_are ∙ append_assoc b.done (Vcd b.file ∷ b.later) more;
-    now = b.now;
-    served = b.served;
-    out_is = b.out_is;
-    journal_is = b.journal_is;
-    kept = b.kept;
-    begun = b.begun;
-  }
-
-  -- A beginning of the dump that a line asks for stands, and nothing else of what the line writes.
-  pub dump-broken-at : (units : List ScriptUnit) (file : List ℕ) (now : Course) (dumps : List Made) → Session setup units now
-      → ((more : List Made) × (dumps ≡ now.dumps ++ more)) → AreBegun dumps (with_vcd setup now file).dumps
-      → IsBrokenInDump setup (units ++ Vcd file ∷ []) now.out (journal_of setup now) dumps
-  dump-broken-at units file now dumps session kept begun =
-      let is = vcd-replies setup now file in
-      let same = vcd-journal setup now file in
-      record {
-        done = units;
-        file = file;
-        later = [];
-        units_are = refl;
-        now = now;
-        served = session;
-        out_is = refl;
-        journal_is = refl;
-        kept = kept;
-        begun = record {
-          next = with_vcd setup now file;
-          served = refl;
-          replied = (vcd_line file is.reply, is.out_is);
-          recorded = ([], same ∙ sym (append-nil (journal_of setup now)));
-          dumped = begun;
-          replies_first = inr refl;
-          dumps_first = inl refl;
-          cut = omega (arith, vcd-longer setup now file, ap length same);
-        };
-      }

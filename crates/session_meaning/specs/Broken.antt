@@ -3,7 +3,7 @@ use Rattle.std.specs.Prelude.{◌≡◌, ⊤, ℕ, ◌+◌, ◌<◌, ◌⊎◌, 
 use Rattle.owned_text.specs.Made.{Made}
 use Rattle.query_lines.specs.declared.unit.Unit.{Unit as ScriptUnit}
 use Rattle.query_lines.specs.declared.unit.Unit.TheVariants.{Vcd}
-use Rattle.query_lines.specs.Reading.{script_units, completed_units}
+use Rattle.query_lines.specs.Reading.{completed_units}
 use Rattle.journal_text.specs.Spelling.{head_line}
 use Rattle.session_meaning.specs.Session.{Setup, Course, IsServed, Session, IsSession}
 use Rattle.session_meaning.specs.Written.{journal_text}
@@ -46,11 +46,8 @@ abbrev pub IsFirstBegun : Setup → Course → List ScriptUnit → List ℕ → 
 IsFirstBegun setup now [] out journal dumps = IsUntouched setup now out journal dumps
 IsFirstBegun setup now (unit ∷ later) out journal dumps = IsUntouched setup now out journal dumps ⊎ IsBegun setup now unit out journal dumps
 
--- Some first units are whole, and of the next one at most a beginning was written.
-pub record IsBroken (setup : Setup) (units : List ScriptUnit) (out journal : List ℕ) (dumps : List Made) : Type 0 where
-  pub done : List ScriptUnit
-  pub later : List ScriptUnit
-  pub units_are : units ≡ done ++ later
+-- The units `done` are whole, and of the first one behind them at most a beginning was written.
+pub record IsBroken (setup : Setup) (done later : List ScriptUnit) (out journal : List ℕ) (dumps : List Made) : Type 0 where
   pub now : Course
   pub served : Session setup done now
   pub replied : IsPrefix now.out out
@@ -58,12 +55,26 @@ pub record IsBroken (setup : Setup) (units : List ScriptUnit) (out journal : Lis
   pub kept : (more : List Made) × (dumps ≡ now.dumps ++ more)
   pub begun : IsFirstBegun setup now later out journal dumps
 
--- Some first units are whole, and the next one asks for a dump, of which at most a beginning was written. Its reply was not written.
-pub record IsBrokenInDump (setup : Setup) (units : List ScriptUnit) (out journal : List ℕ) (dumps : List Made) : Type 0 where
-  pub done : List ScriptUnit
+-- The units `done` are whole, and all replies to the first one behind them stand. Of its sections at most a beginning was written.
+pub record IsBrokenInJournal (setup : Setup) (done later : List ScriptUnit) (out journal : List ℕ) (dumps : List Made) : Type 0 where
+  pub unit : ScriptUnit
+  pub rest : List ScriptUnit
+  pub later_is : later ≡ unit ∷ rest
+  pub now : Course
+  pub served : Session setup done now
+  pub next : Course
+  pub answered : IsServed setup now unit next
+  pub out_is : out ≡ next.out
+  pub dumps_are : dumps ≡ next.dumps
+  pub recorded : IsPrefix (journal_of setup now) journal
+  pub begun : IsPrefix journal (journal_of setup next)
+
+-- The units `done` are whole, and the first one behind them asks for a dump, of which at most a beginning was written. Its reply was not
+-- written.
+pub record IsBrokenInDump (setup : Setup) (done later : List ScriptUnit) (out journal : List ℕ) (dumps : List Made) : Type 0 where
   pub file : List ℕ
-  pub later : List ScriptUnit
-  pub units_are : units ≡ done ++ Vcd file ∷ later
+  pub rest : List ScriptUnit
+  pub later_is : later ≡ Vcd file ∷ rest
   pub now : Course
   pub served : Session setup done now
   pub out_is : out ≡ now.out
@@ -76,23 +87,6 @@ pub record IsHeadBegun (setup : Setup) (out journal : List ℕ) (dumps : List Ma
   pub out_is : out ≡ []
   pub head : IsPrefix journal (head_line setup.shards setup.capacity)
   pub dumps_are : dumps ≡ []
-
--- After the head: this holds of the units that the ended lines in some first bytes of the script complete, or of all its units.
-pub record BreaksIn (setup : Setup) (script : List ℕ) (says : List ScriptUnit → Type 0) : Type 0 where
-  pub taken : List ℕ
-  pub taken_are : IsPrefix taken script
-  pub units : List ScriptUnit
-  pub completed : (units ≡ completed_units setup.design.circuit.horizon taken)
-      ⊎ ((taken ≡ script) × (units ≡ script_units setup.design.circuit.horizon script))
-  pub broken : says units
-
--- The session of a script broke off in one of its units.
-abbrev pub IsBrokenIn : Setup → List ℕ → List ℕ → List ℕ → List Made → Type 0
-IsBrokenIn setup script out journal dumps = BreaksIn setup script (λ units. IsBroken setup units out journal dumps)
-
--- It broke off in a dump.
-abbrev pub IsDumpBroken : Setup → List ℕ → List ℕ → List ℕ → List Made → Type 0
-IsDumpBroken setup script out journal dumps = BreaksIn setup script (λ units. IsBrokenInDump setup units out journal dumps)
 
 -- Every unit that the ended lines in these bytes complete was served, without the end of the script.
 abbrev pub IsServedUpTo : Setup → List ℕ → List ℕ → List ℕ → List Made → Type 0

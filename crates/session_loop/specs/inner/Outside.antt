@@ -5,7 +5,6 @@ use Rattle.session_loop.specs.declared.stop.Stop.{Stop}
 use Rattle.session_loop.specs.declared.stop.Stop.TheVariants.{ScriptUnread, ScriptTooLong, RepliesUnwritten, JournalUnwritten, DumpUnmade, DumpUnwritten, DumpUnfinished, OutOfMemory}
 use Rattle.session_loop.specs.declared.halt.Halt.{Halt}
 use Rattle.session_loop.specs.declared.halt.Halt.TheVariants.{JournalUnmade, Stopped, JournalUnfinished}
-use Rattle.backsim_io.specs.FilesInMemory.{list_without}
 use Rattle.session_loop.specs.Outside.{Outputs, Outside, RepliesFault, OfFiles, Dumped, LeavesUnwritten, LeavesUnfinished, JournalStops, UnitsStop, Served, ScriptStops, with_file}
 
 -- the writing of replies
@@ -74,10 +73,3 @@ BeginChanges old new (Ok done) = new ≡ with_file old
 BeginChanges old new (Err JournalUnmade) = FileFault old new
 BeginChanges old new (Err (Stopped stop)) = JournalStops (with_file old) new stop
 BeginChanges old new (Err JournalUnfinished) = ⊥
-
--- its end
-abbrev pub FinishChanges : {A : Type 0} → FilesState → FilesState → Result A Halt → Type 0
-FinishChanges old new (Ok done) = new ≡ record old { unfinished = list_without old.unfinished 0 }
-FinishChanges old new (Err JournalUnmade) = ⊥
-FinishChanges old new (Err (Stopped stop)) = ⊥
-FinishChanges old new (Err JournalUnfinished) = FileFault old new

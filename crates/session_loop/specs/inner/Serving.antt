@@ -1,5 +1,5 @@
 -- What only the proofs and the private functions of this crate speak of, beside `Serving`.
-use Rattle.std.specs.Prelude.{◌≡◌, ℕ, ◌+◌, ◌<◌, ◌⊎◌, List, [], ◌∷◌, ◌++◌, length, slice_index_or, Option}
+use Rattle.std.specs.Prelude.{◌≡◌, ℕ, ◌+◌, ◌<◌, ◌≤◌, ◌⊎◌, List, [], ◌∷◌, ◌++◌, length, slice_index_or, Option}
 use Rattle.std.specs.Io.KnownBytes.{Consumes}
 use Rattle.owned_text.specs.Made.{Made}
 use Rattle.cell_store.specs.Recency.{Contents}
@@ -14,7 +14,7 @@ use Rattle.query_lines.specs.declared.unit.Unit.{Unit as ScriptUnit}
 use Rattle.query_lines.specs.Reading.{script_units}
 use Rattle.query_lines.specs.Readers.{Reader, HasRead}
 use Rattle.session_meaning.specs.Session.{Setup, Course, IsServed, Session, first_course, with_section, with_sections}
-use Rattle.session_meaning.specs.Broken.{IsPrefix, journal_of, IsBroken, IsBrokenInDump}
+use Rattle.session_meaning.specs.Broken.{IsPrefix, journal_of, IsBroken, IsBrokenInJournal, IsBrokenInDump}
 use Rattle.unit_answers.specs.Stores.{cells_of}
 use Rattle.session_loop.specs.declared.desk.Desk.{Desk}
 use Rattle.session_loop.specs.inner.Desks.{Keeps}
@@ -30,23 +30,30 @@ pub record ServedTo (setup : Setup) (units : List ScriptUnit) (now : Course) (de
   pub replied : GoesOn out new_out now.out next.out
   pub recorded : FilesGoOn made new_made (journal_of setup now) now.dumps (journal_of setup next) next.dumps
 
--- where a stop breaks off: in a dump before its reply, or in any unit
-abbrev pub BreaksAt : Setup → List ScriptUnit → List ℕ → List ℕ → List Made → Stop → Type 0
-BreaksAt setup units replies journal dumps DumpUnmade = IsBrokenInDump setup units replies journal dumps
-BreaksAt setup units replies journal dumps DumpUnwritten = IsBrokenInDump setup units replies journal dumps
-BreaksAt setup units replies journal dumps DumpUnfinished = IsBrokenInDump setup units replies journal dumps
-BreaksAt setup units replies journal dumps ScriptUnread = IsBroken setup units replies journal dumps
-BreaksAt setup units replies journal dumps ScriptTooLong = IsBroken setup units replies journal dumps
-BreaksAt setup units replies journal dumps RepliesUnwritten = IsBroken setup units replies journal dumps
-BreaksAt setup units replies journal dumps JournalUnwritten = IsBroken setup units replies journal dumps
-BreaksAt setup units replies journal dumps OutOfMemory = IsBroken setup units replies journal dumps
+-- where a stop breaks off: in a dump before its reply, in the sections of a unit, or in any unit
+abbrev pub BreaksAt : Setup → List ℕ → List ℕ → List Made → Stop → List ScriptUnit → List ScriptUnit → Type 0
+BreaksAt setup replies journal dumps DumpUnmade done later = IsBrokenInDump setup done later replies journal dumps
+BreaksAt setup replies journal dumps DumpUnwritten done later = IsBrokenInDump setup done later replies journal dumps
+BreaksAt setup replies journal dumps DumpUnfinished done later = IsBrokenInDump setup done later replies journal dumps
+BreaksAt setup replies journal dumps ScriptUnread done later = IsBroken setup done later replies journal dumps
+BreaksAt setup replies journal dumps ScriptTooLong done later = IsBroken setup done later replies journal dumps
+BreaksAt setup replies journal dumps RepliesUnwritten done later = IsBroken setup done later replies journal dumps
+BreaksAt setup replies journal dumps JournalUnwritten done later = IsBrokenInJournal setup done later replies journal dumps
+BreaksAt setup replies journal dumps OutOfMemory done later = IsBroken setup done later replies journal dumps
 
--- From what the session had come to, it broke off within these units, and so many files are created.
-pub record StoppedIn (setup : Setup) (units : List ScriptUnit) (now : Course) (out new_out : List ℕ → Type 0) (made new_made : List Made → Type 0) (files : ℕ) (stop : Stop) : Type 0 where
+-- Of `more` units, which come behind others, some first ones are done; this holds of all that are done and of the later ones.
+pub record Within (units more : List ScriptUnit) (says : List ScriptUnit → List ScriptUnit → Type 0) : Type 0 where
+  pub done : List ScriptUnit
+  pub later : List ScriptUnit
+  pub split : more ≡ done ++ later
+  pub broken : says (units ++ done) later
+
+-- From what the session had come to with these units, it broke off within `more` units, and so many files are created.
+pub record StoppedIn (setup : Setup) (units more : List ScriptUnit) (now : Course) (out new_out : List ℕ → Type 0) (made new_made : List Made → Type 0) (files : ℕ) (stop : Stop) : Type 0 where
   pub replies : List ℕ
   pub journal : List ℕ
   pub dumps : List Made
-  pub broken : BreaksAt setup units replies journal dumps stop
+  pub broken : Within units more (BreaksAt setup replies journal dumps stop)
   pub replied : GoesOn out new_out now.out replies
   pub recorded : FilesGoOn made new_made (journal_of setup now) now.dumps journal dumps
   pub count : files ≡ length dumps + 1
@@ -59,7 +66,12 @@ Serves setup desk later more out new_out made new_made = (units : List ScriptUni
 -- Whatever was served before, the session broke off within these units after it.
 abbrev pub Stops : Setup → Desk → List ScriptUnit → (List ℕ → Type 0) → (List ℕ → Type 0) → (List Made → Type 0) → (List Made → Type 0) → ℕ → Stop → Type 0
 Stops setup desk more out new_out made new_made files stop = (units : List ScriptUnit) (now : Course)
-    → Session setup units now → Keeps setup desk now → StoppedIn setup (units ++ more) now out new_out made new_made files stop
+    → Session setup units now → Keeps setup desk now → StoppedIn setup units more now out new_out made new_made files stop
+
+-- Whatever was served before, the units `first` were served after it, and then the session broke off within `more`.
+abbrev pub StopsAfter : Setup → Desk → List ScriptUnit → List ScriptUnit → (List ℕ → Type 0) → (List ℕ → Type 0) → (List Made → Type 0) → (List Made → Type 0) → ℕ → Stop → Type 0
+StopsAfter setup desk first more out new_out made new_made files stop = (units : List ScriptUnit) (now : Course)
+    → Session setup units now → Keeps setup desk now → StoppedIn setup (units ++ first) more now out new_out made new_made files stop
 
 -- the section of a memo of its own, if a question had one: that of this batch
 abbrev pub forced_sections : Batch → List (List Entry) → List SectionEntries
@@ -98,14 +110,20 @@ pub record TakesServed (setup : Setup) (reader later : Reader) (bytes : List ℕ
   pub reads : Reads reader later bytes units
   pub served : Serves setup desk left units out new_out made new_made
 
--- the reader takes some of these bytes, and the session breaks off in the units that it gives
+-- The reader takes some of these bytes, and the units that it gives are served. It takes one more at most, and the session breaks off in the
+-- units that this gives.
 pub record TakesStopped (setup : Setup) (reader : Reader) (bytes : List ℕ) (desk : Desk) (out new_out : List ℕ → Type 0) (made new_made : List Made → Type 0) (files : ℕ) (stop : Stop) : Type 0 where
   pub front : List ℕ
-  pub front_is : IsPrefix front bytes
+  pub last : List ℕ
+  pub one : length last ≤ 1
+  pub front_is : IsPrefix (front ++ last) bytes
+  pub middle : Reader
   pub later : Reader
+  pub first : List ScriptUnit
   pub units : List ScriptUnit
-  pub reads : Reads reader later front units
-  pub stopped : Stops setup desk units out new_out made new_made files stop
+  pub gave : Reads reader middle front first
+  pub reads : Reads middle later last units
+  pub stopped : StopsAfter setup desk first units out new_out made new_made files stop
 
 -- the script ends, and the units that are left are served
 pub record EndsServed (setup : Setup) (reader : Reader) (desk left : Desk) (out new_out : List ℕ → Type 0) (made new_made : List Made → Type 0) : Type 0 where

@@ -10,7 +10,7 @@ use Rattle.session_loop.specs.inner.Serving.{held_text}
 use Rattle.session_loop.specs.inner.Outside.{UnitChanges}
 use Rattle.session_loop.proofs.Changes.{handed-on, journal-created, of-replies, of-journal, same-outputs}
 use Rattle.session_loop.proofs.Growing.{err-is, file-more, file-part-after, file-part-longer}
-use Rattle.session_loop.proofs.Served.{text-begun, lines-begun, replies-of-unit, journal-of-unit, stops-none}
+use Rattle.session_loop.proofs.Served.{text-begun, lines-begun, stops-none}
 use Rattle.session_loop.proofs.Questions.{question-served, question-stopped}
 use Rattle.session_loop.proofs.question.write_answered.Goals as goal
 
@@ -29,8 +29,8 @@ returns-in_err-write_reply-clause-stopped g c setup desk unit b own same dumps d
     (question-stopped setup unit b own desk answered.text.items lists answered.own_lists.items answered.stores.items done
     c.in-Some.counts (subst (λ k. IsCounted k Batch lists c.in-Some.counts) (sym same) (subst (λ l. IsCounted c.args.counts Batch l c.in-Some.counts) c.deref.ensures.value c.in-Some.ensures))
     (W c.args.out.now) (W c.write_reply.new.out) (M c.args.files.now) (M c.args.files.now)
-    (g.F.Files.state c.args.files.now).created c.in_err-write_reply.field-0.0 (subst (λ d. (g.F.Files.state c.args.files.now).created ≡ length d.made.items + 1) (sym dumps) c.requires.files) (replies-of-unit _ _ _ c.in_err-write_reply.ensures.state)
-    (text-begun (W c.args.out.now) (W c.write_reply.new.out) (M c.args.files.now) answered.text.items _
+    (g.F.Files.state c.args.files.now).created c.in_err-write_reply.field-0.0 (subst (λ d. (g.F.Files.state c.args.files.now).created ≡ length d.made.items + 1) (sym dumps) c.requires.files)
+    (text-begun _ _ _ c.in_err-write_reply.ensures.state (W c.args.out.now) (W c.write_reply.new.out) (M c.args.files.now) answered.text.items _
     (subst (GrowsPart (W c.args.out.now) (W c.write_reply.new.out)) c.deref-2.ensures.value c.in_err-write_reply.ensures.begun)))
 
 -- the section was begun
@@ -45,8 +45,8 @@ returns-in_err-write_section-clause-stopped g c setup desk unit b own same dumps
     (question-stopped setup unit b own desk answered.text.items lists answered.own_lists.items answered.stores.items done
     c.in-Some.counts (subst (λ k. IsCounted k Batch lists c.in-Some.counts) (sym same) (subst (λ l. IsCounted c.args.counts Batch l c.in-Some.counts) c.deref.ensures.value c.in-Some.ensures))
     (W c.args.out.now) (W c.write_reply.new.out) (M c.args.files.now) (M c.write_section.new.files)
-    (g.F.Files.state c.write_section.new.files).created c.in_err-write_section.field-0.0 (subst (λ d. (g.F.Files.state c.write_section.new.files).created ≡ length d.made.items + 1) (sym dumps) (journal-created _ _ _ c.in_err-write_section.ensures.state ∙ c.requires.files)) (journal-of-unit _ _ _ c.in_err-write_section.ensures.state)
-    (lines-begun (W c.args.out.now) (W c.write_reply.new.out) (M c.args.files.now) (M c.write_section.new.files) answered.text.items _
+    (g.F.Files.state c.write_section.new.files).created c.in_err-write_section.field-0.0 (subst (λ d. (g.F.Files.state c.write_section.new.files).created ≡ length d.made.items + 1) (sym dumps) (journal-created _ _ _ c.in_err-write_section.ensures.state ∙ c.requires.files))
+    (lines-begun _ _ _ c.in_err-write_section.ensures.state (W c.args.out.now) (W c.write_reply.new.out) (M c.args.files.now) (M c.write_section.new.files) answered.text.items _
     (subst (Grows (W c.args.out.now) (W c.write_reply.new.out)) c.deref-2.ensures.value c.in_ok-write_reply.ensures.written)
     (file-part-longer (M c.args.files.now) (M c.write_section.new.files) 0 (section_lines (record { kind = Batch; number = number; shards = lists })) _
     (prefix-more (section_lines (record { kind = Batch; number = number; shards = lists })) (held_text (number + 1) answered.own_lists.items))
@@ -65,8 +65,8 @@ returns-in_err-counts-clause-stopped g c setup desk unit b own same dumps done =
     c.in-Some.counts (subst (λ k. IsCounted k Batch lists c.in-Some.counts) (sym same) (subst (λ l. IsCounted c.args.counts Batch l c.in-Some.counts) c.deref.ensures.value c.in-Some.ensures))
     (W c.args.out.now) (W c.write_reply.new.out) (M c.args.files.now) (M c.write_held.new.files)
     (g.F.Files.state c.write_held.new.files).created c.in_err-counts.field-0.0
-    (subst (λ d. (g.F.Files.state c.write_held.new.files).created ≡ length d.made.items + 1) (sym dumps) (journal-created _ _ _ c.in_err-counts.ensures.state ∙ ap (λ f. f.created) c.in_ok-write_section.ensures.state ∙ c.requires.files)) (journal-of-unit _ _ _ c.in_err-counts.ensures.state)
-    (lines-begun (W c.args.out.now) (W c.write_reply.new.out) (M c.args.files.now) (M c.write_held.new.files) answered.text.items _
+    (subst (λ d. (g.F.Files.state c.write_held.new.files).created ≡ length d.made.items + 1) (sym dumps) (journal-created _ _ _ c.in_err-counts.ensures.state ∙ ap (λ f. f.created) c.in_ok-write_section.ensures.state ∙ c.requires.files))
+    (lines-begun _ _ _ c.in_err-counts.ensures.state (W c.args.out.now) (W c.write_reply.new.out) (M c.args.files.now) (M c.write_held.new.files) answered.text.items _
     (subst (Grows (W c.args.out.now) (W c.write_reply.new.out)) c.deref-2.ensures.value c.in_ok-write_reply.ensures.written)
     (file-part-after (M c.args.files.now) (M c.write_section.new.files) (M c.write_held.new.files) 0 (section_lines (record { kind = Batch; number = number; shards = lists })) (held_text (number + 1) answered.own_lists.items)
     (subst (λ l. FileGrows (M c.args.files.now) (M c.write_section.new.files) 0 (section_lines (record { kind = Batch; number = number; shards = l }))) c.deref-3.ensures.value c.in_ok-write_section.ensures.written)

@@ -77,7 +77,7 @@ returns-in_err-last-clause-stopped g c script is =
     let read = c.in-Ok.ensures in
     let p = err_from_is_err_and c.from_residual.result c.from_residual.ensures.1 in
     rw (p.1, p.2)
-    (end-stopped setup desk (fresh-desk setup desk c.requires.empty refl refl refl c.new-2.ensures.items) script (g.Q.Source.state c.args.queries.now).left is c.loop-n.script.taken (g.Q.Source.state c.loop-n.queries).left (g.Q.Source.state c.read.new.self).left (g.Q.Source.state c.read.new.self).left c.in-Ok.n c.read.new.into c.loop-n.script.reader c.loop-n.desk
+    (end-stopped setup desk (fresh-desk setup desk c.requires.empty refl refl refl c.new-2.ensures.items) script (g.Q.Source.state c.args.queries.now).left is c.loop-n.script.taken (g.Q.Source.state c.loop-n.queries).left (g.Q.Source.state c.read.new.self).left c.in-Ok.n c.read.new.into c.loop-n.script.reader c.loop-n.desk
     (record { files = g.F.Files.state c.loop-n.files; replies = g.S.Sink.faults c.loop-n.out }) (record { files = g.F.Files.state c.serve_end.new.files; replies = g.S.Sink.faults c.serve_end.new.out }) c.in_err-last.field-0.0
     (W c.args.out.now) (W c.loop-n.out) (W c.serve_end.new.out) (M c.args.files.now) (M c.loop-n.files) (M c.serve_end.new.files) _
     small c.loop-n.invariant.served read.bytes.1 c.if-n-eq0.true (read.end c.if-n-eq0.true (omega (arith, c.min-room.ensures, c.loop-n.invariant.block, length-take {A = ℕ}))) c.in_err-last.ensures.state (c.in_err-last.ensures.stopped c.args.names.items))
@@ -125,10 +125,10 @@ returns-in_err-desk-clause-stopped g c script is =
     let read = c.in-Ok.ensures in
     let p = err_from_is_err_and c.from_residual-in_err-desk.result c.from_residual-in_err-desk.ensures.1 in
     rw (p.1, p.2)
-    (block-stopped setup desk (fresh-desk setup desk c.requires.empty refl refl refl c.new-2.ensures.items) script (g.Q.Source.state c.args.queries.now).left is c.loop-n.script.taken (g.Q.Source.state c.loop-n.queries).left (g.Q.Source.state c.read.new.self).left (g.Q.Source.state c.read.new.self).left c.loop-n.script.reader c.loop-n.desk c.in-Ok.n c.min.result c.read.new.into (drop c.min-room.result c.loop-n.block)
+    (block-stopped setup desk (fresh-desk setup desk c.requires.empty refl refl refl c.new-2.ensures.items) script (g.Q.Source.state c.args.queries.now).left is c.loop-n.script.taken (g.Q.Source.state c.loop-n.queries).left (g.Q.Source.state c.read.new.self).left c.loop-n.script.reader c.loop-n.desk c.in-Ok.n c.min.result c.read.new.into (drop c.min-room.result c.loop-n.block)
     (record { files = g.F.Files.state c.loop-n.files; replies = g.S.Sink.faults c.loop-n.out }) (record { files = g.F.Files.state c.serve_bytes.new.files; replies = g.S.Sink.faults c.serve_bytes.new.out }) c.in_err-desk.field-0.0
     (W c.args.out.now) (W c.loop-n.out) (W c.serve_bytes.new.out) (M c.args.files.now) (M c.loop-n.files) (M c.serve_bytes.new.files) _
-    small c.loop-n.invariant.served read.bytes.1 (omega (arith, c.min.ensures)) read.bound.0 c.in_err-desk.ensures.state (c.in_err-desk.ensures.stopped c.args.names.items))
+    small c.loop-n.invariant.served read.bytes.1 (omega (arith, c.min.ensures)) read.bound.0 (omega (arith, c.min-room.ensures, c.loop-n.invariant.block, length-take {A = ℕ}, read.bound)) c.in_err-desk.ensures.state (c.in_err-desk.ensures.stopped c.args.names.items))
   where
     small : c.args.setting.now.design.now.circuit.horizon ≤ 1000000
     small = subst (λ h. h ≤ 1000000) c.horizon.ensures.horizon c.horizon.ensures.limit

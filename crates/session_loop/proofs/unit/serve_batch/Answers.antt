@@ -16,7 +16,7 @@ use Rattle.session_loop.specs.inner.Outside.{UnitChanges}
 use Rattle.session_loop.proofs.Changes.{handed-on, journal-created, of-replies, of-journal, same-outputs}
 use Rattle.session_loop.proofs.Growing.{err-is}
 use Rattle.session_loop.proofs.Named.{batch-named, batch-shown}
-use Rattle.session_loop.proofs.Served.{text-begun, lines-begun, replies-of-unit, journal-of-unit, stops-none, batch-served, batch-stopped}
+use Rattle.session_loop.proofs.Served.{text-begun, lines-begun, stops-none, batch-served, batch-stopped}
 use Rattle.session_loop.proofs.unit.serve_batch.Goals as goal
 
 -- no journals were made
@@ -39,8 +39,8 @@ returns-in_err-write_replies-clause-stopped g c names =
     (batch-named (setup_of c.args.setting.now.design.now c.args.setting.now.sizes) names items c.as_slice.result.now c.args.desk.stores.items done.replies.items done.lists.items done.stores.items c.as_slice.ensures c.in_ok-done.ensures.done)
     c.in-Some.counts (subst (λ l. IsCounted c.args.desk.counts Batch l c.in-Some.counts) c.deref.ensures.value c.in-Some.ensures)
     (W c.args.out.now) (W c.write_replies.new.out) (M c.args.files.now) (M c.args.files.now)
-    (g.F.Files.state c.args.files.now).created c.in_err-write_replies.field-0.0 c.requires.files (replies-of-unit _ _ _ c.in_err-write_replies.ensures.state)
-    (text-begun (W c.args.out.now) (W c.write_replies.new.out) (M c.args.files.now) (replies_text items done.replies.items) _
+    (g.F.Files.state c.args.files.now).created c.in_err-write_replies.field-0.0 c.requires.files
+    (text-begun _ _ _ c.in_err-write_replies.ensures.state (W c.args.out.now) (W c.write_replies.new.out) (M c.args.files.now) (replies_text items done.replies.items) _
     (subst (GrowsPart (W c.args.out.now) (W c.write_replies.new.out)) (ap (λ l. replies_text l c.deref-2.result.now) c.as_slice-2.ensures ∙ ap (replies_text items) c.deref-2.ensures.value) c.in_err-write_replies.ensures.begun)))
 
 -- the section was begun
@@ -55,8 +55,8 @@ returns-in_err-write_section-clause-stopped g c names =
     (batch-named (setup_of c.args.setting.now.design.now c.args.setting.now.sizes) names items c.as_slice.result.now c.args.desk.stores.items done.replies.items done.lists.items done.stores.items c.as_slice.ensures c.in_ok-done.ensures.done)
     c.in-Some.counts (subst (λ l. IsCounted c.args.desk.counts Batch l c.in-Some.counts) c.deref.ensures.value c.in-Some.ensures)
     (W c.args.out.now) (W c.write_replies.new.out) (M c.args.files.now) (M c.write_section.new.files)
-    (g.F.Files.state c.write_section.new.files).created c.in_err-write_section.field-0.0 (journal-created _ _ _ c.in_err-write_section.ensures.state ∙ c.requires.files) (journal-of-unit _ _ _ c.in_err-write_section.ensures.state)
-    (lines-begun (W c.args.out.now) (W c.write_replies.new.out) (M c.args.files.now) (M c.write_section.new.files) (replies_text items done.replies.items) _
+    (g.F.Files.state c.write_section.new.files).created c.in_err-write_section.field-0.0 (journal-created _ _ _ c.in_err-write_section.ensures.state ∙ c.requires.files)
+    (lines-begun _ _ _ c.in_err-write_section.ensures.state (W c.args.out.now) (W c.write_replies.new.out) (M c.args.files.now) (M c.write_section.new.files) (replies_text items done.replies.items) _
     (subst (Grows (W c.args.out.now) (W c.write_replies.new.out)) (ap (λ l. replies_text l c.deref-2.result.now) c.as_slice-2.ensures ∙ ap (replies_text items) c.deref-2.ensures.value) c.in_ok-write_replies.ensures.written)
     (subst (λ l. FileGrowsPart (M c.args.files.now) (M c.write_section.new.files) 0 (section_lines (record { kind = Batch; number = c.in-Some.counts.sections; shards = l }))) c.deref-3.ensures.value c.in_err-write_section.ensures.begun)))
 

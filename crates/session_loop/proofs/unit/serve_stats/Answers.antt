@@ -10,7 +10,7 @@ use Rattle.session_loop.specs.inner.Outside.{UnitChanges}
 use Rattle.session_loop.proofs.Changes.{handed-on, of-replies, same-outputs}
 use Rattle.session_loop.proofs.Growing.{err-is}
 use Rattle.session_loop.proofs.Named.{stores-named}
-use Rattle.session_loop.proofs.Served.{replies-of-unit, stops-none, stats-served, stats-stopped}
+use Rattle.session_loop.proofs.Served.{stops-none, stats-served, stats-stopped}
 use Rattle.session_loop.proofs.unit.serve_stats.Goals as goal
 
 pub returns-in_default-clause-stopped : goal.returns-in_default-clause-stopped
@@ -28,7 +28,7 @@ returns-in_err-write_reply-clause-stopped g c names =
     err-is _ _ c.from_residual-in_err-write_reply.result c.from_residual-in_err-write_reply.ensures.1
     (stats-stopped (session_of c.args.setting.now.design.now c.args.setting.now.sizes names) desk (stores-named (setup_of c.args.setting.now.design.now c.args.setting.now.sizes) names desk.stores.items c.requires.desk.stores)
     (W c.args.out.now) (W c.write_reply.new.out) (g.F.Files.made c.args.files.now)
-    (g.F.Files.state c.args.files.now).created c.in_err-write_reply.field-0.0 c.requires.files (replies-of-unit _ _ _ c.in_err-write_reply.ensures.state)
+    (g.F.Files.state c.args.files.now).created _ _ c.in_err-write_reply.field-0.0 c.requires.files c.in_err-write_reply.ensures.state
     (subst (GrowsPart (W c.args.out.now) (W c.write_reply.new.out))
     (c.deref-2.ensures.value ∙ c.in_ok-text.ensures ∙ ap (stats_line desk.counts.batches desk.counts.fills desk.counts.evictions) (c.in-Some.ensures ∙ ap (sum_by (λ store. length store.cells)) c.deref.ensures.value)) c.in_err-write_reply.ensures.begun))
 

@@ -14,7 +14,7 @@ use Rattle.session_loop.specs.inner.Outside.{UnitChanges}
 use Rattle.session_loop.proofs.Changes.{handed-on, journal-created, of-replies, of-journal, same-outputs}
 use Rattle.session_loop.proofs.Growing.{err-is}
 use Rattle.session_loop.proofs.Named.{trim-named}
-use Rattle.session_loop.proofs.Served.{text-begun, lines-begun, replies-of-unit, journal-of-unit, stops-none, trim-served, trim-stopped}
+use Rattle.session_loop.proofs.Served.{text-begun, lines-begun, stops-none, trim-served, trim-stopped}
 use Rattle.session_loop.proofs.unit.serve_trim.Goals as goal
 
 -- no entries were made
@@ -41,8 +41,8 @@ returns-in_err-write_reply-clause-stopped g c names =
     (trim-named (setup_of c.args.setting.now.design.now c.args.setting.now.sizes) names c.args.most c.args.desk.stores.items done.lists.items done.stores.items c.in_ok-done.ensures)
     some.counts (subst (λ l. IsCounted c.args.desk.counts Trim l some.counts) c.deref.ensures.value some.ensures)
     (W c.args.out.now) (W c.write_reply.new.out) (M c.args.files.now) (M c.args.files.now)
-    (g.F.Files.state c.args.files.now).created c.in_err-write_reply.field-0.0 c.requires.files (replies-of-unit _ _ _ c.in_err-write_reply.ensures.state)
-    (text-begun (W c.args.out.now) (W c.write_reply.new.out) (M c.args.files.now) (trimmed_line (sum_by length done.lists.items)) _
+    (g.F.Files.state c.args.files.now).created c.in_err-write_reply.field-0.0 c.requires.files
+    (text-begun _ _ _ c.in_err-write_reply.ensures.state (W c.args.out.now) (W c.write_reply.new.out) (M c.args.files.now) (trimmed_line (sum_by length done.lists.items)) _
     (subst (GrowsPart (W c.args.out.now) (W c.write_reply.new.out)) (c.deref-3.ensures.value ∙ c.in_ok-text.ensures ∙ ap trimmed_line (some.ensures' ∙ ap (sum_by length) c.deref-2.ensures.value)) c.in_err-write_reply.ensures.begun)))
 
 -- the section was begun
@@ -57,8 +57,8 @@ returns-in_err-write_section-clause-stopped g c names =
     (trim-named (setup_of c.args.setting.now.design.now c.args.setting.now.sizes) names c.args.most c.args.desk.stores.items done.lists.items done.stores.items c.in_ok-done.ensures)
     some.counts (subst (λ l. IsCounted c.args.desk.counts Trim l some.counts) c.deref.ensures.value some.ensures)
     (W c.args.out.now) (W c.write_reply.new.out) (M c.args.files.now) (M c.write_section.new.files)
-    (g.F.Files.state c.write_section.new.files).created c.in_err-write_section.field-0.0 (journal-created _ _ _ c.in_err-write_section.ensures.state ∙ c.requires.files) (journal-of-unit _ _ _ c.in_err-write_section.ensures.state)
-    (lines-begun (W c.args.out.now) (W c.write_reply.new.out) (M c.args.files.now) (M c.write_section.new.files) (trimmed_line (sum_by length done.lists.items)) _
+    (g.F.Files.state c.write_section.new.files).created c.in_err-write_section.field-0.0 (journal-created _ _ _ c.in_err-write_section.ensures.state ∙ c.requires.files)
+    (lines-begun _ _ _ c.in_err-write_section.ensures.state (W c.args.out.now) (W c.write_reply.new.out) (M c.args.files.now) (M c.write_section.new.files) (trimmed_line (sum_by length done.lists.items)) _
     (subst (Grows (W c.args.out.now) (W c.write_reply.new.out)) (c.deref-3.ensures.value ∙ c.in_ok-text.ensures ∙ ap trimmed_line (some.ensures' ∙ ap (sum_by length) c.deref-2.ensures.value)) c.in_ok-write_reply.ensures.written)
     (subst (λ l. FileGrowsPart (M c.args.files.now) (M c.write_section.new.files) 0 (section_lines (record { kind = Trim; number = some.counts.sections; shards = l }))) c.deref-4.ensures.value c.in_err-write_section.ensures.begun)))
 

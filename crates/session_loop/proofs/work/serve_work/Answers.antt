@@ -5,13 +5,12 @@ use Rattle.journal_text.specs.Spelling.{section_lines}
 use Rattle.journal_text.specs.declared.sections.SectionKind.TheVariants.{Batch}
 use Rattle.unit_answers.specs.Stores.{setup_of}
 use Rattle.session_loop.specs.inner.Growing.{FileGrowsPart}
-use Rattle.session_loop.specs.Halting.{IsWork}
 use Rattle.session_loop.specs.declared.halt.Halt.TheVariants.{Stopped}
 use Rattle.session_loop.specs.declared.stop.Stop.TheVariants.{OutOfMemory}
 use Rattle.session_loop.specs.Outside.{JournalStops, WorkChanges}
-use Rattle.session_loop.proofs.Changes.{handed-on, journal-open, work-unbegun, work-unfinished, work-done as work-changes}
+use Rattle.session_loop.proofs.Changes.{handed-on, journal-open, work-unbegun}
 use Rattle.session_loop.proofs.EmptyStores.{empty-are-stores, empty-cells}
-use Rattle.session_loop.proofs.WorkDone.{work-head-halted, worked, work-stopped, work-same, work-done, work-halted}
+use Rattle.session_loop.proofs.WorkDone.{work-head-halted, worked, work-stopped}
 use Rattle.session_loop.proofs.work.serve_work.Goals as goal
 
 -- the journal was not begun
@@ -42,38 +41,14 @@ returns-in_err-write_section-clause-halted g c =
     (M c.args.files.now) (M c.begin_journal.new.files) (M c.write_section.new.files) c.in_ok-begin_journal.ensures.begun
     (subst (λ l. FileGrowsPart (M c.begin_journal.new.files) (M c.write_section.new.files) 0 (section_lines (record { kind = Batch; number = 1; shards = l }))) c.deref.ensures.value c.in_err-write_section.ensures.begun))
 
-pub finish_journal-requires : goal.finish_journal-requires
-finish_journal-requires g c =
-    journal-open (g.F.Files.state c.args.files.now) (g.F.Files.state c.write_section.new.files) c.requires.files (c.in_ok-write_section.ensures.state ∙ c.in_ok-begin_journal.ensures.state)
-
--- the journal was not finished
-pub returns-in_err-finish_journal-clause-halted : goal.returns-in_err-finish_journal-clause-halted
-returns-in_err-finish_journal-clause-halted g c =
-    let p = err_from_is_err_and c.from_residual-in_err-finish_journal.result c.from_residual-in_err-finish_journal.ensures.1 in
-    let setup = setup_of c.args.setting.now.design.now c.args.setting.now.sizes in
-    let done = c.in_ok-done.done in
-    let M = g.F.Files.made in
-    rw (p.1, p.2)
-    (work-halted setup c.args.items.now c.args.journal.now (M c.args.files.now) (M c.finish_journal.new.files) (g.F.Files.state c.write_section.new.files) (g.F.Files.state c.finish_journal.new.files) c.in_err-finish_journal.field-0.0
-    (work-done setup c.args.items.now c.args.journal.now done.replies.items (M c.args.files.now) (M c.finish_journal.new.files)
-    (work-same setup c.args.items.now c.args.journal.now (IsWork setup c.args.items.now done.replies.items) (M c.args.files.now) (M c.write_section.new.files) (M c.finish_journal.new.files)
-    (worked setup c.args.items.now c.args.journal.now c.in_ok-stores.stores.items done.stores.items
-    (λ shard within. empty-cells c.args.setting.now.sizes.shards c.args.setting.now.sizes.cells c.in_ok-stores.stores.items shard c.in_ok-stores.ensures within) done.replies.items done.lists.items c.in_ok-done.ensures.done
-    (M c.args.files.now) (M c.begin_journal.new.files) (M c.write_section.new.files) c.in_ok-begin_journal.ensures.begun
-    (subst (λ l. FileGrows (M c.begin_journal.new.files) (M c.write_section.new.files) 0 (section_lines (record { kind = Batch; number = 1; shards = l }))) c.deref.ensures.value c.in_ok-write_section.ensures.written))
-    c.finish_journal.ensures.made)) c.in_err-finish_journal.ensures.state)
-
 pub returns-clause-worked : goal.returns-clause-worked
 returns-clause-worked g c =
-    let setup = setup_of c.args.setting.now.design.now c.args.setting.now.sizes in
     let done = c.in_ok-done.done in
     let M = g.F.Files.made in
-    work-same setup c.args.items.now c.args.journal.now (IsWork setup c.args.items.now done.replies.items) (M c.args.files.now) (M c.write_section.new.files) (M c.finish_journal.new.files)
-    (worked setup c.args.items.now c.args.journal.now c.in_ok-stores.stores.items done.stores.items
+    worked (setup_of c.args.setting.now.design.now c.args.setting.now.sizes) c.args.items.now c.args.journal.now c.in_ok-stores.stores.items done.stores.items
     (λ shard within. empty-cells c.args.setting.now.sizes.shards c.args.setting.now.sizes.cells c.in_ok-stores.stores.items shard c.in_ok-stores.ensures within) done.replies.items done.lists.items c.in_ok-done.ensures.done
     (M c.args.files.now) (M c.begin_journal.new.files) (M c.write_section.new.files) c.in_ok-begin_journal.ensures.begun
-    (subst (λ l. FileGrows (M c.begin_journal.new.files) (M c.write_section.new.files) 0 (section_lines (record { kind = Batch; number = 1; shards = l }))) c.deref.ensures.value c.in_ok-write_section.ensures.written))
-    c.finish_journal.ensures.made
+    (subst (λ l. FileGrows (M c.begin_journal.new.files) (M c.write_section.new.files) 0 (section_lines (record { kind = Batch; number = 1; shards = l }))) c.deref.ensures.value c.in_ok-write_section.ensures.written)
 
 -- What it changes of the outside.
 
@@ -103,16 +78,5 @@ returns-in_err-write_section-clause-state g c =
     handed-on (WorkChanges (F c.args.files.now) (F c.write_section.new.files)) (Stopped stop) c.from_residual-in_err-write_section.result c.from_residual-in_err-write_section.ensures.1
     (subst (λ f. JournalStops f (F c.write_section.new.files) stop) c.in_ok-begin_journal.ensures.state c.in_err-write_section.ensures.state)
 
-pub returns-in_err-finish_journal-clause-state : goal.returns-in_err-finish_journal-clause-state
-returns-in_err-finish_journal-clause-state g c =
-    let F = g.F.Files.state in
-    let halt = c.in_err-finish_journal.field-0.0 in
-    handed-on (WorkChanges (F c.args.files.now) (F c.finish_journal.new.files)) halt c.from_residual-in_err-finish_journal.result c.from_residual-in_err-finish_journal.ensures.1
-    (work-unfinished (F c.args.files.now) (F c.write_section.new.files) (F c.finish_journal.new.files) halt
-    (c.in_ok-write_section.ensures.state ∙ c.in_ok-begin_journal.ensures.state) c.in_err-finish_journal.ensures.state)
-
 pub returns-clause-state : goal.returns-clause-state
-returns-clause-state g c =
-    let F = g.F.Files.state in
-    work-changes (F c.args.files.now) (F c.write_section.new.files) (F c.finish_journal.new.files) c.requires.files (g.met.F.Files.places c.args.files.now)
-    (c.in_ok-write_section.ensures.state ∙ c.in_ok-begin_journal.ensures.state) c.in_ok-finish_journal.ensures.state
+returns-clause-state g c = c.in_ok-write_section.ensures.state ∙ c.in_ok-begin_journal.ensures.state
