@@ -1,16 +1,24 @@
 #!/usr/bin/env python3
-"""Writes circuits on which faults are found: an array multiplier, or one that is drawn from a number.
+"""Writes circuits on which faults are found: an array multiplier, a filter, or one that is drawn from a number.
 
     bench/faults/circuits.py multiplier BITS FOLDER
+    bench/faults/circuits.py filter TAPS BITS FOLDER
     bench/faults/circuits.py drawn GATES INPUTS OUTPUTS FLOPS FOLDER
 
-Makes FOLDER with `netlist.bench` and `timing`, every delay being 1. The multiplier has the inputs a0, a1 and so on and b0, b1 and so on,
-and the outputs p0, p1 and so on. A drawn circuit has gates of one to four pins, most of which read what stands near; with flip-flops it
-has a clock with an edge at 60 and each 120 after it, and initial values."""
+Makes FOLDER with `netlist.bench` and `timing`, every delay being 1; with flip-flops there are a clock with an edge at 60 and each 120 after
+it, and initial values.
+
+- The multiplier has the inputs a0, a1 and so on and b0, b1 and so on, and the outputs p0, p1 and so on.
+- The filter adds the products of the last TAPS samples with a coefficient each. A sample x0, x1 and so on comes with each edge, and a
+  coefficient c0, c1 and so on is taken where its `load` is 1. Samples, coefficients, products and the sum are in flip-flops: a pipeline, as
+  most circuits that work out numbers are.
+- A drawn circuit has gates of one to four pins, most of which read what stands near. Its flip-flops follow one another without an order,
+  so that most faults come through very many of them: hard to show, and harder to confirm."""
 from __future__ import annotations
 
 import random
 import sys
+from collections.abc import Callable, Iterable
 from pathlib import Path
 
 SEED = 58
@@ -41,26 +49,79 @@ class Netlist:
         return self.gate("XOR", half, carry), self.gate("OR", both, self.gate("AND", half, carry))
 
 
-def multiplier(bits: int) -> list[str]:
-    """The lines of a multiplier: a row of adders for each bit of b."""
-    made = Netlist()
-    product: list[str] = []
+def product(made: Netlist, left: list[str], right: list[str]) -> list[str]:
+    """The bits of a product: a row of adders for each bit of the right number."""
+    found: list[str] = []
     row: list[str] = []
-    for place in range(bits):
-        terms = [made.gate("AND", f"a{other}", f"b{place}") for other in range(bits)]
+    for one in right:
+        terms = [made.gate("AND", other, one) for other in left]
         sums, carry = [], None
-        for other, term in enumerate(terms):
-            if other < len(row):
-                term, carry = made.add(term, row[other], carry)
+        for place, term in enumerate(terms):
+            if place < len(row):
+                term, carry = made.add(term, row[place], carry)
             elif carry is not None:
                 term, carry = made.add(term, carry, None)
             sums.append(term)
-        product.append(sums[0])
+        found.append(sums[0])
         row = sums[1:] + ([carry] if carry is not None else [])
-    product += row
-    inputs = [f"INPUT({word}{place})" for word in "ab" for place in range(bits)]
-    outputs = [f"OUTPUT(p{place})" for place in range(len(product))]
-    return inputs + outputs + made.lines + [f"p{place} = BUFF({name})" for place, name in enumerate(product)]
+    return found + row
+
+
+def ports(kind: str, names: Iterable[str]) -> list[str]:
+    return [f"{kind}({name})" for name in names]
+
+
+def word(name: str, bits: int) -> list[str]:
+    return [f"{name}{place}" for place in range(bits)]
+
+
+def multiplier(bits: int) -> list[str]:
+    """The lines of a multiplier."""
+    made = Netlist()
+    left, right = word("a", bits), word("b", bits)
+    found = product(made, left, right)
+    outputs = word("p", len(found))
+    return ports("INPUT", left + right) + ports("OUTPUT", outputs) + made.lines + [f"{name} = BUFF({bit})" for name, bit in zip(outputs, found)]
+
+
+def filter_of(taps: int, bits: int) -> list[str]:
+    """The lines of a filter."""
+    made = Netlist()
+    flops: list[str] = []
+
+    def kept(name: str, pins: list[str]) -> list[str]:
+        """Flip-flops of these pins."""
+        names = word(name, len(pins))
+        flops.extend(f"{flop} = DFF({pin})" for flop, pin in zip(names, pins))
+        return names
+
+    sample, coefficient = word("x", bits), word("c", bits)
+    loads = word("load", taps)
+    inputs = sample + coefficient + loads
+    terms = []
+    for tap, load in enumerate(loads):
+        sample = kept(f"s{tap}_", sample)
+        stays = made.gate("NOT", load)
+        own = [made.gate("OR", made.gate("AND", load, new), made.gate("AND", stays, f"k{tap}_{place}")) for place, new in enumerate(coefficient)]
+        terms.append(kept(f"p{tap}_", product(made, sample, kept(f"k{tap}_", own))))
+    while len(terms) > 1:
+        terms = [total(made, *terms[place:place + 2]) for place in range(0, len(terms), 2)]
+    outputs = kept("y", terms[0])
+    return ports("INPUT", inputs) + ports("OUTPUT", outputs) + made.lines + flops
+
+
+def total(made: Netlist, left: list[str], right: list[str] | None = None) -> list[str]:
+    """The bits of a sum of two numbers, the left one not shorter; the left one alone where there is no other."""
+    if right is None:
+        return left
+    found, carry = [], None
+    for place, one in enumerate(left):
+        if place < len(right):
+            one, carry = made.add(one, right[place], carry)
+        elif carry is not None:
+            one, carry = made.add(one, carry, None)
+        found.append(one)
+    return found + ([carry] if carry is not None else [])
 
 
 def drawn(gates: int, inputs: int, outputs: int, flops: int) -> list[str]:
@@ -85,8 +146,7 @@ def drawn(gates: int, inputs: int, outputs: int, flops: int) -> list[str]:
     rest = read[flops:]
     parities = [rest[place:place + 16] for place in range(0, len(rest), 16)]
     lines += [f"r{place} = XOR({', '.join(own)})" for place, own in enumerate(parities)]
-    ports = [f"INPUT(i{place})" for place in range(inputs)]
-    return ports + [f"OUTPUT({name})" for name in [*looked, *(f"r{place}" for place in range(len(parities)))]] + lines
+    return ports("INPUT", word("i", inputs)) + ports("OUTPUT", [*looked, *word("r", len(parities))]) + lines
 
 
 def write(folder: Path, lines: list[str]) -> None:
@@ -99,14 +159,17 @@ def write(folder: Path, lines: list[str]) -> None:
     (folder / "timing").write_text("".join(f"{line}\n" for line in ["default 1", *clock, *(f"init {name} {draw.choice('01')}" for name in flops)]))
 
 
+MAKERS: dict[str, tuple[Callable[..., list[str]], int]] = {"multiplier": (multiplier, 1), "filter": (filter_of, 2), "drawn": (drawn, 4)}
+
+
 def main(words: list[str]) -> None:
-    match words:
-        case ["multiplier", bits, folder] if bits.isdigit():
-            write(Path(folder), multiplier(int(bits)))
-        case ["drawn", *numbers, folder] if len(numbers) == 4 and all(map(str.isdigit, numbers)):
-            write(Path(folder), drawn(*map(int, numbers)))
-        case _:
-            sys.exit(__doc__)
+    if not words or words[0] not in MAKERS:
+        sys.exit(__doc__)
+    maker, count = MAKERS[words[0]]
+    numbers = words[1:-1]
+    if len(numbers) != count or not all(number.isdigit() for number in numbers):
+        sys.exit(__doc__)
+    write(Path(words[-1]), maker(*map(int, numbers)))
 
 
 if __name__ == "__main__":

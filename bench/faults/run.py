@@ -1,12 +1,12 @@
 #!/usr/bin/env python3
 """Times `backsim-tools faults` on circuits of `circuits.py` with random patterns.
 
-    bench/faults/run.py [multiplier] [combinational] [large] [sequential]
+    bench/faults/run.py [multiplier] [combinational] [large] [filter] [sequential]
 
-Runs all four where none is named, each once, with a process for each processor. A line of the table has the gates, the classes of faults,
-the patterns, how many classes are shown, and how many of these the program confirms within its budget, the seconds of the whole command, the processor seconds of all its processes, and the most
-memory that they had together, sampled ten times a second, pages that they share counted once. Ends with status 1 where the command
-fails."""
+Runs all five where none is named, each once, with a process for each processor. A line of the table has the gates, the classes of faults,
+the patterns, how many classes are shown, and how many of these the program confirms within its budget, the seconds of the whole command,
+the processor seconds of all its processes, and the most memory that they had together, sampled ten times a second, pages that they
+share counted once. Ends with status 1 where the command fails."""
 from __future__ import annotations
 
 import os
@@ -20,7 +20,7 @@ import time
 from pathlib import Path
 
 sys.path.insert(0, str(Path(__file__).parent))
-from circuits import PERIOD, SEED, drawn, multiplier, write  # noqa: E402
+from circuits import PERIOD, SEED, drawn, filter_of, multiplier, write  # noqa: E402
 
 TOP = Path(__file__).resolve().parents[2]
 # for each circuit its lines, the patterns, and the time from one to the next
@@ -28,6 +28,7 @@ CASES = {
     "multiplier": (lambda: multiplier(16), 1000, 100),
     "combinational": (lambda: drawn(3500, 200, 94, 0), 1000, 60),
     "large": (lambda: drawn(20000, 300, 200, 0), 256, 300),
+    "filter": (lambda: filter_of(4, 12), 500, PERIOD),
     "sequential": (lambda: drawn(3000, 60, 60, 200), 500, PERIOD),
 }
 

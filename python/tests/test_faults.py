@@ -196,7 +196,7 @@ def test_a_refusal_is_said(tools, patterns) -> None:
 def test_a_budget_is_said_with_status_1(tools, patterns) -> None:
     run = asked(tools, patterns, "--jobs", 1, how="budget 9")
     assert run.returncode == 1
-    assert "that are shown need more than 500000 evaluations to be confirmed, so simulation alone says it" in run.stderr.decode()
+    assert "that are shown are not confirmed by 500000 evaluations each, so simulation alone says it" in run.stderr.decode()
 
 
 @pytest.mark.parametrize("words, cause", [
@@ -333,6 +333,33 @@ def compare(circuit: Circuit, count: int, tools, folder: Path, program: str, *wo
 def test_small_circuits_against_a_forward_fault_simulation(seed: int, tools, tmp_path) -> None:
     shown = compare(made_up(seed, 4, 14, 3, 3), 5, tools, tmp_path, STAND_IN, "--jobs", "2", *(["--uncollapsed"] if seed % 2 else []))
     assert shown > 5
+
+
+def of_file(name: str) -> Circuit:
+    """A circuit of the examples, its lines taken apart here again."""
+    ports: dict[str, list[str]] = {"INPUT": [], "OUTPUT": []}
+    gates: dict[str, tuple[str, list[str]]] = {}
+    for line in (TOP / "examples" / name / f"{name}.bench").read_text().splitlines():
+        if found := re.fullmatch(r"(INPUT|OUTPUT)\((.*)\)", line):
+            ports[found[1]].append(found[2])
+        elif found := re.fullmatch(r"(\S+) = (\w+)\((.*)\)", line):
+            gates[found[1]] = (found[2], found[3].split(", "))
+    # flip-flops first, then each gate after what it reads
+    made = {own: gate for own, gate in gates.items() if gate[0] == "DFF"}
+    while len(made) < len(gates):
+        made |= {own: gate for own, gate in gates.items() if own not in made and all(pin in made or pin in ports["INPUT"] for pin in gate[1])}
+    return Circuit(ports["INPUT"], ports["OUTPUT"], made, dict.fromkeys(made, 1), {own: "0" for own, (kind, _) in made.items() if kind == "DFF"})
+
+
+@pytest.mark.parametrize("words", [[], ["--uncollapsed"]])
+@pytest.mark.parametrize("name", ["c17", "s27"])
+def test_circuits_of_the_field_against_a_forward_fault_simulation(name: str, words: list[str], tools, tmp_path) -> None:
+    assert compare(of_file(name), 12, tools, tmp_path, STAND_IN, *words) > 25
+
+
+def test_gates_alone_against_a_forward_fault_simulation(tools, tmp_path, program) -> None:
+    # every 7th of the faults of stems and branches, through more patterns than a block of the simulation has
+    assert compare(made_up(4, 30, 500, 0, 20, exclusive=2), 300, tools, tmp_path, program, every=7) > 100
 
 
 def test_a_thousand_gates_against_a_forward_fault_simulation(tools, tmp_path, program) -> None:

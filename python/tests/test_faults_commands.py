@@ -1,7 +1,12 @@
 """The commands around fault coverage: which faults explain failures, fewer patterns, and patterns that show faults."""
 from __future__ import annotations
 
+import os
 import random
+import signal
+import subprocess
+import sys
+import time
 
 import pytest
 from conftest import TOP
@@ -104,6 +109,29 @@ def test_a_random_sequence_for_flip_flops(tools, tmp_path) -> None:
     said = run.stderr.decode().splitlines()[-1]
     assert said.startswith(f"{len(words)} patterns of ") and f" show {shown} of {len(first)} faults" in said
     assert shown > len(first) // 3 and len(words) - 1 in first.values()
+
+
+@pytest.mark.parametrize("number", [signal.SIGINT, signal.SIGTERM])
+def test_patterns_of_an_interrupted_search_are_kept_and_marked(number, tools, tmp_path) -> None:
+    # what no pattern can show keeps the search going
+    (tmp_path / "n").write_text("INPUT(a)\nINPUT(b)\nOUTPUT(y)\nc = NOT(a)\nd = AND(a, c)\ny = OR(d, b)\n")
+    (tmp_path / "t").write_text("default 1\n")
+    words = ["patterns", *map(str, (tmp_path / "n", tmp_path / "t")), "--output", str(tmp_path / "p"), "--idle", "10000000", "--most", "10000000"]
+    running = subprocess.Popen([sys.executable, "-m", "backsim", *words], env=os.environ | {"PYTHONPATH": str(TOP / "python")},
+                               stdout=subprocess.PIPE, stderr=subprocess.PIPE, text=True)
+    time.sleep(5)
+    assert running.poll() is None
+    running.send_signal(number)
+    out, err = running.communicate(timeout=60)
+    assert (running.returncode, out) == (130, "") and "Traceback" not in err and " faults, " in err.splitlines()[-1]
+    first, *kept = (tmp_path / "p").read_text().splitlines()
+    assert first == "# partial: the command was interrupted"
+    assert kept and all(len(word) == 2 and set(word) <= {"0", "1"} for word in kept)
+    run = tools("faults", tmp_path / "n", tmp_path / "t", tmp_path / "p", "--period", 10, env={"BACKSIM": STAND_IN})
+    assert (run.returncode, run.stdout) == (2, b"")
+    assert run.stderr.decode().startswith(f"{tmp_path / 'p'}:1: an interrupted command left this file") and run.stderr.count(b"\n") == 1
+    (tmp_path / "p").write_text("".join(f"{word}\n" for word in kept))
+    assert tools("faults", tmp_path / "n", tmp_path / "t", tmp_path / "p", "--period", 10, env={"BACKSIM": STAND_IN}).returncode == 0
 
 
 @pytest.mark.parametrize("words, cause", [

@@ -3,6 +3,8 @@ from __future__ import annotations
 
 import csv
 import os
+import random
+import re
 import signal
 import subprocess
 import sys
@@ -10,6 +12,10 @@ import time
 from pathlib import Path
 
 import pytest
+from backsim.commands import faults as faults_command
+from backsim.faults import confirming, portions
+from backsim.faults.plan import Plan
+from backsim.main import main
 from conftest import TOP
 from forward_faults import made_up
 from test_faults import C17, GATES, PATTERNS, STAND_IN, outputs_of, without_progress
@@ -120,6 +126,62 @@ def test_proofs_are_taken_up_where_they_were(tools, patterns, tmp_path) -> None:
     assert bad.returncode == 2 and bad.stderr.decode().startswith(f"{kept}:2: ") and bad.stderr.count(b"\n") == 1
 
 
+def test_portions_with_few_branches_say_the_same(patterns, monkeypatch, capsys, tmp_path) -> None:
+    monkeypatch.setenv("BACKSIM", STAND_IN)
+    words = ["faults", *C17, str(patterns), "--period", "10", "--jobs", "2"]
+    assert main([*words, "--prove-left", str(tmp_path / "whole")]) == 0
+    table = capsys.readouterr().out
+    made: list[int] = []
+
+    class Counted(Plan):
+        def part(self, classes):
+            part = super().part(classes)
+            made.append(len(part.made.signals))
+            return part
+
+    monkeypatch.setattr(faults_command, "Plan", Counted)
+    monkeypatch.setattr(portions, "_LEAST_BRANCHES", 2)
+    assert main([*words, "--prove-left", str(tmp_path / "parts")]) == 0
+    assert capsys.readouterr().out == table
+    assert len(made) > 2 and max(made) == 2
+    assert sorted((tmp_path / "parts").read_text().splitlines()) == sorted((tmp_path / "whole").read_text().splitlines())
+
+
+def test_a_small_budget_leaves_late_faults_unconfirmed(tools, write, tmp_path, program) -> None:
+    circuit = made_up(1, 8, 60, 6, 8, exclusive=6)
+    rest = circuit.longest() + 2
+    draw = random.Random(2)
+    words = [write("n", circuit.netlist()), write("t", circuit.timing(rest, 2 * rest + 2)),
+             write("p", "".join("".join(draw.choice("01") for _ in range(8)) + "\n" for _ in range(60))), "--period", 2 * rest + 2]
+    rows = {}
+    for budget in (500_000, 150):
+        run = faults(tools, *words, "--budget", budget, "--csv", tmp_path / "table", program=program)
+        rows[budget] = list(csv.DictReader((tmp_path / "table").open()))
+        shown = {row["class"] for row in rows[budget] if row["time"]}
+        not_confirmed = {row["class"] for row in rows[budget] if row["time"] and row["confirmed"] == "no"}
+        if budget == 500_000:
+            assert (run.returncode, run.stderr, not_confirmed) == (0, b"", set())
+        else:
+            said = f"{len(not_confirmed)} that are shown are not confirmed by 150 evaluations each, so simulation alone says it (--budget)\n"
+            assert (run.returncode, run.stderr.decode()) == (1, said)
+            assert 0 < len(not_confirmed) < len(shown)
+    assert [row["time"] for row in rows[150]] == [row["time"] for row in rows[500_000]]
+
+
+@pytest.mark.parametrize("most", [0, 1])
+def test_after_budgets_in_turn_later_faults_are_not_asked(most: int, write, monkeypatch, capsys) -> None:
+    """With flip-flops nothing is asked once so many answers in turn were those of a budget; without them all is."""
+    monkeypatch.setenv("BACKSIM", STAND_IN)
+    monkeypatch.setattr(confirming, "_IN_VAIN", most)
+    s27 = [f"{TOP}/examples/s27/s27.{kind}" for kind in ("bench", "timing")]
+    assert main(["faults", *s27, str(write("p", "0000\n1111\n0101\n1010\n")), "--period", "20"]) == (0 if most else 1)
+    out, err = capsys.readouterr()
+    confirmed, shown = re.findall(r"confirmed by the program: ([0-9]+) of ([0-9]+)", out)[0]
+    assert int(shown) > 5 and confirmed == (shown if most else "0")
+    assert (f"{shown} that are shown are not confirmed" in err) == (not most)
+    assert main(["faults", *C17, str(write("q", "00101\n10111\n")), "--period", "10"]) == 0
+
+
 def test_gates_in_a_cycle_are_asked_for_without_simulation(tools, write) -> None:
     files = write("n", "INPUT(s)\nINPUT(r)\nOUTPUT(q)\nq = NOR(r, p)\np = NOR(s, q)\n"), write("t", "default 1\n"), write("p", "10\n01\n")
     run = faults(tools, *files, "--period", 10)
@@ -178,6 +240,43 @@ def test_an_interrupt_leaves_what_is_known(number, long_work, tmp_path, program)
                            text=True)
     assert again.returncode == 2 and again.stdout == "" and again.stderr.startswith(f"{files['left']}:1: an interrupted command left this file")
     assert files["kept"].read_text().endswith("\n")
+
+
+@pytest.mark.parametrize("number", [signal.SIGINT, signal.SIGTERM])
+def test_an_interrupt_while_processes_simulate_leaves_what_is_known(number, write, tmp_path) -> None:
+    circuit = made_up(1, 32, 1000, 24, 24, exclusive=6)
+    rest = circuit.longest() + 2
+    draw = random.Random(1)
+    patterns = "".join("".join(draw.choice("01") for _ in range(32)) + "\n" for _ in range(2000))
+    files = {name: tmp_path / name for name in ("csv", "dictionary", "shown", "left")}
+    words = [write("n", circuit.netlist()), write("t", circuit.timing(rest, 2 * rest + 2)), write("p", patterns), "--period", 2 * rest + 2,
+             "--jobs", 3, *(word for name, path in files.items() for word in (f"--{name}", path))]
+    environment = os.environ | {"PYTHONPATH": str(TOP / "python"), "BACKSIM": STAND_IN}
+    # a process group of its own: a terminal sends what is typed to all processes of one
+    running = subprocess.Popen([sys.executable, "-m", "backsim", "faults", *map(str, words)], env=environment, stdout=subprocess.PIPE,
+                               stderr=subprocess.PIPE, text=True, start_new_session=True)
+    until = time.monotonic() + 120
+    children: list[str] = []
+    while len(children) < 3:
+        assert running.poll() is None and time.monotonic() < until, running.stderr.read()
+        time.sleep(0.02)
+        children = children_of(running.pid)
+    # parts of what is found come five times a second
+    time.sleep(3)
+    assert running.poll() is None
+    os.killpg(running.pid, number)
+    out, err = running.communicate(timeout=60)
+    assert running.returncode == 130 and "Traceback" not in err
+    assert not any(Path(f"/proc/{child}").exists() for child in children)
+    assert out.splitlines()[0].startswith("partial: ")
+    mark = "# partial: the command was interrupted"
+    shown, left = (files[name].read_text().splitlines() for name in ("shown", "left"))
+    assert shown[0] == left[0] == mark and len(shown) > 100 and len(left) > 1
+    for name in ("csv", "dictionary"):
+        assert files[name].read_text().splitlines()[-1] == mark
+    rows = [row for row in csv.DictReader(files["csv"].open()) if row["fault"] != mark]
+    assert sorted(row["fault"] for row in rows if row["time"]) == sorted(shown[1:])
+    assert {row["confirmed"] for row in rows} == {"no"}
 
 
 @pytest.mark.parametrize("words, cause", [

@@ -18,7 +18,7 @@ from ..faults.coverage import Coverage
 from ..faults.dictionary import Dictionary
 from ..faults.finding import Finder, finder_of
 from ..faults.lists import write_faults
-from ..faults.model import Lines
+from ..faults.model import Lines, weights
 from ..faults.plan import Outcome, Plan
 from ..faults.proving import Kept, prove_left
 from ..faults.request import Looks, add_circuit, add_faults, add_jobs, add_looks, asked_files, classes_of, jobs_of, read_looks
@@ -36,8 +36,6 @@ confirmed by a stuck line of the program. Status 1: a question was answered by i
 SIGTERM came; what was known is written, and marked as partial."""
 _MOST_SAID = 20
 _MOST_DROP = 1000
-# what a question that confirms may need where it works out the past of flip-flops; ten times as much would take minutes in vain
-_SEQUENTIAL_BUDGET = 50_000
 
 
 def add_arguments(parser: argparse.ArgumentParser) -> None:
@@ -48,9 +46,8 @@ def add_arguments(parser: argparse.ArgumentParser) -> None:
                         "in place of stuck ones; of circuits without flip-flops")
     parser.add_argument("--drop", type=count_of(1, _MOST_DROP), metavar="N", help="follows a fault until N times have shown it, 1 where "
                         "it is left out, and counts the faults that N times show")
-    parser.add_argument("--budget", type=count_of(0, MOST_BUDGET), metavar="N",
-                        help=f"evaluations for a question, {MOST_BUDGET} where it is left out, but {_SEQUENTIAL_BUDGET} for one that confirms "
-                        "a fault of a circuit with flip-flops")
+    parser.add_argument("--budget", type=count_of(0, MOST_BUDGET), default=MOST_BUDGET, metavar="N",
+                        help=f"evaluations for a question, {MOST_BUDGET} where it is left out")
     add_jobs(parser)
     add_program(parser)
     parser.add_argument("--prove-left", type=Path, metavar="FILE", help="asks the program also for the faults that simulation does not show; FILE "
@@ -86,7 +83,7 @@ def _run(arguments: argparse.Namespace) -> int:
         raise UsageError(f"{arguments.netlist}: the netlist has no OUTPUT, so nothing shows a fault")
     if (arguments.write or arguments.read) and any(own.asked.is_transition for own in classes):
         raise WordsError("--write and --read are for stuck-at faults alone")
-    plan = Plan.of(looks.circuit, classes, looks.times, MOST_BUDGET if arguments.budget is None else arguments.budget)
+    plan = Plan.of(looks.circuit, classes, looks.times, arguments.budget)
     if arguments.write:
         say(f"{arguments.write}: {write_bundle(plan, arguments.write)} scripts")
         return 0
@@ -104,7 +101,7 @@ def _run(arguments: argparse.Namespace) -> int:
             search.dictionary.write(search.coverage(), stream, is_partial)
     status = _tell(arguments, search.coverage(), search.unanswered, is_partial)
     if search.unconfirmed:
-        say(f"{search.unconfirmed} that are shown need more than {search.budget} evaluations to be confirmed, so simulation alone says it (--budget)")
+        say(f"{search.unconfirmed} that are shown are not confirmed by {plan.budget} evaluations each, so simulation alone says it (--budget)")
     return INTERRUPTED if is_partial else 1 if search.unconfirmed else status
 
 
@@ -116,11 +113,11 @@ class _Search:
         self._jobs = jobs_of(arguments)
         self._kept = Kept(arguments.prove_left, plan, lines) if arguments.prove_left else None
         self._outcomes = {own: Outcome() for own in plan.classes}
+        self._weights = weights(looks.circuit.netlist)
         self._is_simulated = True
         self.dictionary = Dictionary(len(plan.classes)) if arguments.dictionary else None
         self.unanswered: list[str] = []
         self.unconfirmed = 0
-        self.budget = _SEQUENTIAL_BUDGET if arguments.budget is None and looks.circuit.netlist.flops() else plan.budget
 
     def coverage(self) -> Coverage:
         return Coverage(self._plan, self._lines, self._outcomes, self._arguments.drop or 1, self._is_simulated)
@@ -157,14 +154,15 @@ class _Search:
         outcome.count += 1
         if outcome.time is None:
             outcome.time = self._plan.times[detection.look]
-            outcome.output = self._plan.outputs[detection.outputs[0]]
+            # the output of which a question takes least
+            outcome.output = min((self._plan.outputs[place] for place in detection.outputs), key=self._weights.__getitem__)
         if self.dictionary is not None:
             self.dictionary.take(detection)
 
     def _confirm(self, files: Sequence[type_of_path]) -> None:
         count = sum(outcome.is_shown for outcome in self._outcomes.values())
         with Bar(count, "confirmed", has_lines=True) as bar:
-            others = confirm(self._plan, self._outcomes, self.budget, files, self._jobs, self._arguments.program, bar.add)
+            others = confirm(self._plan, self._outcomes, files, self._jobs, self._arguments.program, bar.add)
         self.unconfirmed = len(others.unanswered)
         if others.differing:
             say(f"the program does not confirm {len(others.differing)} of {count}; each of these is asked for at all times")
@@ -175,14 +173,13 @@ class _Search:
         self._is_simulated = len(classes) < len(self._outcomes)
         for own in classes:
             self._outcomes[own] = Outcome()
-        with Bar(len(classes), "faults", has_lines=True) as bar:
-            good = solve_all(self._plan, files, min(self._jobs, max(1, len(classes))), self._outcomes, classes, self._arguments.program, bar.add)
+        with Bar(len(classes) * len(self._plan.times), "asked", has_lines=True) as bar:
+            good = solve_all(self._plan, files, self._jobs, self._outcomes.__setitem__, classes, self._arguments.program, bar.add)
         self.unanswered = good.unanswered
 
     def _prove(self, kept: Kept, files: Sequence[type_of_path]) -> None:
         left = [own for own, outcome in self._outcomes.items() if not outcome.is_shown and not outcome.is_confirmed]
-        with Bar(len(left), "asked", has_lines=True) as bar:
-            bar.add(sum(own in kept.outcomes for own in left))
+        with Bar(len(left) * len(self._plan.times), "asked", has_lines=True) as bar:
             prove_left(self._plan, self._outcomes, left, kept, files, self._jobs, self._arguments.program, bar.add)
         shown = sum(self._outcomes[own].is_shown for own in left)
         if shown:

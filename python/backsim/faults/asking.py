@@ -7,7 +7,7 @@ from __future__ import annotations
 import os
 from collections import deque
 from collections.abc import Callable, Iterable, Sequence
-from concurrent.futures import FIRST_EXCEPTION, ThreadPoolExecutor, wait
+from concurrent.futures import FIRST_EXCEPTION, Future, ThreadPoolExecutor, wait
 from types import TracebackType
 from typing import TypeVar
 
@@ -20,6 +20,7 @@ from ..program import Conversation, Options, interrupt_held, looked_up
 from ..values import Answer, At, Budget
 from .collapse import FaultClass
 from .plan import Good, Outcome, Plan
+from .portions import Portion, portions_of
 
 T = TypeVar("T")
 _MOST_AT_ONCE = 2048
@@ -43,6 +44,12 @@ class Asker:
         self._conversation: Conversation | None = None
         self._sent = 0
         self._is_stopped = False
+
+    def turn_to(self, files: Sequence[type_of_path]) -> None:
+        """Has what is asked from here on be of these files."""
+        if (*files, os.devnull) != self._files:
+            self.close()
+            self._files = (*files, os.devnull)
 
     def ask(self, lines: Sequence[Line]) -> list[Answer]:
         """The answers to the lines, in order. Incomplete where one is missing, or is one to another line; another error where the
@@ -105,16 +112,16 @@ class Asker:
 
 
 def solve(plan: Plan, own: FaultClass, good: Good, ask: Callable[[Sequence[Line]], list[Answer]],
-          pieces: Iterable[tuple[int, ...]]) -> Outcome:
+          pieces: Iterable[tuple[int, ...]], told: Callable[[int], None] = lambda count: None) -> Outcome:
     """What comes of one class that is asked for in these pieces of the times, until one shows it. A line that is slow is asked for at
-    each time before which it has the value that it keeps."""
+    each time before which it has the value that it keeps. `told` hears for how many more times that is known."""
     outcome = Outcome()
     if own.asked.is_transition:
         pieces = _after_held(plan, own, ask)
     if own.asked.site.is_output:
         plan.judge_output(own, [time for piece in pieces for time in piece], good, outcome)
     else:
-        _ask_pieces(plan, own, good, ask, pieces, outcome)
+        _ask_pieces(plan, own, good, ask, pieces, outcome, told)
     outcome.is_confirmed = outcome.is_shown or not outcome.unanswered
     return outcome
 
@@ -126,7 +133,7 @@ def _after_held(plan: Plan, own: FaultClass, ask: Callable[[Sequence[Line]], lis
 
 
 def _ask_pieces(plan: Plan, own: FaultClass, good: Good, ask: Callable[[Sequence[Line]], list[Answer]], pieces: Iterable[tuple[int, ...]],
-                outcome: Outcome) -> None:
+                outcome: Outcome, told: Callable[[int], None]) -> None:
     left = deque(pieces)
     while left and not outcome.is_shown:
         times = left.popleft()
@@ -138,6 +145,7 @@ def _ask_pieces(plan: Plan, own: FaultClass, good: Good, ask: Callable[[Sequence
                 plan.judge(times, group, ask(group), good, outcome)
                 if outcome.is_shown:
                     break
+            told(1)
             continue
         answers = ask(lines)
         if any(isinstance(answer, Budget) for answer in answers):
@@ -145,6 +153,7 @@ def _ask_pieces(plan: Plan, own: FaultClass, good: Good, ask: Callable[[Sequence
             left.extendleft((times[half:], times[:half]))
         else:
             plan.judge(times, lines, answers, good, outcome)
+            told(len(times))
 
 
 class Crew:
@@ -181,8 +190,11 @@ class Crew:
                 work(asker, part)
 
         with ThreadPoolExecutor(len(self._askers)) as pool:
-            running = [pool.submit(serve, asker) for asker in self._askers]
+            running: list[Future[None]] = []
             try:
+                # an interrupt may come while threads are started, and one of them already waits for its session
+                for asker in self._askers:
+                    running.append(pool.submit(serve, asker))
                 wait(running, return_when=FIRST_EXCEPTION)
                 deque(left, 0)
                 for job in running:
@@ -198,16 +210,26 @@ class Crew:
                 raise
 
 
-def solve_all(plan: Plan, files: Sequence[type_of_path], jobs: int, outcomes: dict[FaultClass, Outcome], classes: Sequence[FaultClass],
-              program: type_of_path | None = None, told: Callable[[], None] = lambda: None) -> Good:
-    """Asks for these classes at one time after another, and takes what comes of each into `outcomes`. `told` is called when a class is
-    done. Gives the values without a fault."""
-    with Crew(files, jobs, program) as crew:
+def solve_all(plan: Plan, files: Sequence[type_of_path], jobs: int, take: Callable[[FaultClass, Outcome], None], classes: Sequence[FaultClass],
+              program: type_of_path | None = None, told: Callable[[int], None] = lambda count: None) -> Good:
+    """Asks for these classes at one time after another, and gives `take` what comes of each. `told` hears of how many more times is known
+    what comes of a class, of all times for each class. Gives the values without a fault."""
+    with Crew(files, min(jobs, max(1, len(classes))), program) as crew:
         good = Good(plan, crew.ask(plan.good_lines()))
 
-        def work(asker: Asker, own: FaultClass) -> None:
-            outcomes[own] = solve(plan, own, good, asker.ask, plan.chunks(own))
-            told()
+        def work(asker: Asker, task: tuple[Portion, FaultClass]) -> None:
+            portion, own = task
+            own_plan, own_files = portion.made()
+            asker.turn_to(own_files)
+            left = len(plan.times)
 
-        crew.share(classes, work)
+            def told_of(count: int) -> None:
+                nonlocal left
+                left -= count
+                told(count)
+
+            take(own, solve(own_plan, own, good, asker.ask, own_plan.chunks(own), told_of))
+            told(left)
+
+        crew.share([(portion, own) for portion in portions_of(plan, classes, files) for own in portion.classes], work)
     return good

@@ -35,11 +35,13 @@ class Made(Circuit):
         return site.source if site.is_stem else self.signals[site]
 
 
-def with_branches(netlist: Netlist, timing: Timing, stimulus: Stimulus, branches: Iterable[Site]) -> Made:
-    """The circuit with these branches as signals; the circuit itself where there are none. The branch to an output needs none.
+def with_branches(circuit: Circuit, branches: Iterable[Site], doubled: Stimulus | None = None) -> Made:
+    """The circuit with these branches as signals; the circuit itself where there are none. The branch to an output needs none. `doubled`
+    is the stimulus that was made for other branches: where it is given, it is this one's too, and times are doubled in any case.
     WordsError where the horizon is above 499,999, so that it can't be doubled."""
+    netlist, timing, stimulus = circuit.netlist, circuit.timing, circuit.stimulus
     branches = [site for site in branches if not site.is_stem and not site.is_output]
-    if not branches:
+    if not branches and doubled is None:
         return Made(netlist, timing, stimulus, {}, 1)
     if stimulus.horizon > MOST_HORIZON:
         raise WordsError(f"for faults of branches all times are doubled, so the horizon may be at most {MOST_HORIZON}, and is "
@@ -52,16 +54,17 @@ def with_branches(netlist: Netlist, timing: Timing, stimulus: Stimulus, branches
         gates.append(replace(gate, pins=read))
     gates.extend(Gate(name, Kind.BUFF, (site.source,)) for site, name in signals.items())
     made = Netlist.build(netlist.inputs, netlist.outputs, gates)
-    return Made(made, _doubled(netlist, timing, signals), _doubled_stimulus(stimulus), signals, 2)
+    return Made(made, _doubled(netlist, timing, signals), doubled or _doubled_stimulus(stimulus), signals, 2)
 
 
 def _new_names(netlist: Netlist, branches: list[Site]) -> Iterable[str]:
     """A name for each branch: `FROM->TO`, or one with a number where that is taken or too long."""
     taken = set(netlist.names)
+    numbers = count(1)
     for site in branches:
         name = f"{site.source}->{site.reader}"
         if name in taken or len(name) > NAME_LIMIT:
-            name = next(new for number in count(1) if (new := f"branch->{number}") not in taken)
+            name = next(new for number in numbers if (new := f"branch->{number}") not in taken)
         taken.add(name)
         yield name
 

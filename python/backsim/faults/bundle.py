@@ -4,41 +4,20 @@ The folder has `netlist.bench`, `timing`, `stimulus`, and the scripts `1.script`
 to them are looked for in `1.replies`, `2.replies` and so on. Each fault is asked for at all times."""
 from __future__ import annotations
 
-import io
 from collections.abc import Iterable, Iterator
 from pathlib import Path
 
-from ..errors import FormatError, reason_of
-from ..formats.netlist import write_netlist
 from ..formats.replies import pairs, read_replies_of
 from ..formats.script import Line, read_script
-from ..formats.stimulus import write_stimulus
 from ..formats.text import SCRIPT_LIMIT
-from ..formats.timing import write_timing
 from ..outputs import whole_folder
 from ..values import Answer
 from .asking import Incomplete
-from .branches import Made
+from .circuit_files import write_circuit
 from .collapse import FaultClass
 from .plan import Good, Outcome, Plan
 
-NETLIST, TIMING, STIMULUS = "netlist.bench", "timing", "stimulus"
 SIZE = SCRIPT_LIMIT - 4096
-
-
-def write_circuit(made: Made, folder: Path) -> tuple[Path, Path, Path]:
-    """Writes the three files of the circuit, and gives their names. FormatError where one can't be written."""
-    paths = (folder / NETLIST, folder / TIMING, folder / STIMULUS)
-    texts = [io.StringIO() for _ in paths]
-    write_netlist(made.netlist, texts[0])
-    write_timing(made.timing, texts[1])
-    write_stimulus(made.stimulus, texts[2])
-    try:
-        for path, text in zip(paths, texts):
-            path.write_text(text.getvalue(), encoding="latin-1")
-    except OSError as error:
-        raise FormatError(folder, None, f"it can't be written: {reason_of(error)}") from None
-    return paths
 
 
 def write_bundle(plan: Plan, folder: Path) -> int:

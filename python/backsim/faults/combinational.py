@@ -13,7 +13,6 @@ from __future__ import annotations
 
 from collections.abc import Iterable, Iterator, Mapping, Sequence
 from dataclasses import field
-from heapq import heappop, heappush
 from itertools import islice
 
 from ..records import dataclass
@@ -22,6 +21,8 @@ from .network import Kernel, Network, Rails, bits_of
 
 # the outputs at which a signal's flip shows, each by its place among the outputs, and with which patterns
 Shown = tuple[tuple[int, int], ...]
+# bits of a word of the simulation of flips, and of all its words
+_BITS_OF_A_WORD, _MOST_BITS = 1 << 14, 1 << 29
 
 
 @dataclass(frozen=True, slots=True)
@@ -41,7 +42,7 @@ class Region:
         self.end = count
         self.place_of_output = {number: place for place, number in enumerate(network.outputs)}
         # an input that is an output has no gate on the way; the tester looks at it itself
-        self._ends = {number for number in network.outputs if number >= network.inputs}
+        self.ends = {number for number in network.outputs if number >= network.inputs}
         self.readers: list[tuple[int, ...]] = [()] * count
         self.places: list[tuple[tuple[int, int], ...]] = [()] * count
         # the immediate dominators (Cooper, Harvey and Kennedy, 2001), of -1 where no way leads to an output
@@ -58,7 +59,7 @@ class Region:
             self.places[number] = tuple(place for place in places[number] if self.dominator[place[0]] >= 0)
             self.readers[number] = tuple(sorted({reader for reader, _ in self.places[number]}))
             after = -1
-            for reader in (*self.readers[number], *([self.end] if number in self._ends else [])):
+            for reader in (*self.readers[number], *([self.end] if number in self.ends else [])):
                 after = reader if after < 0 else self._meet(after, reader)
             self.dominator[number] = after
 
@@ -72,7 +73,7 @@ class Region:
 
     def is_stem(self, number: int) -> bool:
         """Whether the signal is read in several places, an output being one, from each of which a way leads to an output."""
-        return len(self.places[number]) + (number in self._ends) > 1
+        return len(self.places[number]) + (number in self.ends) > 1
 
     def chain(self, number: int) -> Iterator[int]:
         """The signal, its dominator, the dominator of that, and so on, up to the last before the outputs."""
@@ -95,7 +96,7 @@ class Block:
 
 
 class Values:
-    """The values of all signals with the patterns of a block, and simulations of flips."""
+    """The values of all signals with the patterns of a block."""
 
     def __init__(self, region: Region, block: Block) -> None:
         self.region = region
@@ -107,41 +108,81 @@ class Values:
                 one, zero = kernel(self.ones, self.zeros)
                 self.ones.append(one)
                 self.zeros.append(zero)
-        self._met = [-1] * region.end
 
-    def flip(self, stem: int) -> Reached:
-        """What becomes of the flip of a signal that is read in several places."""
-        region, ones, zeros, met = self.region, self.ones, self.zeros, self._met
-        readers, kernels, ends, stop = region.readers, region.kernels, region.place_of_output, region.dominator[stem]
-        changed = [(stem, ones[stem], zeros[stem])]
-        ones[stem], zeros[stem] = zeros[stem], ones[stem]
-        shown: list[tuple[int, int]] = []
-        if stem in ends and stem >= region.network.inputs:
-            shown.append((ends[stem], ones[stem] | zeros[stem]))
-        left = list(readers[stem])
-        for reader in left:
-            met[reader] = stem
-        dominator = 0
-        while left:
-            number = heappop(left)
+
+class Lanes:
+    """The values of a block so many times beside one another, each time in a lane of its own: `count` flips are simulated at once, each in
+    its lane. Of a short block most of the time would go into the steps of the simulation, and not into its words."""
+
+    def __init__(self, values: Values) -> None:
+        self._region = values.region
+        self._bytes = (values.block.every.bit_length() + 7) // 8
+        self.count = max(1, min(_BITS_OF_A_WORD, _MOST_BITS // (2 * values.region.end)) // (8 * self._bytes))
+        self._masks = [values.block.every << 8 * self._bytes * place for place in range(self.count)]
+        self._ones = [self._spread(one) for one in values.ones]
+        self._zeros = [self._spread(zero) for zero in values.zeros]
+        # the signals that are to be worked out
+        self._left = bytearray(values.region.end)
+
+    def _spread(self, patterns: int) -> int:
+        return int.from_bytes(patterns.to_bytes(self._bytes, "little") * self.count, "little")
+
+    def _parts(self, lanes: int) -> list[int]:
+        """What each lane has."""
+        size, data = self._bytes, lanes.to_bytes(self._bytes * self.count, "little")
+        return [int.from_bytes(data[start:start + size], "little") for start in range(0, len(data), size)]
+
+    def flips(self, stems: Sequence[int]) -> list[Reached]:
+        """What becomes of the flips of signals that are read in several places, at most `count`."""
+        region, dominator = self._region, self._region.dominator
+        lanes = dict(zip(stems, self._masks))
+        stops: dict[int, int] = {}
+        for stem, lane in lanes.items():
+            stops[dominator[stem]] = stops.get(dominator[stem], 0) | lane
+        stopped, shown = self._simulate(lanes, stops)
+        parts = {number: self._parts(found) for number, found in stopped.items()}
+        outputs: list[list[tuple[int, int]]] = [[] for _ in stems]
+        for number, found in shown.items():
+            for own, patterns in zip(outputs, self._parts(found)):
+                if patterns:
+                    own.append((region.place_of_output[number], patterns))
+        none = [0] * self.count
+        return [Reached(parts.get(dominator[stem], none)[lane], tuple(sorted(outputs[lane]))) for lane, stem in enumerate(stems)]
+
+    def _simulate(self, lanes: Mapping[int, int], stops: Mapping[int, int]) -> tuple[dict[int, int], dict[int, int]]:
+        """Flips each signal of `lanes` in its lane, follows what changes, in lanes of `stops` up to the signal there, and takes all back.
+        Gives what flipped of these signals, and of outputs."""
+        ones, zeros, left, kernels, readers = self._ones, self._zeros, self._left, self._region.kernels, self._region.readers
+        ends = self._region.ends
+        changed: list[tuple[int, int, int]] = []
+        stopped: dict[int, int] = {}
+        shown: dict[int, int] = {}
+        for stem in lanes:
+            left[stem] = 1
+        number = left.find(1)
+        while number >= 0:
+            left[number] = 0
             own_one, own_zero = ones[number], zeros[number]
-            one, zero = kernels[number](ones, zeros)  # type: ignore[misc]
-            if one == own_one and zero == own_zero:
-                continue
-            if number == stop:
-                dominator = one & own_zero | zero & own_one
-                break
-            changed.append((number, own_one, own_zero))
-            ones[number], zeros[number] = one, zero
-            if number in ends and (flipped := one & own_zero | zero & own_one):
-                shown.append((ends[number], flipped))
-            for reader in readers[number]:
-                if met[reader] != stem:
-                    met[reader] = stem
-                    heappush(left, reader)
+            kernel = kernels[number]
+            one, zero = (own_one, own_zero) if kernel is None else kernel(ones, zeros)
+            if number in lanes:
+                flipped = (one | zero) & lanes[number]
+                one, zero = one ^ flipped, zero ^ flipped
+            if number in stops:
+                lane = stops[number]
+                stopped[number] = (one & own_zero | zero & own_one) & lane
+                one, zero = one ^ (one ^ own_one) & lane, zero ^ (zero ^ own_zero) & lane
+            if one != own_one or zero != own_zero:
+                changed.append((number, own_one, own_zero))
+                ones[number], zeros[number] = one, zero
+                if number in ends:
+                    shown[number] = one & own_zero | zero & own_one
+                for reader in readers[number]:
+                    left[reader] = 1
+            number = left.find(1, number)
         for number, one, zero in changed:
             ones[number], zeros[number] = one, zero
-        return Reached(dominator, tuple(sorted(shown)))
+        return stopped, shown
 
 
 @dataclass(slots=True)
@@ -196,9 +237,13 @@ class Effect:
 
     def first(self, most: int) -> Iterator[tuple[int, tuple[int, ...]]]:
         """The first patterns that show the fault, at most so many, all where that is 0, each with the places of the outputs that do."""
-        found: dict[int, list[int]] = {pattern: [] for pattern in islice(bits_of(self.patterns), most or None)}
-        if not found:
+        if not self.patterns:
             return
+        if most == 1:
+            bit = self.patterns & -self.patterns
+            yield bit.bit_length() - 1, tuple(place for place, patterns in self.outputs if patterns & bit)
+            return
+        found: dict[int, list[int]] = {pattern: [] for pattern in islice(bits_of(self.patterns), most or None)}
         within = (2 << max(found)) - 1
         for place, patterns in self.outputs:
             for pattern in bits_of(patterns & within):
@@ -230,7 +275,7 @@ class Line:
         if self.reaches:
             found = observed.of_signal(self.source) if self.reader is None else observed.of_pin(self.reader, self.place)
             patterns = excited & found
-            outputs = tuple((place, own & patterns) for place, own in observed.outputs(self.target))
+            outputs = tuple((place, own & patterns) for place, own in observed.outputs(self.target)) if patterns else ()
         if self.is_seen_itself:
             direct = _excited(values.block.direct[self.source], fault) & values.block.fresh
             patterns |= direct

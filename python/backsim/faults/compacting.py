@@ -29,11 +29,11 @@ def cover(shown: list[int]) -> list[int]:
     chosen: list[int] = []
     left = together(shown)
     # a look never shows more of what is left than it did before, so the best is known once its own count is taken anew
-    heap = [(-mask.bit_count(), look) for look, mask in enumerate(shown)]
+    heap = [(-_count(mask), look) for look, mask in enumerate(shown)]
     heapify(heap)
     while left:
         count, look = heap[0]
-        new = -(shown[look] & left).bit_count()
+        new = -_count(shown[look] & left)
         if new > count:
             heapreplace(heap, (new, look))
         else:
@@ -41,6 +41,10 @@ def cover(shown: list[int]) -> list[int]:
             chosen.append(look)
             left &= ~shown[look]
     return sorted(_without_needless(chosen, shown))
+
+
+def _count(mask: int) -> int:
+    return bin(mask).count("1")
 
 
 def together(shown: Iterable[int]) -> int:

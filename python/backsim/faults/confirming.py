@@ -1,7 +1,8 @@
 """Asks the program for what simulation found: of each class one output at one time, without the fault and with it."""
 from __future__ import annotations
 
-from collections.abc import Callable, Iterable, Mapping, Sequence
+from bisect import bisect_right
+from collections.abc import Callable, Iterable, Iterator, Mapping, Sequence
 from typing import NamedTuple
 
 from ..errors import type_of_path
@@ -10,35 +11,52 @@ from ..values import Answer, At, Stuck
 from .asking import Asker, Crew
 from .collapse import FaultClass
 from .plan import Outcome, Plan, is_wrong
+from .portions import Portion, portions_of
 
 _AT_ONCE = 64
+# with flip-flops a question costs as many looks as it has before it
+_LOOKS_AT_ONCE = 256
+# after so many answers by the budget in turn those that come later would be so too
+_IN_VAIN = 64
 
 
 class Unconfirmed(NamedTuple):
-    """The classes of which the program says otherwise than simulation, and those of which a question was answered by its budget."""
+    """The classes of which the program says otherwise than simulation, and those that their budget left unconfirmed."""
 
     differing: list[FaultClass]
     unanswered: list[FaultClass]
 
 
-def confirm(plan: Plan, found: Mapping[FaultClass, Outcome], budget: int, files: Sequence[type_of_path], jobs: int,
+def confirm(plan: Plan, found: Mapping[FaultClass, Outcome], files: Sequence[type_of_path], jobs: int,
             program: type_of_path | None = None, told: Callable[[int], None] = lambda count: None) -> Unconfirmed:
-    """Marks those outcomes that the program confirms, and gives the classes of the others. `budget` is that of each question; `told`
-    hears how many more are done."""
+    """Marks those outcomes that the program confirms, and gives the classes of the others. A question that is answered by the plan's
+    budget leaves its class unconfirmed. With flip-flops a question works out all that was before it, so after 64 such answers in turn
+    those that come later are not asked. `told` hears how many more are done."""
     # by time and output, so that a session finds much of what a question needs in its memo
     shown = sorted((own for own, outcome in found.items() if outcome.is_shown), key=lambda own: (found[own].time, found[own].output))
-    parts = [shown[start:start + _AT_ONCE] for start in range(0, len(shown), _AT_ONCE)]
+    parts = [(portion, part) for portion in portions_of(plan, shown, files) for part in _parts(plan, portion.classes, found)]
     unanswered: set[FaultClass] = set()
+    in_vain = 0
 
-    def work(asker: Asker, part: Sequence[FaultClass]) -> None:
-        lines = _questions(plan, part, found, budget)
+    def work(asker: Asker, task: tuple[Portion, Sequence[FaultClass]]) -> None:
+        nonlocal in_vain
+        portion, part = task
+        if plan.has_flops and in_vain >= _IN_VAIN:
+            unanswered.update(part)
+            told(len(part))
+            return
+        own_plan, own_files = portion.made()
+        asker.turn_to(own_files)
+        lines = _questions(own_plan, part, found)
         answers = dict(zip(map(str, lines), asker.ask(lines)))
         for own in part:
-            asked = [answers[str(line)] for line in _lines(plan, own, found[own], budget)]
+            asked = [answers[str(line)] for line in _lines(own_plan, own, found[own])]
             if all(isinstance(answer, (At, Stuck)) for answer in asked):
                 found[own].is_confirmed = _is_confirmed(own, asked)
+                in_vain = 0
             else:
                 unanswered.add(own)
+                in_vain += 1
         told(len(part))
 
     if parts:
@@ -48,21 +66,35 @@ def confirm(plan: Plan, found: Mapping[FaultClass, Outcome], budget: int, files:
     return Unconfirmed([own for own in others if own not in unanswered], [own for own in others if own in unanswered])
 
 
-def _questions(plan: Plan, part: Iterable[FaultClass], found: Mapping[FaultClass, Outcome], budget: int) -> list[Line]:
+def _parts(plan: Plan, classes: Sequence[FaultClass], found: Mapping[FaultClass, Outcome]) -> Iterator[Sequence[FaultClass]]:
+    """The classes in parts that are asked at once, none of which takes long."""
+    part: list[FaultClass] = []
+    looks = 0
+    for own in classes:
+        part.append(own)
+        looks += bisect_right(plan.times, found[own].time or 0) if plan.has_flops else 1
+        if len(part) == _AT_ONCE or looks >= _LOOKS_AT_ONCE:
+            yield part
+            part, looks = [], 0
+    if part:
+        yield part
+
+
+def _questions(plan: Plan, part: Iterable[FaultClass], found: Mapping[FaultClass, Outcome]) -> list[Line]:
     """The lines, those for values without a fault each once and before the others, since they make batches."""
-    lines = dict.fromkeys(line for own in part for line in _lines(plan, own, found[own], budget))
+    lines = dict.fromkeys(line for own in part for line in _lines(plan, own, found[own]))
     return sorted(lines, key=lambda line: isinstance(line, StuckLine))
 
 
-def _lines(plan: Plan, own: FaultClass, outcome: Outcome, budget: int) -> list[Line]:
+def _lines(plan: Plan, own: FaultClass, outcome: Outcome) -> list[Line]:
     """What asks for the output without the fault; of a line that is slow for its signal at the look before; and for the output with the
     fault, where that is not at the output itself."""
     time, output, fault = outcome.time or 0, outcome.output or "", own.asked
-    lines: list[Line] = [plan.at_line(output, time, budget)]
+    lines: list[Line] = [plan.at_line(output, time)]
     if fault.is_transition:
-        lines.append(plan.at_line(fault.site.source, plan.time_before(time), budget))
+        lines.append(plan.at_line(fault.site.source, plan.time_before(time)))
     if not fault.site.is_output:
-        lines.append(plan.stuck_line(own, output, (time,), budget))
+        lines.append(plan.stuck_line(own, output, (time,)))
     return lines
 
 

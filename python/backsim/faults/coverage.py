@@ -5,9 +5,10 @@ import csv
 from collections.abc import Iterator
 from typing import TextIO
 
+from ..partial import PARTIAL
 from ..records import dataclass
 from .collapse import FaultClass
-from .lists import PARTIAL, text_of
+from .lists import text_of
 from .model import Fault, Lines
 from .plan import Outcome, Plan
 

@@ -5,8 +5,8 @@ import csv
 from array import array
 from typing import TextIO
 
+from ..partial import PARTIAL
 from .coverage import Coverage
-from .lists import PARTIAL
 from .sequential import Detection
 
 

@@ -8,7 +8,7 @@ from collections.abc import Callable, Iterator, Sequence
 from ..formats.circuit import Circuit
 from ..records import dataclass
 from .collapse import FaultClass
-from .combinational import Line, Observed, Reached, Region, Values, stems_of
+from .combinational import Lanes, Line, Observed, Reached, Region, Values, stems_of
 from .looks import Patterns, moments
 from .network import Network
 from .processes import Processes
@@ -16,7 +16,7 @@ from .sequential import Detection, Simulation
 
 # looks of a block; the first is short, since most faults are shown by its looks, and need no more
 _FIRST_BLOCK, _BLOCK = 256, 2048
-_STEMS_AT_ONCE = 32
+_STEMS_AT_ONCE = 128
 # the faults of a simulation; with more, most of the time goes into holding lines of other faults
 _MOST_FAULTS = 4096
 # evaluations of gates from which on several processes are faster than one
@@ -110,18 +110,25 @@ class _Flips:
         self._region, self._patterns = region, patterns
         self._block = (0, 0)
         self._values: Values | None = None
+        self._lanes: Lanes | None = None
 
     def values(self, start: int, stop: int) -> Values:
         """The values of all signals with the looks from `start` up to, and not with, `stop`."""
         if self._values is None or self._block != (start, stop):
             self._block, self._values = (start, stop), Values(self._region, self._patterns.block(start, stop))
+            self._lanes = None
         return self._values
 
     def of(self, task: tuple[int, int, Sequence[int]]) -> Iterator[dict[int, Reached]]:
         """What becomes of the flips of some signals with the looks of a block."""
         start, stop, stems = task
         values = self.values(start, stop)
-        yield {stem: values.flip(stem) for stem in stems}
+        if self._lanes is None:
+            self._lanes = Lanes(values)
+        lanes = self._lanes
+        for first in range(0, len(stems), lanes.count):
+            some = stems[first:first + lanes.count]
+            yield dict(zip(some, lanes.flips(some)))
 
 
 @dataclass(frozen=True, slots=True)

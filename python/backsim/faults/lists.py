@@ -2,7 +2,7 @@
 
 Where TO reads FROM at several pins, the branch is `FROM->TO(1) /1`, with the place of the pin counted from 0. The branch to an output
 is `NAME->(output) /0`. Of a line that is slow to rise or to fall `/str` or `/stf` stands there. Blank lines and what follows `#` count
-as nothing, but that a list which an interrupted command left begins with the line `PARTIAL`."""
+as nothing, but that a list which an interrupted command left is refused."""
 from __future__ import annotations
 
 import re
@@ -11,9 +11,9 @@ from typing import TextIO
 
 from ..errors import FormatError, type_of_path
 from ..formats.text import content_of, lines_of, read_bytes
+from ..partial import PARTIAL, refuse_partial
 from .model import OUTPUT, Fault, Lines, Site
 
-PARTIAL = "# partial: the command was interrupted"
 _FAULT = re.compile(r" *(\S+?) */([01]|str|stf) *")
 _PLACED = re.compile(r"(.+)\(([0-9]{1,2})\)")
 
@@ -43,12 +43,6 @@ def read_faults(path: type_of_path, lines: Lines) -> list[Fault]:
     if not found:
         raise FormatError(path, None, "the list has no fault")
     return list(found)
-
-
-def refuse_partial(line: bytes, path: type_of_path, number: int) -> None:
-    """FormatError where the line says that an interrupted command left the file."""
-    if line.decode("latin-1").strip() == PARTIAL:
-        raise FormatError(path, number, "an interrupted command left this file, so it is not whole; without this line it is taken as it is")
 
 
 def _site_of(word: str, lines: Lines, path: type_of_path, number: int) -> Site:

@@ -7,12 +7,13 @@ from __future__ import annotations
 
 from collections.abc import Iterable, Iterator, Sequence
 
-from ..formats.netlist import Gate, Netlist, in_order
+from ..formats.netlist import Gate, Kind, Netlist, in_order
 from ..records import dataclass
 
 OUTPUT = "(output)"
 VALUES = ("0", "1")
 TRANSITIONS = ("str", "stf")
+_EDGES = 3
 _HELD = {"0": "0", "1": "1", "str": "0", "stf": "1"}
 
 
@@ -124,6 +125,35 @@ def outputs_reached(netlist: Netlist) -> dict[str, tuple[str, ...]]:
     for mask in set(masks.values()):
         lists[mask] = tuple(name for place, name in enumerate(netlist.outputs) if mask >> place & 1)
     return {name: lists[mask] for name, mask in masks.items()}
+
+
+def weights(netlist: Netlist) -> dict[str, int]:
+    """For each output how many signals its value may come from: those in its cone up to flip-flops, those in the cones of these, and so on
+    through as many edges as tell outputs from one another."""
+    pins = {gate.name: gate.pins[0] for gate in netlist.flops()}
+    found: dict[str, int] = {}
+    for name in netlist.outputs:
+        found[name], names, edges = 0, {name}, 0
+        while names and edges <= _EDGES:
+            own = _settled_cone(netlist, names)
+            found[name] += len(own)
+            names = {pins[flop] for flop in own if flop in pins}
+            edges += 1
+    return found
+
+
+def _settled_cone(netlist: Netlist, names: Iterable[str]) -> set[str]:
+    """The signals from which these come without an edge."""
+    found = set(names)
+    left = list(found)
+    while left:
+        gate = netlist.gates.get(left.pop())
+        if gate is not None and gate.kind is not Kind.DFF:
+            for pin in gate.pins:
+                if pin not in found:
+                    found.add(pin)
+                    left.append(pin)
+    return found
 
 
 def _readers_first(netlist: Netlist) -> list[Gate]:

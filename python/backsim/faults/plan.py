@@ -1,12 +1,12 @@
 """What is asked about the faults of a circuit, and what the answers say."""
 from __future__ import annotations
 
+import copy
 from bisect import bisect_left
 from collections.abc import Iterable, Iterator, Sequence
 from dataclasses import field
 
 from ..formats.circuit import Circuit
-from ..formats.netlist import Netlist
 from ..formats.script import AtLine, StuckLine
 from ..records import dataclass
 from ..values import Answer, At, Stuck
@@ -40,11 +40,13 @@ class Plan:
     """The questions: the circuit with its branches, the classes, the times at which the tester looks (ascending, in the units of the
     user's files) and the budget of a question."""
 
-    def __init__(self, netlist: Netlist, made: Made, classes: Sequence[FaultClass], times: Sequence[int], budget: int) -> None:
+    def __init__(self, circuit: Circuit, made: Made, classes: Sequence[FaultClass], times: Sequence[int], budget: int) -> None:
+        self._circuit = circuit
         self.made = made
         self.classes = tuple(classes)
         self.times = tuple(times)
         self.budget = budget
+        netlist = circuit.netlist
         self._reached = outputs_reached(netlist)
         self._flops = {gate.name for gate in netlist.flops()}
         self._before_flops = cone_of(netlist, (gate.pins[0] for gate in netlist.flops()))
@@ -53,8 +55,22 @@ class Plan:
     @classmethod
     def of(cls, circuit: Circuit, classes: Sequence[FaultClass], times: Sequence[int], budget: int) -> Plan:
         """The plan over the circuit in which the branches of these classes are signals."""
-        made = with_branches(circuit.netlist, circuit.timing, circuit.stimulus, (own.asked.site for own in classes))
-        return cls(circuit.netlist, made, classes, times, budget)
+        return cls(circuit, with_branches(circuit, (own.asked.site for own in classes)), classes, times, budget)
+
+    def part(self, classes: Sequence[FaultClass]) -> Plan:
+        """The plan of some of the classes, over the circuit in which only their branches are signals. It has the times and the stimulus of
+        the whole."""
+        if self.made.scale == 1:
+            return self
+        part = copy.copy(self)
+        part.classes = tuple(classes)
+        part.made = with_branches(self._circuit, (own.asked.site for own in classes), self.made.stimulus)
+        return part
+
+    @property
+    def has_flops(self) -> bool:
+        """Whether the circuit has flip-flops, so that a question works out their past."""
+        return bool(self._flops)
 
     def reached(self, site: Site) -> tuple[str, ...]:
         """The outputs that a fault of this line can reach."""
@@ -66,15 +82,15 @@ class Plan:
         """What asks for each output at each time without a fault."""
         return [self.at_line(output, time) for time in self.times for output in self.outputs]
 
-    def at_line(self, name: str, time: int, budget: int | None = None) -> AtLine:
-        """What asks for a signal at a time without a fault, with the plan's budget or another."""
-        return AtLine(name, self.made.scale * time, self.budget if budget is None else budget)
+    def at_line(self, name: str, time: int) -> AtLine:
+        """What asks for a signal at a time without a fault."""
+        return AtLine(name, self.made.scale * time, self.budget)
 
-    def stuck_line(self, own: FaultClass, output: str, times: Sequence[int], budget: int | None = None) -> StuckLine:
-        """What asks for an output with the fault, from the first of the times to the last, with the plan's budget or another."""
+    def stuck_line(self, own: FaultClass, output: str, times: Sequence[int]) -> StuckLine:
+        """What asks for an output with the fault, from the first of the times to the last."""
         scale = self.made.scale
         return StuckLine(self.made.signal(own.asked.site), own.asked.held, output, scale * times[0], scale * times[-1] + 1,
-                         self.budget if budget is None else budget)
+                         self.budget)
 
     def time_before(self, time: int) -> int:
         """The look before the one at this time."""

@@ -19,11 +19,11 @@ from ..formats.netlist import write_netlist
 from ..formats.stimulus import write_stimulus
 from ..formats.text import read_bytes
 from ..formats.timing import write_timing
-from .asking import Asker, Crew, solve
+from .asking import solve_all
 from .collapse import FaultClass
 from .lists import text_of
 from .model import Lines
-from .plan import Good, Outcome, Plan
+from .plan import Outcome, Plan
 
 
 class Kept:
@@ -107,18 +107,17 @@ def _digest(plan: Plan) -> str:
 
 
 def prove_left(plan: Plan, outcomes: dict[FaultClass, Outcome], left: Sequence[FaultClass], kept: Kept, files: Sequence[type_of_path], jobs: int,
-               program: type_of_path | None = None, told: Callable[[], None] = lambda: None) -> None:
-    """Asks for each of these classes that was not asked for yet, and takes what comes of each into `outcomes`."""
+               program: type_of_path | None = None, told: Callable[[int], None] = lambda count: None) -> None:
+    """Asks for each of these classes that was not asked for yet, and takes what comes of each into `outcomes`. `told` hears of how many
+    more times is known what comes of a class, of all times for each class."""
     asked = [own for own in left if own not in kept.outcomes]
     outcomes.update((own, kept.outcomes[own]) for own in left if own in kept.outcomes)
-    if not asked:
-        return
-    with kept, Crew(files, min(jobs, len(asked)), program) as crew:
-        good = Good(plan, crew.ask(plan.good_lines()))
+    told(len(plan.times) * (len(left) - len(asked)))
 
-        def work(asker: Asker, own: FaultClass) -> None:
-            outcomes[own] = solve(plan, own, good, asker.ask, plan.chunks(own))
-            kept.take(own, outcomes[own])
-            told()
+    def take(own: FaultClass, outcome: Outcome) -> None:
+        outcomes[own] = outcome
+        kept.take(own, outcome)
 
-        crew.share(asked, work)
+    if asked:
+        with kept:
+            solve_all(plan, files, jobs, take, asked, program, told)

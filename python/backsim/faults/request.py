@@ -8,17 +8,18 @@ from collections.abc import Iterator, Sequence
 from contextlib import contextmanager
 from pathlib import Path
 
-from ..arguments import count_of
+from ..arguments import count_of, in_units, moment_of
 from ..convert.patterns import Patterns, read_patterns, stimulus_of
 from ..errors import FormatError, UsageError, WordsError, type_of_path
 from ..formats.circuit import Circuit
 from ..formats.netlist import read_netlist
 from ..formats.stimulus import MOST_TIME, read_stimulus
 from ..formats.text import read_bytes, rows_of
-from ..formats.timing import read_timing
+from ..formats.timing import Timing, read_timing
+from ..formats.units import Unit, is_time
 from ..records import dataclass
 from .branches import Made
-from .bundle import write_circuit
+from .circuit_files import write_circuit
 from .collapse import FaultClass, collapse, single
 from .finding import Finder, finder_of
 from .lists import read_faults
@@ -43,9 +44,17 @@ def add_looks(parser: argparse.ArgumentParser) -> None:
 
 def add_period(parser: argparse.ArgumentParser) -> None:
     """Adds the options that say when patterns are applied."""
-    parser.add_argument("--period", type=count_of(1, MOST_TIME), metavar="P", help="the time from one pattern to the next")
-    parser.add_argument("--first", type=count_of(0, MOST_TIME), default=0, metavar="T",
+    parser.add_argument("--period", type=moment_of(1, MOST_TIME), metavar="P", help="the time from one pattern to the next, in units, or "
+                        "such as 15ns where TIMING states the unit")
+    parser.add_argument("--first", type=moment_of(0, MOST_TIME), default=0, metavar="T",
                         help="the time of the first pattern, 0 where it is left out")
+
+
+def take_period(arguments: argparse.Namespace, timing: Timing) -> None:
+    """Has what the options of `add_period` say in units."""
+    if arguments.period is not None:
+        arguments.period = in_units(arguments.period, timing.unit, "--period", 1, MOST_TIME)
+    arguments.first = in_units(arguments.first, timing.unit, "--first", 0, MOST_TIME)
 
 
 def add_faults(parser: argparse.ArgumentParser) -> None:
@@ -80,6 +89,7 @@ def read_looks(arguments: argparse.Namespace) -> Looks:
     """What the words say. FormatError where a file is bad, and WordsError where the times are."""
     netlist = read_netlist(arguments.netlist)
     timing = read_timing(arguments.timing, netlist)
+    take_period(arguments, timing)
     row = next(rows_of(read_bytes(arguments.patterns)), None)
     if row is not None and row.words[0] == "horizon":
         circuit = Circuit(netlist, timing, read_stimulus(arguments.patterns, netlist))
@@ -116,7 +126,7 @@ def usual_times(count: int, period: int, first: int) -> list[int]:
 
 
 def _times_of(arguments: argparse.Namespace, circuit: Circuit, usual: Sequence[int]) -> tuple[int, ...]:
-    times = sorted({time for word in arguments.times for time in _times_in(word)}) or list(usual)
+    times = sorted({time for word in arguments.times for time in _times_in(word, circuit.timing.unit)}) or list(usual)
     if not times:
         raise WordsError("with a stimulus --times are wanted, when the tester looks, as 9 19 29 or 9:99:10")
     if times[-1] > circuit.stimulus.horizon:
@@ -124,11 +134,12 @@ def _times_of(arguments: argparse.Namespace, circuit: Circuit, usual: Sequence[i
     return tuple(times)
 
 
-def _times_in(word: str) -> range:
+def _times_in(word: str, unit: Unit | None) -> range:
     parts = word.split(":")
-    if len(parts) not in (1, 3) or not all(part.isascii() and part.isdigit() and len(part) < 8 for part in parts):
+    if len(parts) not in (1, 3) or not all(is_time(part) or part.isascii() and part.isdigit() and len(part) < 8 for part in parts):
         raise WordsError(f"`{word}` is neither a time nor FROM:TO:STEP")
-    first, last, step = map(int, parts) if len(parts) == 3 else (int(word), int(word), 1)
+    times = [in_units(part, unit, "--times", 0, MOST_TIME) for part in parts]
+    first, last, step = times if len(times) == 3 else (times[0], times[0], 1)
     if step == 0 or last < first:
         raise WordsError(f"`{word}` has no time")
     return range(first, last + 1, step)
