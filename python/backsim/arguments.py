@@ -7,7 +7,7 @@ import sys
 from collections.abc import Callable
 from typing import TYPE_CHECKING, BinaryIO
 
-from .errors import FormatError, reason_of
+from .errors import FormatError, UsageError, WordsError, reason_of
 from .evaluations import MOST_CELLS
 from .formats.text import number_of
 
@@ -44,6 +44,28 @@ def moment(word: str) -> Moment:
     if not is_time(word):
         raise argparse.ArgumentTypeError(f"a time is wanted, a number of units or one of s, ms, us, ns, ps or fs as 15ns, and not {word}")
     return word
+
+
+def moment_of(least: int, most: int) -> Callable[[str], Moment]:
+    """A type of an argument: a time of this range in units, or one such as `15ns`, of which `in_units` looks at the range."""
+
+    def own(word: str) -> Moment:
+        return moment(word) if not word.isdigit() else count_of(least, most)(word)
+
+    return own
+
+
+def in_units(time: Moment, unit: Unit | None, option: str, least: int, most: int) -> int:
+    """What an option says, in units. WordsError where it is a time such as `15ns` that is between two units or out of the range, or the unit is
+    not known."""
+    from .formats.units import units_of
+    try:
+        units = units_of(time, unit)
+    except UsageError as error:
+        raise WordsError(f"{option}: {error}") from None
+    if not least <= units <= most:
+        raise WordsError(f"{option} {time} is {units} units, and from {least} to {most} are wanted")
+    return units
 
 
 def unit_of_session(timing: str | os.PathLike[str], stimulus: str | os.PathLike[str]) -> Unit | None:

@@ -8,6 +8,7 @@ from typing import TYPE_CHECKING, Any
 
 from . import causes
 from .errors import BacksimError, reason_of
+from .marks import MARK, has_mark
 
 if TYPE_CHECKING:
     from .values import Refusal
@@ -45,6 +46,8 @@ class Refused(SessionError):
         limit = "16 MiB" if refusal.file == "script" else "64 MiB"
         self.cause = f"it has more than {limit}" if refusal.cause is None else causes.in_words(refusal.file, refusal.cause)
         self.line_text = _line_of(path, self.line) if self.line else ""
+        if self.line == 1 and has_mark(self.line_text.encode("latin-1")):
+            self.cause, self.line_text = MARK, ""
         place = path if self.line is None else f"{path}:{self.line}"
         super().__init__(f"{place}: {self.cause}" + (f": `{self.line_text.strip()}`" if self.line_text else ""), 2)
 

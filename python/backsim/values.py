@@ -171,6 +171,10 @@ class _WithoutValue:
 
     __slots__ = ()
 
+    def _repr_html_(self) -> str:
+        from html import escape
+        return f"<p>{escape(str(self))}</p>"
+
     # a checker of types has to see that these answers have no value
     if not TYPE_CHECKING:
 

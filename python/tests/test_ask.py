@@ -94,6 +94,9 @@ def test_a_terminal(terminal, tmp_path) -> None:
     typed, process = terminal
     typed("", "> ")
     assert "valid = 0" in typed("valid 4\n", "valid = ")
+    # Ctrl-C, also at once behind a line, gives up what was typed
+    for _ in range(20):
+        assert "valid = 1" not in typed("valid 7999\x03", "\n") + typed("valid 4\n", "valid = ")
     # Tab, the line before by the arrow key, and a line that has no answer
     assert "watch.meter[0] = 0" in typed("at watch.m\t0] 551\n", "watch.meter[0] = ")
     assert "watch.meter[0] = 0" in typed("\x10\n", "watch.meter[0] = ")
@@ -101,3 +104,15 @@ def test_a_terminal(terminal, tmp_path) -> None:
     typed("\x04", "\n")
     assert process.wait(60) == 0
     assert "valid 4" in (tmp_path / "backsim" / "history").read_text().splitlines()
+
+
+def test_a_signal_is_answered_before_the_netlist_is_read(example, program, monkeypatch) -> None:
+    from backsim import Session
+    from backsim.prompting.answers import Answers
+
+    with Session(*example("from_verilog"), program=program) as session:
+        answers = Answers(session, "n", "s")
+        with monkeypatch.context() as patched:
+            patched.setattr("backsim.session.read_netlist", lambda path: pytest.fail("the netlist is read"))
+            assert list(answers.lines("valid 4")) == ["valid = 0"] and list(answers.lines("first valid 0")) == ["valid is 0 at 0 first"]
+        assert list(answers.lines("registers[1] 2,050")) == ["registers[1][15:0] = 0x000a (10)"]

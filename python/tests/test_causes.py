@@ -48,6 +48,22 @@ def enabled(write):
     return explained
 
 
+def test_the_gates_of_a_step(write, program, monkeypatch, capsys) -> None:
+    """en lets d, which is 1, through two gates, each a unit late, to the edge at 5, and q shows it at 6; y is two gates behind it. q$1$1,
+    which q$1 looks at first, is known from 2 on, so the cell of q$1 begins at 3."""
+    monkeypatch.setenv("BACKSIM", program)
+    files = [write("e.bench", ENABLED), write("e.timing", "clock 5 10\n"), write("e.stim", "horizon 100\nset d 0 1\nset en 0 1\nset rst 0 1\n")]
+    assert main(["why", *map(str, files), "y", "9", "--until", "d", "--gates"]) == 0
+    lines = capsys.readouterr().out.splitlines()
+    begin = lines.index("d, 3 steps back:") + 1
+    # the gates of a step stand below it, two letters further right
+    assert [" ".join(line.split()) for line in lines[begin:begin + 6]] == [
+        "8 y = 0 2 gates, the last a NOT chip.v:11", "7 $and$1 = 1 AND(q, rst) chip.v:11",
+        "6 q = 1 flip-flop, took d through 2 gates at the edge at 5 chip.v:7", "3 q$1 = 1 OR(q$1$1, q$1$2, q$1$3) chip.v:7",
+        "1 q$1$2 = 1 AND(en, d) chip.v:7", "0 d = 1 input, set at 0"]
+    assert lines[begin].index("y = 0") + 2 == lines[begin + 1].index("$and$1 = 1")
+
+
 def test_a_register_that_was_never_set(enabled, program) -> None:
     """Nothing enables q, so it shows x at each edge, and y is x as rst is 1."""
     why = enabled(program, "horizon 100\nset d 0 1\nset en 0 0\nset rst 0 1\n", "y", 42)

@@ -82,6 +82,15 @@ def test_a_window(compared, tmp_path) -> None:
     assert (tmp_path / "w").read_text().startswith("# unit 1 ns\nversion 2\nclock clk 25 20\n")
 
 
+def test_inputs_that_change_at_an_edge_are_said(write, program, tools) -> None:
+    """a falls at 50, the third rise of clk; that clk itself falls at 20, 40 and so on is no matter."""
+    text = dump().replace("#50\n1!\n", "#50\n1!\n0%\n")
+    done = tools("compare", write("n", NETLIST), write("t", TIMING), write("d.vcd", text), "test", "--program", program)
+    assert done.returncode == 0
+    assert done.stderr.decode() == ("inputs change at edges of clocks, and Verilog leaves open which of the two comes first, so values may differ: a at 50, "
+                                    "of clk\n")
+
+
 @pytest.mark.parametrize("words, cause", [(("--only", "none"), "no signal, bus or pattern is none"), (("--unit", "2ns"), "its unit of time is 2 ns, and that of the timing file is 1 ns"),
                                           (("--ticks", 3), "its unit of time is 3 ns"), (("--from", 88), "never is the longest path's time")])
 def test_bad_words(words: tuple, cause: str, compared) -> None:

@@ -192,7 +192,7 @@ def test_the_edge_of_a_flip_flop(capsys, write) -> None:
 @pytest.mark.parametrize("text, cause", [
     (SDF[:200], "the file ends before the bracket"), ("", "expected `(DELAYFILE`"), ("(A)", "expected `(DELAYFILE`"), (SDF + ")", "expected one form"),
     (SDF.replace("(5)", "(five)", 1), ":8: `five` is no delay"), (SDF.replace("10ps", "3ps"), ":4: the time scale `3ps`"), (SDF.replace("(5)", "5", 1), ":8: expected a delay"),
-    ('(DELAYFILE (DESIGN "a', "does not end"), (SDF.replace("INSTANCE 1", "INSTANCE x"), "no IOPATH of it is one of a gate"),
+    ('(DELAYFILE (DESIGN "a', "does not end"), (SDF.replace("INSTANCE 1", "INSTANCE x"), "no IOPATH of it is one of a gate of the netlist; where the netlist was made by from-json, --json says"),
     (SDF.replace("(5)", "(5e9)", 1), "above 1000000"), ("(" * 200, "expected one form")])
 def test_an_sdf_file_at_fault_is_refused(text: str, cause: str, capsys, write) -> None:
     path = write("d.sdf", text)

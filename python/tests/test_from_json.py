@@ -110,7 +110,28 @@ def test_a_reset_without_an_edge_is_refused_by_name(chip, tmp_path, capsys) -> N
 
 def test_a_clock_that_may_begin_with_an_edge_is_refused(chip, tmp_path, capsys) -> None:
     assert convert(chip, tmp_path, "--async-reset", "edge", "--vcd", chip / "good.vcd", "--scope", "test.dut") == 2
-    assert "the clock clk begins with 0" in capsys.readouterr().err
+    said = capsys.readouterr().err
+    assert "the clock clk begins with 0" in said and "`from-json --clock clk_falls=100,100`" in said
+
+
+def test_times_of_clocks_in_seconds(chip, tmp_path, capsys) -> None:
+    words = ["--clock", "clk=50ns,100000ps", "--clock", "clk_falls=0.1us,100", "--async-reset", "edge"]
+    assert convert(chip, tmp_path, *words, "--unit", "1ns") == 0
+    assert {name: (clock.first, clock.period) for name, clock in read_timing(tmp_path / "t").clocks.items()} == {"clk": (50, 100), "clk_falls": (100, 100)}
+    capsys.readouterr()
+    for unit, cause in ((["--unit", "20ns"], "--clock clk: 50ns is between two units of 20 ns"), ([], "what 50ns is in units is not known"),
+                        (["--unit", "1fs"], "--clock clk 50ns is 50000000 units, and from 0 to 1000000 are wanted")):
+        assert convert(chip, tmp_path, *words, *unit) == 2
+        assert cause in capsys.readouterr().err
+
+
+def test_places_of_yosys_itself_are_no_places_of_the_source(tmp_path) -> None:
+    own = "/usr/bin/../share/yosys/techmap.v:205.26-205.31"
+    gates = {"g": cell("$_NOT_", A=2, Y=5) | {"attributes": {"src": f"top.v:3.1-3.9|child.v:7.2-7.8|top.v:0.0-0.0|{own}"}},
+             "h": cell("$_NOT_", A=3, Y=6) | {"attributes": {"src": own}}}
+    assert written(gates, tmp_path, NAMES | {"h": {"bits": [6], "attributes": {}}}) == 0
+    netlist = read_netlist(tmp_path / "n")
+    assert {name: gate.source for name, gate in netlist.gates.items()} == {"y": "child.v:7.2-7.8", "h": ""}
 
 
 @pytest.mark.parametrize("how", ["edge", "gates"])

@@ -2,6 +2,7 @@
 from __future__ import annotations
 
 import itertools
+import json
 from pathlib import Path
 
 import pytest
@@ -22,6 +23,8 @@ LIBRARY = """library(l) { delay_model : table_lookup; time_unit : "1ns"; capacit
   pin(Q) { direction : output; function : "IQ"; } }
  cell(GATED) { area : 1; ff(IQ, IQN) { clocked_on : "CK G"; next_state : "D"; } pin(CK) { direction : input; } pin(G) { direction : input; }
   pin(D) { direction : input; } pin(Q) { direction : output; function : "IQ"; } }
+ cell(TRI) { area : 1; pin(A) { direction : input; } pin(OE) { direction : input; }
+  pin(Y) { direction : output; function : "A"; three_state : "!OE"; } }
  cell(TIE) { area : 1; pin(Y) { direction : output; function : "1"; } }
  cell(BUF) { area : 1; pin(A) { direction : input; } pin(Y) { direction : output; function : "A"; } }
 }
@@ -45,6 +48,23 @@ def converted(folder: Path, verilog: str, *words: str, models: bool = False) -> 
 def read(folder: Path) -> tuple[Netlist, Timing]:
     netlist = read_netlist(folder / "n")
     return netlist, read_timing(folder / "t", netlist)
+
+
+def test_an_output_that_can_not_be_had_may_be_left_open(tmp_path, capsys) -> None:
+    half = "module HALF(input A, B, output Y, Z); assign Y = !A; endmodule\n"
+    verilog = "module chip(input a, b, output y); HALF u1(.A(a), .B(b), .Y(y)); endmodule"
+    (tmp_path / "chip.v").write_text(half + verilog)
+    yosys(tmp_path, "read_verilog chip.v; setattr -mod -set keep_hierarchy 1 HALF; proc; hierarchy -top chip; techmap; write_json chip.json")
+    assert main(["from-json", *(str(tmp_path / name) for name in ("chip.json", "n", "t"))]) == 0
+    assert read(tmp_path)[0].gates["y"].kind is Kind.NOT and capsys.readouterr().err == ""
+
+
+def test_a_cell_of_which_nothing_depends_on_a_port_is_said(tmp_path, capsys) -> None:
+    """Yosys's read_liberty leaves out what enables a tri-state output."""
+    verilog = "module chip(input a, b, oe, output y, z); TRI u1(.A(a), .OE(oe), .Y(y)); AOI u2(.A(a), .B(b), .C(oe), .Y(z)); endmodule"
+    assert converted(tmp_path, verilog) == 0
+    assert capsys.readouterr().err == ("nothing in TRI depends on OE: where that enables a tri-state output, Yosys's read_liberty leaves it out, and the "
+                                       "cell is taken as one that always drives\n")
 
 
 CORE = "module core(input a, b, c, output y, z); AOI u1(.A(a), .B(b), .C(c), .Y(y), .Z(z)); endmodule\n"
@@ -206,3 +226,37 @@ def test_a_netlist_of_another_file_is_refused(tmp_path, capsys) -> None:
     (tmp_path / "d.sdf").write_text(sdf('(CELL (CELLTYPE "AOI") (INSTANCE u_core/u1) (DELAY (ABSOLUTE (IOPATH A Y (4)))))'))
     assert main(["from-sdf", str(tmp_path / "n"), str(tmp_path / "d.sdf"), "--json", str(tmp_path / "chip.json")]) == 2
     assert "like that of the JSON file" in capsys.readouterr().err
+
+
+GENERIC = """module chip(input clk, rst_n, set, en, input [7:0] a, b, output reg [7:0] q, output reg [3:0] r, output [7:0] y, output lt);
+  always @(posedge clk or negedge rst_n) if (!rst_n) q <= 8'h3c; else if (en) q <= a + b;
+  always @(negedge clk) if (set) r <= 4'd9; else r <= r ^ q[3:0];
+  assign y = q[0] ? a - b : q * 3, lt = a < b || r == 4'd5;
+endmodule
+"""
+
+
+@pytest.mark.parametrize("how", ["-noabc", ""])
+def test_each_arc_of_yosys_own_cells_is_used(how: str, tmp_path, capsys) -> None:
+    """An SDF file with each arc of each cell: those of gates from each pin, those of flip-flops from the clock and an asynchronous reset."""
+    (tmp_path / "chip.v").write_text(GENERIC)
+    yosys(tmp_path, f"read_verilog chip.v; synth -flatten {how} -top chip; write_json chip.json")
+    cells = json.loads((tmp_path / "chip.json").read_text())["modules"]["chip"]["cells"]
+    sdf, count = "(DELAYFILE (DIVIDER .) (TIMESCALE 10ps)\n", 0
+    for name, cell in cells.items():
+        (target,) = (port for port, direction in cell["port_directions"].items() if direction == "output")
+        sources = [port for port in cell["connections"] if port != target and (target == "Y" or port == "C" or port == "R" and "SDFF" not in cell["type"])]
+        # no arc is shorter than the gates inside
+        arcs = "".join(f"(IOPATH {f'(posedge {port})' if target == 'Q' else port} {target} ({10 + place}) ({9 + place}))" for place, port in enumerate(sources))
+        escaped = "".join(letter if letter.isalnum() else f"\\{letter}" for letter in name)
+        sdf += f"(CELL (CELLTYPE \"{cell['type']}\") (INSTANCE {escaped}) (DELAY (ABSOLUTE {arcs})))\n"
+        count += len(sources)
+    (tmp_path / "chip.sdf").write_text(f"{sdf})")
+    files = [str(tmp_path / name) for name in ("chip.json", "n", "t", "chip.sdf", "late")]
+    clocks = ["--clock", "clk=500,1000", "--clock", "clk_falls=1000,1000", "--async-reset", "gates", "--unit", "10ps"]
+    assert main(["from-json", *files[:3], *clocks]) == 0
+    capsys.readouterr()
+    assert main(["from-sdf", files[1], files[3], "--json", files[0], "--timing", files[2], "--async-reset", "gates", "-o", files[4]]) == 0
+    said = capsys.readouterr().err.splitlines()
+    assert said == [f"{count} of {count} IOPATH and 0 of 0 INTERCONNECT and PORT are used",
+                    f"{count} IOPATH have different numbers for rise and fall: the greatest counts for both"] and count > 300

@@ -5,6 +5,7 @@ import codecs
 import json
 
 import pytest
+from backsim import Refused, Session
 from backsim.convert.blif import read_latches
 from backsim.convert.patterns import read_patterns
 from backsim.convert.sdf import read_sdf
@@ -41,6 +42,13 @@ def test_the_program_refuses_a_mark_in_the_first_line(write, tools, program) -> 
     files = write("n", MARK + b"INPUT(a)\n"), write("t", "default 1\n"), write("s", "horizon 1\n"), write("q", "at a 0\n")
     done = tools("run", *files, "--program", program)
     assert done.returncode == 2 and done.stdout == b"refused netlist line 1 cause 1\n"
+
+
+def test_a_session_says_that_it_is_a_mark(write, program) -> None:
+    files = write("n", "INPUT(a)\n"), write("t", MARK + b"default 1\n"), write("s", "horizon 1\n")
+    with pytest.raises(Refused) as refused:
+        Session(*files, program=program)
+    assert refused.value.number == 1 and str(refused.value).startswith(f"{files[1]}:1: the file begins with a byte order mark")
 
 
 def test_control_characters_are_written_as_escapes(write, capsys) -> None:

@@ -3,6 +3,7 @@ beside it; what is expected of the examples is worked out by hand (docs/use/EXAM
 from __future__ import annotations
 
 import json
+import os
 import random
 from collections.abc import Iterator
 from contextlib import closing
@@ -395,7 +396,11 @@ def test_a_changed_stimulus_is_loaded_on_a_key(browser, write, program) -> None:
         assert page.value("document.getElementById('notice').hidden")
         write("n.stim", "horizon 30\nset a 0 2\n")
         page.press("r")
-        page.wait(f"document.getElementById('notice').textContent.includes({str(files[2]) + ':2: '!r})")
+        refusal = f"document.getElementById('notice').textContent.includes({str(files[2]) + ':2: '!r})"
+        page.wait(refusal)
+        # the page looks at the files every two seconds, and goes on to say why they were refused
+        page.value("new Promise((done) => setTimeout(done, 2500))")
+        assert page.value(refusal)
         # the browser itself tells of an answer that is a refusal
         assert set(page.browser.errors) <= {"Failed to load resource: the server responded with a status of 400 (Bad Request)"}
         page.browser.errors.clear()
@@ -429,6 +434,69 @@ def test_a_narrow_window_has_no_part_out_of_sight(page) -> None:
     assert page.value("document.documentElement.scrollWidth <= window.innerWidth && document.documentElement.scrollHeight <= window.innerHeight")
     assert page.value("backsim.frame.width") > 150
     page.browser.call("Emulation.setDeviceMetricsOverride", width=1366, height=768, deviceScaleFactor=1, mobile=False)
+
+
+# Holds the next answer to a request for waves: `held.push(line)` gives a line of it, `held.end()` ends it, and `held.rows` are what was asked.
+HOLD = """(() => {
+  const fetched = window.fetch;
+  window.held = null;
+  window.fetch = (path, options) => {
+    if (path !== 'waves') return fetched(path, options);
+    window.fetch = fetched;
+    let control;
+    const body = new ReadableStream({start(given) { control = given; }});
+    window.held = {rows: JSON.parse(options.body).rows, push: (line) => control.enqueue(new TextEncoder().encode(JSON.stringify(line) + '\\n')),
+      end: () => control.close()};
+    return Promise.resolve(new Response(body));
+  };
+})()"""
+
+
+# What stands of a piece from 0 to 100 whose changes at 10, 20, 21, 22, 30 and 60 are shown as an activity from 20 to 22, once another piece is put in.
+CUT = """(async ([start, stop]) => {
+  const {Track} = await import('./waves.js'), track = new Track();
+  const runs = [[0, '0'], [10, '1'], [20, '#', 3], [22, '0'], [30, '1'], [60, '0']];
+  track.add({start: 0, stop: 100, step: 4, exact: false, runs});
+  track.add({start, stop, step: 1, exact: true, runs: [[start, 'z']]});
+  return [[...track.within(0, 100)].map((run) => [run.a, run.b, run.value ?? run.count ?? null]), track.missing(0, 100, 4)];
+})"""
+
+
+@pytest.mark.parametrize("start, stop, before, behind, missing", [
+    (40, 50, [[0, 10, "0"], [10, 20, "1"], [20, 22, 3], [22, 30, "0"], [30, 40, "1"]], [[50, 60, "1"], [60, 100, "0"]], []),
+    # an activity that is cut is left out, since how many changes each part has is not known
+    (21, 25, [[0, 10, "0"], [10, 20, "1"], [20, 21, None]], [[25, 30, "0"], [30, 60, "1"], [60, 100, "0"]], [[20, 21]]),
+    (15, 21, [[0, 10, "0"], [10, 15, "1"]], [[21, 22, None], [22, 30, "0"], [30, 60, "1"], [60, 100, "0"]], [[21, 22]])])
+def test_an_activity_is_not_cut(start: int, stop: int, before: list, behind: list, missing: list, small) -> None:
+    assert small.value(f"{CUT}([{start}, {stop}])") == [[*before, [start, stop, "z"], *behind], missing]
+
+
+def test_an_answer_that_is_given_up_takes_nothing_from_view(page, oracle) -> None:
+    page.value("(backsim.model.show(0, 400), 0)")
+    page.settle()
+    page.value(HOLD)
+    page.value("(backsim.model.show(6000, 100), 0)")
+    page.wait("window.held !== null")
+    page.value("(backsim.model.show(0, 400), 0)")
+    page.settle()
+    page.value("(held.push({row: held.rows[0].row, start: 6000, stop: 6100, exact: true, runs: [[6000, '0']]}), held.end(), 0)")
+    page.settle()
+    assert check_shown(page, oracle) == 10
+
+
+def test_an_answer_about_a_fault_before_is_not_that_of_the_next(page) -> None:
+    page.value("(backsim.model.show(0, 400), 0)")
+    page.settle()
+    number = page.value("2 * backsim.inView[0].id + 1")
+    page.value(HOLD)
+    page.value("(backsim.model.setFault(['clk', '1']), 0)")
+    page.wait("window.held !== null")
+    # the line comes while the next question waits for its turn
+    found = page.value(f"""(async () => {{ backsim.link.forget([{number}]);
+      held.push({{row: {number}, start: 0, stop: 400, exact: true, runs: [[0, 'z']]}});
+      await new Promise((done) => setTimeout(done, 100));
+      return [...backsim.link.track({number}).within(0, 400)].some((run) => run.value === 'z'); }})()""")
+    assert found is False
 
 
 # actions of a random walk: keys, with their modifiers, and moves of the pointer
@@ -476,6 +544,26 @@ def walk(page: Page, oracle: Oracle, seed: int, actions: int) -> int:
     return compared
 
 
-@pytest.mark.parametrize("seed", [1, 2])
+# WALKS_FOR_TESTS=20 has so many walks of 200 actions, which take half an hour; else two of 60
+LONG_WALKS = int(os.environ.get("WALKS_FOR_TESTS", "0"))
+
+
+@pytest.mark.parametrize("seed", range(1, 1 + (LONG_WALKS or 2)))
 def test_random_walks_show_what_the_session_answers(page, oracle, seed: int) -> None:
-    assert walk(page, oracle, seed, 60) > 300
+    assert walk(page, oracle, seed, 200 if LONG_WALKS else 60) > 300
+
+
+def test_times_in_seconds(browser, write, program) -> None:
+    files = [write("n.bench", "INPUT(a)\nOUTPUT(y)\ny = NOT(a)\n"), write("n.timing", "# unit 10 ps\n"), write("n.stim", "# unit 10 ps\nhorizon 90000\nset a 0 0\n")]
+    with viewed(browser, program, files, "--from", "1ns", "--to", "2ns") as page:
+        assert (page.shown()["start"], page.shown()["stop"]) == (100, 200)
+        for text, time in (("39.99ns", 3999), ("0.5 us", 50_000), ("7", 7), ("1,200", 1200)):
+            page.press("t")
+            page.write("#time", text)
+            page.press("Enter")
+            assert page.cursor == time
+        page.press("t")
+        page.write("#time", "3ps")
+        page.press("Enter")
+        assert page.cursor == 1200 and page.text("#said") == "times are from 0 to 90,000, in units of 10 ps, or such as 10ps"
+        assert page.value("document.getElementById('at-cursor').title") == "12 ns"

@@ -129,7 +129,7 @@ def test_a_signal_ends_all_and_leaves_nothing(files, program, tmp_path: Path, nu
     environment = {"TMPDIR": str(tmp_path)}
     with served(*files, "--program", program, env=environment) as (process, address):
         assert asked(address, "state")[0] == 200
-        body = json.dumps({"page": "a", "step": 1, "rows": [{"row": 1, "name": "G17", "fault": ["G8", "1"], "windows": [[0, 31]]}]})
+        body = json.dumps({"page": "a", "number": 1, "step": 1, "rows": [{"row": 1, "name": "G17", "fault": ["G8", "1"], "windows": [[0, 31]]}]})
         assert b'"end":true' in asked(address, "waves", "POST", body)[1]
         children = _children(process.pid)
         assert len(children) == 2
@@ -151,6 +151,17 @@ def _parent_of(path: Path) -> int | None:
         return int((path / "stat").read_text().rpartition(")")[2].split()[1])
     except OSError:
         return None
+
+
+def test_a_request_that_comes_late_does_not_end_a_newer_one(address) -> None:
+    """A browser gives a request up and makes another; which is read first is open."""
+    def whole(page: str, number: int) -> bool:
+        rows = [{"row": 1, "name": "G17", "windows": [[0, 31]]}]
+        last = asked(address, "waves", "POST", json.dumps({"page": page, "number": number, "step": 1, "rows": rows}))[1].splitlines()[-1]
+        found: bool = json.loads(last)["whole"]
+        return found
+
+    assert [whole("late", number) for number in (1, 3, 2, 4)] == [True, True, False, True] and whole("other", 1)
 
 
 def test_bad_words_and_files_are_refused_in_a_line(tools, files, write) -> None:
@@ -202,3 +213,12 @@ def test_names_are_found_without_the_whole_netlist(write) -> None:
     assert netlist.names == ("clk", "a[0]", "a[1]", "q", "u1.n", "u1.alu.s[0]", "u1.alu.s[1]", "$made.up$1")
     assert netlist.gates["u1.n"].pins == ("a[0]", "a[1]")
     assert os.path.exists(path)
+
+
+def test_what_a_converter_has_added_stands_behind(write) -> None:
+    """r is a register with an asynchronous reset: a gate behind the flip-flop u7$2, which bears the name of the cell."""
+    index = Index(write("n.bench", "INPUT(a)\nINPUT(rn)\nOUTPUT(r)\nu7$1 = AND(a, rn)\nu7$2 = DFF(u7$1)\nr = AND(u7$2, rn)\nup = OR(r, a)\nq = DFF(up)\n"))
+    assert [(one.name, one.kind) for one in index.level("", 10).signals] == [
+        ("a", "input"), ("rn", "input"), ("q", "register"), ("r", "register"), ("up", "gate"), ("u7$2", "register"), ("u7$1", "gate")]
+    assert [one.name for one in index.find("u*", 10)[0]] == ["up"] and [one.name for one in index.find("u*$*", 10)[0]] == ["u7$1", "u7$2"]
+    assert [one.name for one in index.find("u", 10)[0]] == ["up", "u7$1", "u7$2"]

@@ -167,3 +167,23 @@ def test_times_are_said_in_seconds(write, program, monkeypatch, tmp_path, capsys
         Session(files[0], files[1], write("other", "# unit 1 ns\nhorizon 5\n"))
     with pytest.raises(UsageError, match="is not known"), Session(files[0], write("bare", ""), write("also", "horizon 5\n")) as session:
         session.at("y[0]", "1ns")
+
+
+def test_times_of_commands_are_said_in_seconds(write, program, tools, tmp_path, capsys) -> None:
+    """Patterns, looks, faults and pages by the unit of the timing file, or of --unit."""
+    netlist, timing, patterns = write("n", "INPUT(a)\nOUTPUT(y)\ny = NOT(a)\n"), write("t", "# unit 10 ps\ndefault 1\n"), write("p", "0\n1\n")
+    words = ["from-patterns", netlist, patterns, "--period", "1ns", "--first", "0.5ns", "-o", tmp_path / "s"]
+    assert main([*map(str, words), "--unit", "10ps"]) == 0
+    assert (tmp_path / "s").read_text().startswith("# unit 10 ps\nhorizon 249\nset a 50 0\nset a 150 1\n")
+    assert main([*map(str, words), "--unit", "1ns"]) == 2 and main(list(map(str, words))) == 2
+    said = capsys.readouterr().err
+    assert "--first: 0.5ns is between two units of 1 ns" in said and "--period: what 1ns is in units is not known" in said
+    both = [tools("faults", netlist, timing, patterns, "--period", period, "--times", *times, env={"BACKSIM": program})
+            for period, times in (("1ns", ["0.5ns:1.5ns:1000ps"]), (100, ["50", "150"]))]
+    assert both[0].stdout == both[1].stdout and both[0].returncode == both[1].returncode == 0
+    for option, cause in ((["--period", "0ns"], "--period 0ns is 0 units"), (["--period", "1ns", "--times", "3ns"], "the time 300 is after the horizon, 199"),
+                          (["--period", "1ns", "--times", "1ps"], "--times: 1ps is between two units of 10 ps")):
+        done = tools("faults", netlist, timing, patterns, *option, env={"BACKSIM": program})
+        assert done.returncode == 2 and cause in done.stderr.decode(), done.stderr
+    done = tools("view", netlist, timing, tmp_path / "s", "--from", "1ns", "--to", "3ns", "--no-browser", env={"BACKSIM": program})
+    assert done.returncode == 2 and b"a window from 100 to 300 is none; times are from 0 to 249" in done.stderr

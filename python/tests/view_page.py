@@ -71,10 +71,12 @@ class Page:
         self.browser.wait(condition)
 
     def settle(self) -> None:
-        """Waits until the page asks for nothing more."""
-        self.value("new Promise((done) => requestAnimationFrame(() => requestAnimationFrame(done)))")
-        self.browser.wait("document.body.dataset.state === 'idle'")
-        self.value("new Promise((done) => requestAnimationFrame(() => requestAnimationFrame(done)))")
+        """Waits until the page asks for nothing more, also not for what it has drawn by an answer."""
+        is_idle = False
+        while not is_idle:
+            self.browser.wait("document.body.dataset.state === 'idle'")
+            self.value("new Promise((done) => requestAnimationFrame(() => requestAnimationFrame(done)))")
+            is_idle = self.value("document.body.dataset.state === 'idle'")
 
     def press(self, *keys: str, modifiers: int = 0) -> None:
         for key in keys:

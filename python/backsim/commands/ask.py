@@ -7,6 +7,7 @@ import signal
 import sys
 import threading
 from collections.abc import Iterator
+from contextlib import contextmanager, nullcontext
 from pathlib import Path
 from typing import Any
 
@@ -124,6 +125,7 @@ class _Line:
         self._names: Names | None = None
         self._found: list[str] = []
         self._readline: Any = None
+        self._has_key = False
         state = os.environ.get("XDG_STATE_HOME") or os.path.expanduser("~/.local/state")
         self._history = Path(state) / "backsim" / "history"
 
@@ -141,6 +143,10 @@ class _Line:
         readline.set_completer_delims(" \t\n")
         readline.set_completer(self._completion)
         readline.parse_and_bind("tab: complete")
+        # to the beginning of the line, away with its rest, and the end of an empty one
+        self._has_key = "libedit" not in (readline.__doc__ or "")
+        if self._has_key:
+            readline.parse_and_bind(r'"\C-c": "\C-a\C-k\C-m"')
         # the netlist is read while the first line is typed
         threading.Thread(target=self._read_names, daemon=True).start()
         return self
@@ -169,12 +175,29 @@ class _Line:
         return self._found[state] if state < len(self._found) else None
 
     def next(self) -> str | None:
-        """The next line, or None at the end. Ctrl-C gives up what was typed."""
+        """The next line, or None at the end. Ctrl-C gives up what was typed: where readline is GNU's it is a key while a line is typed, since a
+        signal that comes directly before Python waits for a key is noticed only with the next one."""
         while True:
             try:
-                return input(_PROMPT)
+                with _without_interrupts() if self._has_key else nullcontext():
+                    return input(_PROMPT)
             except EOFError:
                 print()
                 return None
             except KeyboardInterrupt:
                 print()
+
+
+@contextmanager
+def _without_interrupts() -> Iterator[None]:
+    """Has the terminal of standard input give Ctrl-C as a key."""
+    import termios  # there is none on Windows
+    terminal = sys.stdin.fileno()
+    before = termios.tcgetattr(terminal)
+    keys = termios.tcgetattr(terminal)
+    keys[6][termios.VINTR] = b"\0"
+    termios.tcsetattr(terminal, termios.TCSANOW, keys)
+    try:
+        yield
+    finally:
+        termios.tcsetattr(terminal, termios.TCSANOW, before)

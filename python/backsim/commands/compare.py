@@ -6,7 +6,7 @@ from pathlib import Path
 
 from ..arguments import add_program
 from ..buses import matching, signals_of
-from ..convert.comparison import Changes, Comparison, Mismatch, compare, events_of, settled_times, without_further_names
+from ..convert.comparison import Changes, Comparison, Mismatch, at_edges, compare, events_of, settled_times, without_further_names
 from ..convert.dump import read_dump, stimulus_of, warning_of
 from ..convert.dump_options import add_unit, add_window, span_of
 from ..convert.output import say, whole_text
@@ -59,6 +59,10 @@ def run(arguments: argparse.Namespace) -> int:
         window = window_of(netlist, timing, dump, begin)
         timing, first = window.timing, begin.time - dump.start
         notes += window.notes
+    races = [f"{name} at {time}, of {clock}" for name, (time, clock) in at_edges(netlist, timing, stimulus).items()]
+    if races:
+        notes.append(f"inputs change at edges of clocks, and Verilog leaves open which of the two comes first, so values may differ: {'; '.join(races[:_SHOWN])}"
+                     + " ..." * (len(races) > _SHOWN))
     events = events_of(netlist, timing, stimulus)
     times = range(first, stimulus.horizon + 1) if arguments.every_time else settled_times(events, longest, first, stimulus.horizon)
     if not times:

@@ -4,6 +4,7 @@ from __future__ import annotations
 import argparse
 from pathlib import Path
 
+from ..arguments import in_units
 from ..convert.cells import Asynchronous
 from ..convert.clocks import Edge, chain_of, root_of, timing_of
 from ..convert.design import Design, design_of
@@ -16,6 +17,7 @@ from ..errors import FormatError, WordsError
 from ..formats.netlist import with_sources, write_netlist
 from ..formats.text import number_of
 from ..formats.timing import MOST_TIME, Clock, write_timing
+from ..formats.units import is_time
 
 HELP = "writes a netlist and its timing file from what Yosys's write_json makes of a Verilog design, with the names of its nets"
 EXAMPLE = """  yosys -q -p "read_verilog chip.v; synth -flatten -noabc -top chip; write_json chip.json"
@@ -28,8 +30,8 @@ def add_arguments(parser: argparse.ArgumentParser) -> None:
     parser.add_argument("netlist", type=Path, metavar="NETLIST", help="the netlist that is written")
     parser.add_argument("timing", type=Path, metavar="TIMING", help="the timing file that is written")
     parser.add_argument("--top", metavar="MODULE", help="the module; the top module where it is left out")
-    parser.add_argument("--clock", action="append", default=[], metavar="NAME=FIRST,PERIOD", help="the edges of a clock; NAME is that of "
-                        "its signal, with _falls behind it where falls count")
+    parser.add_argument("--clock", action="append", default=[], metavar="NAME=FIRST,PERIOD", help="the edges of a clock, in units, or such "
+                        "as 15ns with a dump or --unit; NAME is that of its signal, with _falls behind it where falls count")
     parser.add_argument("--vcd", type=Path, metavar="VCD", help="a dump from which the edges of the other clocks are taken")
     parser.add_argument("--scope", metavar="SCOPE", help="the instance of the design in the dump, as chip_test.dut")
     add_unit(parser)
@@ -42,18 +44,21 @@ def add_arguments(parser: argparse.ArgumentParser) -> None:
 def run(arguments: argparse.Namespace) -> int:
     if (arguments.vcd is None) != (arguments.scope is None):
         raise WordsError("--vcd and --scope go together")
-    given = dict(map(_clock_in, arguments.clock))
+    words = list(map(_clock_words, arguments.clock))
     module = read_module(arguments.json, arguments.top)
     how = Asynchronous(arguments.async_reset) if arguments.async_reset else None
     design = design_of(module, how, not arguments.no_aliases)
     dump = read_dump(arguments.vcd, arguments.scope, span_of(arguments), _names_for(design)) if arguments.vcd else None
+    unit = dump.unit if dump else arguments.unit
+    given = {name: Clock(in_units(first, unit, f"--clock {name}", 0, MOST_TIME), in_units(period, unit, f"--clock {name}", 1, MOST_TIME))
+             for name, first, period in words}
     _take_roots(design, given, dump)
     strange = given.keys() - {edge.name for edge in design.edges.values()}
     if strange:
         known = ", ".join(sorted({edge.name for edge in design.edges.values()})) or "none"
         raise WordsError(f"no flip-flop has the clock {strange.pop()}; the clocks are: {known}")
     timing = timing_of(design.edges, design.initials, lambda edge: _times_of(edge, given, dump, arguments.json))
-    timing.unit = dump.unit if dump else arguments.unit
+    timing.unit = unit
     _check_resets(design, timing.clocks, dump, arguments.json)
     with whole_text(arguments.netlist) as stream:
         write_netlist(with_sources(design.netlist, design.sources), stream)
@@ -78,12 +83,14 @@ def _take_roots(design: Design, given: dict[str, Clock], dump: Dump | None) -> N
     design.resets = [(register, reset, active, roots[edge]) for register, reset, active, edge in design.resets]
 
 
-def _clock_in(word: str) -> tuple[str, Clock]:
+def _clock_words(word: str) -> tuple[str, str, str]:
+    """The name of a clock, its first edge and its period."""
     name, _, times = word.rpartition("=")
-    numbers = [number for number in map(number_of, times.split(",")) if number is not None and number <= MOST_TIME]
-    if not name or times.count(",") != 1 or len(numbers) != 2 or numbers[1] == 0:
+    first, _, period = times.partition(",")
+    numbers = [number_of(time) for time in (first, period)]
+    if not name or not all(is_time(time) or number is not None and number <= MOST_TIME for time, number in zip((first, period), numbers)) or numbers[1] == 0:
         raise WordsError(f"`{word}` is no NAME=FIRST,PERIOD with times up to {MOST_TIME}")
-    return name, Clock(*numbers)
+    return name, first, period
 
 
 def _times_of(edge: Edge, given: dict[str, Clock], dump: Dump | None, path: Path) -> Clock:

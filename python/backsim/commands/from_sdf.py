@@ -54,7 +54,8 @@ def run(arguments: argparse.Namespace) -> int:
     made.timing.unit = unit
     if not made.count:
         notes = "".join(f"; {note}" for note in made.notes[:3])
-        raise FormatError(arguments.sdf, None, f"no IOPATH of it is one of a gate of the netlist{notes}")
+        hint = "" if arguments.json else "; where the netlist was made by from-json, --json says which gates are in an instance"
+        raise FormatError(arguments.sdf, None, f"no IOPATH of it is one of a gate of the netlist{hint}{notes}")
     with whole_text(arguments.output) as stream:
         write_timing(made.timing, stream)
     for note in made.notes:

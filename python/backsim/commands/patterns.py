@@ -11,15 +11,15 @@ from ..convert.output import add_output, say, whole_text
 from ..errors import FormatError, UsageError
 from ..faults.coverage import percent
 from ..faults.generating import Search, search_combinational, search_sequential
-from ..faults.lists import PARTIAL
 from ..faults.model import Lines
-from ..faults.request import add_circuit, add_faults, add_jobs, add_period, jobs_of, stuck_classes_of
+from ..faults.request import add_circuit, add_faults, add_jobs, add_period, jobs_of, stuck_classes_of, take_period
 from ..faults.stopping import stoppable
 from ..formats.circuit import Circuit
 from ..formats.netlist import read_netlist
 from ..formats.stimulus import Stimulus
 from ..formats.timing import read_timing
 from ..main import INTERRUPTED
+from ..partial import PARTIAL
 
 HELP = "makes random patterns and keeps those that show further stuck-at faults"
 EXAMPLE = """  backsim-tools patterns chip.bench chip.timing --coverage 95 --output patterns.txt
@@ -53,6 +53,7 @@ def run(arguments: argparse.Namespace) -> int:
 def _run(arguments: argparse.Namespace) -> int:
     netlist = read_netlist(arguments.netlist)
     circuit = Circuit(netlist, read_timing(arguments.timing, netlist), Stimulus(0))
+    take_period(arguments, circuit.timing)
     if not netlist.outputs:
         raise UsageError(f"{arguments.netlist}: the netlist has no OUTPUT, so nothing shows a fault")
     if netlist.flops() and arguments.period is None:

@@ -13,9 +13,10 @@ from contextlib import contextmanager
 from pathlib import Path
 from types import FrameType
 
-from ..arguments import add_memo, add_program, count_of
+from ..arguments import add_memo, add_program, count_of, moment, unit_of_session
 from ..errors import UsageError, WordsError, reason_of
 from ..formats.text import read_bytes
+from ..formats.units import units_of
 from ..view.asker import SHARDS, Asker, Opening
 from ..view.documents import Document, begun, read_document
 from ..view.index import Index
@@ -41,8 +42,9 @@ def add_arguments(parser: argparse.ArgumentParser) -> None:
                     "       backsim-tools view FILE [--port N] [--no-browser]")
     parser.add_argument("words", nargs="+", metavar="FILE",
                         help="netlist, timing file and stimulus, and the signals, patterns and buses to show; or a saved view alone")
-    parser.add_argument("--from", dest="start", type=int, metavar="T", help="the first time in view, 0 where it is left out")
-    parser.add_argument("--to", dest="stop", type=int, metavar="T", help="the time before which the view ends")
+    parser.add_argument("--from", dest="start", type=moment, metavar="T", help="the first time in view, in units, or such as 15ns where "
+                        "the files state the unit; 0 where it is left out")
+    parser.add_argument("--to", dest="stop", type=moment, metavar="T", help="the time before which the view ends")
     parser.add_argument("--port", type=count_of(0, 65_535), default=0, metavar="N", help="the port, one of the system's choice if left out")
     parser.add_argument("--no-browser", action="store_true", help="print the address alone")
     add_program(parser)
@@ -96,8 +98,9 @@ def _pages(arguments: argparse.Namespace, files: tuple[str, str, str], document:
 
 def _document(arguments: argparse.Namespace, index: Index, horizon: int) -> Document:
     """The view that the words ask for."""
-    start = arguments.start or 0
-    stop = min(horizon + 1, start + _usual_length(arguments.words[1])) if arguments.stop is None else arguments.stop
+    unit = unit_of_session(arguments.words[1], arguments.words[2])
+    start = units_of(arguments.start or 0, unit)
+    stop = min(horizon + 1, start + _usual_length(arguments.words[1])) if arguments.stop is None else units_of(arguments.stop, unit)
     if not 0 <= start < stop <= horizon + 1:
         raise UsageError(f"{arguments.words[2]}: a window from {start} to {stop} is none; times are from 0 to {horizon}")
     names = arguments.words[3:]

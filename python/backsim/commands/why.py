@@ -55,6 +55,7 @@ def add_arguments(parser: argparse.ArgumentParser) -> None:
                         "pattern; may be repeated")
     parser.add_argument("--chains", type=count_of(0, 1000), default=USUAL_CHAINS, metavar="N", help="how many chains are written, "
                         f"{USUAL_CHAINS} where it is left out")
+    parser.add_argument("--gates", action="store_true", help="write below each step of a chain the gates that are part of it")
     parser.add_argument("--json", action="store_true", help="write the causes and the chains as JSON")
     parser.add_argument("--output", "-o", type=Path, metavar="FILE",
                         help="the picture, in the form that the name ends in: .svg, .png or .dot")
@@ -76,7 +77,7 @@ def run(arguments: argparse.Namespace) -> int:
         json.dump(explanation.to_json(arguments.chains), sys.stdout, indent=1)
         print()
     elif not (form or arguments.html):
-        print(text_of(explanation, arguments.chains, arguments.all))
+        print(text_of(explanation, arguments.chains, arguments.all, arguments.gates))
     return 0
 
 

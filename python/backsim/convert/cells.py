@@ -129,12 +129,14 @@ class _Recorder(Builder):
 
 
 class Templates:
-    """The templates of the types of one file. `modules` are those of a library, by their names."""
+    """The templates of the types of one file. `modules` are those of a library, by their names. `unused` has the inputs of these on which
+    nothing depends, by the types that were met."""
 
     def __init__(self, modules: Mapping[str, Module], how: Asynchronous | None) -> None:
         self._modules, self._how = modules, how
         self._made: dict[tuple[object, ...], Template] = {}
         self._functions: dict[str, Functions] = {}
+        self.unused: dict[str, list[str]] = {}
 
     def of(self, cell: Cell, outputs: frozenset[str]) -> Template | None:
         """The template of a cell of which these outputs are connected; None where its type is neither of Yosys's own nor of the library.
@@ -150,7 +152,10 @@ class Templates:
 
     def _library(self, cell: Cell, outputs: frozenset[str], fixed: Mapping[str, Bit]) -> Template:
         if cell.type not in self._functions:
-            self._functions[cell.type] = Functions(self._modules[cell.type])
+            functions = self._functions[cell.type] = Functions(self._modules[cell.type])
+            unused = functions.unused()
+            if unused and self._modules[cell.type].outputs:
+                self.unused[cell.type] = unused
         return _LibraryMaker(self._functions[cell.type], self._how, fixed).made(outputs)
 
 

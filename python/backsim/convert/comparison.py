@@ -50,6 +50,21 @@ def events_of(netlist: Netlist, timing: Timing, stimulus: Stimulus) -> list[int]
     return sorted({*stimulus.times(), *(edge for clock in clocks for edge in clock.edges(stimulus.horizon))})
 
 
+def at_edges(netlist: Netlist, timing: Timing, stimulus: Stimulus) -> dict[str, tuple[int, str]]:
+    """The inputs that change at an edge of a clock that is an input itself, each with the first such time and the clock. Which of the two
+    comes first is open in Verilog."""
+    inputs = set(netlist.inputs)
+    clocks = {own for name in timing.clocks for own in (name, name.removesuffix("_falls")) if own in inputs}
+    found: dict[str, tuple[int, str]] = {}
+    for name in netlist.inputs:
+        times = [time for time, _ in stimulus.settings.get(name, ()) if time > 0] if name not in clocks else []
+        races = [(time, own) for own, clock in timing.clocks.items() if own in clocks or own.removesuffix("_falls") in clocks
+                 for time in times if time >= clock.first and (time - clock.first) % clock.period == 0]
+        if races:
+            found[name] = min(races)
+    return found
+
+
 def settled_times(events: Sequence[int], longest: int, first: int, horizon: int) -> list[int]:
     """The times directly before events, and the last one, at which the longest path's time has passed since the event before; from `first`
     on."""

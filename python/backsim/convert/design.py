@@ -87,6 +87,9 @@ class _Maker:
         if self.undriven:
             names = list(self.undriven.values())
             self.design.notes.append(f"nothing drives {', '.join(names[:10])}{' ...' * (len(names) > 10)}: an input that is never set")
+        for kind, ports in self.templates.unused.items():
+            self.design.notes.append(f"nothing in {kind} depends on {', '.join(ports)}: where that enables a tri-state output, Yosys's read_liberty "
+                                     "leaves it out, and the cell is taken as one that always drives")
         self.design.netlist = self.builder.netlist()
         self._add_sources()
         return self.design

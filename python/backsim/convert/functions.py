@@ -77,6 +77,18 @@ class Functions:
         for cell in module.cells:
             self._take_state(cell)
 
+    def unused(self) -> list[str]:
+        """The inputs on which neither an output nor a flip-flop depends: that of a tri-state cell which enables it is such a one, since
+        `read_liberty` leaves it out. None where what an output depends on is not known."""
+        bits = [*self.module.outputs.values()]
+        for state in self.states.values():
+            bits += state.clock, state.data, state.preset, state.clear
+        try:
+            used = {source for bit in bits for source in self._sources_of(bit)}
+        except NotHad:
+            return []
+        return [name for name, bit in self.module.inputs.items() if bit not in used]
+
     def _take_state(self, cell: Cell) -> None:
         register = register_of(cell)
         if register is None:

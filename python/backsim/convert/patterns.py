@@ -7,6 +7,7 @@ from ..errors import FormatError, type_of_path
 from ..formats.netlist import Netlist
 from ..formats.stimulus import MOST_TIME, Stimulus
 from ..formats.text import content_of, lines_of, read_foreign
+from ..partial import refuse_partial
 from ..records import dataclass
 from .build import constant_value
 
@@ -22,11 +23,13 @@ class Patterns:
 
 def read_patterns(path: type_of_path, netlist: Netlist) -> Patterns:
     """The patterns of a file. Blanks between the letters and what follows `#` count as nothing. Inputs that stand for constants
-    (`vdd`, `gnd`) may have no letter. FormatError at a line with another letter, or with more or fewer letters than inputs."""
+    (`vdd`, `gnd`) may have no letter. FormatError at a line with another letter, or with more or fewer letters than inputs, and where an
+    interrupted command left the file."""
     signals = tuple(name for name in netlist.inputs if constant_value(name) is None)
     words: list[str] = []
     inputs: tuple[str, ...] | None = None
     for number, line in enumerate(lines_of(read_foreign(path)), 1):
+        refuse_partial(line, path, number)
         word = content_of(line).replace(" ", "").lower()
         if not word:
             continue

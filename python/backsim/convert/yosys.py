@@ -2,6 +2,7 @@
 from __future__ import annotations
 
 import json
+import re
 from collections.abc import Iterable, Iterator
 from dataclasses import field
 from typing import Any, Union
@@ -14,6 +15,7 @@ Bit = Union[int, str]
 _Object = dict[str, Any]
 CONSTANTS = ("0", "1", "x", "z")
 MOST_BYTES = 1 << 30
+_NO_PLACE = re.compile(r"(?:^|/)share/yosys/[^:]*:|:0\.0-0\.0$")
 _MARKS = ("whitebox", "blackbox", "keep_hierarchy", "liberty_cell")
 
 
@@ -183,8 +185,9 @@ def _number(value: object) -> int:
 
 
 def _source(attributes: _Object) -> tuple[str, ...]:
-    source = str(attributes.get("src", ""))
-    return tuple(source.split("|")) if source else ()
+    """The places of a cell or net, without those in files of Yosys's own, as its `techmap.v`, and those that are none, in line 0."""
+    places = (place for place in str(attributes.get("src", "")).split("|") if place)
+    return tuple(place for place in places if not _NO_PLACE.search(place))
 
 
 class Names:

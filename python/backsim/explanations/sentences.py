@@ -9,6 +9,7 @@ from ..rules import Role, decides
 from .chains import Step
 from .names import compact, in_short, listed
 from .roots import Cause, CauseKind
+from .way import line_of
 
 if TYPE_CHECKING:
     from .explanation import Explanation
@@ -22,10 +23,10 @@ _MENDED = {CauseKind.UNSET: "with an initial value", CauseKind.NO_VALUE: "were i
            CauseKind.BEYOND: "were it 0 or 1"}
 
 
-def text_of(explanation: Explanation, chains: int = USUAL_CHAINS, has_all: bool = False) -> str:
+def text_of(explanation: Explanation, chains: int = USUAL_CHAINS, has_all: bool = False, has_gates: bool = False) -> str:
     """What is said of an explanation, without a last line feed: the value, the causes, and the chains to the first few; with `has_all`
-    also what was looked at and does not matter."""
-    return "\n".join(_lines(explanation, chains, has_all))
+    also what was looked at and does not matter, and with `has_gates` below each step the gates that are part of it."""
+    return "\n".join(_lines(explanation, chains, has_all, has_gates))
 
 
 def summary_of(explanation: Explanation) -> list[str]:
@@ -43,7 +44,7 @@ def summary_of(explanation: Explanation) -> list[str]:
     return lines
 
 
-def _lines(explanation: Explanation, chains: int, has_all: bool) -> Iterator[str]:
+def _lines(explanation: Explanation, chains: int, has_all: bool, has_gates: bool) -> Iterator[str]:
     yield from summary_of(explanation)
     before: tuple[Step, ...] = ()
     for cause, name in first_few(explanation.causes, chains):
@@ -51,7 +52,7 @@ def _lines(explanation: Explanation, chains: int, has_all: bool) -> Iterator[str
         shared = _shared(before, steps)
         yield ""
         yield f"{name}, {_counted(len(steps), 'step')} back" + (f", the first {shared} as above:" if shared else ":")
-        yield from chain_lines(steps[shared:])
+        yield from _gate_lines(explanation, steps[shared:]) if has_gates else chain_lines(steps[shared:])
         before = steps
     if has_all:
         yield ""
@@ -86,12 +87,29 @@ def chain_lines(steps: Sequence[Step]) -> list[str]:
     """A line for each step, of many the first and the last."""
     rows = [_row(step) for step in steps]
     left = len(rows) - MOST_STEPS
-    widths = [max(len(row[place]) for row in rows) for place in range(3)]
-    lines = [f"  {row[0]:>{widths[0]}}  {row[1]:{widths[1]}}  {row[2]:{widths[2]}}  {row[3]}".rstrip() for row in rows]
+    lines = _aligned(rows)
     if left > 1:
-        half = MOST_STEPS // 2
-        lines[half:half + left] = [f"  {'':>{widths[0]}}  ... {left} steps more ..."]
+        half, width = MOST_STEPS // 2, max(len(row[0]) for row in rows)
+        lines[half:half + left] = [f"  {'':>{width}}  ... {left} steps more ..."]
     return lines
+
+
+def _gate_lines(explanation: Explanation, steps: Sequence[Step]) -> list[str]:
+    """A line for each step, and for each gate that is part of it."""
+    nodes, gates = explanation.graph.nodes, explanation.design.netlist.gates
+    rows: list[tuple[str, str, str, str]] = []
+    for step in steps:
+        rows.append(_row(step))
+        for node in (nodes[number] for number in step.nodes if nodes[number].name != step.name):
+            gate = gates.get(node.name)
+            if gate is not None:
+                rows.append((f"{node.start:,}", f"  {node.name} = {node.value}", f"{gate.kind.value}({', '.join(gate.pins)})", line_of(gate.source)))
+    return _aligned(rows)
+
+
+def _aligned(rows: Sequence[tuple[str, str, str, str]]) -> list[str]:
+    widths = [max(len(row[place]) for row in rows) for place in range(3)]
+    return [f"  {row[0]:>{widths[0]}}  {row[1]:{widths[1]}}  {row[2]:{widths[2]}}  {row[3]}".rstrip() for row in rows]
 
 
 def _row(step: Step) -> tuple[str, str, str, str]:

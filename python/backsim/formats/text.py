@@ -8,6 +8,7 @@ from contextlib import contextmanager
 from typing import BinaryIO, NamedTuple, TypeVar
 
 from ..errors import FormatError, reason_of, type_of_path
+from ..marks import MARK, has_mark
 
 FILE_LIMIT = 64 * 1024 * 1024
 SCRIPT_LIMIT = 16 * 1024 * 1024
@@ -54,9 +55,8 @@ def read_foreign(path: type_of_path) -> bytes:
 
 def check_mark(data: bytes, path: type_of_path) -> None:
     """FormatError where bytes of a file that the simulator reads begin with a byte order mark, which it refuses as a bad line 1."""
-    if data.startswith((codecs.BOM_UTF8, codecs.BOM_UTF16_LE, codecs.BOM_UTF16_BE)):
-        raise FormatError(path, 1, "the file begins with a byte order mark, which the program refuses: `backsim-tools normalise` takes it from "
-                          "a netlist, and `tail -c +4` the one of UTF-8 from any file")
+    if has_mark(data):
+        raise FormatError(path, 1, MARK)
 
 
 def read_for(netlist: N | None, path: type_of_path, parse: Callable[[bytes, str], T], check: Callable[[T, N, str], None]) -> T:

@@ -5,11 +5,12 @@ from collections.abc import Callable, Iterator
 from functools import cached_property
 from typing import Any, TypeVar
 
-from ..buses import full_name, number_of
+from ..buses import bits_of, full_name, number_of
 from ..errors import UsageError
 from ..explanations.names import compact, in_short
 from ..explanations.sentences import text_of, word_text
 from ..formats.script import MOST_BUDGET
+from ..formats.text import is_name
 from ..formats.units import Unit
 from ..no_value import no_value_of
 from ..session import Session
@@ -56,10 +57,10 @@ class Answers:
     def _named(self, name: str) -> list[str]:
         """The signals and buses that a name stands for; a pattern without `$` stands for none that a converter added, and for bits as
         buses. UsageError where a pattern is of none, or of too many."""
-        netlist = self.session.netlist
-        if name in netlist:
+        is_wild = bool(set(name) & _WILD)
+        if not is_wild and self._is_signal(name) or name in self.session.netlist:
             return [name]
-        if not set(name) & _WILD:
+        if not is_wild:
             return [full_name(name, self._known)]
         found = compact([own for own in self.session.names(name) if "$" in name or "$" not in own], buses_alone=True)
         if not found:
@@ -67,6 +68,10 @@ class Answers:
         if len(found) > MOST_SIGNALS:
             raise UsageError(f"{len(found):,} signals are of the pattern {name}, more than {MOST_SIGNALS:,}")
         return found
+
+    def _is_signal(self, name: str) -> bool:
+        """Whether the program has a signal of this name; so the netlist, which may be long, is read for other names alone."""
+        return is_name(name) and not bits_of(name) and not isinstance(self.session.at(name, 0, 0), Unknown)
 
     def _only(self, name: str) -> str:
         names = self._named(name)

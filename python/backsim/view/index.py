@@ -85,6 +85,7 @@ class Index:
             for place in range(0, len(self._lines), _BLOCK >> 4):
                 kinds |= {gate.decode("latin-1"): "register" if kind in (b"DFF", b"dff") else "gate"
                           for _, _, gate, kind, *_ in self._lines[place:place + (_BLOCK >> 4)] if gate}
+            _take_registers(kinds, self._lines)
             kinds |= {name: "output" for name in self.outputs if kinds.get(name) == "gate"}
             self._kinds = kinds
             self._sorted = sorted(kinds)
@@ -136,8 +137,10 @@ class Index:
 
     def find(self, pattern: str, most: int) -> tuple[list[Found], int]:
         """The signals and buses of a pattern, at most so many, and how many there are. Where the pattern has neither `*` nor `?`, those
-        that have it anywhere in their name, in either case; a bus that is named as one is found too."""
+        that have it anywhere in their name, in either case; else those that a converter has added, with `$` in their names, where the pattern has
+        one. A bus that is named as one is found too."""
         words = pattern.split()
+        is_wild = bool(set("*?") & set(pattern))
         found: dict[str, Found] = {}
         for word in words:
             if word.endswith("]") and ":" in word:
@@ -145,16 +148,16 @@ class Index:
                     found[word] = Found(word, self.kind(self.bits(word)[0]), len(self.bits(word)))
                 except UsageError:
                     pass
-        form = re.compile("|".join(map(_form_of, words)) or "", re.IGNORECASE if not set("*?") & set(pattern) else 0)
+        form = re.compile("|".join(map(_form_of, words)) or "", 0 if is_wild else re.IGNORECASE)
+        names = [name for name in self._names if form.fullmatch(name) and (_MADE_UP not in name or not is_wild or _MADE_UP in pattern)]
         begins = tuple(words)
-        for one in sorted(self._folded(name for name in self._names if form.fullmatch(name)),
-                          key=lambda one: (not one.name.startswith(begins), _order(one))):
+        for one in sorted(self._folded(names), key=lambda one: (not one.name.startswith(begins), _order(one))):
             found.setdefault(one.name, one)
         return list(found.values())[:most], len(found)
 
     def level(self, prefix: str, most: int) -> Level:
         """What stands in the scope of this prefix, as `u1.alu.`; the empty one is the top. The names that a tool has made up, with `$`
-        at their beginning, are in a scope of their own."""
+        at their beginning, are in a scope of their own, and those with a `$` in them stand last."""
         names = self._names
         scopes: list[tuple[str, str]] = []
         own: list[str] = []
@@ -168,7 +171,7 @@ class Index:
                 continue
             scopes.append((scope[len(prefix):-1] or GENERATED, scope))
             place = bisect_left(names, scope[:-1] + chr(ord(scope[-1]) + 1), place)
-        signals = sorted(self._folded(own), key=lambda one: (_KINDS.index(one.kind), _order(one)))
+        signals = sorted(self._folded(own), key=lambda one: (_MADE_UP in one.name, _KINDS.index(one.kind), _order(one)))
         return Level(sorted(scopes, key=lambda scope: (scope[0] == GENERATED, _natural(scope[0])))[:most], signals[:most], len(signals))
 
     @staticmethod
@@ -224,6 +227,15 @@ class Index:
             gates.lines[gate.decode("latin-1")] = (kind, pins, comment)
         self._lines = []
         return Netlist(tuple(self.inputs), tuple(self.outputs), gates, _decoded(names))
+
+
+def _take_registers(kinds: dict[str, str], lines: Iterable[tuple[bytes, ...]]) -> None:
+    """A register with an asynchronous set or reset is a gate, behind a flip-flop that a converter has added: its kind is that of a register."""
+    added = {name for name, kind in kinds.items() if kind == "register" and _MADE_UP in name}
+    for _, _, gate, kind, pins, *_ in lines if added else ():
+        first, _, second = pins.partition(b",")
+        if kind in (b"AND", b"OR") and second and b"," not in second and first.strip().decode("latin-1") in added:
+            kinds[gate.decode("latin-1")] = "register"
 
 
 class _Gates(dict[str, Gate]):
@@ -292,7 +304,7 @@ def _ranges(places: Iterable[int]) -> Iterator[tuple[int, int]]:
 
 def _order(found: Found) -> tuple[bool, list[tuple[int, int | str]]]:
     """A key by which names that tools made up stand last."""
-    return found.name[0] == _MADE_UP, _natural(found.name)
+    return _MADE_UP in found.name, _natural(found.name)
 
 
 def _natural(name: str) -> list[tuple[int, int | str]]:

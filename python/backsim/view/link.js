@@ -12,14 +12,24 @@ export class Link extends EventTarget {
   #page = Math.random().toString(36).slice(2);
   #aborts = null;
   #timer = 0;
+  #posts = 0;
   #last = 0;
   #scene = null;
 
   async get(path, query = {}) { return read(await fetch(`${path}?${new URLSearchParams(query)}`)); }
 
   async post(path, body) {
-    const answer = await fetch(path, {method: "POST", body: JSON.stringify(body), headers: {"Content-Type": "application/json"}});
-    return path === "dump" && answer.ok ? answer.text() : read(answer);
+    // the values at the cursor come with each scene; of all else it is told that it is asked
+    const told = path === "values" ? 0 : 1;
+    this.#posts += told;
+    this.#tell();
+    try {
+      const answer = await fetch(path, {method: "POST", body: JSON.stringify(body), headers: {"Content-Type": "application/json"}});
+      return await (path === "dump" && answer.ok ? answer.text() : read(answer));
+    } finally {
+      this.#posts -= told;
+      this.#tell();
+    }
   }
 
   track(number) {
@@ -27,7 +37,10 @@ export class Link extends EventTarget {
     return this.tracks.get(number);
   }
 
+  // What is on its way is of before, so it is given up; the caller asks anew.
   forget(numbers = null) {
+    if (this.#aborts) this.#aborts.abort();
+    this.#aborts = null;
     if (numbers === null) this.tracks.clear();
     else for (const number of numbers) this.tracks.delete(number);
   }
@@ -43,7 +56,7 @@ export class Link extends EventTarget {
   }
 
   #tell() {
-    const isAsking = this.#aborts !== null || this.#timer !== 0;
+    const isAsking = this.#aborts !== null || this.#timer !== 0 || this.#posts > 0;
     if (isAsking !== this.isAsking) { this.isAsking = isAsking; this.dispatchEvent(new Event("asking")); }
   }
 
@@ -62,10 +75,10 @@ export class Link extends EventTarget {
     try {
       this.asked += 1;
       const answer = await fetch("waves", {method: "POST", signal: aborts.signal, headers: {"Content-Type": "application/json"},
-        body: JSON.stringify({page: this.#page, step: scene.step, rows})});
+        body: JSON.stringify({page: this.#page, number: this.asked, step: scene.step, rows})});
       if (!answer.ok) throw new Error((await answer.json()).error);
       await this.#take(answer.body, scene, rows, aborts);
-      this.#tidy(scene);
+      this.#tidy();
     } catch (error) {
       if (!aborts.signal.aborted) this.dispatchEvent(new CustomEvent("failed", {detail: reason(error)}));
     }
@@ -101,7 +114,9 @@ export class Link extends EventTarget {
     else track.add({start: message.start, stop: message.stop, step: scene.step, runs: message.runs, exact: message.exact});
   }
 
-  #tidy(scene) {
+  // Lets go of what is far from the newest scene, which alone may be in view.
+  #tidy() {
+    const scene = this.#scene;
     const margin = ROUND * (scene.stop - scene.start), rows = new Set(scene.rows.map((row) => row.row));
     for (const [number, track] of this.tracks) {
       track.keep(scene.start - margin, scene.stop + margin);

@@ -3,7 +3,7 @@ import {Causes} from "./causes.js";
 import {COMMANDS, commandOf, labelOf, spelled} from "./commands.js";
 import {Finder} from "./finder.js";
 import {Link, reason} from "./link.js";
-import {Model, bitsOf, grouped, written} from "./model.js";
+import {Model, bitsOf, grouped, inSeconds, unitsOf, written} from "./model.js";
 import {CanvasPainter, HEAD, Scene, layout, theme} from "./paint.js";
 import {Rows, make} from "./rows.js";
 import {pngOf, save, svgOf} from "./saving.js";
@@ -13,7 +13,7 @@ const model = new Model(), link = new Link(), rows = new Rows(model, link, part(
 const causes = new Causes(model, link, say), finder = new Finder(link, add);
 const canvas = part("canvas"), stage = part("stage"), context = canvas.getContext("2d");
 const ZOOM = 1.5, WHEEL_ZOOM = 1.15, SNAP = 6, POLL = 2000, MORE = 4;
-let colours = theme(), isDue = false, isAsked = false, limits = 1, resume = null, lastValue = "", drag = null, valuesTimer = 0;
+let colours = theme(), isDue = false, isAsked = false, limits = 1, resume = null, lastValue = "", drag = null, valuesTimer = 0, refused = null;
 
 const app = {
   model, link, rows, causes,
@@ -87,6 +87,7 @@ function more(number = null) {
 function status() {
   const {cursor, marker, fault} = model;
   part("at-cursor").textContent = cursor === null ? "–" : grouped(cursor);
+  part("at-cursor").title = cursor === null || !link.state.unit ? "" : inSeconds(cursor, link.state.unit);
   part("at-marker").textContent = marker === null ? "–" : grouped(marker);
   part("difference").textContent = cursor === null || marker === null ? "–" : `${cursor < marker ? "−" : ""}${grouped(Math.abs(cursor - marker))}`;
   part("in-view").textContent = `${grouped(Math.floor(model.start))} – ${grouped(Math.ceil(model.stop) - 1)}`;
@@ -149,8 +150,8 @@ async function refresh() {
     link.state = state;
     part("fills").textContent = grouped(state.fills);
     if (before && before.loaded !== state.loaded) loaded();
-    if (state.changed.length) notice(`${state.changed.join(", ")} changed on disk. Press r to load it anew.`, true);
-    else if (before && before.changed.length) notice("");
+    if (state.changed.length && state.stamps !== refused) notice(`${state.changed.join(", ")} changed on disk. Press r to load it anew.`, true);
+    else if (!state.changed.length && before && before.changed.length) notice("");
   } catch (error) { notice(reason(error)); }
 }
 
@@ -252,9 +253,15 @@ async function reload() {
   try {
     link.state = await link.post("reload", {});
     loaded();
+    refused = null;
     notice("");
     say("the files were loaded anew");
-  } catch (error) { notice(`The files were not loaded: ${reason(error)}`); say(""); }
+  } catch (error) {
+    // what was refused stays told until the files change again
+    refused = await link.get("state").then((state) => state.stamps, () => null);
+    notice(`The files were not loaded: ${reason(error)}`);
+    say("");
+  }
 }
 
 function openDocument(file) {
@@ -355,8 +362,11 @@ document.addEventListener("keydown", (event) => {
 
 part("goto").addEventListener("submit", (event) => {
   event.preventDefault();
-  const time = Number(part("time").value.replace(/[\s,_]/g, ""));
-  if (!Number.isInteger(time) || time < 0 || time > model.horizon) { say(`times are from 0 to ${grouped(model.horizon)}`); return; }
+  const {unit} = link.state, time = unitsOf(part("time").value.replace(/[\s,_]/g, ""), unit);
+  if (!Number.isInteger(time) || time < 0 || time > model.horizon) {
+    say(`times are from 0 to ${grouped(model.horizon)}${unit ? `, in units of ${unit}, or such as ${inSeconds(1, unit).replace(" ", "")}` : ""}`);
+    return;
+  }
   model.setCursor(time);
   model.reveal(time);
   stage.focus();

@@ -13,6 +13,31 @@ export function bitsOf(name) {
   return bits;
 }
 
+// Powers of a thousandth, and the number and power of a time such as 15ns.
+const WORDS = ["s", "ms", "us", "ns", "ps", "fs"];
+
+function timeOf(text) {
+  const parts = /^(\d{1,18})(?:\.(\d{1,18}))?\s*(s|ms|us|ns|ps|fs)$/.exec(text), rest = parts && parts[2] || "";
+  return parts && {digits: BigInt(parts[1] + rest), tenths: BigInt(rest.length + 3 * WORDS.indexOf(parts[3]))};
+}
+
+// A time in units, of a number as it is, and of one such as 15ns where a unit, as `10 ps`, is known; NaN where it is none, or between two units.
+export function unitsOf(text, unit) {
+  const time = timeOf(text), one = unit && timeOf(unit);
+  if (!time || !one) return /^\d+$/.test(text) ? Number(text) : NaN;
+  const above = time.digits * 10n ** one.tenths, below = one.digits * 10n ** time.tenths;
+  return above % below ? NaN : Number(above / below);
+}
+
+// A time in units, in the greatest word that has a whole number of it before the point.
+export function inSeconds(time, unit) {
+  const [count, word] = unit.split(" ");
+  let whole = BigInt(count) * BigInt(time), place = WORDS.indexOf(word), below = 1n;
+  while (place > 0 && whole >= 1000n * below) { below *= 1000n; place--; }
+  const rest = String(whole % below + below).slice(1).replace(/0+$/, "");
+  return `${whole / below}${rest && `.${rest}`} ${WORDS[place]}`;
+}
+
 export class Model extends EventTarget {
   horizon = 0;
   start = 0;

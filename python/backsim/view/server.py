@@ -18,6 +18,7 @@ from importlib.resources import files
 from typing import TYPE_CHECKING, Any
 from urllib.parse import parse_qs, urlsplit
 
+from ..arguments import unit_of_session
 from ..buses import number_of
 from ..convert.waves import dumped_of, runs_of
 from ..errors import BacksimError, UsageError
@@ -55,8 +56,9 @@ class Pages(ThreadingHTTPServer):
         self.hosts = tuple(f"{host}:{self.server_port}" for host in ("127.0.0.1", "localhost"))
         self._explainer: Explainer | None = None
         self.loaded = 1
+        self.unit = unit_of_session(names[1], names[2])
         self._stamps = self._stamps_now()
-        self._streams: dict[str, Job] = {}
+        self._streams: dict[str, tuple[int, Job | None]] = {}
         self._lock = threading.Lock()
 
     @property
@@ -91,24 +93,29 @@ class Pages(ThreadingHTTPServer):
             wanted, _ = _wanted(self, {"rows": [{"row": 0, "name": row["name"], "windows": window} for row in rows]})
         except (KeyError, TypeError, ValueError):
             return
-        self.replaced("", self.asker.submit(self.asker.waves(wanted, 1)))
+        self.replaced("", 0, self.asker.submit(self.asker.waves(wanted, 1)))
 
-    def replaced(self, page: str, job: Job) -> None:
-        """The job is now the one that asks for the waves of a page; the one before it ends."""
+    def replaced(self, page: str, number: int, job: Job) -> None:
+        """The job is now the one that asks for the waves of a page; the one before it ends. A request that the page made earlier, of a less
+        number, may come later than one that it made after it: then the job itself ends."""
         with self._lock:
-            before = [self._streams.pop(one, None) for one in ("", page)]
-            self._streams[page] = job
-        for ended in filter(None, before):
-            ended.is_cancelled = True
+            before = [self._streams.pop(one, (0, None)) for one in ("", page)]
+            newest = max(((number, job), before[1]), key=lambda stream: stream[0])
+            self._streams[page] = newest
+        for _, ended in (*before, (number, job)):
+            if ended is not None and ended is not newest[1]:
+                ended.is_cancelled = True
 
     def _stamps_now(self) -> list[int]:
         return [os.stat(name).st_mtime_ns if os.path.exists(name) else 0 for name in self.names]
 
     def state(self) -> Message:
         """What the page is told of the session."""
-        changed = [os.path.basename(name) for name, stamp, now in zip(self.names, self._stamps, self._stamps_now()) if stamp != now]
+        stamps = self._stamps_now()
+        changed = [os.path.basename(name) for name, stamp, now in zip(self.names, self._stamps, stamps) if stamp != now]
         return {"files": [os.path.abspath(name) for name in self.names], "horizon": self.asker.horizon, "loaded": self.loaded,
-                "changed": changed, "fills": self.asker.fills, "signals": self.index.count, "limit": ROW_LIMIT, "format": FORMAT}
+                "changed": changed, "stamps": " ".join(map(str, stamps)), "fills": self.asker.fills, "signals": self.index.count, "limit": ROW_LIMIT, "format": FORMAT,
+                "unit": str(self.unit) if self.unit else None}
 
     def reload(self) -> Message:
         """Opens the files anew."""
@@ -117,6 +124,7 @@ class Pages(ThreadingHTTPServer):
         _only(self.asker.submit(self.asker.reload()))
         if index is not self.index:
             self.index = index
+        self.unit = unit_of_session(self.names[1], self.names[2])
         self._stamps = stamps
         self._explainer = None
         self.loaded += 1
@@ -230,13 +238,13 @@ class _Handler(BaseHTTPRequestHandler):
         try:
             wanted, refused = _wanted(self.server, body)
             step = float(body["step"])
-            page = str(body["page"])
+            page, number = str(body["page"]), int(body["number"])
         except (BacksimError, KeyError, TypeError, ValueError, AttributeError) as error:
             self._send_json(400, {"error": str(error) or "the request has not the form that is wanted"})
             return
         asker = self.server.asker
         job = asker.submit(asker.waves(wanted, step))
-        self.server.replaced(page, job)
+        self.server.replaced(page, number, job)
         try:
             self._head(200, "application/x-ndjson", ("Transfer-Encoding", "chunked"))
             for messages in _gathered(refused, job):

@@ -11,8 +11,8 @@ export class Track {
     const kept = [];
     for (const old of this.pieces) {
       if (old.stop <= piece.start || old.start >= piece.stop) { kept.push(old); continue; }
-      if (old.start < piece.start) kept.push(part(old, old.start, piece.start));
-      if (old.stop > piece.stop) kept.push(part(old, piece.stop, old.stop));
+      if (old.start < piece.start) kept.push(...part(old, old.start, piece.start));
+      if (old.stop > piece.stop) kept.push(...part(old, piece.stop, old.stop));
     }
     kept.push(piece);
     kept.sort((a, b) => a.start - b.start);
@@ -93,7 +93,7 @@ export class Track {
   // Lets go of what is outside.
   keep(start, stop) {
     this.pieces = this.pieces.filter((piece) => piece.stop > start && piece.start < stop)
-      .map((piece) => piece.start < start || piece.stop > stop ? part(piece, Math.max(piece.start, start), Math.min(piece.stop, stop)) : piece);
+      .flatMap((piece) => piece.start < start || piece.stop > stop ? part(piece, Math.max(piece.start, start), Math.min(piece.stop, stop)) : [piece]);
   }
 
   forgetSpent() { this.pieces = this.pieces.filter((piece) => piece.runs); }
@@ -125,10 +125,15 @@ function after(runs, time) {
   return low;
 }
 
+// What of a piece is within two times, a piece or none. How many changes a part of an activity has is not known, so one that is cut is left out.
 function part(piece, start, stop) {
-  if (!piece.runs) return {...piece, start, stop};
+  if (!piece.runs) return [{...piece, start, stop}];
   const first = Math.max(0, after(piece.runs, start) - 1), last = after(piece.runs, stop - 1);
   const runs = piece.runs.slice(first, last);
-  if (runs[0][0] < start) runs[0] = [start, ...runs[0].slice(1)];
-  return {...piece, start, stop, runs};
+  if (runs[0][0] < start) {
+    if (runs[0][1] === "#") { runs.shift(); start = runs.length ? runs[0][0] : stop; }
+    else runs[0] = [start, runs[0][1]];
+  }
+  if (runs.length && runs[runs.length - 1][1] === "#") [stop] = runs.pop();
+  return start < stop && runs.length ? [{...piece, start, stop, runs}] : [];
 }
