@@ -1,6 +1,6 @@
 //! Whether what was evaluated has heard its children, by a look at what entries say.
 
-ghost use Rattle.std.specs.Prelude.{◌≡◌, ◌<◌, true, length, All, Contains, IfSome, OnSome};
+ghost use Rattle.std.specs.Prelude.{◌≡◌, ◌<◌, true, length, vec_len, All, Contains, IfOk, IfSome, OnSome};
 ghost use Rattle.batch_meaning.specs.Lawful.{IsLawful};
 ghost use Rattle.circuit_meaning.specs.Cells.{cell_at};
 ghost use Rattle.circuit_meaning.specs.Need.{IsEvaluable, children};
@@ -23,11 +23,13 @@ use pin_walks::PinWalk;
 use std::alloc::Global;
 use valid_intervals::{Cell, Point};
 
-/// Where the entries of some shards stand, by the points for which they were recorded.
+/// Where the entries of some shards stand, shard by shard, by the points for which they were recorded.
 pub fn said_places<B: BatchName>(
     alloc: Global,
     shards: &[Shard<B>],
-) -> Result<Vec<Places>, OutOfMemory> {
+) -> Result<Vec<Places>, OutOfMemory>
+    ensures { IfOk result (λ places. vec_len places ≡ length shards.now) }
+{
     places_in(alloc, shards, &Wanted::all())
 }
 

@@ -142,7 +142,11 @@ fn seek(noted: &[Noted], journal: &[Entry], last: u32, p: Point) -> Option<Cell>
 
 impl Places {
     /// Reads a journal.
-    pub fn read(alloc: Global, journal: &[Entry], wanted: &Wanted) -> Result<Places, OutOfMemory>
+    pub(crate) fn read(
+        alloc: Global,
+        journal: &[Entry],
+        wanted: &Wanted,
+    ) -> Result<Places, OutOfMemory>
         ensures { IfOk result (λ places. ArePlaces journal.now wanted.now places.last.items
             places.noted.items) }
     {
@@ -218,7 +222,7 @@ impl Places {
 
     /// What an entry of this journal says that was recorded for this very point. If the point is wanted, and its chain has at most 32
     /// entries, this is none only if no entry was recorded for the point.
-    pub fn seek(&self, journal: &[Entry], p: Point) -> Option<Cell>
+    pub(crate) fn seek(&self, journal: &[Entry], p: Point) -> Option<Cell>
         ensures said { IfSome result (IsSaidFor journal.now p) }
         ensures none { (wanted : Marked)
             → (are : ArePlaces journal.now wanted self.now.last.items self.now.noted.items)

@@ -3,7 +3,7 @@ use Rattle.std.specs.List.{AllByRecursion}
 use Rattle.std.proofs.lemmas.List.Elements.{All-from_recursion, Contains-get_or}
 use Rattle.std.proofs.lemmas.Option.{slice_get_within, get_or_from_slice_get}
 use Rattle.std.proofs.lemmas.Bool.{cases_eq}
-use Rattle.std.proofs.Common.{◌≡◌, ℕ, zero, suc, ◌∷◌, Option, inl, inr, flat_map, ◌+◌, ◌<◌, ◌≤◌, false, List, [], length, slice_get, refl, sym, ap, subst, ◌∙◌, arith, Some, None, Contains, All}
+use Rattle.std.proofs.Common.{◌≡◌, Bool, ℕ, zero, suc, ◌∷◌, Option, inl, inr, flat_map, ◌+◌, ◌<◌, ◌≤◌, false, List, [], length, slice_get, refl, sym, ap, subst, ◌∙◌, arith, Some, None, Contains, All}
 use Rattle.valid_intervals.specs.declared.SignalCell.{SignalCell}
 use Rattle.journal_meaning.specs.declared.Entry.{Entry}
 use Rattle.journal_meaning.specs.declared.Entry.TheVariants.{Filled}
@@ -23,6 +23,10 @@ use Rattle.plan_core.specs.inner.Parts.{plan_at, IsPlan}
 use Rattle.demand_points.specs.Demands.{Demand}
 use Rattle.memo_shards.specs.KeptShards.{KeptShard}
 use Rattle.plan_core.proofs.Seen.{in-plan}
+
+-- what some answer is, where it is known
+pub some-same : (x y : Bool) → Some x ≡ Some y → x ≡ y
+some-same x y e = cc e
 
 none-there : (e : Entry) (es : List Entry) → es ≡ [] → Contains es e → ⊥
 none-there e es none h = let k : Contains [] e = subst (λ l. Contains l e) none h in absurd (omega (arith, k.1))

@@ -2,8 +2,8 @@
 //!
 //! A [`Plan`] runs the strands of one batch in turns, on one thread. It makes the same calls of a shard (`memo_shards`) as a worker. A
 //! turn ([`Plan::turn`]) makes one step of one strand. [`Plan::run_alone`] makes the turns of one strand until it has ended. `asked_cells`
-//! calls it to ask for one cell. [`Plan::run_in_turn`] does so with each strand, one after another, and says whether none was refused a
-//! point. `worker_gate` calls it where one worker serves a batch.
+//! calls it to ask for one cell. [`Plan::run_in_turn`] does so with each strand, one after another, up to a number of turns, and says
+//! whether none was refused a point. `worker_gate` begins each batch with it, and ends it so where one worker serves the batch.
 //!
 //! The model of a plan is the pure machine of `plan_machine`: the list of its strands, including those that wait, and the list of its
 //! shards. A turn is the machine's turn, so every theorem on lists of turns holds of the code. A plan's type guarantees that it is sound
@@ -20,8 +20,10 @@
 //!
 //! ```
 //! let mut plan = Plan::new(alloc, &design, strands, shards)?;
-//! if plan.run_in_turn(&design)? {
-//!     // each strand has heard its roots
+//! match plan.run_in_turn(&design, 1_000)? {
+//!     Some(true) => {} // each strand has heard its roots
+//!     Some(false) => {} // one was refused a point
+//!     None => {} // turns are left
 //! }
 //! let (strands, shards) = plan.into_parts(alloc)?;
 //! ```
@@ -35,3 +37,6 @@ mod turns;
 
 pub use alone::Alone;
 pub use plan::Plan;
+
+#[cfg(test)]
+mod tests;

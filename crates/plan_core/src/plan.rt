@@ -203,44 +203,63 @@ impl<B: BatchName> Plan<B> {
         }
     }
 
-    // Turns of one strand alone until none is left to it. Returns whether it was refused no point.
-    fn run_to_end(&mut self, design: &Design, number: u32) -> Result<bool, OutOfMemory>
+    // Turns of one strand alone until none is left to it, and no more than are left in all. Returns whether it was refused no point, or none
+    // where turns of it may be left.
+    fn run_to_end(
+        &mut self,
+        design: &Design,
+        number: u32,
+        left: &mut u64,
+    ) -> Result<Option<bool>, OutOfMemory>
         requires design { design.now.circuit ≡ B.batch.circuit }
         requires number { number < length self.old.strands }
         ensures count { length self.new.strands ≡ length self.old.strands }
         ensures ran { (a : Start) → BeginsAlone B.batch B.opening number a self.old
-            → IfOk result (λ unrefused. unrefused ≡ true
+            → IfOk result (λ unrefused. unrefused ≡ Some true
             → RanAlone B.batch B.opening number a self.old self.new None) }
         ensures kept { OnOk result (SomeRefused self.old → SomeRefused self.new) }
-        ensures refused { IfOk result (λ unrefused. unrefused ≡ false → SomeRefused self.new) }
+        ensures refused { IfOk result (λ unrefused. unrefused ≡ Some false
+            → SomeRefused self.new) }
     {
         self.facts();
         let mut unrefused = true;
-        'turns: while self.turn_on(design, number, &mut unrefused)? {}
-        Ok(unrefused)
+        'turns: while *left > 0 {
+            *left -= 1;
+            if !self.turn_on(design, number, &mut unrefused)? {
+                return Ok(Some(unrefused));
+            }
+        }
+        Ok(None)
     }
 
-    /// Turns of one strand after another, in the order of their numbers, each until none is left to it. Returns whether no strand was
-    /// refused a point. Then each strand has heard its roots, and each point that was evaluated its children.
-    pub fn run_in_turn(&mut self, design: &Design) -> Result<bool, OutOfMemory>
+    /// Turns of one strand after another, in the order of their numbers, each until none is left to it, and no more than so many in all.
+    /// Returns whether no strand was refused a point, or none where turns may be left. Where none was refused, each strand has heard its
+    /// roots, and each point that was evaluated its children.
+    pub fn run_in_turn(&mut self, design: &Design, most: u64) -> Result<Option<bool>, OutOfMemory>
         requires design { design.now.circuit ≡ B.batch.circuit }
         ensures count { length self.new.strands ≡ length self.old.strands }
-        ensures heard { IsUnbegun B.batch self.old → IfOk result (λ unrefused. unrefused ≡ true
+        ensures heard { IsUnbegun B.batch self.old → IfOk result (λ unrefused. unrefused ≡ Some true
             → AllChildrenCovered B.batch.circuit (entries self.new)) }
-        ensures served { IsUnbegun B.batch self.old → IfOk result (λ unrefused. unrefused ≡ true
+        ensures served { IsUnbegun B.batch self.old
+            → IfOk result (λ unrefused. unrefused ≡ Some true
             → (i : ℕ) (s : MachineStrand) → slice_get self.new.strands i ≡ Some s → IsServed s) }
-        ensures refused { IfOk result (λ unrefused. unrefused ≡ false → SomeRefused self.new) }
+        ensures refused { IfOk result (λ unrefused. unrefused ≡ Some false
+            → SomeRefused self.new) }
     {
         self.facts();
+        let mut left = most;
         let mut unrefused = true;
         for place in 0..self.places.len() {
             let Ok(number) = u32::try_from(place) else {
                 return Err(OutOfMemory);
             };
-            let served = self.run_to_end(design, number)?;
-            unrefused = unrefused && served;
+            let served = self.run_to_end(design, number, &mut left)?;
+            let Some(whole) = served else {
+                return Ok(None);
+            };
+            unrefused = unrefused && whole;
         }
-        Ok(unrefused)
+        Ok(Some(unrefused))
     }
 
     /// The shards, in order.

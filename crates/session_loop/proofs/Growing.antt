@@ -112,6 +112,35 @@ module _ (G : List ℕ → Type 0) (a b c d : List ℕ) (f : KeepsBack G a b c) 
     keeps-err (Ok x) p = p
     keeps-err (Err e) p = subst Q split (next f.written (c ++ d) f.grows p)
 
+-- what is left to be written of a whole: at first all of it
+module _ (u : List Made → Type 0) (slot : ℕ) (whole : List ℕ) where
+  pub left-all : KeepsBack (FileGrows u u slot) [] whole whole
+  left-all = record { written = []; grows = file-none u slot; same = refl }
+
+  -- less once more is written
+  module _ (v w : List Made → Type 0) (left part rest : List ℕ) (f : KeepsBack (FileGrows u v slot) [] whole left) (parts : left ≡ part ++ rest) where
+    pub left-less : FileGrows v w slot part → KeepsBack (FileGrows u w slot) [] whole rest
+    left-less g = record {
+      written = f.written ++ part;
+      grows = file-more u v w slot f.written part f.grows g;
+      same = append_assoc f.written part rest ∙ ap (λ l. f.written ++ l) (sym parts) ∙ f.same;
+    }
+
+    -- and where that breaks off, a part of the whole is written
+    pub left-part : FileGrowsPart v w slot part → FileGrowsPart u w slot whole
+    left-part p =
+        file-part-longer u w slot (f.written ++ part) whole (rest, sym f.same ∙ ap (λ l. f.written ++ l) parts ∙ sym (append_assoc f.written part rest)) (file-part-after u v w slot f.written part f.grows p)
+
+-- what was kept back is written, and then all that comes after it
+module _ (u v w : List Made → Type 0) (slot : ℕ) (kept more : List ℕ) (f : FileGrows u v slot kept) where
+  pub keeps-nothing : {T E : Type 0} (r : Result T E) (left : List ℕ) → left ≡ [] → OnOk r (FileGrows v w slot more) → OnOk r (KeepsBack (FileGrows u w slot) kept more left)
+  keeps-nothing (Ok x) left none g = record { written = kept ++ more; grows = file-more u v w slot kept more f g; same = ap (λ l. (kept ++ more) ++ l) none ∙ append-nil (kept ++ more) }
+  keeps-nothing (Err e) left none g = g
+
+  pub part-follows : {T E : Type 0} (r : Result T E) → OnErr r (FileGrowsPart v w slot more) → OnErr r (FileGrowsPart u w slot (kept ++ more))
+  part-follows (Ok x) p = p
+  part-follows (Err e) p = file-part-after u v w slot kept more f p
+
 -- texts that go on
 pub goes-none : (w : List ℕ → Type 0) (before : List ℕ) → GoesOn w w before before
 goes-none w before = ([], sym (append-nil before), grows-none w)

@@ -66,6 +66,15 @@ lines-after es i e within is =
     ap lines_of (sym (take-append-drop (i + 1) es)) ∙ flat_map-append entry_line (take (i + 1) es) (drop (i + 1) es)
     ∙ ap (λ l. l ++ lines_of (drop (i + 1) es)) (lines-next es i e within is)
 
+-- the texts that are left, of one text after another
+module _ {X : Type 0} (f : X → List ℕ) where
+  pub texts-left : (xs : List X) (i : ℕ) (x : X) → i < length xs → x ≡ get_or xs i x → flat_map f (drop i xs) ≡ f x ++ flat_map f (drop (i + 1) xs)
+  texts-left [] i x within is = absurd (omega (arith, within))
+  texts-left (y ∷ xs) zero x within is = ap (λ z. f z ++ flat_map f xs) (sym is)
+  texts-left (y ∷ xs) (suc i) x within is =
+      let next : suc (i + 1) ≡ suc i + 1 = omega arith in
+      texts-left xs i x (omega (arith, within)) is ∙ ap (λ n. f x ++ flat_map f (drop n (y ∷ xs))) next
+
 -- shards
 shards-more : (k : ℕ) (lists : List (List Entry)) (es : List Entry) → shard_lines k (lists ++ es ∷ []) ≡ shard_lines k lists ++ (shard_line (k + length lists) ++ flat_map entry_line es)
 shards-more k [] es =

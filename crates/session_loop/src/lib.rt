@@ -14,8 +14,9 @@
 //! - The replies to a unit are written before its section, and both before the script is read again. So whoever waits for a reply
 //!   before he sends the next line is served. A question for a wave where a signal is stuck has a second section, that of a memo of its
 //!   own, directly after the first; its entries are in no count.
-//! - The replies of a batch and a section are written in pieces of some 32 KiB, so a section's text is never held as a whole. The text
-//!   of a dump is made whole before its file is created; the file is finished before the reply.
+//! - The replies of a batch and a section are written in pieces of some 32 KiB. Of a shard with 16,384 entries and more, the workers of
+//!   the crew make the lines, where there are several, of at most 262,144 entries at a time. So a section's text is never held as a
+//!   whole. The text of a dump is made whole before its file is created; the file is finished before the reply.
 //!
 //! What a failure leaves: where the journal is not created, everything is as it was. After that, what stands of the replies, of the
 //! journal and of the dumps is the whole of the units that were served before, and a beginning of the next one's; a journal that a

@@ -29,6 +29,7 @@ use query_lines::{Asks, Question};
 use reply_lines::question_text;
 use std::alloc::Global;
 use unit_answers::answer_question;
+use worker_gate::Crew;
 
 /// The text of the reply to a question, the journal of each shard, that of a memo of its own if it had one, the stores that are left, and
 /// the design with its links, if they were made.
@@ -65,7 +66,8 @@ fn asked_design<'a>(linked: &'a Option<Design>, design: &'a Design) -> &'a Desig
 }
 
 /// Writes the section of a memo of its own, if a question had one.
-fn write_held<F: Files>(
+fn write_held<C: Crew, F: Files>(
+    crew: &C,
     alloc: Global,
     lists: &[EntryList],
     counts: Counts,
@@ -87,6 +89,7 @@ fn write_held<F: Files>(
         return Err(Stop::OutOfMemory);
     };
     write_section(
+        crew,
         alloc,
         SectionKind::Held,
         later.sections,
@@ -98,7 +101,8 @@ fn write_held<F: Files>(
 }
 
 /// Writes the reply to a question, then its section, which is a batch's, and that of a memo of its own.
-fn write_answered<F: Files, S: Sink>(
+fn write_answered<C: Crew, F: Files, S: Sink>(
+    crew: &C,
     alloc: Global,
     answered: Answered,
     counts: Counts,
@@ -137,6 +141,7 @@ fn write_answered<F: Files, S: Sink>(
     };
     write_reply(&answered.text, out)?;
     write_section(
+        crew,
         alloc,
         SectionKind::Batch,
         counts.sections,
@@ -144,7 +149,7 @@ fn write_answered<F: Files, S: Sink>(
         JOURNAL,
         files,
     )?;
-    let counts = write_held(alloc, &answered.own_lists, counts, files)?;
+    let counts = write_held(crew, alloc, &answered.own_lists, counts, files)?;
     Ok(Desk {
         stores: answered.stores,
         counts,
@@ -154,7 +159,8 @@ fn write_answered<F: Files, S: Sink>(
 }
 
 /// Serves a question: its reply, then its section, which is a batch's, and that of a memo of its own, if it has one.
-pub fn serve_question<F: Files, S: Sink>(
+pub fn serve_question<C: Crew, F: Files, S: Sink>(
+    crew: &C,
     setting: &Setting<'_>,
     question: &Question,
     desk: Desk,
@@ -202,5 +208,5 @@ pub fn serve_question<F: Files, S: Sink>(
         stores: done.stores,
         linked,
     };
-    write_answered(alloc, answered, counts, dumps, files, out)
+    write_answered(crew, alloc, answered, counts, dumps, files, out)
 }

@@ -1,4 +1,5 @@
-//! Replies and sections are written.
+//! Replies and sections are written. One thread writes all, piece by piece. Where a shard has many entries, the crew makes their lines,
+//! block by block, each block as several texts, which are written one after another.
 
 ghost use Rattle.std.specs.Prelude.{◌≡◌, ◌++◌, ◌<◌, ◌≤◌, [], length, flat_map, Contains, IfOk, OnErr, OnOk};
 ghost use Rattle.std.specs.List.{AllZip};
@@ -20,9 +21,16 @@ use query_lines::Item;
 use reply_lines::{Reply, reply_text};
 use std::alloc::Global;
 use text_fields::push_field;
+use worker_gate::Crew;
 
 /// How many bytes of replies, or of a section, are kept back until they are written.
 const PIECE: usize = 32_768;
+
+/// With fewer entries their lines are made sooner one after another than several threads are started.
+const ENTRIES_FOR_TWO: usize = 16_384;
+
+/// Of how many entries at most the lines are held at once.
+const BLOCK: usize = 262_144;
 
 /// Writes a reply, by one `write_all`.
 pub fn write_reply<S: Sink>(text: &[u8], out: &mut S) -> Result<(), Stop>
@@ -132,6 +140,85 @@ fn write_entries<F: Files>(
     Ok(())
 }
 
+/// Writes texts, one after another.
+fn write_texts<F: Files>(texts: &[Vec<u8>], slot: u32, files: &mut F) -> Result<(), Stop>
+    requires unfinished { Contains (F.state files.old).unfinished slot }
+    ensures written { let lines = flat_map (λ text. text.items) texts.now in
+        OnOk result (FileGrows (F.made files.old) (F.made files.new) slot lines) }
+    ensures begun { let lines = flat_map (λ text. text.items) texts.now in
+        OnErr result (FileGrowsPart (F.made files.old) (F.made files.new) slot lines) }
+    ensures state { JournalChanges (F.state files.old) (F.state files.new) result }
+{
+    for text in texts {
+        write_piece(slot, text.as_slice(), files)?;
+    }
+    Ok(())
+}
+
+/// Writes the lines of entries, which the workers make.
+fn write_block<C: Crew, F: Files>(
+    crew: &C,
+    alloc: Global,
+    entries: &[Entry],
+    slot: u32,
+    files: &mut F,
+) -> Result<(), Stop>
+    requires unfinished { Contains (F.state files.old).unfinished slot }
+    ensures written { let lines = flat_map entry_line entries.now in
+        OnOk result (FileGrows (F.made files.old) (F.made files.new) slot lines) }
+    ensures begun { let lines = flat_map entry_line entries.now in
+        OnErr result (FileGrowsPart (F.made files.old) (F.made files.new) slot lines) }
+    ensures state { JournalChanges (F.state files.old) (F.state files.new) result }
+{
+    let texts = crew.lines_of(alloc, entries)?;
+    write_texts(texts.as_slice(), slot, files)
+}
+
+/// Writes the lines of entries, block by block.
+fn write_blocks<C: Crew, F: Files>(
+    crew: &C,
+    alloc: Global,
+    entries: &[Entry],
+    slot: u32,
+    files: &mut F,
+) -> Result<(), Stop>
+    requires unfinished { Contains (F.state files.old).unfinished slot }
+    ensures written { let lines = flat_map entry_line entries.now in
+        OnOk result (FileGrows (F.made files.old) (F.made files.new) slot lines) }
+    ensures begun { let lines = flat_map entry_line entries.now in
+        OnErr result (FileGrowsPart (F.made files.old) (F.made files.new) slot lines) }
+    ensures state { JournalChanges (F.state files.old) (F.state files.new) result }
+{
+    for block in entries.chunks(BLOCK) {
+        write_block(crew, alloc, block, slot, files)?;
+    }
+    Ok(())
+}
+
+/// Writes the lines of entries after the text that is kept back. Where there are many and several workers, these make them.
+fn write_lines<C: Crew, F: Files>(
+    crew: &C,
+    alloc: Global,
+    entries: &[Entry],
+    slot: u32,
+    text: &mut Vec<u8>,
+    files: &mut F,
+) -> Result<(), Stop>
+    requires unfinished { Contains (F.state files.old).unfinished slot }
+    ensures kept { let lines = flat_map entry_line entries.now in
+        OnOk result (KeepsBack (FileGrows (F.made files.old) (F.made files.new) slot) text.old.items lines text.new.items) }
+    ensures begun { let lines = flat_map entry_line entries.now in
+        OnErr result (FileGrowsPart (F.made files.old) (F.made files.new) slot (text.old.items ++ lines)) }
+    ensures state { JournalChanges (F.state files.old) (F.state files.new) result }
+{
+    if crew.workers() == 1 || entries.len() < ENTRIES_FOR_TWO {
+        return write_entries(entries, slot, text, files);
+    }
+    write_piece(slot, text.as_slice(), files)?;
+    text.clear();
+    write_blocks(crew, alloc, entries, slot, files)
+}
+
 /// Adds the line of a shard.
 fn push_shard(text: &mut Vec<u8>, number: u32) -> Result<(), OutOfMemory>
     ensures { OnOk result (text.new.items ≡ text.old.items ++ shard_line number) }
@@ -143,7 +230,9 @@ fn push_shard(text: &mut Vec<u8>, number: u32) -> Result<(), OutOfMemory>
 }
 
 /// Writes the line of a shard, and those of its entries, after the text that is kept back.
-fn write_shard<F: Files>(
+fn write_shard<C: Crew, F: Files>(
+    crew: &C,
+    alloc: Global,
     number: u32,
     entries: &[Entry],
     slot: u32,
@@ -158,11 +247,13 @@ fn write_shard<F: Files>(
     ensures state { JournalChanges (F.state files.old) (F.state files.new) result }
 {
     push_shard(text, number)?;
-    write_entries(entries, slot, text, files)
+    write_lines(crew, alloc, entries, slot, text, files)
 }
 
 /// Writes the lines of all shards after the text that is kept back.
-fn write_shards<F: Files>(
+fn write_shards<C: Crew, F: Files>(
+    crew: &C,
+    alloc: Global,
     lists: &[EntryList],
     slot: u32,
     text: &mut Vec<u8>,
@@ -178,7 +269,7 @@ fn write_shards<F: Files>(
 {
     let mut number = 0u32;
     for list in lists {
-        write_shard(number, list.as_slice(), slot, text, files)?;
+        write_shard(crew, alloc, number, list.as_slice(), slot, text, files)?;
         number += 1;
     }
     Ok(())
@@ -204,8 +295,9 @@ fn head_line(alloc: Global, kind: SectionKind, number: u32) -> Result<Vec<u8>, O
     Ok(text)
 }
 
-/// Writes a section to a created file, piece by piece, each of bounded size.
-pub fn write_section<F: Files>(
+/// Writes a section to a created file, piece by piece, each of bounded size. The lines of a shard with many entries are made by the workers.
+pub fn write_section<C: Crew, F: Files>(
+    crew: &C,
     alloc: Global,
     kind: SectionKind,
     number: u32,
@@ -224,7 +316,7 @@ pub fn write_section<F: Files>(
     ensures state { JournalChanges (F.state files.old) (F.state files.new) result }
 {
     let mut text = head_line(alloc, kind, number)?;
-    write_shards(lists, slot, &mut text, files)?;
+    write_shards(crew, alloc, lists, slot, &mut text, files)?;
     text.extend_from_slice(b"end\n")?;
     write_piece(slot, text.as_slice(), files)
 }

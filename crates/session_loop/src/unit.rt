@@ -77,6 +77,7 @@ pub fn serve_batch<C: Crew, F: Files, S: Sink>(
     };
     write_replies(alloc, items.as_slice(), &done.replies, out)?;
     write_section(
+        crew,
         alloc,
         SectionKind::Batch,
         counts.sections,
@@ -97,7 +98,8 @@ pub fn serve_batch<C: Crew, F: Files, S: Sink>(
 }
 
 /// Serves a trim: its reply, then its section.
-pub fn serve_trim<F: Files, S: Sink>(
+pub fn serve_trim<C: Crew, F: Files, S: Sink>(
+    crew: &C,
     setting: &Setting<'_>,
     most: u32,
     desk: Desk,
@@ -146,6 +148,7 @@ pub fn serve_trim<F: Files, S: Sink>(
     let text = trimmed_text(alloc, removed)?;
     write_reply(&text, out)?;
     write_section(
+        crew,
         alloc,
         SectionKind::Trim,
         counts.sections,
@@ -235,9 +238,9 @@ pub fn serve_unit<C: Crew, F: Files, S: Sink>(
 {
     match unit {
         Unit::Batch(items) => { serve_batch(crew, setting, items, desk, files, out) }
-        Unit::Trim(most) => serve_trim(setting, most, desk, files, out),
+        Unit::Trim(most) => serve_trim(crew, setting, most, desk, files, out),
         Unit::Stats => serve_stats(setting, desk, files, out),
-        Unit::Question(question) => { serve_question(setting, &question, desk, files, out) }
+        Unit::Question(question) => { serve_question(crew, setting, &question, desk, files, out) }
         Unit::Vcd(file) => serve_vcd(setting, file, desk, files, out),
     }
 }

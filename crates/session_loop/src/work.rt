@@ -53,6 +53,14 @@ pub fn serve_work<C: Crew, F: Files>(
     begin_journal(alloc, sizes, journal, files)?;
     let stores = empty_stores(alloc, sizes)?;
     let done = answer_batch(crew, alloc, design, items, sizes, stores)?;
-    write_section(alloc, SectionKind::Batch, 1, &done.lists, JOURNAL, files)?;
+    write_section(
+        crew,
+        alloc,
+        SectionKind::Batch,
+        1,
+        &done.lists,
+        JOURNAL,
+        files,
+    )?;
     Ok(done)
 }

@@ -1,7 +1,9 @@
 -- A plan in which no strand has made a turn, and strands that are counted at their places.
-use Rattle.std.proofs.Common.{◌≡◌, ℕ, zero, suc, ◌<◌, List, [], ◌∷◌, ◌++◌, length, map, get_or, slice_get, refl, ap, sym, ◌∙◌, subst, Option, Some, All, Result, Ok, Err, IfOk, arith}
+use Rattle.std.proofs.Common.{◌≡◌, ℕ, zero, suc, ◌+◌, ◌<◌, List, [], ◌∷◌, ◌++◌, length, map, set, sum, get_or, slice_get, refl, ap, sym, ◌∙◌, subst, Option, Some, None, All, Result, Ok, Err, IfOk, arith}
 use Rattle.std.specs.List.{AllByRecursion}
+use Rattle.std.proofs.Math.ListN.{length-map}
 use Rattle.std.proofs.lemmas.List.Elements.{recursion_from_All}
+use Rattle.std.proofs.lemmas.List.Sums.{sum_by-set}
 use Rattle.std.proofs.lemmas.Option.{slice_get_within, get_or_from_slice_get}
 use Rattle.valid_intervals.specs.declared.SignalCell.{SignalCell}
 use Rattle.journal_meaning.specs.declared.Entry.{Entry}
@@ -78,3 +80,26 @@ lawful-of b opening (m ∷ ms) known some = let k = known 0 m some in k.lawful
 pub ok-both : {A E : Type 0} (P : A → Type 0) (r : Result A E) (x : A) → IfOk r (λ y. y ≡ x) → P x → IfOk r P
 ok-both P (Ok y) x e p = subst P (sym e) p
 ok-both P (Err y) x e p = e
+
+-- at an empty place nothing is counted
+none-counted : (places : List (Option Demand)) (n : ℕ) → slice_get places n ≡ Some None → get_or (map booked_at places) n 0 ≡ 0
+none-counted [] n at = refl
+none-counted (p ∷ ps) zero at = let e : p ≡ None = cc in ap booked_at e
+none-counted (p ∷ ps) (suc n) at = none-counted ps n at
+
+-- so the counts have more by what is put there
+pub rest-added : (places : List (Option Demand)) (n rest : ℕ) → slice_get places n ≡ Some None → sum (set (map booked_at places) n rest) ≡ sum (map booked_at places) + rest
+rest-added places n rest at =
+    let within : n < length (map booked_at places) = subst (λ k. n < k) (sym (length-map places booked_at)) (slice_get_within places n None at) in
+    let c = sum_by-set (λ (x : ℕ). x) (map booked_at places) n rest 0 within in
+    let none = none-counted places n at in
+    omega (arith, c, none)
+
+-- what follows of a value follows of a result with it
+pub if-ok : {A E : Type 0} (r : Result A E) (P Q : A → Type 0) → ((x : A) → P x → Q x) → IfOk r P → IfOk r Q
+if-ok (Ok y) P Q f p = f y p
+if-ok (Err y) P Q f p = p
+
+pub if-ok-both : {A E : Type 0} (r : Result A E) (P Q R : A → Type 0) → ((x : A) → P x → Q x → R x) → IfOk r P → IfOk r Q → IfOk r R
+if-ok-both (Ok y) P Q R f p q = f y p q
+if-ok-both (Err y) P Q R f p q = p

@@ -1,3 +1,4 @@
 pub mod Heard
 pub mod InTurn
 pub mod Places
+pub mod Joined

@@ -1,5 +1,5 @@
 -- Strands that have ended, at their places.
-use Rattle.std.specs.Prelude.{◌≡◌, ◌≢◌, ℕ, ◌+◌, ◌<◌, ◌^◌, ◌-◌, true, List, [], length, sum_by, Option, Some, None, slice_get, slice_index}
+use Rattle.std.specs.Prelude.{◌≡◌, ◌≢◌, ℕ, ◌+◌, ◌<◌, true, List, [], length, sum_by, Option, Some, None, slice_get, slice_index}
 use Rattle.journal_meaning.specs.Counts.{booked_count}
 use Rattle.demand_points.specs.declared.strand.Task.{Task}
 use Rattle.demand_points.specs.Demands.{Demand}
@@ -65,7 +65,3 @@ booked_in m = booked_count m.shard.journal
 abbrev pub booked_at : Option Demand → ℕ
 booked_at None = 0
 booked_at (Some s) = s.strand.charged + s.strand.filled
-
--- one more claim or fill of the strand with this number can be counted
-abbrev pub HasRoom : List ℕ → ℕ → Type 0
-HasRoom counts number = (number < length counts) × (slice_index counts number < 2 ^ 64 - 1)

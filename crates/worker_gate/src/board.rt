@@ -1,9 +1,9 @@
 //! The board: the strands that have ended, and what workers that wait look at.
 
-ghost use Rattle.std.specs.Prelude.{◌≡◌, ◌+◌, true, false, Some, None, length, slice_get, IfErr, IfSome};
+ghost use Rattle.std.specs.Prelude.{◌≡◌, ◌+◌, true, false, Some, None, length, slice_get, IfErr};
 ghost use Rattle.strand_meaning.specs.Strands.{next};
 ghost use Rattle.strand_meaning.specs.declared.Next.TheVariants.{Done};
-ghost use Rattle.worker_gate.specs.Ends.{task_of, HaveEnded, AreCounted, AreFilled, empty_in};
+ghost use Rattle.worker_gate.specs.Ends.{task_of, HaveEnded, AreFilled, empty_in};
 
 use demand_points::{BatchName, Strand, Task};
 
@@ -67,31 +67,6 @@ impl<B: BatchName> Board<B> {
         ensures { result ≡ true → AreFilled self.now.places.items }
     {
         self.empty == 0
-    }
-
-    /// Whether each strand that has ended claimed and filled a point as often as its count says.
-    pub fn has_counts(&self, counts: &[u64]) -> bool
-        ensures { result ≡ true → AreCounted self.now.places.items counts.now }
-    {
-        if counts.len() != self.places.len() {
-            return false;
-        }
-        for i in 0..self.places.len() {
-            if !has_count(&self.places[i], counts[i]) {
-                return false;
-            }
-        }
-        true
-    }
-}
-
-// Whether the place is empty, or its strand has claimed and filled a point so often.
-fn has_count<B: BatchName>(place: &Option<Strand<B>>, count: u64) -> bool
-    ensures { result ≡ true → IfSome place.now (λ s. count ≡ s.strand.charged + s.strand.filled) }
-{
-    match place {
-        Some(strand) => booked_of(strand) == count,
-        None => true,
     }
 }
 

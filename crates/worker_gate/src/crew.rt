@@ -1,25 +1,26 @@
 //! The trait of crews.
 
-ghost use Rattle.std.specs.Prelude.{◌≡◌, ◌<◌, ◌≤◌, Bool, true, [], length, map, sum, sum_by, All, IfOk, vec_len};
+ghost use Rattle.std.specs.Prelude.{◌≡◌, ◌<◌, ◌≤◌, Bool, true, [], length, map, sum, sum_by, All, IfOk, flat_map, vec_len};
+ghost use Rattle.journal_text.specs.Spelling.{entry_line};
 ghost use Rattle.plan_core.specs.InTurn.{AllChildrenCovered, AreStarted};
 ghost use Rattle.plan_core.specs.Parts.{shards_in, strands_in};
 ghost use Rattle.plan_machine.specs.Settle.{entries_in};
 ghost use Rattle.worker_gate.specs.Ends.{AreInOrder, AreNew, task_of, booked_in, AreEnds, AreFilled};
 
+use crate::begun::{Begun, tasks_of};
 use crate::gate::Gate;
-use crate::in_turn::{have_windows, run_in_turn};
+use crate::in_turn::{AfterTurns, end_in_turn, have_windows, make_turns};
+use crate::lines::lines_of;
 use crate::ran::Ran;
 use crate::run::run_workers;
 use demand_points::{BatchName, Strand};
 use design::Design;
+use journal_meaning::Entry;
 use memo_shards::Shard;
 use owned_text::OutOfMemory;
 use std::alloc::Global;
 use std::sync::Wait;
 use std::thread::Threads;
-
-/// With fewer shards workers wait for one another longer than it takes one of them to do all.
-const SHARDS_FOR_TWO: usize = 16;
 
 /// Workers that run the strands of a batch.
 pub trait Crew {
@@ -42,9 +43,10 @@ pub trait Crew {
         ensures some { 0 < result }
         ensures most { result ≤ 64 };
 
-    /// Runs the strands over the shards, without locks where the gate is idle and there is one worker, one strand, or fewer than 16
-    /// shards. Returns the shards in their order, the strands that ended, and how many claims and fills each strand made. If memory
-    /// runs out, the shards are dropped.
+    /// Runs the strands over the shards. One strand after another makes the first turns of a batch on the caller's thread, without locks,
+    /// and all turns where there is one worker or one strand. Where turns are left, so many workers make them, and no more than there are
+    /// strands. Returns the shards in their order, the strands that ended, and how many claims and fills each strand made. If memory runs
+    /// out, the shards are dropped.
     final fn run<B: BatchName + Send + Sync>(
         &self,
         alloc: Global,
@@ -72,18 +74,48 @@ pub trait Crew {
             (λ ran. ran.heard ≡ true → AllChildrenCovered B.batch.circuit
             (entries_in (shards_in ran.shards))) }
     {
-        let is_alone = self.workers() == 1 || strands.len() <= 1 || shards.len() < SHARDS_FOR_TWO;
-        if is_alone && self.gate().is_idle() && have_windows(strands.as_slice()) {
-            return run_in_turn(self.runtime(), alloc, design, shards, strands);
+        let tasks = tasks_of(alloc, strands.as_slice())?;
+        let are_known = have_windows(strands.as_slice());
+        let begun = Begun {
+            shards,
+            strands,
+            tasks,
+        };
+        if !are_known {
+            let gate = self.gate();
+            return run_workers(self.runtime(), alloc, design, begun, self.workers(), gate);
         }
-        run_workers(
+        let most = turns_before(self.gate(), self.workers(), begun.tasks.len());
+        let AfterTurns { begun, unrefused } = make_turns(
             self.runtime(),
             alloc,
             design,
-            shards,
-            strands,
-            self.workers(),
-            self.gate(),
-        )
+            begun,
+            most,
+        )?;
+        match unrefused {
+            Some(unrefused) => end_in_turn(self.runtime(), alloc, design, begun, unrefused),
+            None => {
+                let gate = self.gate();
+                run_workers(self.runtime(), alloc, design, begun, self.workers(), gate)
+            }
+        }
     }
+
+    /// The lines of the entries, in texts that follow one another. As many threads as there are workers make them, each those of entries
+    /// that stand together.
+    final fn lines_of(&self, alloc: Global, entries: &[Entry]) -> Result<Vec<Vec<u8>>, OutOfMemory>
+        ensures { IfOk result (λ texts. flat_map (λ text. text.items) texts.items
+            ≡ flat_map entry_line entries.now) }
+    {
+        lines_of(self.runtime(), alloc, entries, self.workers() as usize)
+    }
+}
+
+/// How many turns a batch makes before the workers are started: all where there is one worker or one strand.
+fn turns_before<G: Gate>(gate: &G, workers: u32, strands: usize) -> u64 {
+    if workers == 1 || strands <= 1 {
+        return u64::MAX;
+    }
+    gate.turns_before() as u64 * workers as u64
 }

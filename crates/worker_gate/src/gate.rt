@@ -2,6 +2,9 @@
 
 ghost use Rattle.std.specs.Prelude.{◌≡◌, Bool, true};
 
+/// How many turns, for each worker, a batch makes before the workers are started, where a gate says nothing else.
+const TURNS_BEFORE: u32 = 2_048;
+
 /// What a gate answers a worker before a turn.
 #[derive(Clone, Copy, Debug, PartialEq, Eq)]
 pub enum Pass {
@@ -21,11 +24,10 @@ pub trait Gate: Sync {
     /// Called while the shard's lock is held, before its step.
     fn within(&self, worker: u32, shard: u32);
 
-    /// Whether every worker always goes on and nothing is done at the gate, so that it need not be called.
-    fn is_idle(&self) -> bool
-        ensures { result ≡ true → is_open self.now ≡ true }
-    {
-        false
+    /// How many turns of a batch, for each worker, are made before the workers are started. To start threads, and to look at what
+    /// they left, takes as long as some thousand turns.
+    fn turns_before(&self) -> u32 {
+        TURNS_BEFORE
     }
 }
 
@@ -40,8 +42,4 @@ impl Gate for OpenGate {
     }
 
     fn within(&self, _worker: u32, _shard: u32) {}
-
-    fn is_idle(&self) -> bool {
-        true
-    }
 }

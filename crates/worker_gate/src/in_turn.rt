@@ -1,21 +1,20 @@
 //! One worker alone: it runs the strands one after another, without locks.
 
-ghost use Rattle.std.specs.Prelude.{◌≡◌, ◌↔◌, ◌^◌, ◌<◌, ◌≤◌, IsTrue, true, false, [], map, length, sum, sum_by, vec_len, All, IfOk, MatchOption};
-ghost use Rattle.batch_meaning.specs.Lawful.{IsLawful};
+ghost use Rattle.std.specs.Prelude.{◌≡◌, ◌↔◌, ◌<◌, IsTrue, true, Some, [], length, sum, sum_by, vec_len, All, IfOk};
 ghost use Rattle.demand_points.specs.Demands.{IsKnownStrand};
-ghost use Rattle.journal_meaning.specs.Counts.{booked_count, is_booked};
 ghost use Rattle.memo_shards.specs.KeptShards.{IsKnownShard};
 ghost use Rattle.plan_core.specs.InTurn.{AllChildrenCovered, AreStarted, IsUnbegun};
 ghost use Rattle.plan_core.specs.Parts.{shards_in, strands_in};
 ghost use Rattle.plan_machine.specs.Settle.{entries_in};
-ghost use Rattle.worker_gate.specs.Ends.{task_of, AreEnds, AreFilled, AreInOrder, AreNew, booked_at, booked_in};
+ghost use Rattle.worker_gate.specs.Ends.{AreEnds, AreFilled, AreInOrder, AreNew, booked_in};
 
-use crate::board::{Board, booked_of};
+use crate::begun::Begun;
+use crate::board::Board;
+use crate::counts::{booked_by_all, match_counts};
 use crate::ran::{CountList, EndedList, Ran, ShardList};
-use crate::run::{empty_board, tasks_of, whole_board};
+use crate::run::{empty_board, whole_board};
 use demand_points::{BatchName, Strand};
 use design::Design;
-use journal_meaning::Entry;
 use memo_shards::{Shard, know_all};
 use owned_text::OutOfMemory;
 use plan_core::Plan;
@@ -61,41 +60,62 @@ fn plan_of<B: BatchName>(
     Plan::new(alloc, design, strands, shards)
 }
 
-/// The strands and shards after all turns, and whether no strand was refused a point.
+/// A batch after turns of one strand after another, and whether no strand was refused a point, or none where turns may be left.
 #[derive(Drop)]
-struct AfterTurns<B: BatchName> {
-    strands: Vec<Strand<B>>,
-    shards: Vec<Shard<B>>,
-    unrefused: bool,
+pub struct AfterTurns<B: BatchName> {
+    pub begun: Begun<B>,
+    pub unrefused: Option<bool>,
 }
 
-// Makes the turns of one strand after another. The strands that wait do not come back.
-fn make_turns<B: BatchName>(
+// Waits for ever where there are not so many shards.
+fn match_number<B: BatchName, R: Wait>(rt: &R, shards: &[Shard<B>], number: usize)
+    ensures { length shards.now ≡ number }
+{
+    if shards.len() != number {
+        for _ in rt.forever() {}
+        unreachable!()
+    }
+}
+
+/// Makes the turns of one strand after another, and no more than so many. The strands that wait do not come back. It waits for ever where
+/// the number of shards changes.
+pub fn make_turns<B: BatchName, R: Wait>(
+    rt: &R,
     alloc: Global,
     design: &Design,
-    strands: Vec<Strand<B>>,
-    shards: Vec<Shard<B>>,
+    begun: Begun<B>,
+    most: u64,
 ) -> Result<AfterTurns<B>, OutOfMemory>
     requires design { design.now.circuit ≡ B.batch.circuit }
-    requires named { vec_len shards ≡ B.batch.shards }
-    requires some { 0 < vec_len shards }
-    requires order { AreInOrder shards.items }
-    requires empty { All (λ m. m.shard.journal ≡ []) shards.items }
-    requires new { AreNew strands.items }
-    requires windows { All (λ s. 0 < s.to) strands.items }
-    ensures order { IfOk result (λ r. AreInOrder r.shards.items) }
-    ensures heard { AreStarted B.batch.circuit (strands_in strands.items) → IfOk result
-        (λ r. r.unrefused ≡ true → AllChildrenCovered B.batch.circuit
-        (entries_in (shards_in r.shards.items))) }
+    requires named { vec_len begun.shards ≡ B.batch.shards }
+    requires some { 0 < vec_len begun.shards }
+    requires order { AreInOrder begun.shards.items }
+    requires empty { All (λ m. m.shard.journal ≡ []) begun.shards.items }
+    requires new { AreNew begun.strands.items }
+    requires windows { All (λ s. 0 < s.to) begun.strands.items }
+    ensures shards { IfOk result (λ r. vec_len r.begun.shards ≡ vec_len begun.shards) }
+    ensures order { IfOk result (λ r. AreInOrder r.begun.shards.items) }
+    ensures tasks { IfOk result (λ r. r.begun.tasks ≡ begun.tasks) }
+    ensures heard { AreStarted B.batch.circuit (strands_in begun.strands.items) → IfOk result
+        (λ r. r.unrefused ≡ Some true → AllChildrenCovered B.batch.circuit
+        (entries_in (shards_in r.begun.shards.items))) }
 {
-    let mut plan = plan_of(alloc, design, strands, shards)?;
-    let unrefused = plan.run_in_turn(design)?;
-    let (strands, shards) = plan.into_parts(alloc)?;
-    Ok(AfterTurns {
-        strands,
+    let Begun {
         shards,
-        unrefused,
-    })
+        strands,
+        tasks,
+    } = begun;
+    let number = shards.len();
+    let mut plan = plan_of(alloc, design, strands, shards)?;
+    let unrefused = plan.run_in_turn(design, most)?;
+    let (strands, shards) = plan.into_parts(alloc)?;
+    match_number(rt, shards.as_slice(), number);
+    let begun = Begun {
+        shards,
+        strands,
+        tasks,
+    };
+    Ok(AfterTurns { begun, unrefused })
 }
 
 // Puts each strand that has ended on the board, where it may stand there. The place of another one stays empty.
@@ -111,143 +131,44 @@ fn put_all<B: BatchName>(board: Board<B>, design: &Design, strands: Vec<Strand<B
     board
 }
 
-// How often the strand at the place has claimed and filled a point.
-fn booked_there<B: BatchName>(place: &Option<Strand<B>>) -> u64
-    ensures { result ≡ booked_at place.now }
+// How many claims and fills all shards have recorded. It waits for ever where that is not within a u64.
+fn total_of<B: BatchName, R: Wait>(rt: &R, shards: &[Shard<B>]) -> u64
+    ensures { result ≡ sum_by booked_in shards.now }
 {
-    match place {
-        Some(strand) => booked_of(strand),
-        None => 0,
-    }
-}
-
-// How often the strand at each place has claimed and filled a point.
-fn counts_of<B: BatchName>(
-    alloc: Global,
-    places: &[Option<Strand<B>>],
-) -> Result<Vec<u64>, OutOfMemory>
-    ensures { IfOk result (λ v. v.items ≡ map booked_at places.now) }
-{
-    Ok(places.iter().map(|p| booked_there(p)).collect(alloc)?)
-}
-
-// Whether the entry begins a claim or fills a point.
-fn is_booked(entry: &Entry) -> bool
-    ensures { result ≡ is_booked entry.now }
-{
-    matches!(entry, Entry::Claimed { .. } | Entry::Filled { .. })
-}
-
-// How many claims and fills the shard has recorded.
-fn booked_by<B: BatchName>(shard: &Shard<B>) -> usize
-    ensures { result ≡ booked_in shard.now }
-{
-    shard.journal().iter().filter(|e| is_booked(e)).count()
-}
-
-// How many claims and fills all shards have recorded, where that is within a u64.
-fn booked_by_all<B: BatchName>(shards: &[Shard<B>]) -> Option<u64>
-    ensures { MatchOption result (2 ^ 64 ≤ sum_by booked_in shards.now)
-        (λ n. n ≡ sum_by booked_in shards.now) }
-{
-    let mut all = 0u64;
-    for shard in shards {
-        all = all.checked_add(booked_by(shard) as u64)?;
-    }
-    Some(all)
-}
-
-// The sum of the counts, where it is within a u64.
-fn sum_of(counts: &[u64]) -> Option<u64>
-    ensures { MatchOption result (2 ^ 64 ≤ sum counts.now) (λ n. n ≡ sum counts.now) }
-{
-    let mut all = 0u64;
-    for &count in counts {
-        all = all.checked_add(count)?;
-    }
-    Some(all)
-}
-
-// Whether the counts add up to the claims and fills that the shards have recorded.
-fn adds_up<B: BatchName>(counts: &[u64], shards: &[Shard<B>]) -> bool
-    ensures equal { result ≡ true → sum counts.now ≡ sum_by booked_in shards.now }
-    ensures unless { result ≡ false → sum counts.now ≡ sum_by booked_in shards.now
-        → 2 ^ 64 ≤ sum counts.now }
-{
-    let Some(counted) = sum_of(counts) else {
-        return false;
-    };
-    booked_by_all(shards) == Some(counted)
-}
-
-// The counts of the strands on the board. It waits for ever where they don't add up to what the shards have recorded.
-fn match_shards<B: BatchName, R: Wait>(
-    rt: &R,
-    alloc: Global,
-    board: &Board<B>,
-    shards: &[Shard<B>],
-) -> Result<Vec<u64>, OutOfMemory>
-    ensures counts { IfOk result (λ v. v.items ≡ map booked_at board.now.places.items) }
-    ensures counted { IfOk result (λ v. sum v.items ≡ sum_by booked_in shards.now) }
-{
-    let counts = counts_of(alloc, board.places.as_slice())?;
-    if adds_up(counts.as_slice(), shards) {
-        return Ok(counts);
+    if let Some(total) = booked_by_all(shards) {
+        return total;
     }
     for _ in rt.forever() {}
     unreachable!()
 }
 
-// Waits for ever where there are not so many shards.
-fn match_number<B: BatchName, R: Wait>(rt: &R, shards: &[Shard<B>], number: usize)
-    ensures { length shards.now ≡ number }
-{
-    if shards.len() != number {
-        for _ in rt.forever() {}
-        unreachable!()
-    }
-}
-
-/// Runs one strand after another over the shards, each until it has ended. It waits for ever where one does not end, the number of
-/// shards changes, or the counts of the strands don't add up to what the shards have recorded.
-pub fn run_in_turn<B: BatchName, R: Wait>(
+/// What is left of a batch whose strands have made all their turns, one after another. It waits for ever where one has not ended, or the
+/// counts of the strands don't add up to what the shards have recorded.
+pub fn end_in_turn<B: BatchName, R: Wait>(
     rt: &R,
     alloc: Global,
     design: &Design,
-    shards: Vec<Shard<B>>,
-    strands: Vec<Strand<B>>,
+    begun: Begun<B>,
+    unrefused: bool,
 ) -> Result<Ran<B>, OutOfMemory>
-    requires design { design.now.circuit ≡ B.batch.circuit }
-    requires named { vec_len shards ≡ B.batch.shards }
-    requires some { 0 < vec_len shards }
-    requires order { AreInOrder shards.items }
-    requires empty { All (λ m. m.shard.journal ≡ []) shards.items }
-    requires new { AreNew strands.items }
-    requires windows { All (λ s. 0 < s.to) strands.items }
+    requires { design.now.circuit ≡ B.batch.circuit }
     ensures counted { IfOk result (λ r. sum r.counts ≡ sum_by booked_in r.shards) }
-    ensures ended { IfOk result (λ r. AreEnds r.strands (map task_of strands.items) r.counts) }
+    ensures ended { IfOk result (λ r. AreEnds r.strands begun.tasks.items r.counts) }
     ensures filled { IfOk result (λ r. AreFilled r.strands) }
-    ensures places { IfOk result (λ r. length r.strands ≡ vec_len strands) }
-    ensures counts { IfOk result (λ r. length r.counts ≡ vec_len strands) }
-    ensures shards { IfOk result (λ r. length r.shards ≡ vec_len shards) }
-    ensures order { IfOk result (λ r. AreInOrder r.shards) }
-    ensures heard { AreStarted B.batch.circuit (strands_in strands.items) → IfOk result
-        (λ r. r.heard ≡ true → AllChildrenCovered B.batch.circuit
-        (entries_in (shards_in r.shards))) }
+    ensures places { IfOk result (λ r. length r.strands ≡ vec_len begun.tasks) }
+    ensures counts { IfOk result (λ r. length r.counts ≡ vec_len begun.tasks) }
+    ensures shards { IfOk result (λ r. r.shards ≡ begun.shards.items) }
+    ensures heard { IfOk result (λ r. r.heard ≡ unrefused) }
 {
-    let tasks = tasks_of(alloc, strands.as_slice())?;
-    let kept = tasks_of(alloc, strands.as_slice())?;
-    let number = shards.len();
-    let AfterTurns {
-        strands,
+    let Begun {
         shards,
-        unrefused,
-    } = make_turns(alloc, design, strands, shards)?;
-    match_number(rt, shards.as_slice(), number);
-    let board = put_all(empty_board(alloc, kept)?, design, strands);
-    let board = whole_board(rt, board, tasks.as_slice(), false);
-    let counts = match_shards(rt, alloc, &board, shards.as_slice())?;
-    let Board { places, .. } = board;
+        strands,
+        tasks,
+    } = begun;
+    let board = put_all(empty_board(alloc, tasks.as_slice())?, design, strands);
+    let Board { places, .. } = whole_board(rt, board, tasks.as_slice(), false);
+    let total = total_of(rt, shards.as_slice());
+    let counts = match_counts(rt, alloc, places.as_slice(), total)?;
     Ok(Ran {
         shards: ShardList::new(shards),
         strands: EndedList::new(places),

@@ -1,18 +1,21 @@
 //! Runs the workers, and takes out what they leave.
 
-ghost use Rattle.std.specs.Prelude.{◌≡◌, ℕ, ◌+◌, ◌^◌, ◌<◌, ◌≤◌, true, false, [], map, length, sum, sum_by, vec_len, All, IfOk, IfSome};
+ghost use Rattle.std.specs.Prelude.{◌≡◌, ◌+◌, ◌^◌, ◌<◌, ◌≤◌, true, false, length, sum, sum_by, vec_len, All, IfOk, IfSome};
 ghost use Rattle.plan_core.specs.InTurn.{AllChildrenCovered};
 ghost use Rattle.plan_core.specs.Parts.{shards_in};
 ghost use Rattle.plan_machine.specs.Settle.{entries_in};
 ghost use Rattle.ready_queue.specs.Queue.{IsPassOf, IsFreshPassOf};
-ghost use Rattle.worker_gate.specs.Ends.{task_of, AreEnds, AreFilled, AreInOrder, AreNew, booked_in};
+ghost use Rattle.worker_gate.specs.Ends.{AreEnds, AreFilled, AreInOrder, booked_in};
 
+use crate::begun::Begun;
 use crate::board::Board;
+use crate::counts::{booked_by, match_counts};
 use crate::gate::Gate;
 use crate::hearing::have_all_heard;
 use crate::ran::{CountList, EndedList, Ran, ShardList};
 use crate::slot::{CountedShard, Slot};
-use crate::worker::{Shared, Worker};
+use crate::worker::{LockedShard, Shared, Worker};
+use crossbeam_utils::CachePadded;
 use demand_points::{BatchName, Strand, Task};
 use design::Design;
 use memo_shards::Shard;
@@ -23,49 +26,34 @@ use std::sync::{Condvar, Mutex, Wait};
 use std::thread;
 use std::thread::Threads;
 
-// A count of 0 for each strand.
-fn no_counts(alloc: Global, strands: usize) -> Result<Vec<u64>, OutOfMemory>
-    ensures length { IfOk result (λ v. vec_len v ≡ strands) }
-    ensures zero { IfOk result (λ v. sum v.items ≡ 0) }
-{
-    Ok(vec![in alloc; 0; strands]?)
+// Puts a shard behind a lock, with the number of its claims and fills.
+fn lock_one<B: BatchName>(shard: Shard<B>) -> LockedShard<B> {
+    let booked = booked_by(&shard) as u64;
+    let content = Some(CountedShard { shard, booked });
+    CachePadded::new(Mutex::new(Slot { content }))
 }
 
-// Puts each shard behind a lock, with a count for each strand.
+// Puts each shard behind a lock.
 fn lock_each<B: BatchName>(
     alloc: Global,
     shards: Vec<Shard<B>>,
-    strands: usize,
-) -> Result<Vec<Mutex<Slot<B>>>, OutOfMemory>
-    requires empty { All (λ m. m.shard.journal ≡ []) shards.items }
+) -> Result<Vec<LockedShard<B>>, OutOfMemory>
     ensures { IfOk result (λ v. vec_len v ≡ vec_len shards) }
 {
-    let mut shards = shards;
-    let mut slots = Vec::new(alloc);
-    while !shards.is_empty() {
-        let shard = shards.remove(0);
-        let counts = no_counts(alloc, strands)?;
-        let content = Some(CountedShard { shard, counts });
-        slots.push(Mutex::new(Slot { content }))?;
-    }
-    Ok(slots)
-}
-
-/// What each strand was started with.
-pub fn tasks_of<B: BatchName>(
-    alloc: Global,
-    strands: &[Strand<B>],
-) -> Result<Vec<Task>, OutOfMemory>
-    ensures { IfOk result (λ v. v.items ≡ map task_of strands.now) }
-{
-    Ok(strands.iter().map(|s| s.task()).collect(alloc)?)
+    Ok(
+        shards
+            .into_iter()
+            .map(|shard| lock_one(shard))
+            .collect(alloc)?,
+    )
 }
 
 /// A board with these tasks, on which nothing has ended.
-pub fn empty_board<B: BatchName>(alloc: Global, tasks: Vec<Task>) -> Result<Board<B>, OutOfMemory>
-    ensures { IfOk result (λ b. b.tasks.items ≡ tasks.items) }
+pub fn empty_board<B: BatchName>(alloc: Global, tasks: &[Task]) -> Result<Board<B>, OutOfMemory>
+    ensures { IfOk result (λ b. b.tasks.items ≡ tasks.now) }
 {
-    let mut places = Vec::new(alloc);
+    let tasks = tasks.to_vec(alloc)?;
+    let mut places = Vec::with_capacity(alloc, tasks.len())?;
     for _i in 0..tasks.len() {
         places.push(None)?;
     }
@@ -80,7 +68,7 @@ pub fn empty_board<B: BatchName>(alloc: Global, tasks: Vec<Task>) -> Result<Boar
 }
 
 // Takes out the shard with this number, however often the lock has to be taken.
-fn take_shard<B: BatchName, R: Wait>(rt: &R, lock: &Mutex<Slot<B>>, number: u32) -> CountedShard<B>
+fn take_shard<B: BatchName, R: Wait>(rt: &R, lock: &LockedShard<B>, number: u32) -> CountedShard<B>
     ensures { result.shard.number ≡ number }
 {
     for _ in rt.forever() {
@@ -91,50 +79,36 @@ fn take_shard<B: BatchName, R: Wait>(rt: &R, lock: &Mutex<Slot<B>>, number: u32)
     unreachable!()
 }
 
-// Adds the counts of one shard to those of others, strand by strand. False where they aren't as many, or a sum is too great.
-fn add_counts(counts: &mut Vec<u64>, more: &[u64]) -> bool
-    ensures as_many { vec_len counts.new ≡ vec_len counts.old }
-    ensures sum { result ≡ true → sum counts.new.items ≡ sum counts.old.items + sum more.now }
+// The sum of two numbers of claims and fills. It waits for ever where it is not within a u64.
+fn sum_of_both<R: Wait>(rt: &R, total: u64, more: u64) -> u64
+    ensures { result ≡ total + more }
 {
-    if more.len() != counts.len() {
-        return false;
+    if let Some(sum) = total.checked_add(more) {
+        return sum;
     }
-    for i in 0..more.len() {
-        let Some(count) = counts[i].checked_add(more[i]) else {
-            return false;
-        };
-        counts[i] = count;
-    }
-    true
+    for _ in rt.forever() {}
+    unreachable!()
 }
 
-// Takes all shards out, and adds their counts up. It waits for ever where these can't be added.
+// Takes all shards out, and adds up what they have recorded. It waits for ever where the sum is not within a u64.
 fn take_all<B: BatchName, R: Wait>(
     rt: &R,
     alloc: Global,
-    slots: &[Mutex<Slot<B>>],
-    strands: usize,
-) -> Result<(Vec<Shard<B>>, Vec<u64>), OutOfMemory>
+    slots: &[LockedShard<B>],
+) -> Result<(Vec<Shard<B>>, u64), OutOfMemory>
     requires few { length slots.now < 2 ^ 32 }
     ensures count { IfOk result (λ r. vec_len r.0 ≡ length slots.now) }
     ensures numbers { IfOk result (λ r. AreInOrder r.0.items) }
-    ensures counts { IfOk result (λ r. vec_len r.1 ≡ strands) }
-    ensures amount { IfOk result (λ r. sum r.1.items ≡ sum_by booked_in r.0.items) }
+    ensures amount { IfOk result (λ r. r.1 ≡ sum_by booked_in r.0.items) }
 {
-    let mut shards = Vec::new(alloc);
-    let mut counts = no_counts(alloc, strands)?;
+    let mut shards = Vec::with_capacity(alloc, slots.len())?;
+    let mut total = 0u64;
     for i in 0..slots.len() {
-        let CountedShard {
-            shard,
-            counts: more,
-        } = take_shard(rt, &slots[i], i as u32);
-        if !add_counts(&mut counts, more.as_slice()) {
-            for _ in rt.forever() {}
-            unreachable!()
-        }
+        let CountedShard { shard, booked } = take_shard(rt, &slots[i], i as u32);
+        total = sum_of_both(rt, total, booked);
         shards.push(shard)?;
     }
-    Ok((shards, counts))
+    Ok((shards, total))
 }
 
 /// The board. It waits for ever where the board isn't what the workers leave.
@@ -170,24 +144,6 @@ fn take_board<B: BatchName, R: Wait>(
         return None;
     }
     Some(whole_board(rt, board, tasks, left))
-}
-
-// The places of the board, compared with the counts. It waits for ever where they differ.
-fn match_counts<B: BatchName, R: Wait>(
-    rt: &R,
-    board: Board<B>,
-    counts: &[u64],
-) -> Vec<Option<Strand<B>>>
-    ensures ends { AreEnds result.items board.tasks.items counts.now }
-    ensures places { result ≡ board.places }
-    ensures count { length result.items ≡ length board.tasks.items }
-{
-    if board.has_counts(counts) {
-        let Board { places, .. } = board;
-        return places;
-    }
-    for _ in rt.forever() {}
-    unreachable!()
 }
 
 /// What one worker is given.
@@ -250,40 +206,39 @@ pub fn run_workers<B: BatchName + Send + Sync, G: Gate, R: Threads + Wait + Sync
     rt: &R,
     alloc: Global,
     design: &Design,
-    shards: Vec<Shard<B>>,
-    strands: Vec<Strand<B>>,
+    begun: Begun<B>,
     workers: u32,
     gate: &G,
 ) -> Result<Ran<B>, OutOfMemory>
     requires design { design.now.circuit ≡ B.batch.circuit }
-    requires named { vec_len shards ≡ B.batch.shards }
-    requires shards { (0 < vec_len shards) × (vec_len shards ≤ 64) }
-    requires order { AreInOrder shards.items }
-    requires empty { All (λ m. m.shard.journal ≡ []) shards.items }
-    requires strands { vec_len strands ≤ 256 }
-    requires new { AreNew strands.items }
+    requires named { vec_len begun.shards ≡ B.batch.shards }
+    requires shards { (0 < vec_len begun.shards) × (vec_len begun.shards ≤ 64) }
+    requires strands { vec_len begun.tasks ≤ 256 }
     requires workers { (0 < workers) × (workers ≤ 64) }
     ensures counted { IfOk result (λ r. sum r.counts ≡ sum_by booked_in r.shards) }
-    ensures ended { IfOk result (λ r. AreEnds r.strands (map task_of strands.items) r.counts) }
+    ensures ended { IfOk result (λ r. AreEnds r.strands begun.tasks.items r.counts) }
     ensures filled { G.is_open gate.now ≡ true → IfOk result (λ r. AreFilled r.strands) }
-    ensures places { IfOk result (λ r. length r.strands ≡ vec_len strands) }
-    ensures counts { IfOk result (λ r. length r.counts ≡ vec_len strands) }
-    ensures shards { IfOk result (λ r. length r.shards ≡ vec_len shards) }
+    ensures places { IfOk result (λ r. length r.strands ≡ vec_len begun.tasks) }
+    ensures counts { IfOk result (λ r. length r.counts ≡ vec_len begun.tasks) }
+    ensures shards { IfOk result (λ r. length r.shards ≡ vec_len begun.shards) }
     ensures order { IfOk result (λ r. AreInOrder r.shards) }
     ensures heard { IfOk result (λ r. r.heard ≡ true → AllChildrenCovered B.batch.circuit
         (entries_in (shards_in r.shards))) }
 {
-    let tasks = tasks_of(alloc, strands.as_slice())?;
-    let kept = tasks_of(alloc, strands.as_slice())?;
+    let Begun {
+        shards,
+        strands,
+        tasks,
+    } = begun;
     let count = shards.len() as u32;
-    let slots = lock_each(alloc, shards, strands.len())?;
-    let capacity = (strands.len() as u32).max(1);
+    let slots = lock_each(alloc, shards)?;
+    let capacity = (tasks.len() as u32).max(1);
     let workers = workers.min(capacity);
     let (queue, mut passes) = ReadyQueue::new(alloc, capacity, workers + 1)?;
     let Some(mut mine) = passes.pop() else {
         unreachable!()
     };
-    let board = Mutex::new(empty_board(alloc, kept)?);
+    let board = CachePadded::new(Mutex::new(empty_board(alloc, tasks.as_slice())?));
     let shared = Shared {
         slots,
         board,
@@ -295,11 +250,12 @@ pub fn run_workers<B: BatchName + Send + Sync, G: Gate, R: Threads + Wait + Sync
     let jobs = jobs_of(alloc, &shared.queue, passes)?;
     let left = all_run(rt, design, &shared, gate, jobs)?;
     let Shared { slots, board, .. } = shared;
-    let Some(board) = take_board(rt, board, tasks.as_slice(), left) else {
+    let Some(board) = take_board(rt, board.into_inner(), tasks.as_slice(), left) else {
         return Err(OutOfMemory);
     };
-    let (shards, counts) = take_all(rt, alloc, slots.as_slice(), tasks.len())?;
-    let places = match_counts(rt, board, counts.as_slice());
+    let Board { places, .. } = board;
+    let (shards, total) = take_all(rt, alloc, slots.as_slice())?;
+    let counts = match_counts(rt, alloc, places.as_slice(), total)?;
     let heard = have_all_heard(rt, alloc, design, shards.as_slice(), workers as usize)?;
     Ok(Ran {
         shards: ShardList::new(shards),

@@ -1,6 +1,6 @@
 //! What the lock of a shard keeps.
 
-ghost use Rattle.std.specs.Prelude.{◌≡◌, true, None, IfSome, IsSome, sum};
+ghost use Rattle.std.specs.Prelude.{◌≡◌, ◌<◌, ◌-◌, ◌^◌, true, None, IfSome, IsSome};
 ghost use Rattle.batch_meaning.specs.Batches.{shard_number};
 ghost use Rattle.journal_meaning.specs.States.{holder};
 ghost use Rattle.strand_meaning.specs.Strands.{next as next_of};
@@ -9,7 +9,7 @@ ghost use Rattle.valid_intervals.specs.Cells.{stored_at};
 ghost use Rattle.valid_intervals.specs.declared.Point.{Point};
 ghost use Rattle.memo_shards.specs.Asks.{OfPark};
 ghost use Rattle.memo_shards.specs.Steps.{MayStep, OfStep};
-ghost use Rattle.worker_gate.specs.Ends.{booked_in, HasRoom};
+ghost use Rattle.worker_gate.specs.Ends.{booked_in};
 
 use demand_points::{BatchName, Strand};
 use design::Design;
@@ -18,30 +18,29 @@ use owned_text::OutOfMemory;
 use strand_meaning::Next;
 use valid_intervals::Point;
 
-/// A shard, and for each strand the number of claims and fills that the shard has recorded of it.
+/// A shard, and how many claims and fills it has recorded.
 #[derive(Drop)]
 pub struct CountedShard<B: BatchName> {
     pub shard: Shard<B>,
-    pub counts: Vec<u64>,
-    ghost amount: { sum counts.items ≡ booked_in shard },
+    pub booked: u64,
+    ghost amount: { booked ≡ booked_in shard },
 }
 
 impl<B: BatchName> CountedShard<B> {
-    /// Whether the shard with this number is this one, can count one more claim or fill of the strand, and has the claim that its next
-    /// step ends.
+    /// Whether the shard with this number is this one, can count one more claim or fill, and has the claim that the strand's next step
+    /// ends.
     pub fn can_step(&self, strand: &Strand<B>, next: Next, number: usize) -> bool
         requires home { (p : Point) → next ≡ Ask p → number ≡ shard_number p.signal B.batch.shards }
         ensures stands { result ≡ true → MayStep B.batch self.now.shard next strand.now }
-        ensures room { result ≡ true → HasRoom self.now.counts.items strand.now.number }
+        ensures room { result ≡ true → self.now.booked < 2 ^ 64 - 1 }
     {
-        let n = strand.number() as usize;
         let stands = match next {
             Next::Ask(_) => self.shard.number() as usize == number,
             Next::Fill(p) => self.shard.holds(p, strand.query().number),
             Next::Drop(p) => self.shard.holds(p, strand.query().number),
             Next::Done => false,
         };
-        stands && n < self.counts.len() && self.counts[n] < u64::MAX
+        stands && self.booked < u64::MAX
     }
 
     /// Makes the next step of the strand, and books a claim or a fill.
@@ -51,18 +50,17 @@ impl<B: BatchName> CountedShard<B> {
         design: &Design,
         next: Next,
     ) -> Result<Step<B>, OutOfMemory>
-        requires room { HasRoom self.old.counts.items strand.old.number }
+        requires room { self.old.booked < 2 ^ 64 - 1 }
         requires design { design.now.circuit ≡ B.batch.circuit }
         requires next { next_of strand.old.strand ≡ next }
         requires stands { MayStep B.batch self.old.shard next strand.old }
         ensures { OfStep B.batch self.old.shard self.new.shard next strand.old strand.new result }
     {
-        let CountedShard { shard, counts } = self;
-        let n = strand.number() as usize;
+        let CountedShard { shard, booked } = self;
         let came = shard.step(strand, design, next)?;
         match &came {
-            Step::Holds => counts[n] += 1,
-            Step::Filled(_) => counts[n] += 1,
+            Step::Holds => *booked += 1,
+            Step::Filled(_) => *booked += 1,
             Step::Heard => {}
             Step::Taken => {}
             Step::Refused => {}

@@ -1,9 +1,8 @@
 //! What one worker does.
 
-ghost use Rattle.std.specs.Prelude.{◌≡◌, ◌<◌, true, false, IsSome, IfSome};
+ghost use Rattle.std.specs.Prelude.{◌≡◌, ◌<◌, ◌-◌, ◌^◌, true, false, IsSome, IfSome};
 ghost use Rattle.std.specs.Sync.Mutex.{mutex_guard_value};
 ghost use Rattle.memo_shards.specs.Steps.{MayStep, step_point};
-ghost use Rattle.worker_gate.specs.Ends.{HasRoom};
 ghost use Rattle.ready_queue.specs.Queue.{IsPassOf};
 ghost use Rattle.strand_meaning.specs.Strands.{next as next_of};
 ghost use Rattle.strand_meaning.specs.declared.Next.TheVariants.{Done};
@@ -11,6 +10,7 @@ ghost use Rattle.strand_meaning.specs.declared.Next.TheVariants.{Done};
 use crate::board::Board;
 use crate::gate::{Gate, Pass};
 use crate::slot::Slot;
+use crossbeam_utils::CachePadded;
 use demand_points::{BatchName, Strand};
 use design::Design;
 use memo_shards::{Step, shard_number, step_point};
@@ -26,11 +26,14 @@ const TRIES: u32 = 50;
 /// How long a thread pauses between two tries, in the processor's own pauses.
 const PAUSES: u32 = 4;
 
+/// A shard behind a lock, on cache lines of its own: what a worker changes in one shard does not take a line of another from the others.
+pub type LockedShard<B> = CachePadded<Mutex<Slot<B>>>;
+
 /// What the workers share: each shard behind a lock of its own, the board, and the queue of strands that are ready.
 #[derive(Drop)]
 pub struct Shared<B: BatchName> {
-    pub slots: Vec<Mutex<Slot<B>>>,
-    pub board: Mutex<Board<B>>,
+    pub slots: Vec<LockedShard<B>>,
+    pub board: CachePadded<Mutex<Board<B>>>,
     pub moved: Condvar,
     pub queue: ReadyQueue<Strand<B>>,
     pub count: u32,
@@ -185,8 +188,7 @@ impl<B: BatchName> Shared<B> {
         ensures some { IsSome (mutex_guard_value result).content }
         ensures stands { IfSome (mutex_guard_value result).content
             (λ h. MayStep B.batch h.shard next strand.now) }
-        ensures room { IfSome (mutex_guard_value result).content
-            (λ h. HasRoom h.counts.items strand.now.number) }
+        ensures room { IfSome (mutex_guard_value result).content (λ h. h.booked < 2 ^ 64 - 1) }
     {
         let number = shard_number(p.signal, self.count as usize);
         for _ in rt.forever() {

@@ -1,4 +1,5 @@
-//! Sessions whose workers a gate of the test holds where they have to meet, or sends away.
+//! Sessions whose workers a gate of the test holds where they have to meet, or sends away. The gates have them started before the first
+//! turn.
 
 ghost use Rattle.std.specs.Prelude.{◌≡◌, false};
 
@@ -85,6 +86,10 @@ impl Apart {
 impl Gate for Apart {
     ghost is_open = { λ _. false };
 
+    fn turns_before(&self) -> u32 {
+        0
+    }
+
     fn before(&self, worker: u32) -> Pass {
         if worker == 0 {
             self.hold(&self.came);
@@ -166,6 +171,10 @@ impl Meeting {
 impl Gate for Meeting {
     ghost is_open = { λ _. false };
 
+    fn turns_before(&self) -> u32 {
+        0
+    }
+
     fn before(&self, worker: u32) -> Pass {
         let other = if worker == 0 { 1 } else { 0 };
         let earlier = self.of(worker).before.fetch_add(1, Ordering::SeqCst);
@@ -220,6 +229,10 @@ struct Closed {
 impl Gate for Closed {
     ghost is_open = { λ _. false };
 
+    fn turns_before(&self) -> u32 {
+        0
+    }
+
     fn before(&self, _worker: u32) -> Pass {
         self.sent.fetch_add(1, Ordering::SeqCst);
         Pass::Leave
@@ -242,7 +255,7 @@ fn workers_that_are_sent_away_leave_the_same_replies(rt: HostRuntime) -> Result<
     Ok(())
 }
 
-/// Counts how often a worker came, and lets all go on.
+/// Counts how often a worker came, and lets all go on. The first turns of a batch are made before the workers are started.
 #[derive(Drop)]
 struct Counting {
     came: AtomicU64,

@@ -12,5 +12,5 @@ pub returns-clause-begun : goal.returns-clause-begun
 returns-clause-begun g c =
     let M = g.F.Files.made in
     let lines = flat_map entry_line c.args.entries.now in
-    subst (λ l. OnErr c.write_entries.result (FileGrowsPart (M c.args.files.now) (M c.write_entries.new.files) c.args.slot l))
-    (ap (λ l. l ++ lines) c.in_ok-push_shard.ensures ∙ append_assoc c.args.text.now.items (shard_line c.args.number) lines) c.write_entries.ensures.begun
+    subst (λ l. OnErr c.write_lines.result (FileGrowsPart (M c.args.files.now) (M c.write_lines.new.files) c.args.slot l))
+    (ap (λ l. l ++ lines) c.in_ok-push_shard.ensures ∙ append_assoc c.args.text.now.items (shard_line c.args.number) lines) c.write_lines.ensures.begun

@@ -26,7 +26,7 @@ pub answer_batch-requires-clause-stores : goal.answer_batch-requires-clause-stor
 answer_batch-requires-clause-stores g c = λ κs w. empty-are-stores c.args.setting.now.design.now c.args.setting.now.sizes c.in_ok-stores.stores.items c.in_ok-stores.ensures
 
 pub write_section-requires-clause-unfinished : goal.write_section-requires-clause-unfinished
-write_section-requires-clause-unfinished g c =
+write_section-requires-clause-unfinished g c = λ κs w.
     journal-open (g.F.Files.state c.args.files.now) (g.F.Files.state c.begin_journal.new.files) c.requires.files c.in_ok-begin_journal.ensures.state
 
 -- the section was begun

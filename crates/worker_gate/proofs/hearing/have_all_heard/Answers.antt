@@ -1,8 +1,6 @@
-use Rattle.std.proofs.Common.{◌≡◌, ◌<◌, ◌%◌, ℕ, List, All, Bool, true, false, Some, slice_get, length, get_or, subst, sym, arith, refl}
+use Rattle.std.proofs.Common.{◌≡◌, ◌<◌, ◌%◌, All, Bool, true, false, get_or, subst, arith, refl}
 use Rattle.std.proofs.lemmas.Nat.{mod_below}
 use Rattle.std.proofs.lemmas.Option.{slice_get_within}
-use Rattle.memo_shards.specs.KeptShards.{KeptShard}
-use Rattle.asked_cells.specs.Heard.{IsHeard}
 use Rattle.asked_cells.specs.Memos.{entries_of}
 use Rattle.worker_gate.proofs.Heard.{fills-heard}
 use Rattle.worker_gate.proofs.InTurn.{lawful-of}

@@ -1,4 +1,4 @@
-use Rattle.std.proofs.Common.{rules, ◌≡◌, arith, length, true, ap, sum}
+use Rattle.std.proofs.Common.{rules, ◌≡◌, arith, length}
 use Rattle.std.proofs.lemmas.List.Sums.{sum_by_push}
 use Rattle.worker_gate.specs.Ends.{booked_in}
 use Rattle.worker_gate.proofs.Places.{places_more}
@@ -10,11 +10,8 @@ loop-i-preserved g c =
     let old = c.loop-i.invariant in
     let items = c.in_ok-push.ensures.items in
     let e = sum_by_push booked_in c.loop-i.shards.items h.shard in
-    let more = ap sum c.as_slice.ensures.value in
-    let yes : c.add_counts.result ≡ true = search rules in
     record {
       count = search rules;
-      counts = search rules;
-      amount = rw items (omega (arith, e, old.amount, h.amount, more, c.add_counts.ensures.sum yes));
+      amount = rw items (omega (arith, e, old.amount, h.amount, c.sum_of_both-total.ensures));
       numbers = let n : length c.loop-i.shards.items ≡ c.loop-i.i = search rules in rw items (places_more (λ s k. s.number ≡ k) c.loop-i.shards.items h.shard c.loop-i.i n old.numbers c.take_shard-shard.ensures);
     }

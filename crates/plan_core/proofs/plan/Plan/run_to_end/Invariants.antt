@@ -1,6 +1,5 @@
 use Rattle.std.proofs.Common.{◌≡◌, true, false, length, None}
 use Rattle.batch_meaning.specs.Pieces.{Start}
-use Rattle.plan_machine.specs.Bounds.{all_left}
 use Rattle.plan_machine.specs.Laws.{BeginsAlone}
 use Rattle.plan_machine.specs.Alone.{RunsAlone}
 use Rattle.plan_core.specs.InTurn.{SomeRefused}
@@ -15,4 +14,4 @@ invariant-turns g l = record {
 }
 
 abbrev pub decreases-turns : goal.decreases-turns
-decreases-turns g l = all_left g.B.BatchName.batch l.self
+decreases-turns g l = l.left

@@ -1,5 +1,5 @@
 use Rattle.std.proofs.Common.{◌≡◌, take, sum}
-use Rattle.worker_gate.proofs.in_turn.sum_of.Given as goal
+use Rattle.worker_gate.proofs.counts.sum_of.Given as goal
 
 abbrev pub invariant-loop-count : goal.invariant-loop-count
 invariant-loop-count l = l.all ≡ sum (take l.count-index l.counts)

@@ -1,0 +1,27 @@
+//! A batch whose strands have turns to make.
+
+ghost use Rattle.std.specs.Prelude.{◌≡◌, map, IfOk};
+ghost use Rattle.worker_gate.specs.Ends.{task_of};
+
+use demand_points::{BatchName, Strand, Task};
+use memo_shards::Shard;
+use owned_text::OutOfMemory;
+use std::alloc::Global;
+
+/// The shards of a batch, its strands, and what each strand was started with, in the order of their numbers.
+#[derive(Drop)]
+pub struct Begun<B: BatchName> {
+    pub shards: Vec<Shard<B>>,
+    pub strands: Vec<Strand<B>>,
+    pub tasks: Vec<Task>,
+}
+
+/// What each strand was started with.
+pub fn tasks_of<B: BatchName>(
+    alloc: Global,
+    strands: &[Strand<B>],
+) -> Result<Vec<Task>, OutOfMemory>
+    ensures { IfOk result (λ v. v.items ≡ map task_of strands.now) }
+{
+    Ok(strands.iter().map(|s| s.task()).collect(alloc)?)
+}
