@@ -31,17 +31,47 @@ in_turn() {
     done
 }
 
-# timed NAME INPUT COMMAND..: runs the command, whose output goes to $copy/NAME.out, and keeps the shortest of its times so far, in
-# microseconds, in ${least[NAME]}. Commands that are compared take turns, so that what else the machine does comes to all of them. Who
-# calls it removes the journal of the turn before: a file system may write what replaces a file's text to the disk before it is closed.
+# build_workload: writes the circuit of bench/demand to $copy (workload.bench and so on), with its script and two more: apart, sixteen
+# windows of 100 instants, of outputs whose fan-in cones share no gate, and empty.
+build_workload() {
+    rustc --edition 2021 -O -o "$copy/generate" "$top/bench/demand/generate.rs"
+    "$copy/generate" "$copy" 7
+    for i in $(seq 0 15); do
+        echo "wave g99_$((125 * i)) 90000 90100 62500"
+    done >"$copy/apart.script"
+    : >"$copy/empty.script"
+}
+
+# go_first: from now on what the script runs goes before all else on the machine, if the system allows it. So call it once all is built.
+go_first() {
+    chrt -f -p 10 $$ 2>/dev/null || echo "without real-time priority: other work lengthens the times" >&2
+}
+
+# keep NAME MICROSECONDS: keeps the shortest time so far in ${least[NAME]}.
 declare -A least
+keep() {
+    if [ -z "${least[$1]:-}" ] || [ "$2" -lt "${least[$1]}" ]; then least[$1]=$2; fi
+}
+
+# timed NAME INPUT COMMAND..: runs the command, whose output goes to $copy/NAME.out, and keeps the shortest of its times so far. Commands
+# that are compared take turns, so that what else the machine does comes to all of them. Who calls it removes the journal of the turn
+# before: a file system may write what replaces a file's text to the disk before it is closed.
 timed() {
-    local name=$1 input=$2 start taken
+    local name=$1 input=$2 start
     shift 2
     start=${EPOCHREALTIME/./}
     "$@" <"$input" >"$copy/$name.out" 2>/dev/null
-    taken=$((${EPOCHREALTIME/./} - start))
-    if [ -z "${least[$name]:-}" ] || [ "$taken" -lt "${least[$name]}" ]; then least[$name]=$taken; fi
+    keep "$name" $((${EPOCHREALTIME/./} - start))
+}
+
+# timed_compact NAME INPUT COMMAND..: the same for the program of bench/compact, whose last words are its journal, workers and shards. Kept
+# are what it says of itself: ${least[NAME-evaluation]} and ${least[NAME-batch]}.
+timed_compact() {
+    local name=$1 input=$2 what taken
+    shift 2
+    rm -f "${@: -3:1}"
+    "$@" <"$input" >"$copy/$name.out" 2>"$copy/$name.said"
+    while read -r what taken; do keep "$name-$what" "$taken"; done < <(grep -oE '(evaluation|batch) [0-9]+' "$copy/$name.said")
 }
 
 # ratio TIME OTHER: how many times as long the one takes as the other.

@@ -14,10 +14,8 @@ here=$(cd "$(dirname "$0")" && pwd)
 . "$here/../common.sh"
 begin "$here"
 own=$("$top/tools/program" backsim)
-for program in forward generate; do
-    rustc --edition 2021 -O -o "$copy/$program" "$here/$program.rs"
-done
-"$copy/generate" "$copy" 7
+rustc --edition 2021 -O -o "$copy/forward" "$here/forward.rs"
+build_workload
 cp "$here"/loop.* "$copy/"
 
 # serve NAME SESSION COMMAND..: one turn of the command at the script of the session.

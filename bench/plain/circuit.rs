@@ -107,6 +107,12 @@ impl Circuit {
         }
     }
 
+    /// How many signals there are.
+    #[allow(dead_code)]
+    pub fn signals(&self) -> usize {
+        self.drivers.len()
+    }
+
     pub fn signal(&self, name: &str) -> u32 {
         self.names[name]
     }

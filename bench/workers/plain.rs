@@ -9,8 +9,10 @@ mod circuit;
 mod gates;
 #[path = "../plain/store.rs"]
 mod store;
+#[path = "../plain/strand.rs"]
+mod strand;
 
-use circuit::{Circuit, Frame, Question, push_run};
+use circuit::{Circuit, Question};
 use gates::Value;
 use std::collections::{BTreeMap, VecDeque};
 use std::fmt::Write as _;
@@ -19,33 +21,15 @@ use std::sync::{Condvar, Mutex};
 use std::time::Instant;
 use std::{env, fs, thread};
 use store::Store;
+use strand::{Next, Point, Strand};
 
 const CAPACITY: usize = 16_384;
-
-type Point = (u32, u32);
 
 enum Entry {
     Told { query: usize, point: Point, cell: circuit::Cell },
     Claimed { query: usize, point: Point },
     Filled { query: usize, point: Point, cell: circuit::Cell },
     Evicted { signal: u32, start: u32 },
-}
-
-/// A query being answered: the times of its window that are not heard yet, and the claimed points that it works on.
-struct Strand {
-    query: usize,
-    signal: u32,
-    time: u32,
-    to: u32,
-    left: u32,
-    frames: Vec<Frame>,
-    runs: Vec<(u32, Value)>,
-}
-
-enum Next {
-    Ask(Point),
-    Fill(Point),
-    Done,
 }
 
 struct Claim {
@@ -73,36 +57,6 @@ struct Shared<'a> {
     board: Mutex<Board>,
     moved: Condvar,
     ready: Mutex<VecDeque<Strand>>,
-}
-
-impl Strand {
-    /// Hears what needs no evaluation, and says what is next.
-    fn next_step(&mut self, circuit: &Circuit) -> Next {
-        loop {
-            let point = match self.frames.last() {
-                Some(frame) => match frame.next_pin(circuit) {
-                    Some(pin) => (pin, frame.time - 1),
-                    None => return Next::Fill((frame.signal, frame.time)),
-                },
-                None if self.time < self.to => (self.signal, self.time),
-                None => return Next::Done,
-            };
-            match circuit.base(point.0, point.1) {
-                Some(cell) => self.hear(circuit, cell),
-                None => return Next::Ask(point),
-            }
-        }
-    }
-
-    fn hear(&mut self, circuit: &Circuit, cell: circuit::Cell) {
-        match self.frames.last_mut() {
-            Some(frame) => frame.hear(circuit, cell),
-            None => {
-                push_run(&mut self.runs, self.time, cell.value);
-                self.time = cell.end;
-            }
-        }
-    }
 }
 
 impl Shared<'_> {
@@ -246,16 +200,8 @@ fn main() -> io::Result<()> {
             counts: vec![0; questions.len()],
         })
     };
-    let strand = |(query, question): (usize, &Question)| Strand {
-        query,
-        signal: circuit.signal(&question.name),
-        time: question.from,
-        to: question.to,
-        left: question.budget,
-        frames: Vec::new(),
-        runs: Vec::new(),
-    };
-    let strands: VecDeque<Strand> = questions.iter().enumerate().map(strand).collect();
+    let strands: VecDeque<Strand> =
+        questions.iter().enumerate().map(|(query, question)| Strand::new(query, question, &circuit)).collect();
     let shared = Shared {
         circuit: &circuit,
         shards: (0..shards).map(|_| shard()).collect(),

@@ -15,12 +15,7 @@ here=$(cd "$(dirname "$0")" && pwd)
 begin "$here"
 own=$("$top/tools/program" backsim)
 shards=${SHARDS:-8}
-rustc --edition 2021 -O -o "$copy/generate" "$here/../demand/generate.rs"
-"$copy/generate" "$copy" 7
-for i in $(seq 0 15); do
-    echo "wave g99_$((125 * i)) 90000 90100 62500"
-done >"$copy/apart.script"
-: >"$copy/empty.script"
+build_workload
 
 plain() { "$copy/plain" "$copy/workload.bench" "$copy/workload.stim" "$copy/journal" "$1" "$shards"; }
 backsim() { "$own" "$copy"/workload.{bench,timing,stim} "$copy/journal" --workers "$1" --shards "$shards"; }
