@@ -18,7 +18,7 @@ from __future__ import annotations
 
 import random
 import sys
-from collections.abc import Callable, Iterable
+from collections.abc import Callable, Iterable, Sequence
 from pathlib import Path
 
 SEED = 58
@@ -49,21 +49,26 @@ class Netlist:
         return self.gate("XOR", half, carry), self.gate("OR", both, self.gate("AND", half, carry))
 
 
+def total(made: Netlist, left: Sequence[str], right: Sequence[str] = ()) -> list[str]:
+    """The bits of a sum of two numbers, the left one not shorter."""
+    found: list[str] = []
+    carry = None
+    for place, one in enumerate(left):
+        if place < len(right):
+            one, carry = made.add(one, right[place], carry)
+        elif carry is not None:
+            one, carry = made.add(one, carry, None)
+        found.append(one)
+    return found + ([carry] if carry is not None else [])
+
+
 def product(made: Netlist, left: list[str], right: list[str]) -> list[str]:
     """The bits of a product: a row of adders for each bit of the right number."""
     found: list[str] = []
     row: list[str] = []
     for one in right:
-        terms = [made.gate("AND", other, one) for other in left]
-        sums, carry = [], None
-        for place, term in enumerate(terms):
-            if place < len(row):
-                term, carry = made.add(term, row[place], carry)
-            elif carry is not None:
-                term, carry = made.add(term, carry, None)
-            sums.append(term)
-        found.append(sums[0])
-        row = sums[1:] + ([carry] if carry is not None else [])
+        lowest, *row = total(made, [made.gate("AND", other, one) for other in left], row)
+        found.append(lowest)
     return found + row
 
 
@@ -108,20 +113,6 @@ def filter_of(taps: int, bits: int) -> list[str]:
         terms = [total(made, *terms[place:place + 2]) for place in range(0, len(terms), 2)]
     outputs = kept("y", terms[0])
     return ports("INPUT", inputs) + ports("OUTPUT", outputs) + made.lines + flops
-
-
-def total(made: Netlist, left: list[str], right: list[str] | None = None) -> list[str]:
-    """The bits of a sum of two numbers, the left one not shorter; the left one alone where there is no other."""
-    if right is None:
-        return left
-    found, carry = [], None
-    for place, one in enumerate(left):
-        if place < len(right):
-            one, carry = made.add(one, right[place], carry)
-        elif carry is not None:
-            one, carry = made.add(one, carry, None)
-        found.append(one)
-    return found + ([carry] if carry is not None else [])
 
 
 def drawn(gates: int, inputs: int, outputs: int, flops: int) -> list[str]:

@@ -25,8 +25,12 @@ from typing import Any
 TOP = Path(__file__).resolve().parents[2]
 sys.path[:0] = [str(TOP / "python"), str(TOP / "python" / "tests"), str(TOP / "bench" / "icarus")]
 
+import browser as driver  # noqa: E402
 import generate  # noqa: E402
 from browser import Browser, browser_path  # noqa: E402
+
+# other work may leave the browser without a processor for a minute and more
+driver.PATIENCE = 600.0
 
 HORIZON, ROWS, WINDOW = 100_000, 10, 200
 # acts, and waits until all is drawn that was asked; gives the milliseconds

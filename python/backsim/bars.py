@@ -11,15 +11,18 @@ from typing import Any
 
 _PERIOD = 0.3
 _SECONDS_OF_LINES = 10.0
+# tqdm's bar without the time left that it takes from what is done so far
+_FORMAT = "{l_bar}{bar}| {n_fmt}/{total_fmt}{unit} [{elapsed}{postfix}]"
 
 
 class Bar:
-    """A context manager. `add` counts what is done; `evaluations`, where it is given, is asked from time to time and shown. Where
-    standard error is no terminal nothing is shown, or with `has_lines` a line every ten seconds; where tqdm is not there, a line says
-    so."""
+    """A context manager. `add` counts what is done; `evaluations`, where it is given, is asked from time to time and shown. `left` says the
+    time left in words; where it is not given, all is taken to go on as fast as so far. Where standard error is no terminal nothing is
+    shown, or with `has_lines` a line every ten seconds; where tqdm is not there, a line says so."""
 
-    def __init__(self, total: int, what: str, evaluations: Callable[[], int] | None = None, *, has_lines: bool = False) -> None:
-        self._total, self._what, self._evaluations = total, what, evaluations
+    def __init__(self, total: int, what: str, evaluations: Callable[[], int] | None = None, *, left: Callable[[], str] | None = None,
+                 has_lines: bool = False) -> None:
+        self._total, self._what, self._evaluations, self._left = total, what, evaluations, left
         self._has_lines = has_lines
         self._begun = time.monotonic()
         self._bar: Any = None
@@ -34,7 +37,8 @@ class Bar:
             except ImportError:
                 print("no bar: tqdm is not there (Debian's package python3-tqdm, or the extra bars)", file=sys.stderr)
             else:
-                self._bar = tqdm(total=self._total, unit=f" {self._what}", file=sys.stderr, dynamic_ncols=True)
+                own = {"bar_format": _FORMAT} if self._left else {}
+                self._bar = tqdm(total=self._total, unit=f" {self._what}", file=sys.stderr, dynamic_ncols=True, **own)
                 self._thread.start()
         elif self._has_lines and sys.stderr is not None:
             self._thread = threading.Thread(target=self._tell, daemon=True)
@@ -60,11 +64,13 @@ class Bar:
     def _tell(self) -> None:
         while not self._ends.wait(_SECONDS_OF_LINES):
             taken = time.monotonic() - self._begun
-            left = f", some {taken * (self._total - self._done) / self._done:.0f} s left" if self._done else ""
-            print(f"{self._done} of {self._total} {self._what}, {taken:.0f} s{left}", file=sys.stderr, flush=True)
+            left = self._left() if self._left else f"some {taken * (self._total - self._done) / self._done:.0f} s left" if self._done else ""
+            print(", ".join(filter(None, (f"{self._done} of {self._total} {self._what}", f"{taken:.0f} s", left))), file=sys.stderr, flush=True)
 
     def _show(self) -> None:
         if self._evaluations is not None:
             self._bar.set_postfix(evaluations=self._evaluations(), refresh=False)
+        if self._left is not None:
+            self._bar.set_postfix_str(self._left(), refresh=False)
         self._bar.update(self._done - self._bar.n)
         self._bar.refresh()

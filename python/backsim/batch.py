@@ -97,7 +97,7 @@ class Batch:
         return self._add(questions.at(self._session.bits, name, self._session.time(time), budget))
 
     def first(self, name: str, value: str | int, start: Moment, stop: Moment, budget: int | None = None) -> Pending[First]:
-        """As `Session.first`."""
+        """As `Session.first`; of a bus by the waves of its bits in the whole window, since a batch asks without looking at answers."""
         return self._add(questions.first(self._session.bits, name, value, self._session.time(start), self._session.time(stop), budget))
 
     def why(self, name: str, time: Moment, budget: int | None = None) -> Pending[Proof]:

@@ -14,6 +14,8 @@ from .values import Wave
 _BUS = re.compile(r"(.+)\[([0-9]{1,6}):([0-9]{1,6})\]")
 _PLACE = re.compile(r"[0-9]{1,6}\]")
 MOST_BITS = 4096
+_LITERAL = re.compile(r"[0-9]*'([bdh])([0-9a-f]+)")
+_BASES = {"b": 2, "d": 10, "h": 16}
 
 
 def bits_of(name: str) -> tuple[str, ...]:
@@ -28,6 +30,23 @@ def bits_of(name: str) -> tuple[str, ...]:
     if len(places) > MOST_BITS:
         raise UsageError(f"{name} has {len(places)} bits, more than {MOST_BITS}")
     return tuple(f"{parts[1]}[{place}]" for place in places)
+
+
+def written_number(text: str) -> int | None:
+    """The number that a person wrote: in decimal, in hexadecimal (`0x1f`, `1fh`), in binary (`0b101`), or as Verilog has it (`5'h1f`);
+    None where it is none."""
+    word = text.strip().lower().replace("_", "")
+    literal = _LITERAL.fullmatch(word)
+    if literal is not None:
+        base, digits = _BASES[literal[1]], literal[2]
+    elif word.endswith("h"):
+        base, digits = 16, word[:-1]
+    else:
+        base, digits = 10 if word.isdigit() else 0, word
+    try:
+        return int(digits, base)
+    except ValueError:
+        return None
 
 
 def full_name(name: str, names: Collection[str]) -> str:

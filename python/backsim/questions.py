@@ -1,7 +1,7 @@
 """What a question asks: the lines of a script that it takes, and how its answer is made of theirs. A bus takes a line for each bit."""
 from __future__ import annotations
 
-from collections.abc import Callable, Sequence
+from collections.abc import Callable, Generator, Sequence
 from functools import lru_cache
 from typing import Any, Generic, TypeVar
 
@@ -56,12 +56,44 @@ def at(bits_of: Bits, name: str, time: int, budget: int | None) -> Question[At]:
     return Question(lines, lambda answers: At(name, time, "".join(each.value for each in answers)))
 
 
-def first(bits_of: Bits, name: str, value: str | int, start: int, stop: int, budget: int | None) -> Question[First]:
-    """Asks for the first time at which the name has the value; of a bus by the waves of its bits."""
-    bits, (start, stop), budget = _checked(bits_of, name, (start, stop), budget)
+def word_of(bits: Sequence[object], name: str, value: str | int) -> str:
+    """The value of a signal or bus, a letter for each of its bits. UsageError where it is none."""
     word = str(value).lower()
     if len(word) != len(bits) or word.strip("01xz"):
         raise UsageError(f"{value!r} is no value of {name}: {len(bits)} of the letters 0, 1, x and z are wanted")
+    return word
+
+
+def first_of_all(bits: Sequence[str], word: str, start: int, stop: int, budget: int | None) -> Generator[FirstLine, int | None, int | None]:
+    """Finds the first time of a window at which each bit has its value, by questions for one bit after another, each from the time on to
+    which the one before it led. So a bit is evaluated up to its answer alone, and not where another has led past. Is sent the time that
+    answers a question, or None; gives the time, or None."""
+    agreed = place = 0
+    while agreed < len(bits):
+        time = yield FirstLine(bits[place], word[place], start, stop, budget)
+        if time is None:
+            return None
+        agreed = agreed + 1 if time == start else 1
+        start, place = time, (place + 1) % len(bits)
+    return start
+
+
+def first_of_any(bits: Sequence[str], value: str, start: int, stop: int, budget: int | None) -> Generator[FirstLine, int | None, int | None]:
+    """Finds the first time of a window at which a bit at least has the value, as `first_of_all`; what comes after an answer is not asked."""
+    found = None
+    for bit in bits:
+        time = yield FirstLine(bit, value, start, stop, budget)
+        if time is not None:
+            found = stop = time
+        if time == start:
+            break
+    return found
+
+
+def first(bits_of: Bits, name: str, value: str | int, start: int, stop: int, budget: int | None) -> Question[First]:
+    """Asks for the first time at which the name has the value; of a bus by the waves of its bits."""
+    bits, (start, stop), budget = _checked(bits_of, name, (start, stop), budget)
+    word = word_of(bits, name, value)
     if bits == (name,):
         return Question((FirstLine(name, word, start, stop, budget),), _only)
 

@@ -40,6 +40,8 @@ if TYPE_CHECKING:
 T = TypeVar("T")
 _NEAREST = 3
 _MOST_TRIES = 8
+# questions for the bits of a bus, one after another, that cost less than the waves of all bits in a window of some length
+_MOST_STEPS = 256
 
 
 class Session:
@@ -161,8 +163,27 @@ class Session:
     def first(self, name: str, value: str | int, start: Moment, stop: Moment,
               budget: int | None = None) -> First | Unknown | Past | Budget:
         """The first time of a window at which the signal has the value, 0, 1, x or z; `First.time` is None where there is none. Of a
-        bus the value is a word, and the waves of its bits are evaluated in the whole window."""
-        return self._answer(questions.first(self.bits, name, value, self.time(start), self.time(stop), budget))
+        bus the value is a word. Its bits are asked one after another, each from where the one before it has its value, within the budget;
+        where many such questions have not led to it, the waves of all bits are asked in what is left of the window."""
+        start, stop = self.time(start), self.time(stop)
+        question = questions.first(self.bits, name, value, start, stop, budget)
+        if len(question.lines) == 1:
+            return self._answer(question)
+        word, begin = questions.word_of(question.lines, name, value), start
+        steps = questions.first_of_all(self.bits(name), word, start, stop, budget)
+        line = next(steps)
+        for _ in range(_MOST_STEPS):
+            answer, = self.ask((line,))
+            if not isinstance(answer, First):
+                assert isinstance(answer, (Unknown, Past, Budget))
+                return answer
+            begin = begin if answer.time is None else answer.time
+            try:
+                line = steps.send(answer.time)
+            except StopIteration as found:
+                return First(name, word, start, stop, found.value)
+        left = self._answer(questions.first(self.bits, name, value, begin, stop, budget))
+        return First(name, word, start, stop, left.time) if isinstance(left, First) else left
 
     def why(self, name: str, time: Moment, budget: int | None = None) -> Proof | Unknown | Past | Budget:
         """Why the signal has the value that it has at the time. UsageError of a bus."""

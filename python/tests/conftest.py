@@ -6,14 +6,16 @@ import shutil
 import signal
 import subprocess
 import sys
-from collections.abc import Callable
+from collections.abc import Callable, Iterator
 from pathlib import Path
 
 import pytest
+from browser import Browser, browser_path
 
 TOP = Path(__file__).resolve().parents[2]
-# a shell that starts the tests in the background has them ignore Ctrl-C, and so would what they start
+# a shell that starts the tests in the background has them ignore Ctrl-C, nohup that the terminal goes, and so would what they start
 signal.signal(signal.SIGINT, signal.default_int_handler)
+signal.signal(signal.SIGHUP, signal.SIG_DFL)
 
 
 def _program(name: str) -> str | None:
@@ -23,6 +25,17 @@ def _program(name: str) -> str | None:
         return shutil.which(named)
     found = subprocess.run([TOP / "tools" / "program", "--there", name], stdout=subprocess.PIPE, text=True).stdout.strip()
     return found or None
+
+
+def read_all(terminal: int) -> bytes:
+    """What was written to a terminal that nobody has open any more. It may come in parts; after the last one reading fails."""
+    told = b""
+    try:
+        while part := os.read(terminal, 100_000):
+            told += part
+    except OSError:
+        pass
+    return told
 
 
 @pytest.fixture(scope="session")
@@ -44,6 +57,17 @@ def checker(program: str) -> str:
     return found
 
 
+@pytest.fixture(scope="module")
+def browser() -> Iterator[Browser]:
+    """A page in a browser, for all tests of a file."""
+    path = browser_path()
+    if path is None:
+        pytest.skip("no Chromium is installed (Debian's package chromium), and BROWSER_FOR_TESTS does not name one")
+    opened = Browser(path)
+    yield opened
+    opened.close()
+
+
 @pytest.fixture
 def example() -> Callable[[str], list[str]]:
     """The netlist, timing and stimulus of an example of the repository."""
@@ -57,11 +81,11 @@ def example() -> Callable[[str], list[str]]:
 
 @pytest.fixture
 def tools() -> Callable[..., subprocess.CompletedProcess[bytes]]:
-    """Runs a command of backsim-tools in a process of its own."""
+    """Runs a command of backsim-tools in a process of its own. Ten minutes are for a machine with much other work."""
 
     def run(*words: object, **options: object) -> subprocess.CompletedProcess[bytes]:
         environment = os.environ | {"PYTHONPATH": str(TOP / "python")} | options.pop("env", {})
-        return subprocess.run([sys.executable, "-m", "backsim", *map(str, words)], env=environment, capture_output=True, timeout=120,
+        return subprocess.run([sys.executable, "-m", "backsim", *map(str, words)], env=environment, capture_output=True, timeout=600,
                               **({"stdin": subprocess.DEVNULL} | options if "input" not in options else options))
 
     return run

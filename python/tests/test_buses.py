@@ -2,7 +2,7 @@
 from __future__ import annotations
 
 import pytest
-from backsim.buses import full_name, signals_of
+from backsim.buses import full_name, signals_of, written_number
 from backsim.errors import UsageError
 from backsim.main import main
 
@@ -43,3 +43,9 @@ def test_draw_takes_a_bus_by_its_name(write, tmp_path, program, monkeypatch, cap
     assert "part.count[2:0]" in (tmp_path / "p.svg").read_text()
     assert main(["draw", *files, "gap", "-o", str(tmp_path / "q.svg")]) == 2
     assert capsys.readouterr().err == f"{files[0]}: the bus gap[2:0] has no bit gap[1]: name its bits, or a range that has all\n"
+
+
+@pytest.mark.parametrize("text, number", [("31", 31), ("0x1f", 31), ("1Fh", 31), ("0b1_1111", 31), ("5'h1f", 31), ("5'd31", 31), ("'b11111", 31), ("0031", 31),
+                                          ("5'b2", None), ("1f", None), ("h", None), ("", None)])
+def test_numbers_as_people_write_them(text: str, number: int) -> None:
+    assert written_number(text) == number

@@ -10,10 +10,12 @@ import subprocess
 import sys
 import time
 from pathlib import Path
+from types import ModuleType
 
 import pytest
 from backsim.commands import faults as faults_command
-from backsim.faults import confirming, portions
+from backsim.faults import confirming, late, portions
+from backsim.faults.forecast import Forecast
 from backsim.faults.plan import Plan
 from backsim.main import main
 from conftest import TOP
@@ -147,39 +149,60 @@ def test_portions_with_few_branches_say_the_same(patterns, monkeypatch, capsys, 
     assert sorted((tmp_path / "parts").read_text().splitlines()) == sorted((tmp_path / "whole").read_text().splitlines())
 
 
-def test_a_small_budget_leaves_late_faults_unconfirmed(tools, write, tmp_path, program) -> None:
+def test_a_budget_that_a_period_needs_confirms_late_faults_and_a_smaller_one_not(tools, write, tmp_path, program) -> None:
     circuit = made_up(1, 8, 60, 6, 8, exclusive=6)
     rest = circuit.longest() + 2
     draw = random.Random(2)
     words = [write("n", circuit.netlist()), write("t", circuit.timing(rest, 2 * rest + 2)),
              write("p", "".join("".join(draw.choice("01") for _ in range(8)) + "\n" for _ in range(60))), "--period", 2 * rest + 2]
     rows = {}
-    for budget in (500_000, 150):
+    for budget in (500_000, 150, 10):
         run = faults(tools, *words, "--budget", budget, "--csv", tmp_path / "table", program=program)
         rows[budget] = list(csv.DictReader((tmp_path / "table").open()))
         shown = {row["class"] for row in rows[budget] if row["time"]}
         not_confirmed = {row["class"] for row in rows[budget] if row["time"] and row["confirmed"] == "no"}
-        if budget == 500_000:
+        if budget > 10:
+            # a period takes at most an evaluation of each gate and each branch, which are fewer
             assert (run.returncode, run.stderr, not_confirmed) == (0, b"", set())
         else:
-            said = f"{len(not_confirmed)} that are shown are not confirmed by 150 evaluations each, so simulation alone says it (--budget)\n"
+            said = f"{len(not_confirmed)} that are shown are not confirmed by 10 evaluations each, so simulation alone says it (--budget)\n"
             assert (run.returncode, run.stderr.decode()) == (1, said)
             assert 0 < len(not_confirmed) < len(shown)
-    assert [row["time"] for row in rows[150]] == [row["time"] for row in rows[500_000]]
+    assert [row["time"] for row in rows[10]] == [row["time"] for row in rows[150]] == [row["time"] for row in rows[500_000]]
 
 
-@pytest.mark.parametrize("most", [0, 1])
-def test_after_budgets_in_turn_later_faults_are_not_asked(most: int, write, monkeypatch, capsys) -> None:
-    """With flip-flops nothing is asked once so many answers in turn were those of a budget; without them all is."""
+@pytest.mark.parametrize("ways, is_confirmed", [([], True), ([confirming], True), ([confirming, late], False)])
+def test_after_budgets_in_turn_later_faults_are_asked_otherwise_and_then_not(ways: list[ModuleType], is_confirmed: bool, write, monkeypatch, capsys) -> None:
+    """With flip-flops there are two ways to ask, and one is not gone on with once so many answers in turn were those of a budget. Either
+    confirms all alone. Without flip-flops all is asked."""
     monkeypatch.setenv("BACKSIM", STAND_IN)
-    monkeypatch.setattr(confirming, "_IN_VAIN", most)
+    for way in ways:
+        monkeypatch.setattr(way, "_IN_VAIN", 0)
     s27 = [f"{TOP}/examples/s27/s27.{kind}" for kind in ("bench", "timing")]
-    assert main(["faults", *s27, str(write("p", "0000\n1111\n0101\n1010\n")), "--period", "20"]) == (0 if most else 1)
+    assert main(["faults", *s27, str(write("p", "0000\n1111\n0101\n1010\n")), "--period", "20"]) == (0 if is_confirmed else 1)
     out, err = capsys.readouterr()
     confirmed, shown = re.findall(r"confirmed by the program: ([0-9]+) of ([0-9]+)", out)[0]
-    assert int(shown) > 5 and confirmed == (shown if most else "0")
-    assert (f"{shown} that are shown are not confirmed" in err) == (not most)
+    assert int(shown) > 5 and confirmed == (shown if is_confirmed else "0")
+    assert (f"{shown} that are shown are not confirmed" in err) == (not is_confirmed)
     assert main(["faults", *C17, str(write("q", "00101\n10111\n")), "--period", "10"]) == 0
+
+
+def test_the_time_left_is_that_of_the_last_questions_of_each_kind() -> None:
+    forecast = Forecast(jobs=2)
+    forecast.expect("single", 10)
+    forecast.expect("window", 8)
+    assert forecast.said() == ""
+    # half a second for each of the six that are left, by two sessions
+    forecast.took("single", 4, 2.0)
+    assert forecast.said() == "at least 2 s left"
+    # and 30 s for each of the six windows
+    forecast.took("window", 2, 60.0)
+    assert forecast.said() == "some 92 s left"
+    # one that is asked again in two parts; the kinds that are left take then 3 s, and six times 45 s or some more, since the first counts less
+    forecast.took("window", 0, 30.0)
+    assert 136 < float(forecast.said().split()[1]) < 145
+    forecast.expect("window", -6)
+    assert forecast.said() == "some 2 s left"
 
 
 def test_gates_in_a_cycle_are_asked_for_without_simulation(tools, write) -> None:
@@ -210,6 +233,12 @@ def long_work(write):
 def children_of(process: int) -> list[str]:
     found = subprocess.run(["ps", "-o", "pid=", "--ppid", str(process)], capture_output=True, text=True)
     return found.stdout.split()
+
+
+def ticks_of(process: int) -> int:
+    """The processor time that a process has had, in hundredths of a second."""
+    state = Path(f"/proc/{process}/stat").read_text().rpartition(")")[2].split()
+    return int(state[11]) + int(state[12])
 
 
 @pytest.mark.parametrize("number", [signal.SIGINT, signal.SIGTERM])
@@ -255,15 +284,17 @@ def test_an_interrupt_while_processes_simulate_leaves_what_is_known(number, writ
     # a process group of its own: a terminal sends what is typed to all processes of one
     running = subprocess.Popen([sys.executable, "-m", "backsim", "faults", *map(str, words)], env=environment, stdout=subprocess.PIPE,
                                stderr=subprocess.PIPE, text=True, start_new_session=True)
-    until = time.monotonic() + 120
+    until = time.monotonic() + 300
     children: list[str] = []
     while len(children) < 3:
         assert running.poll() is None and time.monotonic() < until, running.stderr.read()
         time.sleep(0.02)
         children = children_of(running.pid)
-    # parts of what is found come five times a second
-    time.sleep(3)
-    assert running.poll() is None
+    # what is found is taken by the process that was started, which has nothing else to do now
+    before = ticks_of(running.pid)
+    while ticks_of(running.pid) < before + 30:
+        assert running.poll() is None and time.monotonic() < until, "nothing is found"
+        time.sleep(0.02)
     os.killpg(running.pid, number)
     out, err = running.communicate(timeout=60)
     assert running.returncode == 130 and "Traceback" not in err

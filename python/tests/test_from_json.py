@@ -224,8 +224,10 @@ def test_names_that_can_not_be_had_are_refused(tmp_path, capsys) -> None:
     assert "no signal of a netlist may have the name y(1)" in capsys.readouterr().err
     assert written(gates, tmp_path, NAMES | {"v": {"bits": [2, 3], "attributes": {}}, "v[0]": {"bits": [3], "attributes": {}}}) == 2
     assert "two nets have the name v[0]" in capsys.readouterr().err
-    assert written(gates, tmp_path, NAMES, PORTS | {"z": {"direction": "inout", "bits": [9]}}) == 2
-    assert "the port z is inout" in capsys.readouterr().err
+    pads = NAMES | {"z": {"bits": [9], "attributes": {"src": "pad.v:2.9-2.11"}}}
+    assert written(gates, tmp_path, pads, PORTS | {"z": {"direction": "inout", "bits": [9]}}) == 2
+    said = capsys.readouterr().err
+    assert "the port z of pad.v:2.9-2.11 is inout" in said and "z_i, z_o and z_oe" in said and said.count("\n") == 1
 
 
 def test_what_nothing_drives_is_said(tmp_path, capsys) -> None:

@@ -14,7 +14,7 @@ from pathlib import Path
 import pytest
 from backsim import commands
 from backsim.streams import plain
-from conftest import TOP
+from conftest import TOP, read_all
 
 C17 = [str(TOP / "examples" / "c17" / f"c17.{kind}") for kind in ("bench", "timing", "stim")]
 C17_SCRIPT, C17_REPLIES, C17_PROOF, C17_JOURNAL = (str(TOP / "examples" / "c17" / f"c17.{kind}")
@@ -182,7 +182,7 @@ def test_no_control_character_reaches_a_terminal(write, tmp_path) -> None:
         main, terminal = pty.openpty()
         subprocess.run([sys.executable, "-m", "backsim", *words], cwd=TOP / "python", stdout=terminal, stderr=terminal)
         os.close(terminal)
-        said = os.read(main, 100_000)
+        said = read_all(main)
         os.close(main)
         assert b"\x1b" not in said and b"\\x1b[3" in said
 

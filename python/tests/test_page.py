@@ -2,7 +2,6 @@
 is, since G9 at 2 is, since G16 and G15 at 1 are, since G8 and G12 at 0 have not come through yet (docs/use/EXAMPLES.md, s27)."""
 from __future__ import annotations
 
-from collections.abc import Iterator
 from html.parser import HTMLParser
 
 import pytest
@@ -11,20 +10,10 @@ from backsim.explanations.cells import explain
 from backsim.explanations.explanation import Explanation
 from backsim.pictures.page import page_of
 from backsim.rules import read_design
-from browser import Browser, browser_path
+from browser import CONTRASTS, Browser
 
 X_PROOF = b"why G17 4 x\ncell 13 1 2 x\ncell 15 1 2 x\ncell 16 2 3 x\ncell 8 3 4 x\ncell 4 4 5 x\nend\n"
 CURRENT = "document.getElementById('cell').textContent"
-
-
-@pytest.fixture(scope="module")
-def browser() -> Iterator[Browser]:
-    path = browser_path()
-    if path is None:
-        pytest.skip("no Chromium is installed (Debian's package chromium), and BROWSER_FOR_TESTS does not name one")
-    opened = Browser(path)
-    yield opened
-    opened.close()
 
 
 @pytest.fixture
@@ -156,19 +145,6 @@ def test_a_laptop_shows_it_without_scrolling_sideways(browser, page) -> None:
     assert browser.value(f"{cut}.length") == 0
     assert browser.value("Math.min(...[...document.querySelectorAll('body *')].map((e) => parseFloat(getComputedStyle(e).fontSize)))") >= 12
     assert browser.picture().startswith(b"\x89PNG")
-
-
-# The contrast of each text with its ground, by the formula of the Web Content Accessibility Guidelines, which want 4.5 at least.
-CONTRASTS = """(() => {
-  const part = (v) => { v /= 255; return v <= 0.03928 ? v / 12.92 : ((v + 0.055) / 1.055) ** 2.4; };
-  const light = (c) => { const [r, g, b] = c.match(/[0-9.]+/g).map(Number); return 0.2126 * part(r) + 0.7152 * part(g) + 0.0722 * part(b); };
-  const ground = (e) => { for (; e; e = e.parentElement) { const c = getComputedStyle(e).backgroundColor; if (!/, 0\\)/.test(c)) return c; }
-    return "rgb(255, 255, 255)"; };
-  return [...document.querySelectorAll("body *")].filter((e) => [...e.childNodes].some((n) => n.nodeType === 3 && n.data.trim())
-    && e.checkVisibility() && !e.closest("svg, script")).map((e) => {
-    const [a, b] = [light(getComputedStyle(e).color), light(ground(e))].sort((x, y) => y - x);
-    return [(a + 0.05) / (b + 0.05), e.textContent]; });
-})()"""
 
 
 def test_texts_stand_out(browser, page) -> None:

@@ -14,7 +14,7 @@ import pytest
 from backsim.commands import run as run_command
 from backsim.main import main
 from backsim.parts import divide, text_lines, text_of, with_every_go
-from conftest import TOP
+from conftest import TOP, read_all
 
 STAND_IN = str(Path(__file__).with_name("stand_in.py"))
 # gets a reply of every kind but those of stats, trim and vcd lines
@@ -295,7 +295,7 @@ def test_a_bar_where_standard_error_is_a_terminal(example, write, tmp_path) -> N
     words = [sys.executable, "-m", "backsim", "run", *example("s27"), write("script", FEW), "--program", STAND_IN]
     run = subprocess.run(words, cwd=TOP / "python", stdout=subprocess.PIPE, stderr=terminal)
     os.close(terminal)
-    said = os.read(main, 100_000).decode()
+    said = read_all(main).decode()
     os.close(main)
     assert run.returncode == 0
     assert "17/17" in said and "evaluations=" in said

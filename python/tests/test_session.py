@@ -114,6 +114,8 @@ def test_buses_and_patterns(program: str) -> None:
         assert session.wave("count[0:1]", 3, 6).changes == ((3, "10"), (5, "01"))
         assert session.at("count[1:0]", 5) == At("count[1:0]", 5, "10")
         assert session.first("count[1:0]", "10", 0, 11).time == 5
+        assert session.first("count[1:0]", "xx", 1, 11).time == 8
+        assert session.first("count[1:0]", "11", 0, 11).time is None
         assert session.stuck("in", 1, "count[1:0]", 0, 3) == Stuck("in", "1", Wave("count[1:0]", 0, 3, ((0, "xx"), (1, "10"))))
         assert session.wave("count[2:0]", 0, 3) == Unknown("count[2]")
         assert session.names("u1.*") == ("u1.a", "u1.b")

@@ -5,6 +5,7 @@ from __future__ import annotations
 import json
 import os
 import random
+import re
 from collections.abc import Iterator
 from contextlib import closing
 from pathlib import Path
@@ -13,21 +14,10 @@ from xml.etree import ElementTree
 import pytest
 from backsim import Session
 from backsim.formats.vcd import read_vcd
-from browser import Browser, browser_path
-from test_page import CONTRASTS
-from view_page import ALT, CTRL, SHIFT, TOP, Oracle, Page, check_shown, viewed
+from browser import CONTRASTS, Browser
+from view_page import ALT, CTRL, SHIFT, TOP, Oracle, Page, check_shown, ring, viewed
 
 PROCESSOR = "from_verilog"
-
-
-@pytest.fixture(scope="module")
-def browser() -> Iterator[Browser]:
-    path = browser_path()
-    if path is None:
-        pytest.skip("no Chromium is installed (Debian's package chromium), and BROWSER_FOR_TESTS does not name one")
-    opened = Browser(path)
-    yield opened
-    opened.close()
 
 
 @pytest.fixture(scope="module")
@@ -208,6 +198,11 @@ def test_cursor_and_marker_tell_values_and_their_difference(page, session) -> No
     words = [session.at(name, at).value for name in page.names]
     assert [said[0], said[1]] == words[:2]
     assert int(said[8], 16) == int(words[8], 2)
+    # what the pointer is over is told, with the whole value
+    x, y = page.point(at + 0.5, 8)
+    page.browser.call("Input.dispatchMouseEvent", type="mouseMoved", x=x, y=y)
+    name, time, value = re.fullmatch(r"(.*) at ([0-9,]+): ([0-9a-f]+)", page.value("document.getElementById('stage').title")).groups()
+    assert (name, int(value, 16)) == ("meter[15:0]", int(session.at(name, int(time.replace(",", ""))).value, 2))
 
 
 def test_changes_and_values_are_searched(page, session) -> None:
@@ -221,7 +216,7 @@ def test_changes_and_values_are_searched(page, session) -> None:
     page.wait(f"backsim.model.cursor < {at}")
     assert page.cursor == max(time for time, _ in changes if time < at)
     page.press("v")
-    page.write("#value", "9")
+    page.write("#value", "16'd9")
     page.press("Enter")
     nine = next(time for time, word in changes if word == f"{9:016b}")
     page.wait(f"backsim.model.cursor === {nine}")
@@ -313,18 +308,7 @@ def test_activity_is_shown_where_changes_are_closer_than_pixels(browser, write, 
 
 
 def test_a_spent_budget_is_grey_with_a_button(browser, write, program) -> None:
-    """A ring of 30 registers behind 60 gates each takes some 2,000 evaluations a period: far more than a view may take at once."""
-    lines = ["INPUT(a)", "OUTPUT(r0)"]
-    for place in range(64):
-        before = f"r{place}"
-        for gate in range(60):
-            lines.append(f"g{place}_{gate} = XOR({before}, a)")
-            before = f"g{place}_{gate}"
-        lines.append(f"r{place} = DFF(g{(place + 1) % 64}_59)")
-    files = [write("deep.bench", "\n".join(lines) + "\n"),
-             write("deep.timing", "clock 100 100\n" + "".join(f"init r{place} {place % 2}\n" for place in range(64))),
-             write("deep.stim", "horizon 100000\n" + "".join(f"set a {time} {time // 100 % 2}\n" for time in range(0, 100000, 100)))]
-    with viewed(browser, program, files, "r0") as page:
+    with viewed(browser, program, ring(write), "r0") as page:
         page.press("f")
         page.settle()
         spent = [run for row in page.shown()["rows"] for run in row["good"] if "spent" in run]
@@ -480,6 +464,27 @@ def test_an_answer_that_is_given_up_takes_nothing_from_view(page, oracle) -> Non
     page.value("(backsim.model.show(0, 400), 0)")
     page.settle()
     page.value("(held.push({row: held.rows[0].row, start: 6000, stop: 6100, exact: true, runs: [[6000, '0']]}), held.end(), 0)")
+    page.settle()
+    assert check_shown(page, oracle) == 10
+
+
+# Loses the next answer to a request for waves, as where a connection breaks.
+LOSE = """(() => {
+  const fetched = window.fetch;
+  window.fetch = (path, options) => {
+    if (path !== 'waves') return fetched(path, options);
+    window.fetch = fetched;
+    window.isLost = true;
+    return Promise.reject(new TypeError('lost'));
+  };
+})()"""
+
+
+def test_an_answer_that_was_lost_is_asked_anew(page, oracle) -> None:
+    page.value(LOSE)
+    page.value("(backsim.model.show(6000, 400), 0)")
+    page.wait("window.isLost && document.getElementById('notice').hidden")
+    page.wait("backsim.inView.every((item) => backsim.link.track(2 * item.id).missing(6000, 6400, 1).length === 0)")
     page.settle()
     assert check_shown(page, oracle) == 10
 

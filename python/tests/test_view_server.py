@@ -6,6 +6,7 @@ import http.server
 import json
 import os
 import signal
+import socket
 import threading
 import time
 from collections.abc import Iterator
@@ -16,8 +17,8 @@ import pytest
 from backsim.view.store import Known, Span, shown
 from backsim.view.index import Index
 from array import array
-from browser import Browser, browser_path
-from view_page import served
+from browser import Browser
+from view_page import ring, served
 
 
 @pytest.fixture
@@ -104,14 +105,10 @@ class _Evil(http.server.BaseHTTPRequestHandler):
         """Nothing is logged."""
 
 
-def test_a_page_of_another_origin_gets_nothing(address: str) -> None:
-    path = browser_path()
-    if path is None:
-        pytest.skip("no Chromium is installed (Debian's package chromium), and BROWSER_FOR_TESTS does not name one")
+def test_a_page_of_another_origin_gets_nothing(address: str, browser: Browser) -> None:
     _Evil.address = address
     evil = http.server.ThreadingHTTPServer(("127.0.0.1", 0), _Evil)
     threading.Thread(target=evil.serve_forever, daemon=True).start()
-    browser = Browser(path)
     try:
         browser.visit(f"http://127.0.0.1:{evil.server_port}/")
         browser.wait("window.got !== undefined")
@@ -119,7 +116,6 @@ def test_a_page_of_another_origin_gets_nothing(address: str) -> None:
         # it did not load the files anew
         assert json.loads(asked(address, "state")[1])["loaded"] == 1
     finally:
-        browser.close()
         evil.shutdown()
         evil.server_close()
 
@@ -162,6 +158,40 @@ def test_a_request_that_comes_late_does_not_end_a_newer_one(address) -> None:
         return found
 
     assert [whole("late", number) for number in (1, 3, 2, 4)] == [True, True, False, True] and whole("other", 1)
+
+
+def test_the_last_of_many_connections_is_there_when_the_command_goes_on(files, program) -> None:
+    """A page gives a request up at each step of a scroll, and opens a further connection, also while the command gets no processor."""
+    with served(*files, "--program", program) as (process, address):
+        asked(address, "state")
+        process.send_signal(signal.SIGSTOP)
+        try:
+            opened = [socket.create_connection(("127.0.0.1", urlsplit(address).port or 0), timeout=10) for _ in range(100)]
+        finally:
+            process.send_signal(signal.SIGCONT)
+        for connection in opened:
+            connection.close()
+        assert asked(address, "state")[0] == 200
+
+
+def test_a_question_ends_where_who_asked_goes_away(write, program) -> None:
+    """No value is x, which takes 4,000,000 evaluations to be given up."""
+    def fills() -> int:
+        found: int = json.loads(asked(address, "state")[1])["fills"]
+        return found
+
+    with served(*ring(write), "r0", "--to", "2", "--program", program) as (_, address):
+        own = urlsplit(address)
+        body = json.dumps({"name": "r0", "time": 0, "forward": True, "value": "x"})
+        with socket.create_connection(("127.0.0.1", own.port or 0)) as connection:
+            connection.sendall(f"POST {own.path}search HTTP/1.1\r\nHost: {own.netloc}\r\nContent-Length: {len(body)}\r\n\r\n{body}".encode())
+            while fills() < 50_000:
+                time.sleep(0.01)
+        before = -1
+        while fills() > before:
+            before = fills()
+            time.sleep(1)
+        assert before < 2_000_000
 
 
 def test_bad_words_and_files_are_refused_in_a_line(tools, files, write) -> None:

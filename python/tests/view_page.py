@@ -5,7 +5,7 @@ import os
 import signal
 import subprocess
 import sys
-from collections.abc import Iterator, Sequence
+from collections.abc import Callable, Iterator, Sequence
 from contextlib import contextmanager
 from pathlib import Path
 from typing import Any
@@ -24,6 +24,20 @@ _SHOWN = """(() => {
   return {start, stop, step: m.span / backsim.frame.width, fault: m.fault, rows: backsim.inView.map((i) => ({name: i.name, good: runs(2 * i.id),
     faulty: m.fault ? runs(2 * i.id + 1) : null}))};
 })()"""
+
+
+def ring(write: Callable[[str, str], Path]) -> list[Path]:
+    """The files of a ring of 64 registers behind 60 gates each, whose value at a late time takes some 2,000 evaluations for each period before."""
+    lines = ["INPUT(a)", "OUTPUT(r0)"]
+    for place in range(64):
+        before = f"r{place}"
+        for gate in range(60):
+            lines.append(f"g{place}_{gate} = XOR({before}, a)")
+            before = f"g{place}_{gate}"
+        lines.append(f"r{place} = DFF(g{(place + 1) % 64}_59)")
+    return [write("deep.bench", "\n".join(lines) + "\n"),
+            write("deep.timing", "clock 100 100\n" + "".join(f"init r{place} {place % 2}\n" for place in range(64))),
+            write("deep.stim", "horizon 100000\n" + "".join(f"set a {time} {time // 100 % 2}\n" for time in range(0, 100000, 100)))]
 
 
 @contextmanager

@@ -8,8 +8,7 @@ from ..convert.output import add_output, say, whole_text
 from ..errors import UsageError, WordsError
 from ..faults.compacting import by_look, cover, together
 from ..faults.finding import CombinationalFinder
-from ..faults.model import Lines
-from ..faults.request import add_circuit, add_faults, add_jobs, add_looks, finder_for, read_looks, stuck_classes_of
+from ..faults.request import add_tested, finder_for, read_looks, stuck_classes_of
 from ..faults.stopping import stoppable
 
 HELP = "chooses of patterns as few as show the same stuck-at faults, of a circuit without flip-flops"
@@ -19,26 +18,19 @@ What the patterns show is simulated. `backsim-tools faults` with those that are 
 
 
 def add_arguments(parser: argparse.ArgumentParser) -> None:
-    add_circuit(parser)
-    add_looks(parser)
-    add_faults(parser)
-    add_jobs(parser)
+    add_tested(parser)
     add_output(parser, "the patterns that are left")
 
 
+@stoppable()
 def run(arguments: argparse.Namespace) -> int:
-    with stoppable():
-        return _run(arguments)
-
-
-def _run(arguments: argparse.Namespace) -> int:
     looks = read_looks(arguments)
     circuit, patterns = looks.circuit, looks.patterns
     if circuit.netlist.flops():
         raise UsageError(f"{arguments.netlist}: the circuit has flip-flops, so that what a pattern shows depends on those before it")
     if patterns is None or arguments.times:
         raise WordsError("patterns and the usual looks are wanted: no stimulus file, and no --times")
-    classes = stuck_classes_of(arguments, Lines(circuit.netlist))
+    classes = stuck_classes_of(arguments, looks.lines)
     finder = finder_for(arguments, looks, classes, 0)
     assert isinstance(finder, CombinationalFinder)
     with Bar(finder.total, "simulated", has_lines=True) as bar:

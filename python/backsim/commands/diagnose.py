@@ -13,7 +13,7 @@ from ..faults.diagnosis import Candidate, check, predict, rank, read_failures
 from ..faults.lists import text_of
 from ..faults.model import Lines
 from ..faults.plan import Plan
-from ..faults.request import add_circuit, add_faults, add_jobs, add_looks, asked_files, finder_for, jobs_of, read_looks, stuck_classes_of
+from ..faults.request import add_tested, asked_files, finder_for, jobs_of, read_looks, stuck_classes_of
 from ..faults.stopping import stoppable
 from ..formats.script import MOST_BUDGET
 
@@ -26,26 +26,17 @@ _MOST = 1000
 
 
 def add_arguments(parser: argparse.ArgumentParser) -> None:
-    add_circuit(parser)
-    add_looks(parser)
+    add_tested(parser)
     parser.add_argument("failures", type=Path, metavar="FAILURES", help="the outputs that failed, a line for each time or pattern")
     parser.add_argument("--by-pattern", action="store_true", help="a line of FAILURES begins with a pattern's number, not with a time")
     parser.add_argument("--most", type=count_of(1, _MOST), default=10, metavar="N", help="tells so many faults, 10 where it is left out")
-    add_faults(parser)
-    add_jobs(parser)
     add_program(parser)
 
 
+@stoppable()
 def run(arguments: argparse.Namespace) -> int:
-    with stoppable():
-        return _run(arguments)
-
-
-def _run(arguments: argparse.Namespace) -> int:
     looks = read_looks(arguments)
-    lines = Lines(looks.circuit.netlist)
-    classes = stuck_classes_of(arguments, lines)
-    plan = Plan.of(looks.circuit, classes, looks.times, MOST_BUDGET)
+    plan = Plan.of(looks.circuit, stuck_classes_of(arguments, looks.lines), looks.times, MOST_BUDGET)
     failures = read_failures(arguments.failures, plan, arguments.by_pattern)
     finder = finder_for(arguments, looks, plan.classes, 0)
     with Bar(finder.total, "simulated", has_lines=True) as bar:
@@ -60,7 +51,7 @@ def _run(arguments: argparse.Namespace) -> int:
     with asked_files(arguments, looks, plan.made) as files, Crew(files, min(jobs_of(arguments), len(best)), arguments.program) as crew:
         crew.share(best, lambda asker, one: check(plan, one, failures, asker.ask))
     for place, one in enumerate(best, 1):
-        print(f"{place}. {_line(one, total, lines)}")
+        print(f"{place}. {_line(one, total, looks.lines)}")
     if len(candidates) > len(best):
         say(f"and {len(candidates) - len(best)} more that explain a failure (--most)")
     return 0 if best[0].errors == 0 else 1

@@ -17,11 +17,12 @@ from ..faults.confirming import confirm
 from ..faults.coverage import Coverage
 from ..faults.dictionary import Dictionary
 from ..faults.finding import Finder, finder_of
+from ..faults.forecast import Forecast
 from ..faults.lists import write_faults
-from ..faults.model import Lines, weights
+from ..faults.model import weights
 from ..faults.plan import Outcome, Plan
 from ..faults.proving import Kept, prove_left
-from ..faults.request import Looks, add_circuit, add_faults, add_jobs, add_looks, asked_files, classes_of, jobs_of, read_looks
+from ..faults.request import Looks, add_tested, asked_files, classes_of, jobs_of, read_looks
 from ..faults.sequential import Detection
 from ..faults.stopping import stoppable
 from ..formats.script import MOST_BUDGET
@@ -39,16 +40,13 @@ _MOST_DROP = 1000
 
 
 def add_arguments(parser: argparse.ArgumentParser) -> None:
-    add_circuit(parser)
-    add_looks(parser)
-    add_faults(parser)
+    add_tested(parser)
     parser.add_argument("--transition", action="store_true", help="faults of lines that are slow to rise or to fall, `NAME /str` and `NAME /stf`, "
                         "in place of stuck ones; of circuits without flip-flops")
     parser.add_argument("--drop", type=count_of(1, _MOST_DROP), metavar="N", help="follows a fault until N times have shown it, 1 where "
                         "it is left out, and counts the faults that N times show")
     parser.add_argument("--budget", type=count_of(0, MOST_BUDGET), default=MOST_BUDGET, metavar="N",
                         help=f"evaluations for a question, {MOST_BUDGET} where it is left out")
-    add_jobs(parser)
     add_program(parser)
     parser.add_argument("--prove-left", type=Path, metavar="FILE", help="asks the program also for the faults that simulation does not show; FILE "
                         "keeps what came of each, and where it is there already the work goes on behind it")
@@ -66,18 +64,13 @@ def add_arguments(parser: argparse.ArgumentParser) -> None:
                         "in place of asking")
 
 
+@stoppable()
 def run(arguments: argparse.Namespace) -> int:
-    with stoppable():
-        return _run(arguments)
-
-
-def _run(arguments: argparse.Namespace) -> int:
     looks = read_looks(arguments)
-    lines = Lines(looks.circuit.netlist)
-    classes = classes_of(arguments, lines, arguments.transition)
+    classes = classes_of(arguments, looks.lines, arguments.transition)
     if arguments.write_list:
         with whole_text(arguments.write_list) as stream:
-            write_faults((own.shown_as for own in classes), lines, stream)
+            write_faults((own.shown_as for own in classes), looks.lines, stream)
         return 0
     if not looks.circuit.netlist.outputs:
         raise UsageError(f"{arguments.netlist}: the netlist has no OUTPUT, so nothing shows a fault")
@@ -89,8 +82,8 @@ def _run(arguments: argparse.Namespace) -> int:
         return 0
     if arguments.read:
         good, outcomes = read_bundle(plan, arguments.read)
-        return _tell(arguments, Coverage(plan, lines, outcomes, is_simulated=False), good.unanswered)
-    search = _Search(arguments, looks, lines, plan)
+        return _tell(arguments, Coverage(plan, looks.lines, outcomes, is_simulated=False), good.unanswered)
+    search = _Search(arguments, looks, plan)
     is_partial = False
     try:
         search.run()
@@ -108,10 +101,10 @@ def _run(arguments: argparse.Namespace) -> int:
 class _Search:
     """Finds, confirms and, where it is wanted, proves; `coverage` is what is known so far."""
 
-    def __init__(self, arguments: argparse.Namespace, looks: Looks, lines: Lines, plan: Plan) -> None:
-        self._arguments, self._looks, self._lines, self._plan = arguments, looks, lines, plan
+    def __init__(self, arguments: argparse.Namespace, looks: Looks, plan: Plan) -> None:
+        self._arguments, self._looks, self._plan = arguments, looks, plan
         self._jobs = jobs_of(arguments)
-        self._kept = Kept(arguments.prove_left, plan, lines) if arguments.prove_left else None
+        self._kept = Kept(arguments.prove_left, plan, looks.lines) if arguments.prove_left else None
         self._outcomes = {own: Outcome() for own in plan.classes}
         self._weights = weights(looks.circuit.netlist)
         self._is_simulated = True
@@ -120,7 +113,7 @@ class _Search:
         self.unconfirmed = 0
 
     def coverage(self) -> Coverage:
-        return Coverage(self._plan, self._lines, self._outcomes, self._arguments.drop or 1, self._is_simulated)
+        return Coverage(self._plan, self._looks.lines, self._outcomes, self._arguments.drop or 1, self._is_simulated)
 
     def run(self) -> None:
         finder = self._finder()
@@ -161,8 +154,9 @@ class _Search:
 
     def _confirm(self, files: Sequence[type_of_path]) -> None:
         count = sum(outcome.is_shown for outcome in self._outcomes.values())
-        with Bar(count, "confirmed", has_lines=True) as bar:
-            others = confirm(self._plan, self._outcomes, files, self._jobs, self._arguments.program, bar.add)
+        forecast = Forecast(self._jobs)
+        with Bar(count, "confirmed", left=forecast.said, has_lines=True) as bar:
+            others = confirm(self._plan, self._outcomes, files, self._jobs, forecast, self._arguments.program, bar.add)
         self.unconfirmed = len(others.unanswered)
         if others.differing:
             say(f"the program does not confirm {len(others.differing)} of {count}; each of these is asked for at all times")
@@ -173,14 +167,16 @@ class _Search:
         self._is_simulated = len(classes) < len(self._outcomes)
         for own in classes:
             self._outcomes[own] = Outcome()
-        with Bar(len(classes) * len(self._plan.times), "asked", has_lines=True) as bar:
-            good = solve_all(self._plan, files, self._jobs, self._outcomes.__setitem__, classes, self._arguments.program, bar.add)
+        forecast = Forecast(self._jobs)
+        with Bar(len(classes) * len(self._plan.times), "asked", left=forecast.said, has_lines=True) as bar:
+            good = solve_all(self._plan, files, self._jobs, self._outcomes.__setitem__, classes, forecast, self._arguments.program, bar.add)
         self.unanswered = good.unanswered
 
     def _prove(self, kept: Kept, files: Sequence[type_of_path]) -> None:
         left = [own for own, outcome in self._outcomes.items() if not outcome.is_shown and not outcome.is_confirmed]
-        with Bar(len(left) * len(self._plan.times), "asked", has_lines=True) as bar:
-            prove_left(self._plan, self._outcomes, left, kept, files, self._jobs, self._arguments.program, bar.add)
+        forecast = Forecast(self._jobs)
+        with Bar(len(left) * len(self._plan.times), "asked", left=forecast.said, has_lines=True) as bar:
+            prove_left(self._plan, self._outcomes, left, kept, files, self._jobs, forecast, self._arguments.program, bar.add)
         shown = sum(self._outcomes[own].is_shown for own in left)
         if shown:
             say(f"the program shows {shown} that simulation does not")

@@ -45,12 +45,8 @@ def add_arguments(parser: argparse.ArgumentParser) -> None:
     add_output(parser, "the patterns")
 
 
+@stoppable()
 def run(arguments: argparse.Namespace) -> int:
-    with stoppable():
-        return _run(arguments)
-
-
-def _run(arguments: argparse.Namespace) -> int:
     netlist = read_netlist(arguments.netlist)
     circuit = Circuit(netlist, read_timing(arguments.timing, netlist), Stimulus(0))
     take_period(arguments, circuit.timing)

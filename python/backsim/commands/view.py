@@ -81,7 +81,7 @@ def _pages(arguments: argparse.Namespace, files: tuple[str, str, str], document:
     options = {"workers": arguments.workers, "shards": arguments.shards or SHARDS, "cells": arguments.cells, "program": arguments.program}
     asker = Asker(Opening(files, options))
     try:
-        index = Index(files[0])
+        index = Index(files[0], asker.is_busy)
         if document is None:
             document = _document(arguments, index, asker.horizon)
         pages = Pages(asker, index, files, document, arguments.port)

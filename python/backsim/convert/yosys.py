@@ -134,7 +134,7 @@ class _Reader:
         own = _table(self.module.path, modules, self.module.name)
         ports, cells, nets = (_table(self.module.path, own, key) for key in ("ports", "cells", "netnames"))
         for name, port in ports.items():
-            self.port(name, port)
+            self.port(name, port, nets.get(name))
         for name, net in nets.items():
             self.module.nets.append(self.net(name, net, name in ports))
         for name, cell in cells.items():
@@ -152,10 +152,13 @@ class _Reader:
             raise self.module.fault(f"this is no JSON that Yosys's write_json makes: {where} has no object `{key}`")
         return value
 
-    def port(self, name: str, port: object) -> None:
+    def port(self, name: str, port: object, net: object) -> None:
         direction = port.get("direction") if isinstance(port, dict) else None
         if not isinstance(port, dict) or direction not in ("input", "output"):
-            raise self.module.fault(f"the port {name} is {direction}, and a netlist has inputs and outputs alone")
+            place = "".join(f" of {place}" for place in _source(self.table(f"the net {name}", net, "attributes"))[:1]) if net else ""
+            hint = (f": in the source make it three, what is read, what is driven and when, as {name}_i, {name}_o and {name}_oe for "
+                    f"assign {name} = {name}_oe ? {name}_o : 1'bz") if direction == "inout" else ""
+            raise self.module.fault(f"the port {name}{place} is {direction}, and a netlist has inputs and outputs alone{hint}")
         bits = self.bits(f"the port {name}", port.get("bits"))
         net = Net(name, bits, True, offset=_number(port.get("offset")), is_upward=bool(port.get("upto")))
         (self.module.inputs if direction == "input" else self.module.outputs).update(zip(net.names(), bits))

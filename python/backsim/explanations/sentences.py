@@ -32,16 +32,33 @@ def text_of(explanation: Explanation, chains: int = USUAL_CHAINS, has_all: bool 
 def summary_of(explanation: Explanation) -> list[str]:
     """The value and its causes, a line each."""
     lines = [f"{explanation.name} is {word_text(explanation.value)} at {explanation.time:,}"]
-    causes = explanation.causes
-    for cause in causes[:MOST_CAUSES]:
-        lines.append(f"{_letter(explanation)}: {sentence_of(explanation, cause)}")
+    causes = _merged(explanation.causes)
+    for cause, *others in causes[:MOST_CAUSES]:
+        lines.append(f"{_letter(explanation)}: {_set_often((cause, *others)) if others else sentence_of(explanation, cause)}")
         alone = alone_sentence(explanation, cause)
         if alone:
             lines.append(f"   {alone}")
     if len(causes) > MOST_CAUSES:
         rest = causes[MOST_CAUSES:]
-        lines.append(f"   and {len(rest):,} more causes: {in_short([name for cause in rest for name in cause.names])}")
+        lines.append(f"   and {len(rest):,} more causes: {in_short([name for each in rest for cause in each for name in cause.names])}")
     return lines
+
+
+def _merged(causes: Sequence[Cause]) -> list[list[Cause]]:
+    """The causes, those together that are settings of one input at several times of which none decides alone."""
+    found: dict[object, list[Cause]] = {}
+    for place, cause in enumerate(causes):
+        is_setting = cause.kind is CauseKind.INPUT and len(cause.names) == 1 and not cause.alone
+        found.setdefault(cause.names[0] if is_setting else place, []).append(cause)
+    return list(found.values())
+
+
+def _set_often(causes: Sequence[Cause]) -> str:
+    """Settings of one input at several times."""
+    settings = sorted((cause.times[0][0], cause.values[0]) for cause in causes)
+    if len(settings) > 2:
+        return f"input {causes[0].names[0]}, set at {len(settings):,} times from {settings[0][0]:,} to {settings[-1][0]:,}"
+    return f"input {causes[0].names[0]}, set " + " and ".join(f"to {value} at {max(time, 0):,}" for time, value in settings)
 
 
 def _lines(explanation: Explanation, chains: int, has_all: bool, has_gates: bool) -> Iterator[str]:

@@ -5,6 +5,7 @@ budget is asked again for each half of its times."""
 from __future__ import annotations
 
 import os
+import time
 from collections import deque
 from collections.abc import Callable, Iterable, Sequence
 from concurrent.futures import FIRST_EXCEPTION, Future, ThreadPoolExecutor, wait
@@ -19,6 +20,7 @@ from ..outcomes import SessionError
 from ..program import Conversation, Options, interrupt_held, looked_up
 from ..values import Answer, At, Budget
 from .collapse import FaultClass
+from .forecast import Forecast
 from .plan import Good, Outcome, Plan
 from .portions import Portion, portions_of
 
@@ -111,17 +113,18 @@ class Asker:
             self._conversation = None
 
 
-def solve(plan: Plan, own: FaultClass, good: Good, ask: Callable[[Sequence[Line]], list[Answer]],
-          pieces: Iterable[tuple[int, ...]], told: Callable[[int], None] = lambda count: None) -> Outcome:
+def solve(plan: Plan, own: FaultClass, good: Good, ask: Callable[[Sequence[Line]], list[Answer]], pieces: Iterable[tuple[int, ...]],
+          forecast: Forecast, told: Callable[[int], None]) -> Outcome:
     """What comes of one class that is asked for in these pieces of the times, until one shows it. A line that is slow is asked for at
     each time before which it has the value that it keeps. `told` hears for how many more times that is known."""
     outcome = Outcome()
     if own.asked.is_transition:
-        pieces = _after_held(plan, own, ask)
+        every, pieces = list(pieces), _after_held(plan, own, ask)
+        forecast.expect("single", len(pieces) - len(every))
     if own.asked.site.is_output:
         plan.judge_output(own, [time for piece in pieces for time in piece], good, outcome)
     else:
-        _ask_pieces(plan, own, good, ask, pieces, outcome, told)
+        _ask_pieces(plan, own, good, ask, pieces, outcome, forecast, told)
     outcome.is_confirmed = outcome.is_shown or not outcome.unanswered
     return outcome
 
@@ -133,11 +136,12 @@ def _after_held(plan: Plan, own: FaultClass, ask: Callable[[Sequence[Line]], lis
 
 
 def _ask_pieces(plan: Plan, own: FaultClass, good: Good, ask: Callable[[Sequence[Line]], list[Answer]], pieces: Iterable[tuple[int, ...]],
-                outcome: Outcome, told: Callable[[int], None]) -> None:
-    left = deque(pieces)
+                outcome: Outcome, forecast: Forecast, told: Callable[[int], None]) -> None:
+    left = deque((times, *plan.cost(own, times)) for times in pieces)
     while left and not outcome.is_shown:
-        times = left.popleft()
+        times, kind, weight = left.popleft()
         lines = plan.stuck_lines(own, times, good)
+        begun = time.monotonic()
         if len(times) == 1:
             # one output that shows the fault is enough
             for start in range(0, len(lines), _OUTPUTS_AT_ONCE):
@@ -145,15 +149,20 @@ def _ask_pieces(plan: Plan, own: FaultClass, good: Good, ask: Callable[[Sequence
                 plan.judge(times, group, ask(group), good, outcome)
                 if outcome.is_shown:
                     break
+            forecast.took(kind, weight, time.monotonic() - begun)
             told(1)
             continue
         answers = ask(lines)
         if any(isinstance(answer, Budget) for answer in answers):
             half = len(times) // 2
-            left.extendleft((times[half:], times[:half]))
+            left.extendleft(((times[half:], kind, weight - weight // 2), (times[:half], kind, weight // 2)))
+            forecast.took(kind, 0, time.monotonic() - begun)
         else:
             plan.judge(times, lines, answers, good, outcome)
+            forecast.took(kind, weight, time.monotonic() - begun)
             told(len(times))
+    for _, kind, weight in left:
+        forecast.expect(kind, -weight)
 
 
 class Crew:
@@ -210,10 +219,23 @@ class Crew:
                 raise
 
 
+def _alike(plan: Plan, classes: Sequence[FaultClass]) -> list[tuple[FaultClass, int]]:
+    """The classes that are asked for in the same pieces, one of them each with their number."""
+    found: dict[bool, list[FaultClass]] = {}
+    for own in classes:
+        if not own.asked.site.is_output:
+            found.setdefault(plan.has_past(own.asked.site), []).append(own)
+    return [(same[0], len(same)) for same in found.values()]
+
+
 def solve_all(plan: Plan, files: Sequence[type_of_path], jobs: int, take: Callable[[FaultClass, Outcome], None], classes: Sequence[FaultClass],
-              program: type_of_path | None = None, told: Callable[[int], None] = lambda count: None) -> Good:
+              forecast: Forecast, program: type_of_path | None = None, told: Callable[[int], None] = lambda count: None) -> Good:
     """Asks for these classes at one time after another, and gives `take` what comes of each. `told` hears of how many more times is known
     what comes of a class, of all times for each class. Gives the values without a fault."""
+    for own, count in _alike(plan, classes):
+        for times in plan.chunks(own):
+            kind, weight = plan.cost(own, times)
+            forecast.expect(kind, count * weight)
     with Crew(files, min(jobs, max(1, len(classes))), program) as crew:
         good = Good(plan, crew.ask(plan.good_lines()))
 
@@ -228,7 +250,7 @@ def solve_all(plan: Plan, files: Sequence[type_of_path], jobs: int, take: Callab
                 left -= count
                 told(count)
 
-            take(own, solve(own_plan, own, good, asker.ask, own_plan.chunks(own), told_of))
+            take(own, solve(own_plan, own, good, asker.ask, own_plan.chunks(own), forecast, told_of))
             told(left)
 
         crew.share([(portion, own) for portion in portions_of(plan, classes, files) for own in portion.classes], work)

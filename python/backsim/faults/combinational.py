@@ -11,6 +11,7 @@ the line has the other value and is observable, and a signal is observable where
 This is parallel-pattern single-fault propagation (Waicukauski and others, 1985) over stem regions (Maamari and Rajski, 1990)."""
 from __future__ import annotations
 
+from array import array
 from collections.abc import Iterable, Iterator, Mapping, Sequence
 from dataclasses import field
 from itertools import islice
@@ -22,15 +23,25 @@ from .network import Kernel, Network, Rails, bits_of
 # the outputs at which a signal's flip shows, each by its place among the outputs, and with which patterns
 Shown = tuple[tuple[int, int], ...]
 # bits of a word of the simulation of flips, and of all its words
-_BITS_OF_A_WORD, _MOST_BITS = 1 << 14, 1 << 29
+_BITS_OF_A_WORD, _MOST_BITS = 1 << 14, 1 << 28
+# signals whose outputs are kept as they are used
+_MOST_UNPACKED = 512
 
 
 @dataclass(frozen=True, slots=True)
 class Reached:
-    """Where the flip of a signal gets: the patterns with which it flips the dominator, or each output where there is none."""
+    """Where the flip of a signal gets: the patterns with which it flips the dominator, or each output where there is none. The outputs' places
+    stand in ascending order, and their patterns behind one another, each as the same number of bytes: most of the memory of a simulation
+    goes into these."""
 
-    dominator: int = 0
-    outputs: Shown = ()
+    dominator: int
+    places: array[int]
+    patterns: bytes
+
+    def outputs(self) -> Shown:
+        """The outputs that it gets to."""
+        size = len(self.patterns) // max(1, len(self.places))
+        return tuple((place, int.from_bytes(self.patterns[number * size:(number + 1) * size], "little")) for number, place in enumerate(self.places))
 
 
 class Region:
@@ -127,10 +138,10 @@ class Lanes:
     def _spread(self, patterns: int) -> int:
         return int.from_bytes(patterns.to_bytes(self._bytes, "little") * self.count, "little")
 
-    def _parts(self, lanes: int) -> list[int]:
+    def _parts(self, lanes: int) -> list[bytes]:
         """What each lane has."""
         size, data = self._bytes, lanes.to_bytes(self._bytes * self.count, "little")
-        return [int.from_bytes(data[start:start + size], "little") for start in range(0, len(data), size)]
+        return [data[start:start + size] for start in range(0, len(data), size)]
 
     def flips(self, stems: Sequence[int]) -> list[Reached]:
         """What becomes of the flips of signals that are read in several places, at most `count`."""
@@ -141,13 +152,17 @@ class Lanes:
             stops[dominator[stem]] = stops.get(dominator[stem], 0) | lane
         stopped, shown = self._simulate(lanes, stops)
         parts = {number: self._parts(found) for number, found in stopped.items()}
-        outputs: list[list[tuple[int, int]]] = [[] for _ in stems]
-        for number, found in shown.items():
-            for own, patterns in zip(outputs, self._parts(found)):
-                if patterns:
-                    own.append((region.place_of_output[number], patterns))
-        none = [0] * self.count
-        return [Reached(parts.get(dominator[stem], none)[lane], tuple(sorted(outputs[lane]))) for lane, stem in enumerate(stems)]
+        none = bytes(self._bytes)
+        places: list[array[int]] = [array("I") for _ in stems]
+        outputs: list[list[bytes]] = [[] for _ in stems]
+        for place, found in sorted((region.place_of_output[number], found) for number, found in shown.items()):
+            for own, own_outputs, patterns in zip(places, outputs, self._parts(found)):
+                if patterns != none:
+                    own.append(place)
+                    own_outputs.append(patterns)
+        nowhere = [none] * self.count
+        return [Reached(int.from_bytes(parts.get(dominator[stem], nowhere)[lane], "little"), places[lane], b"".join(outputs[lane]))
+                for lane, stem in enumerate(stems)]
 
     def _simulate(self, lanes: Mapping[int, int], stops: Mapping[int, int]) -> tuple[dict[int, int], dict[int, int]]:
         """Flips each signal of `lanes` in its lane, follows what changes, in lanes of `stops` up to the signal there, and takes all back.
@@ -192,6 +207,7 @@ class Observed:
     values: Values
     reached: Mapping[int, Reached]
     _known: dict[int, int] = field(default_factory=dict)
+    _unpacked: dict[int, Shown] = field(default_factory=dict)
 
     def of_signal(self, number: int) -> int:
         """The patterns with which the signal's flip shows, but for an input that the tester sees itself."""
@@ -206,7 +222,7 @@ class Observed:
         region, values = self.values.region, self.values
         if region.is_stem(number):
             found = self.reached[number].dominator
-            for _, patterns in self.reached[number].outputs:
+            for _, patterns in self.reached[number].outputs():
                 found |= patterns
             return found
         if not region.places[number]:
@@ -224,7 +240,11 @@ class Observed:
         """The outputs at which a flip of the signal may show, and with which patterns where it flips the last dominator."""
         *_, last = self.values.region.chain(number)
         if self.values.region.is_stem(last):
-            return self.reached[last].outputs
+            if last not in self._unpacked:
+                if len(self._unpacked) == _MOST_UNPACKED:
+                    self._unpacked.clear()
+                self._unpacked[last] = self.reached[last].outputs()
+            return self._unpacked[last]
         return ((self.values.region.place_of_output[last], self.values.block.every),)
 
 
@@ -246,7 +266,7 @@ class Effect:
         found: dict[int, list[int]] = {pattern: [] for pattern in islice(bits_of(self.patterns), most or None)}
         within = (2 << max(found)) - 1
         for place, patterns in self.outputs:
-            for pattern in bits_of(patterns & within):
+            for pattern in bits_of(patterns & self.patterns & within):
                 found[pattern].append(place)
         yield from ((pattern, tuple(places)) for pattern, places in found.items())
 
@@ -275,11 +295,12 @@ class Line:
         if self.reaches:
             found = observed.of_signal(self.source) if self.reader is None else observed.of_pin(self.reader, self.place)
             patterns = excited & found
-            outputs = tuple((place, own & patterns) for place, own in observed.outputs(self.target)) if patterns else ()
+            outputs = observed.outputs(self.target) if patterns else ()
         if self.is_seen_itself:
             direct = _excited(values.block.direct[self.source], fault) & values.block.fresh
+            # what gates see of an input is not always what the tester sees
+            outputs = tuple(sorted((*((place, own & patterns) for place, own in outputs), (region.place_of_output[self.source], direct))))
             patterns |= direct
-            outputs = tuple(sorted((*outputs, (region.place_of_output[self.source], direct))))
         return Effect(patterns, outputs)
 
 

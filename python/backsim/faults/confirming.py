@@ -1,15 +1,18 @@
 """Asks the program for what simulation found: of each class one output at one time, without the fault and with it."""
 from __future__ import annotations
 
-from bisect import bisect_right
+import time
 from collections.abc import Callable, Iterable, Iterator, Mapping, Sequence
 from typing import NamedTuple
 
 from ..errors import type_of_path
 from ..formats.script import Line, StuckLine
+from ..legality import HELD_CELLS
 from ..values import Answer, At, Stuck
 from .asking import Asker, Crew
 from .collapse import FaultClass
+from .forecast import Forecast
+from .late import confirm_late
 from .plan import Outcome, Plan, is_wrong
 from .portions import Portion, portions_of
 
@@ -17,7 +20,7 @@ _AT_ONCE = 64
 # with flip-flops a question costs as many looks as it has before it
 _LOOKS_AT_ONCE = 256
 # after so many answers by the budget in turn those that come later would be so too
-_IN_VAIN = 64
+_IN_VAIN = 16
 
 
 class Unconfirmed(NamedTuple):
@@ -27,43 +30,65 @@ class Unconfirmed(NamedTuple):
     unanswered: list[FaultClass]
 
 
-def confirm(plan: Plan, found: Mapping[FaultClass, Outcome], files: Sequence[type_of_path], jobs: int,
+def confirm(plan: Plan, found: Mapping[FaultClass, Outcome], files: Sequence[type_of_path], jobs: int, forecast: Forecast,
             program: type_of_path | None = None, told: Callable[[int], None] = lambda count: None) -> Unconfirmed:
     """Marks those outcomes that the program confirms, and gives the classes of the others. A question that is answered by the plan's
-    budget leaves its class unconfirmed. With flip-flops a question works out all that was before it, so after 64 such answers in turn
-    those that come later are not asked. `told` hears how many more are done."""
+    budget leaves its class unconfirmed. With flip-flops a question works out all that was before it, so a `stuck` line has no more
+    evaluations than its memo has cells, and what takes more is asked otherwise (`late`). `told` hears how many more are done."""
     # by time and output, so that a session finds much of what a question needs in its memo
     shown = sorted((own for own, outcome in found.items() if outcome.is_shown), key=lambda own: (found[own].time, found[own].output))
-    parts = [(portion, part) for portion in portions_of(plan, shown, files) for part in _parts(plan, portion.classes, found)]
+    unanswered: set[FaultClass] = set()
+    if shown:
+        with Crew(files, min(jobs, len(shown)), program) as crew:
+            if plan.has_flops:
+                late = _ask(plan.with_budget(min(plan.budget, HELD_CELLS)), shown, found, files, crew, forecast, told)
+                unanswered = confirm_late(plan, [own for own in shown if own in late], found, files, crew, forecast, told)
+            else:
+                unanswered = _ask(plan, shown, found, files, crew, forecast, told)
+                told(len(unanswered))
+    others = [own for own in shown if not found[own].is_confirmed]
+    return Unconfirmed([own for own in others if own not in unanswered], [own for own in others if own in unanswered])
+
+
+def _ask(plan: Plan, shown: Sequence[FaultClass], found: Mapping[FaultClass, Outcome], files: Sequence[type_of_path], crew: Crew,
+         forecast: Forecast, told: Callable[[int], None]) -> set[FaultClass]:
+    """Asks `stuck` lines, and gives the classes whose budget was too small. With flip-flops nothing is asked any more after so many in
+    turn. `told` hears of the others."""
     unanswered: set[FaultClass] = set()
     in_vain = 0
+
+    def weight_of(own: FaultClass) -> int:
+        return plan.looks_before(found[own].time or 0)
+
+    forecast.expect("stuck", sum(map(weight_of, shown)))
 
     def work(asker: Asker, task: tuple[Portion, Sequence[FaultClass]]) -> None:
         nonlocal in_vain
         portion, part = task
+        weight, begun = sum(weight_of(own) for own in part), time.monotonic()
         if plan.has_flops and in_vain >= _IN_VAIN:
             unanswered.update(part)
-            told(len(part))
+            forecast.expect("stuck", -weight)
             return
         own_plan, own_files = portion.made()
         asker.turn_to(own_files)
         lines = _questions(own_plan, part, found)
         answers = dict(zip(map(str, lines), asker.ask(lines)))
+        answered = 0
         for own in part:
             asked = [answers[str(line)] for line in _lines(own_plan, own, found[own])]
             if all(isinstance(answer, (At, Stuck)) for answer in asked):
                 found[own].is_confirmed = _is_confirmed(own, asked)
+                answered += 1
                 in_vain = 0
             else:
                 unanswered.add(own)
                 in_vain += 1
-        told(len(part))
+        forecast.took("stuck", weight, time.monotonic() - begun)
+        told(answered)
 
-    if parts:
-        with Crew(files, min(jobs, len(parts)), program) as crew:
-            crew.share(parts, work)
-    others = [own for own in shown if not found[own].is_confirmed]
-    return Unconfirmed([own for own in others if own not in unanswered], [own for own in others if own in unanswered])
+    crew.share([(portion, part) for portion in portions_of(plan, shown, files) for part in _parts(plan, portion.classes, found)], work)
+    return unanswered
 
 
 def _parts(plan: Plan, classes: Sequence[FaultClass], found: Mapping[FaultClass, Outcome]) -> Iterator[Sequence[FaultClass]]:
@@ -72,7 +97,7 @@ def _parts(plan: Plan, classes: Sequence[FaultClass], found: Mapping[FaultClass,
     looks = 0
     for own in classes:
         part.append(own)
-        looks += bisect_right(plan.times, found[own].time or 0) if plan.has_flops else 1
+        looks += plan.looks_before(found[own].time or 0)
         if len(part) == _AT_ONCE or looks >= _LOOKS_AT_ONCE:
             yield part
             part, looks = [], 0

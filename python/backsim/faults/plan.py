@@ -2,7 +2,7 @@
 from __future__ import annotations
 
 import copy
-from bisect import bisect_left
+from bisect import bisect_left, bisect_right
 from collections.abc import Iterable, Iterator, Sequence
 from dataclasses import field
 
@@ -67,6 +67,19 @@ class Plan:
         part.made = with_branches(self._circuit, (own.asked.site for own in classes), self.made.stimulus)
         return part
 
+    def with_budget(self, budget: int) -> Plan:
+        """The plan with another budget of a question."""
+        other = copy.copy(self)
+        other.budget = budget
+        return other
+
+    @property
+    def period(self) -> int:
+        """The shortest time from one edge of a clock to its next, in the units of the user's files; where no flip-flop has a clock, a time
+        past the last look."""
+        clocks = map(self._circuit.timing.clock_of, self._flops)
+        return min((clock.period for clock in clocks if clock), default=self.times[-1] + 1)
+
     @property
     def has_flops(self) -> bool:
         """Whether the circuit has flip-flops, so that a question works out their past."""
@@ -109,12 +122,23 @@ class Plan:
         while start < len(self.times):
             yield self.times[start:start + length]
             start += length
-            if start >= _MOST_SINGLE and self._has_past(own.asked.site):
+            if start >= _MOST_SINGLE and self.has_past(own.asked.site):
                 length = min(start, _MOST_TIMES)
 
-    def _has_past(self, site: Site) -> bool:
+    def has_past(self, site: Site) -> bool:
         """Whether a fault of the line reaches a flip-flop."""
         return site.reader in self._flops or (site.reader or site.source) in self._before_flops
+
+    def cost(self, own: FaultClass, times: Sequence[int]) -> tuple[str, int]:
+        """The kind of a question for the class at these times, and its weight among those of its kind: with a past it takes longer the
+        later it is."""
+        has_past = self.has_past(own.asked.site)
+        kind = "window" if len(times) > 1 else "single with a past" if has_past else "single"
+        return kind, bisect_right(self.times, times[-1]) if has_past else 1
+
+    def looks_before(self, time: int) -> int:
+        """How many looks a question for this time costs: with flip-flops as many as there were up to it."""
+        return bisect_right(self.times, time) if self.has_flops else 1
 
     def judge(self, times: Sequence[int], lines: Sequence[StuckLine], answers: Sequence[Answer], good: Good, outcome: Outcome) -> None:
         """Takes the answers to lines of `stuck_lines` into the outcome."""

@@ -21,6 +21,7 @@ from ..formats.text import read_bytes
 from ..formats.timing import write_timing
 from .asking import solve_all
 from .collapse import FaultClass
+from .forecast import Forecast
 from .lists import text_of
 from .model import Lines
 from .plan import Outcome, Plan
@@ -107,7 +108,7 @@ def _digest(plan: Plan) -> str:
 
 
 def prove_left(plan: Plan, outcomes: dict[FaultClass, Outcome], left: Sequence[FaultClass], kept: Kept, files: Sequence[type_of_path], jobs: int,
-               program: type_of_path | None = None, told: Callable[[int], None] = lambda count: None) -> None:
+               forecast: Forecast, program: type_of_path | None = None, told: Callable[[int], None] = lambda count: None) -> None:
     """Asks for each of these classes that was not asked for yet, and takes what comes of each into `outcomes`. `told` hears of how many
     more times is known what comes of a class, of all times for each class."""
     asked = [own for own in left if own not in kept.outcomes]
@@ -120,4 +121,4 @@ def prove_left(plan: Plan, outcomes: dict[FaultClass, Outcome], left: Sequence[F
 
     if asked:
         with kept:
-            solve_all(plan, files, jobs, take, asked, program, told)
+            solve_all(plan, files, jobs, take, asked, forecast, program, told)

@@ -76,11 +76,22 @@ def jobs_of(arguments: argparse.Namespace) -> int:
     return arguments.jobs or len(os.sched_getaffinity(0))
 
 
+def add_tested(parser: argparse.ArgumentParser) -> None:
+    """Adds what commands over a circuit, patterns and faults have in common: NETLIST, TIMING, PATTERNS, and the options on looks, faults and
+    jobs."""
+    add_circuit(parser)
+    add_looks(parser)
+    add_faults(parser)
+    add_jobs(parser)
+
+
 @dataclass(frozen=True, slots=True)
 class Looks:
-    """A circuit with its stimulus, the times at which a tester looks, ascending, and the patterns where the stimulus is made of some."""
+    """A circuit with its stimulus, its lines, the times at which a tester looks, ascending, and the patterns where the stimulus is made of
+    some."""
 
     circuit: Circuit
+    lines: Lines
     times: tuple[int, ...]
     patterns: Patterns | None
 
@@ -93,12 +104,12 @@ def read_looks(arguments: argparse.Namespace) -> Looks:
     row = next(rows_of(read_bytes(arguments.patterns)), None)
     if row is not None and row.words[0] == "horizon":
         circuit = Circuit(netlist, timing, read_stimulus(arguments.patterns, netlist))
-        return Looks(circuit, _times_of(arguments, circuit, []), None)
+        return Looks(circuit, Lines(netlist), _times_of(arguments, circuit, []), None)
     patterns = read_patterns(arguments.patterns, netlist)
     if arguments.period is None:
         raise WordsError("patterns want --period P, the time from one to the next")
     circuit = Circuit(netlist, timing, stimulus_of(patterns, netlist, arguments.period, arguments.first))
-    return Looks(circuit, _times_of(arguments, circuit, usual_times(len(patterns.words), arguments.period, arguments.first)), patterns)
+    return Looks(circuit, Lines(netlist), _times_of(arguments, circuit, usual_times(len(patterns.words), arguments.period, arguments.first)), patterns)
 
 
 @contextmanager

@@ -1,6 +1,7 @@
 """What a line of the prompt asks: its form, and the names and numbers in it."""
 from __future__ import annotations
 
+from ..buses import written_number
 from ..errors import UsageError
 from ..formats.script import MOST_TIME
 from ..formats.text import number_of
@@ -10,7 +11,7 @@ from ..records import dataclass
 HELP = """\
 NAME TIME                    the value at a time, as in `count[7:0] 1200`
 NAME FROM TO                 the waveform from FROM on and before TO
-first NAME VALUE [FROM TO]   the first time that it is VALUE, a letter or word of 0, 1, x and z, or a number as 0x1f or 31
+first NAME VALUE [FROM TO]   the first time that it is VALUE, a letter or word of 0, 1, x and z, or a number as 0x1f, 5'h1f or 31
 why NAME TIME                the causes of a value, and the chain to the first; `why` alone goes on from the last answer
 stuck SITE VALUE NAME FROM TO    the waveform where the signal SITE is always 0 or 1
 NAME                         what drives a signal, and what reads it
@@ -65,10 +66,7 @@ def value_in(word: str, bits: int) -> str:
     lower = word.lower()
     if len(lower) == bits and not lower.strip("01xz"):
         return lower
-    try:
-        number = int(lower, 0)
-    except ValueError:
-        number = -1
-    if not 0 <= number < 1 << bits:
+    number = written_number(lower)
+    if number is None or not 0 <= number < 1 << bits:
         raise UsageError(f"{word} is no value of {bits} bit{'s' * (bits != 1)}")
     return f"{number:0{bits}b}"

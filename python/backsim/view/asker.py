@@ -11,19 +11,20 @@ from collections import deque
 from collections.abc import Callable, Generator, Iterable, Iterator, Sequence
 from dataclasses import field
 from pathlib import Path
-from queue import SimpleQueue
+from queue import Empty, SimpleQueue
 from tempfile import TemporaryDirectory
 from typing import Any
 
 from ..buses import wave_of
 from ..errors import BacksimError, UsageError
+from ..forced import write_forced
 from ..formats.script import MOST_BUDGET, Line, StatsLine, WaveLine, WhyLine
 from ..formats.text import opened, words_of
 from ..outcomes import SessionError
+from ..questions import first_of_all, first_of_any
 from ..records import dataclass
 from ..session import Session
-from ..values import Answer, At, Budget, Past, Proof, Stats, Stuck, Unknown, Wave
-from .forced import write_forced
+from ..values import Answer, At, Budget, First, Past, Proof, Stats, Stuck, Unknown, Wave
 from .store import Key, Span, Store, shown, span_of
 
 Message = dict[str, Any]
@@ -39,6 +40,10 @@ _WHY_BUDGET = 50_000
 _SEARCHED, _MOST_SEARCHED = 256, 65_536
 SHARDS = 64
 _LONGEST = 1 << 20
+# questions for a bit that are asked at most where the waves of a window would tell too
+_MOST_STEPS = 64
+# seconds after which it is looked whether who asked still waits
+_PATIENCE = 0.2
 
 
 class Live(Session):
@@ -81,6 +86,17 @@ class Wanted:
     limit: int
 
 
+@dataclass(frozen=True, slots=True)
+class Sought:
+    """What is searched: a value of all bits, or one that any bit has, as x."""
+
+    word: str
+    is_any: bool = False
+
+    def is_in(self, value: str) -> bool:
+        return self.word in value if self.is_any else value == self.word
+
+
 @dataclass(slots=True)
 class Meter:
     """Counts evaluations up to a limit."""
@@ -104,10 +120,13 @@ class Job:
     def tell(self, **message: Any) -> None:
         self.messages.put(message)
 
-    def results(self) -> Iterator[Message]:
-        """The messages as they come."""
-        while (message := self.messages.get()) is not None:
-            yield message
+    def next_message(self, is_gone: Callable[[], bool] = bool) -> Message | None:
+        """The next message, None at the end. Where nothing comes for a while, and who waits is gone, the job ends."""
+        while True:
+            try:
+                return self.messages.get(timeout=_PATIENCE)
+            except Empty:
+                self.is_cancelled = self.is_cancelled or is_gone()
 
 
 @dataclass(slots=True)
@@ -152,7 +171,7 @@ class Asker(threading.Thread):
         self.horizon = opening.horizon()
         self._jobs: deque[Job] = deque()
         self._came = threading.Condition()
-        self._is_ended = False
+        self._is_ended = self._is_asking = False
         self._lengths: dict[Key, int] = {}
         self._failure: str | None = None
 
@@ -181,13 +200,19 @@ class Asker(threading.Thread):
         self._leave_fault()
         self._good.session.abandon()
 
+    def is_busy(self) -> bool:
+        """Whether something is asked."""
+        return self._is_asking or bool(self._jobs)
+
     def run(self) -> None:
         while (job := self._next()) is not None:
+            self._is_asking = True
             if not job.is_cancelled and self._turn(job):
                 with self._came:
                     self._jobs.append(job)
             else:
                 job.messages.put(None)
+            self._is_asking = False
         for left in self._jobs:
             left.messages.put(None)
 
@@ -327,19 +352,26 @@ class Asker(threading.Thread):
 
     # searches
 
-    def search(self, row: Row, at: int, is_forward: bool, wanted: Callable[[str], bool] | None) -> Callable[[Job], Turns]:
-        """A job that tells the next time, or the last before, at which the row begins to have a wanted value; without `wanted` at which
+    def search(self, row: Row, at: int, is_forward: bool, sought: Sought | None) -> Callable[[Job], Turns]:
+        """A job that tells the next time, or the last before, at which the row begins to have what is sought; without that, at which
         its value changes. It tells `time` and `value`, or `time` None where there is none, or `reached` where its evaluations are
         spent."""
-        return (lambda job: self._forward(job, row, at, wanted)) if is_forward else (lambda job: self._backward(job, row, at, wanted))
+        return (lambda job: self._forward(job, row, at, sought)) if is_forward else (lambda job: self._backward(job, row, at, sought))
 
-    def _forward(self, job: Job, row: Row, at: int, wanted: Callable[[str], bool] | None) -> Turns:
-        meter, length, before = Meter(SEARCH_LIMIT), _SEARCHED, None
+    def _forward(self, job: Job, row: Row, at: int, sought: Sought | None) -> Turns:
+        """Looks at windows of growing length: at the waves, or, where the value before the window is known and not what is sought, by `first`
+        as long as that takes few questions."""
+        meter, length, before, has_few = Meter(SEARCH_LIMIT), _SEARCHED if sought is None else 1, None, True
         while at < self.horizon + 1:
             stop = min(at + length, self.horizon + 1)
+            if sought is not None and has_few and before is not None and not sought.is_in(before):
+                at, is_there = yield from self._first(job, row, sought, at, stop, meter)
+                has_few = is_there or at == stop
+                if is_there:
+                    stop = at + 1
             for span in (yield from self._window(job, row, at, stop, meter)):
                 for begin, value in zip(span.times, span.values):
-                    if before is not None and value != before and (wanted is None or wanted(value) and not wanted(before)):
+                    if before is not None and value != before and (sought is None or sought.is_in(value) and not sought.is_in(before)):
                         job.tell(time=begin, value=value)
                         return
                     before = value
@@ -347,10 +379,32 @@ class Asker(threading.Thread):
             if at < stop:
                 job.tell(reached=at, spent=meter.spent)
                 return
-            length = min(2 * length, _MOST_SEARCHED)
+            length = max(_SEARCHED, min(2 * length, _MOST_SEARCHED))
         job.tell(time=None)
 
-    def _backward(self, job: Job, row: Row, at: int, wanted: Callable[[str], bool] | None) -> Turns:
+    def _first(self, job: Job, row: Row, sought: Sought, at: int, stop: int, meter: Meter) -> Generator[None, None, tuple[int, bool]]:
+        """A time of the window before which the row has not what is sought, and whether it has it then, by questions for one bit after another.
+        Less is evaluated so than for waves of the window; but of a row whose bits change often each question leads on a little only,
+        and the waves are faster. So it gives up after some."""
+        steps = (first_of_any if sought.is_any else first_of_all)(row.bits, sought.word, at, stop, SLICE)
+        line, count = next(steps), 0
+        while count < _MOST_STEPS and not meter.is_spent:
+            (answer,), spent = self._ask((line,), row.fault)
+            meter.spent += spent
+            yield
+            if isinstance(answer, First):
+                count += 1
+                try:
+                    line = steps.send(answer.time)
+                except StopIteration as found:
+                    return (stop, False) if found.value is None else (found.value, True)
+            elif not isinstance(answer, Budget):
+                _check([answer])
+            elif spent == 0:
+                break
+        return line.start, False
+
+    def _backward(self, job: Job, row: Row, at: int, sought: Sought | None) -> Turns:
         meter, length, stop = Meter(SEARCH_LIMIT), _SEARCHED, at
         while stop > 0:
             # one time more at the end tells whether the run there began in this piece
@@ -361,10 +415,10 @@ class Asker(threading.Thread):
                 return
             runs = [run for span in spans for run in zip(span.times, span.values)]
             for (_, before), (begin, value) in zip(reversed(runs[:-1]), reversed(runs[1:])):
-                if begin < at and value != before and (wanted is None or wanted(value) and not wanted(before)):
+                if begin < at and value != before and (sought is None or sought.is_in(value) and not sought.is_in(before)):
                     job.tell(time=begin, value=value)
                     return
-            if start == 0 and wanted is not None and wanted(runs[0][1]):
+            if start == 0 and sought is not None and sought.is_in(runs[0][1]):
                 job.tell(time=0, value=runs[0][1])
                 return
             stop = start

@@ -1,12 +1,12 @@
 // Why a value is what it is: the chain of cells to a root cause, as a list to walk along, and drawn into the waves.
 import {make} from "./rows.js";
 import {grouped} from "./model.js";
-import {reason} from "./link.js";
+import {Newest, isGivenUp, reason} from "./link.js";
 
 const MOST_ROWS = 16, MOST_CAUSES = 4;
 
 export class Causes {
-  #model; #link; #told = null; #root = 0; #turn = 0; #say;
+  #model; #link; #told = null; #root = 0; #newest = new Newest(); #say;
   #part = Object.fromEntries(["why", "why-head", "why-state", "why-hint", "causes", "chain", "roots", "roots-label"].map((id) => [id, document.getElementById(id)]));
 
   constructor(model, link, say) {
@@ -23,27 +23,27 @@ export class Causes {
   open() { this.#part.why.hidden = false; }
 
   close() {
-    this.#turn += 1;
+    this.#newest.stop();
     this.#told = null;
     this.#part.why.hidden = true;
     this.#model.setChain(null);
     this.#draw();
   }
 
-  clear() { if (this.#told) { this.#told = null; this.#turn += 1; this.#model.setChain(null); this.#draw(); } }
+  clear() { if (this.#told) { this.#told = null; this.#newest.stop(); this.#model.setChain(null); this.#draw(); } }
 
   async ask(name, time) {
-    const turn = ++this.#turn;
+    const {signal} = this.#newest;
     this.open();
     this.#part["why-state"].textContent = `asking why ${name} has its value at ${grouped(time)} …`;
     try {
-      const told = await this.#link.post("why", {name, time});
-      if (turn !== this.#turn) return;
+      const told = await this.#link.post("why", {name, time}, signal);
+      if (signal.aborted) return;
       this.#told = told;
       this.#root = 0;
       this.#choose(0);
     } catch (error) {
-      if (turn !== this.#turn) return;
+      if (isGivenUp(error)) return;
       this.#told = null;
       this.#model.setChain(null);
       this.#draw();
@@ -105,7 +105,10 @@ export class Causes {
     const isNow = this.#model.chain.at === place;
     const often = step.times > 1 && !/edges/.test(step.what) ? `, ${grouped(step.times)} times since ${grouped(step.since)}` : "";
     return make("li", {}, make("button", {type: "button", class: `v${step.value}${step.isRoot ? " root" : ""}`, "data-step": place, "aria-current": isNow ? "step" : null},
-      make("b", {}, `${step.name} = ${step.value}`), make("span", {class: "since"}, ` from ${grouped(step.start)}`),
+      make("b", {}, ...breakable(step.name), ` = ${step.value}`), make("span", {class: "since"}, ` from ${grouped(step.start)}`),
       make("small", {}, step.what + often), step.source ? make("small", {class: "source"}, step.source) : ""));
   }
 }
+
+// A name that may be broken behind a point or an underscore.
+function breakable(name) { return name.split(/(?<=[._])/).flatMap((part, place) => place ? [make("wbr"), part] : [part]); }

@@ -1,14 +1,14 @@
 // Finds signals: as one types, or in the tree of the hierarchy. What is chosen is added to the waves.
 import {make} from "./rows.js";
 import {grouped} from "./model.js";
-import {reason} from "./link.js";
+import {Newest, isGivenUp, reason} from "./link.js";
 
 const WAIT = 60;
 const KINDS = {input: "i", output: "o", register: "r", gate: "g"};
 
 export class Finder {
   #link; #add; #field; #found; #tree; #state; #button; #note;
-  #turn = 0; #timer = 0; #at = -1; #chosen = new Set(); #anchor = 0;
+  #newest = new Newest(); #timer = 0; #at = -1; #chosen = new Set(); #anchor = 0;
 
   constructor(link, add) {
     this.#link = link; this.#add = add;
@@ -35,20 +35,25 @@ export class Finder {
     this.#field.setAttribute("aria-expanded", String(isSearch));
   }
 
+  // Gives whether what was found is shown, where no newer search has begun meanwhile.
   async search() {
-    const text = this.#field.value.trim(), turn = ++this.#turn;
+    const text = this.#field.value.trim(), {signal} = this.#newest;
     this.#show();
-    if (!text) { this.#state.textContent = ""; this.#choose([]); return; }
+    if (!text) { this.#state.textContent = ""; this.#choose([]); return true; }
     try {
-      const told = await this.#link.get("names", {q: text});
-      if (turn !== this.#turn) return;
+      const told = await this.#link.get("names", {q: text}, signal);
+      if (signal.aborted) return false;
       this.#found.replaceChildren(...told.signals.map((signal, place) => leaf("li", signal, `found-${place}`, "option")));
       this.#state.textContent = told.count === 0 ? "no signal" : told.count > told.signals.length
         ? `${grouped(told.signals.length)} of ${grouped(told.count)}` : `${grouped(told.count)} found`;
       this.#at = told.signals.length ? 0 : -1;
       this.#anchor = 0;
       this.#choose(told.signals.length ? [0] : []);
-    } catch (error) { this.#state.textContent = reason(error); }
+      return true;
+    } catch (error) {
+      if (!isGivenUp(error)) this.#state.textContent = reason(error);
+      return false;
+    }
   }
 
   // the list of what was found
@@ -87,7 +92,7 @@ export class Finder {
 
   async #enter() {
     clearTimeout(this.#timer);
-    await this.search();
+    if (!await this.search()) return;
     const text = this.#field.value.trim();
     // a pattern is meant as a whole
     if (/[*?]/.test(text) && this.#chosen.size === 1 && this.#at === 0) this.#range(this.#found.children.length - 1, true);

@@ -4,15 +4,19 @@ from __future__ import annotations
 
 import re
 import threading
+import time
 from bisect import bisect_left
-from collections.abc import Iterable, Iterator
+from collections.abc import Callable, Iterable, Iterator
 from difflib import get_close_matches
+from functools import cached_property
+from heapq import nsmallest
 from typing import NamedTuple
 
 from ..buses import bits_of
+from ..convert.build import ONE, ZERO
 from ..errors import UsageError, type_of_path
 from ..formats.netlist import Gate, Netlist, kind_of, source_of
-from ..formats.text import read_bytes
+from ..formats.text import is_name, read_bytes
 from ..records import dataclass
 
 _BLOCK = 1 << 15
@@ -21,13 +25,15 @@ _NAME = rb"[^(),=# \n]+"
 _PORT = re.compile(rb"(?m)^ *(?i:(INPUT|OUTPUT)) *\( *(" + _NAME + rb") *\)")
 _LINE = re.compile(rb"(?m)^ *(?:((?i:INPUT|OUTPUT)) *\( *(" + _NAME + rb") *\)|(" + _NAME + rb") *= *(" + _NAME + rb") *\(([^)\n]*)\)([^\n]*))")
 _BIT = re.compile(r"(.+)\[([0-9]{1,6})\]")
-_NUMBERS = re.compile(r"([0-9]+)")
+_NUMBERS, _DIGITS = re.compile(r"[0-9]+"), 12
 _SEPARATORS = re.compile(r"[./]")
 _KINDS = ("input", "output", "register", "gate")
 _MADE_UP, GENERATED = "$", "made by tools"
 _NEAREST = 3
 # of names that are like another, those of the same beginning are compared at most
 _COMPARED = 2000
+# a block of names waits as long at most for questions that are answered meanwhile, and looks as often whether they are, in seconds
+_MOST_WAIT, _LOOK = 0.02, 0.002
 
 
 class Found(NamedTuple):
@@ -49,9 +55,11 @@ class Level:
 
 
 class Index:
-    """The names of a netlist. `begin` has all of them read in a thread; what needs all names begins that too, and waits for it."""
+    """The names of a netlist. `begin` has all of them read in a thread, which gives way where `is_busy` says that questions are answered:
+    threads share one interpreter. What needs all names begins that too, and waits for it."""
 
-    def __init__(self, path: type_of_path) -> None:
+    def __init__(self, path: type_of_path, is_busy: Callable[[], bool] = bool) -> None:
+        self._is_busy = is_busy
         self._data = read_bytes(path).translate(_BLANKS)
         ports = _PORT.findall(self._data)
         self.inputs = _decoded(name for word, name in ports if word.upper() == b"INPUT")
@@ -61,12 +69,12 @@ class Index:
         self._sorted: list[str] = []
         self._is_read = threading.Event()
         self._netlist: Netlist | None = None
-        self._making = threading.Lock()
+        self._making, self._beginning = threading.Lock(), threading.Lock()
         self._reader: threading.Thread | None = None
 
     def begin(self) -> None:
         """Has all names read, in a thread, where that was not begun before."""
-        with self._making:
+        with self._beginning:
             if self._reader is None:
                 self._reader = threading.Thread(target=self._read, daemon=True, name="names")
                 self._reader.start()
@@ -80,9 +88,11 @@ class Index:
     def _read(self) -> None:
         try:
             for block in _blocks(self._data):
+                self._give_way()
                 self._lines += _LINE.findall(block)
             kinds = dict.fromkeys(self.inputs, "input")
             for place in range(0, len(self._lines), _BLOCK >> 4):
+                self._give_way()
                 kinds |= {gate.decode("latin-1"): "register" if kind in (b"DFF", b"dff") else "gate"
                           for _, _, gate, kind, *_ in self._lines[place:place + (_BLOCK >> 4)] if gate}
             _take_registers(kinds, self._lines)
@@ -92,6 +102,11 @@ class Index:
         finally:
             self._data = b""
             self._is_read.set()
+
+    def _give_way(self) -> None:
+        until = time.monotonic() + _MOST_WAIT
+        while self._is_busy() and time.monotonic() < until:
+            time.sleep(_LOOK)
 
     @property
     def _names(self) -> list[str]:
@@ -110,7 +125,7 @@ class Index:
         """The signals that a name stands for: the bits of a bus, the leftmost first, or the signal alone. UsageError where there is no
         such signal, with names that are like it."""
         found = bits_of(name) if name.endswith("]") else ()
-        if not self._is_read.is_set() and all(bit in self._known_ports for bit in found or (name,)):
+        if not self._is_read.is_set() and all(map(self._is_there, found or (name,))):
             return found or (name,)
         self._wait()
         if name in self._kinds:
@@ -121,8 +136,15 @@ class Index:
         near = self.nearest(missing)
         raise UsageError(f"there is no signal {missing}" + (f"; near it: {', '.join(near)}" if near else ""))
 
-    @property
-    def _known_ports(self) -> frozenset[str]:
+    def _is_there(self, name: str) -> bool:
+        """Whether a signal is found without all names: a port, or one whose gate stands as usual, with its name where the line begins."""
+        if name in self._ports or not is_name(name):
+            return name in self._ports
+        word = name.encode("latin-1")
+        return b"\n%b =" % word in self._data or b"\n%b=" % word in self._data
+
+    @cached_property
+    def _ports(self) -> frozenset[str]:
         return frozenset((*self.inputs, *self.outputs))
 
     def nearest(self, name: str) -> list[str]:
@@ -131,8 +153,8 @@ class Index:
         return get_close_matches(name, begins or self._names[:_COMPARED], _NEAREST)
 
     def first(self, count: int) -> list[str]:
-        """The signals and buses to begin with: the outputs, and where these are few the inputs above them."""
-        outputs, inputs = ([found.name for found in self._folded(names)] for names in (self.outputs, self.inputs))
+        """The signals and buses to begin with: the outputs, and where these are few the inputs above them, without constants of a converter."""
+        outputs, inputs = ([found.name for found in self._folded(names) if found.name not in (ONE, ZERO)] for names in (self.outputs, self.inputs))
         return [*inputs[:max(0, count - len(outputs))], *outputs[:count]]
 
     def find(self, pattern: str, most: int) -> tuple[list[Found], int]:
@@ -141,19 +163,19 @@ class Index:
         one. A bus that is named as one is found too."""
         words = pattern.split()
         is_wild = bool(set("*?") & set(pattern))
-        found: dict[str, Found] = {}
+        named: dict[str, Found] = {}
         for word in words:
             if word.endswith("]") and ":" in word:
                 try:
-                    found[word] = Found(word, self.kind(self.bits(word)[0]), len(self.bits(word)))
+                    named[word] = Found(word, self.kind(self.bits(word)[0]), len(self.bits(word)))
                 except UsageError:
                     pass
         form = re.compile("|".join(map(_form_of, words)) or "", 0 if is_wild else re.IGNORECASE)
         names = [name for name in self._names if form.fullmatch(name) and (_MADE_UP not in name or not is_wild or _MADE_UP in pattern)]
         begins = tuple(words)
-        for one in sorted(self._folded(names), key=lambda one: (not one.name.startswith(begins), _order(one))):
-            found.setdefault(one.name, one)
-        return list(found.values())[:most], len(found)
+        others = [one for one in self._folded(names) if one.name not in named]
+        first = _first_few(others, most, lambda one: (not one.name.startswith(begins), _MADE_UP in one.name))
+        return [*named.values(), *first][:most], len(named) + len(others)
 
     def level(self, prefix: str, most: int) -> Level:
         """What stands in the scope of this prefix, as `u1.alu.`; the empty one is the top. The names that a tool has made up, with `$`
@@ -171,8 +193,9 @@ class Index:
                 continue
             scopes.append((scope[len(prefix):-1] or GENERATED, scope))
             place = bisect_left(names, scope[:-1] + chr(ord(scope[-1]) + 1), place)
-        signals = sorted(self._folded(own), key=lambda one: (_MADE_UP in one.name, _KINDS.index(one.kind), _order(one)))
-        return Level(sorted(scopes, key=lambda scope: (scope[0] == GENERATED, _natural(scope[0])))[:most], signals[:most], len(signals))
+        signals = self._folded(own)
+        first = _first_few(signals, most, lambda one: (_MADE_UP in one.name, _KINDS.index(one.kind)))
+        return Level(sorted(scopes, key=lambda scope: (scope[0] == GENERATED, _natural(scope[0])))[:most], first, len(signals))
 
     @staticmethod
     def _scope_of(name: str, prefix: str) -> str | None:
@@ -201,6 +224,7 @@ class Index:
         for stem, places in stems.items():
             if not places:
                 found.append(Found(stem, self.kind(stem), 1))
+                continue
             for first, last in _ranges(places):
                 name = f"{stem}{last}:{first}]" if last > first else f"{stem}{first}]"
                 found.append(Found(name, self.kind(f"{stem}{first}]"), last - first + 1))
@@ -302,11 +326,18 @@ def _ranges(places: Iterable[int]) -> Iterator[tuple[int, int]]:
         yield first, last
 
 
-def _order(found: Found) -> tuple[bool, list[tuple[int, int | str]]]:
-    """A key by which names that tools made up stand last."""
-    return _MADE_UP in found.name, _natural(found.name)
+def _first_few(found: Iterable[Found], most: int, group: Callable[[Found], tuple[int, int]]) -> list[Found]:
+    """The first so many, by their groups and in each by their names; those of a group behind are not put in order."""
+    groups: dict[tuple[int, int], list[Found]] = {}
+    for one in found:
+        groups.setdefault(group(one), []).append(one)
+    first: list[Found] = []
+    for key in sorted(groups):
+        if len(first) < most:
+            first += nsmallest(most - len(first), groups[key], key=lambda one: _natural(one.name))
+    return first
 
 
-def _natural(name: str) -> list[tuple[int, int | str]]:
+def _natural(name: str) -> str:
     """A key by which g2 stands before g10."""
-    return [(0, int(part)) if part.isdigit() else (1, part) for part in _NUMBERS.split(name) if part]
+    return _NUMBERS.sub(lambda number: number[0].zfill(_DIGITS), name)

@@ -8,6 +8,7 @@ export class Link extends EventTarget {
   tracks = new Map();   // by the number of a wave: twice the id of its row, and one more for the faulty one
   state = null;
   isAsking = false;
+  isLost = false;       // whether an answer did not come, though the session may go on
   asked = 0;
   #page = Math.random().toString(36).slice(2);
   #aborts = null;
@@ -16,15 +17,15 @@ export class Link extends EventTarget {
   #last = 0;
   #scene = null;
 
-  async get(path, query = {}) { return read(await fetch(`${path}?${new URLSearchParams(query)}`)); }
+  async get(path, query = {}, signal = null) { return read(await fetch(`${path}?${new URLSearchParams(query)}`, {signal})); }
 
-  async post(path, body) {
+  async post(path, body, signal = null) {
     // the values at the cursor come with each scene; of all else it is told that it is asked
     const told = path === "values" ? 0 : 1;
     this.#posts += told;
     this.#tell();
     try {
-      const answer = await fetch(path, {method: "POST", body: JSON.stringify(body), headers: {"Content-Type": "application/json"}});
+      const answer = await fetch(path, {method: "POST", signal, body: JSON.stringify(body), headers: {"Content-Type": "application/json"}});
       return await (path === "dump" && answer.ok ? answer.text() : read(answer));
     } finally {
       this.#posts -= told;
@@ -80,7 +81,10 @@ export class Link extends EventTarget {
       await this.#take(answer.body, scene, rows, aborts);
       this.#tidy();
     } catch (error) {
-      if (!aborts.signal.aborted) this.dispatchEvent(new CustomEvent("failed", {detail: reason(error)}));
+      if (!aborts.signal.aborted) {
+        this.isLost = error instanceof TypeError;
+        this.dispatchEvent(new CustomEvent("failed", {detail: reason(error)}));
+      }
     }
     if (this.#aborts === aborts) this.#aborts = null;
     this.#tell();
@@ -130,6 +134,21 @@ async function read(answer) {
   if (!answer.ok) throw new Error(told.error);
   return told;
 }
+
+// Gives up what was asked before, where it goes on; the signal for what is asked now.
+export class Newest {
+  #aborts = new AbortController();
+
+  get signal() {
+    this.stop();
+    this.#aborts = new AbortController();
+    return this.#aborts.signal;
+  }
+
+  stop() { this.#aborts.abort(); }
+}
+
+export function isGivenUp(error) { return error.name === "AbortError"; }
 
 export function reason(error) {
   return error instanceof TypeError ? "The session does not answer: it was ended where the command runs." : error.message;

@@ -2,7 +2,7 @@
 import {Causes} from "./causes.js";
 import {COMMANDS, commandOf, labelOf, spelled} from "./commands.js";
 import {Finder} from "./finder.js";
-import {Link, reason} from "./link.js";
+import {Link, Newest, isGivenUp, reason} from "./link.js";
 import {Model, bitsOf, grouped, inSeconds, unitsOf, written} from "./model.js";
 import {CanvasPainter, HEAD, Scene, layout, theme} from "./paint.js";
 import {Rows, make} from "./rows.js";
@@ -14,6 +14,8 @@ const causes = new Causes(model, link, say), finder = new Finder(link, add);
 const canvas = part("canvas"), stage = part("stage"), context = canvas.getContext("2d");
 const ZOOM = 1.5, WHEEL_ZOOM = 1.15, SNAP = 6, POLL = 2000, MORE = 4;
 let colours = theme(), isDue = false, isAsked = false, limits = 1, resume = null, lastValue = "", drag = null, valuesTimer = 0, refused = null;
+let valuesAsked = "", isRefreshing = false;
+const newestValues = new Newest(), newestSearch = new Newest();
 
 const app = {
   model, link, rows, causes,
@@ -114,17 +116,23 @@ function ask() {
   valuesTimer = setTimeout(values, 30);
 }
 
+// The values at the cursor that the waves in view do not tell.
 async function values() {
   const time = model.cursor;
   if (time === null) return;
   const lacking = app.inView.filter((item) => { const [good, faulty] = rows.valueOf(item); return good === undefined || (model.fault && faulty === undefined); });
-  if (!lacking.length) return;
+  const wanted = lacking.flatMap((item) => [{row: 2 * item.id, name: item.name}, ...(model.fault ? [{row: 2 * item.id + 1, name: item.name, fault: model.fault}] : [])]);
+  const key = wanted.length ? JSON.stringify([link.state.loaded, time, wanted]) : "";
+  if (key === valuesAsked) return;
+  valuesAsked = key;
+  const {signal} = newestValues;
+  if (!key) return;
   try {
-    const wanted = lacking.flatMap((item) => [{row: 2 * item.id, name: item.name}, ...(model.fault ? [{row: 2 * item.id + 1, name: item.name, fault: model.fault}] : [])]);
-    const told = await link.post("values", {time, rows: wanted});
+    const told = await link.post("values", {time, rows: wanted}, signal);
     for (const item of lacking) model.values.set(item.id, {time, good: told.values[2 * item.id], faulty: told.values[2 * item.id + 1]});
     due();
-  } catch (error) { notice(reason(error)); }
+  } catch (error) { if (!isGivenUp(error)) notice(reason(error)); }
+  if (valuesAsked === key) valuesAsked = "";
 }
 
 function settle() {
@@ -144,15 +152,19 @@ part("list").addEventListener("scroll", () => { isAsked = false; due(); });
 new ResizeObserver(() => { isAsked = false; due(); }).observe(stage);
 matchMedia("(prefers-color-scheme: dark)").addEventListener("change", () => dress(null));
 
-async function refresh() {
+async function refresh(isPoll = false) {
+  if (isRefreshing) return;
+  isRefreshing = true;
   try {
     const before = link.state, state = await link.get("state");
     link.state = state;
+    if (link.isLost && isPoll) { link.isLost = false; notice(""); isAsked = false; due(); }
     part("fills").textContent = grouped(state.fills);
     if (before && before.loaded !== state.loaded) loaded();
     if (state.changed.length && state.stamps !== refused) notice(`${state.changed.join(", ")} changed on disk. Press r to load it anew.`, true);
     else if (!state.changed.length && before && before.changed.length) notice("");
-  } catch (error) { notice(reason(error)); }
+  } catch (error) { link.isLost = true; notice(reason(error)); }
+  isRefreshing = false;
 }
 
 function loaded() {
@@ -185,7 +197,7 @@ async function search(forward, value = null) {
   const what = value === null ? "change" : value;
   say(`searching ${item.name} for ${what} …`);
   try {
-    const told = await link.post("search", {name: item.name, time, forward, value});
+    const told = await link.post("search", {name: item.name, time, forward, value}, newestSearch.signal);
     resume = null;
     if (told.time !== undefined && told.time !== null) {
       model.setCursor(told.time);
@@ -195,7 +207,7 @@ async function search(forward, value = null) {
       resume = {key, at: forward ? Math.max(told.reached - 1, 0) : told.reached};
       say(`no ${what} of ${item.name} up to ${grouped(told.reached)}, in ${grouped(told.spent)} evaluations; once more goes on`);
     } else say(`no ${what} of ${item.name} ${forward ? "after" : "before"} ${grouped(from)}`);
-  } catch (error) { say(reason(error)); }
+  } catch (error) { if (!isGivenUp(error)) say(reason(error)); }
 }
 
 async function why(item = row(), time = model.cursor) {
@@ -403,8 +415,19 @@ stage.addEventListener("pointerdown", (event) => {
   if (kind === "marker") model.setMarker(drag.from);
 });
 
+// What stands at a time of a row, in words, where the picture may have no room for it.
+function pointed(item, time) {
+  if (!item || item.isGroup || time < 0 || time >= model.end) return "";
+  const told = (number) => {
+    const [run] = link.track(number).within(time, time + 1);
+    return run.value !== undefined ? written(run.value, item.radix) : run.count !== undefined ? `${grouped(run.count)} changes`
+      : run.spent !== undefined ? `not known, ${grouped(run.spent)} evaluations were spent` : run.error ?? "not known yet";
+  };
+  return `${item.name} at ${grouped(time)}: ${told(2 * item.id)}${model.fault ? `; with the fault: ${told(2 * item.id + 1)}` : ""}`;
+}
+
 stage.addEventListener("pointermove", (event) => {
-  if (!drag) return;
+  if (!drag) { const [x, y] = place(event); stage.title = pointed(itemAt(y), timeAt(x)); return; }
   const [x] = place(event);
   drag.now = x;
   if (Math.abs(x - drag.x) > 3) drag.moved = true;
@@ -490,7 +513,7 @@ async function begin() {
     document.title = `${netlist} – waves`;
     model.load(state.view);
     stage.focus();
-    setInterval(() => { if (!document.hidden) refresh(); }, POLL);
+    setInterval(() => { if (!document.hidden) refresh(true); }, POLL);
     app.begun = performance.now();
     await finder.begin();
   } catch (error) { notice(reason(error)); }

@@ -19,11 +19,11 @@ from typing import TYPE_CHECKING, Any
 from urllib.parse import parse_qs, urlsplit
 
 from ..arguments import unit_of_session
-from ..buses import number_of
+from ..buses import written_number
 from ..convert.waves import dumped_of, runs_of
 from ..errors import BacksimError, UsageError
 from ..formats.vcd import write_vcd
-from .asker import ROW_LIMIT, Asker, Job, Message, Row, Wanted
+from .asker import ROW_LIMIT, Asker, Job, Message, Row, Sought, Turns, Wanted
 from .documents import FORMAT, Document
 from .index import Found, Index
 
@@ -48,6 +48,9 @@ class Pages(ThreadingHTTPServer):
 
     daemon_threads = True
     block_on_close = False
+    # A page that gives a request up opens a new connection, once for each step of a scroll. Where more wait to be accepted than there is
+    # room for, the newest is left out, and the browser comes again only after a time that doubles.
+    request_queue_size = 512
 
     def __init__(self, asker: Asker, index: Index, names: tuple[str, str, str], document: Document, port: int = 0) -> None:
         super().__init__(("127.0.0.1", port), _Handler)
@@ -120,7 +123,7 @@ class Pages(ThreadingHTTPServer):
     def reload(self) -> Message:
         """Opens the files anew."""
         stamps = self._stamps_now()
-        index = self.index if stamps[0] == self._stamps[0] else Index(self.names[0])
+        index = self.index if stamps[0] == self._stamps[0] else Index(self.names[0], self.asker.is_busy)
         _only(self.asker.submit(self.asker.reload()))
         if index is not self.index:
             self.index = index
@@ -131,9 +134,9 @@ class Pages(ThreadingHTTPServer):
         return self.state()
 
 
-def _only(job: Job) -> Message:
+def _only(job: Job, is_gone: Callable[[], bool] = bool) -> Message:
     """The one message of a job; UsageError where that is an error, or there is none."""
-    message = next(job.results(), None)
+    message = job.next_message(is_gone)
     if message is None:
         raise UsageError("the session has ended")
     if "error" in message:
@@ -202,14 +205,29 @@ class _Handler(BaseHTTPRequestHandler):
         else:
             self._answer(_POST.get(path), body)
 
+    # what is asked of the session
+
+    def only(self, turns: Callable[[Job], Turns]) -> Message:
+        """The one message of a job; UsageError where that is an error. The job ends where the reader goes away."""
+        return _only(self.server.asker.submit(turns), self._is_gone)
+
+    def _is_gone(self) -> bool:
+        """Whether the reader has closed the connection, as a page does that gives a request up."""
+        try:
+            return not self.connection.recv(1, socket.MSG_PEEK | socket.MSG_DONTWAIT)
+        except BlockingIOError:
+            return False
+        except OSError:
+            return True
+
     # what is sent
 
-    def _answer(self, answer: Callable[[Pages, dict[str, Any]], Message | str] | None, given: dict[str, Any]) -> None:
+    def _answer(self, answer: Callable[[_Handler, dict[str, Any]], Message | str] | None, given: dict[str, Any]) -> None:
         if answer is None:
             self._send(404, b"there is no such page\n", "text/plain")
             return
         try:
-            told = answer(self.server, given)
+            told = answer(self, given)
         except (BacksimError, OSError) as error:
             self._send_json(400, {"error": str(error)})
         except (KeyError, TypeError, ValueError, AttributeError):
@@ -247,11 +265,12 @@ class _Handler(BaseHTTPRequestHandler):
         self.server.replaced(page, number, job)
         try:
             self._head(200, "application/x-ndjson", ("Transfer-Encoding", "chunked"))
-            for messages in _gathered(refused, job):
+            for messages in _gathered(refused, job, self._is_gone):
                 data = b"".join(json.dumps(message, separators=(",", ":")).encode() + b"\n" for message in messages)
                 self.wfile.write(b"%x\r\n%b\r\n" % (len(data), data))
                 self.wfile.flush()
             self.wfile.write(b"0\r\n\r\n")
+            self.wfile.flush()
         except OSError:
             job.is_cancelled = True
             self.close_connection = True
@@ -259,14 +278,14 @@ class _Handler(BaseHTTPRequestHandler):
         self.server.index.begin()
 
 
-def _gathered(first: Iterable[Message], job: Job) -> Iterator[list[Message]]:
+def _gathered(first: Iterable[Message], job: Job, is_gone: Callable[[], bool]) -> Iterator[list[Message]]:
     """The messages of a job, those together that are there at a time; the last one says whether all was asked."""
     ready = list(first)
     while True:
         if ready and job.messages.empty():
             yield ready
             ready = []
-        message = job.messages.get()
+        message = job.next_message(is_gone)
         if message is None:
             break
         ready.append(message)
@@ -317,84 +336,80 @@ def _time(server: Pages, given: Any) -> int:
     return time
 
 
-def _state(server: Pages, query: dict[str, Any]) -> Message:
-    return server.state() | ({"view": server.document} if "view" in query else {})
+def _state(reader: _Handler, query: dict[str, Any]) -> Message:
+    return reader.server.state() | ({"view": reader.server.document} if "view" in query else {})
 
 
 def _found(found: Iterable[Found]) -> list[list[Any]]:
     return [[one.name, one.kind, one.bits] for one in found]
 
 
-def _names(server: Pages, query: dict[str, Any]) -> Message:
-    found, count = server.index.find(query["q"], _MOST_FOUND)
+def _names(reader: _Handler, query: dict[str, Any]) -> Message:
+    found, count = reader.server.index.find(query["q"], _MOST_FOUND)
     return {"signals": _found(found), "count": count}
 
 
-def _level(server: Pages, query: dict[str, Any]) -> Message:
-    level = server.index.level(query.get("scope", ""), _MOST_FOUND)
+def _level(reader: _Handler, query: dict[str, Any]) -> Message:
+    level = reader.server.index.level(query.get("scope", ""), _MOST_FOUND)
     return {"scopes": level.scopes, "signals": _found(level.signals), "count": level.count}
 
 
-def _values(server: Pages, body: dict[str, Any]) -> Message:
-    rows = []
+def _values(reader: _Handler, body: dict[str, Any]) -> Message:
+    server, rows = reader.server, []
     for given in body["rows"][:_MOST_ROWS]:
         try:
             rows.append((int(given["row"]), _row(server, given)))
         except UsageError:
             continue
-    return _only(server.asker.submit(server.asker.values(rows, _time(server, body["time"]))))
+    return reader.only(server.asker.values(rows, _time(server, body["time"])))
 
 
-def _search(server: Pages, body: dict[str, Any]) -> Message:
+def _search(reader: _Handler, body: dict[str, Any]) -> Message:
+    server = reader.server
     row = _row(server, body)
-    wanted = None if body.get("value") is None else _matching(row, str(body["value"]))
-    return _only(server.asker.submit(server.asker.search(row, _time(server, body["time"]), bool(body["forward"]), wanted)))
+    sought = None if body.get("value") is None else _sought(row, str(body["value"]))
+    return reader.only(server.asker.search(row, _time(server, body["time"]), bool(body["forward"]), sought))
 
 
-def _matching(row: Row, text: str) -> Callable[[str], bool]:
-    """Whether a value of the row is the one that is written: `x` for any that has an unknown bit, 0 and 1, a number in decimal, in
-    hexadecimal (`0x1f`, `'h1f`, `1fh`) or in binary (`0b101`), or all bits (of 0, 1, x and z)."""
-    word = text.strip().lower().replace("_", "").replace("'", "0")
+def _sought(row: Row, text: str) -> Sought:
+    """The value of the row that is written: `x` for any that has an unknown bit, a number, or `b` and all bits (of 0, 1, x and z)."""
+    word = text.strip().lower().replace("_", "")
     if word in ("x", "z"):
-        return lambda value: word in value
-    if len(row.bits) == 1 and word in ("0", "1"):
-        return lambda value: value == word
-    if word.startswith("0h"):
-        word = f"0x{word[2:]}"
-    elif word.endswith("h"):
-        word = f"0x{word[:-1]}"
-    if word.startswith("b") and len(word) == len(row.bits) + 1 and not word[1:].strip("01xz"):
-        return lambda value: value == word[1:]
-    try:
-        number = int(word, 0) if not word.isdigit() else int(word)
-    except ValueError:
-        raise UsageError(f"{text} is no value of {row.name}: write 25, 0x19, 0b11001, b and all {len(row.bits)} bits, or x") from None
+        return Sought(word, is_any=True)
+    letters = word.rpartition("'")[2]
+    if letters.startswith("b") and len(letters) == len(row.bits) + 1 and not letters[1:].strip("01xz"):
+        return Sought(letters[1:])
+    number = written_number(word)
+    if number is None:
+        raise UsageError(f"{text} is no value of {row.name}: write 25, 0x19, 5'h19, 0b11001, b and all {len(row.bits)} bits, or x")
     if not 0 <= number < 1 << len(row.bits):
         raise UsageError(f"{text} is no value of {row.name}, which has {len(row.bits)} bits")
-    return lambda value: number_of(value) == number
+    return Sought(f"{number:0{len(row.bits)}b}")
 
 
-def _why(server: Pages, body: dict[str, Any]) -> Message:
+def _why(reader: _Handler, body: dict[str, Any]) -> Message:
+    server = reader.server
     name, time = str(body["name"]), _time(server, body["time"])
-    proofs = _only(server.asker.submit(server.asker.proofs(server.index.bits(name), time)))["proofs"]
+    proofs = reader.only(server.asker.proofs(server.index.bits(name), time))["proofs"]
     return server.explainer.of(name, time, proofs)
 
 
-def _dump(server: Pages, body: dict[str, Any]) -> str:
+def _dump(reader: _Handler, body: dict[str, Any]) -> str:
     """The waves of rows in a window, as a VCD file."""
+    server = reader.server
     start, stop = _time(server, body["start"]), _time(server, int(body["stop"]) - 1) + 1
     if start >= stop:
         raise UsageError(f"there is no time from {start:,} on and before {stop:,}")
-    answers = _only(server.asker.submit(server.asker.whole(_rows(server, body), start, stop)))["answers"]
+    answers = reader.only(server.asker.whole(_rows(server, body), start, stop))["answers"]
     text = io.StringIO()
     write_vcd(text, dumped_of(runs_of(answers, "top")), "1 ns", stop)
     return text.getvalue()
 
 
-def _reload(server: Pages, body: dict[str, Any]) -> Message:
-    return server.reload()
+def _reload(reader: _Handler, body: dict[str, Any]) -> Message:
+    return reader.server.reload()
 
 
-_GET: dict[str, Callable[[Pages, dict[str, Any]], Message | str]] = {"state": _state, "names": _names, "level": _level}
-_POST: dict[str, Callable[[Pages, dict[str, Any]], Message | str]] = {
+_GET: dict[str, Callable[[_Handler, dict[str, Any]], Message | str]] = {"state": _state, "names": _names, "level": _level}
+_POST: dict[str, Callable[[_Handler, dict[str, Any]], Message | str]] = {
     "values": _values, "search": _search, "why": _why, "dump": _dump, "reload": _reload}

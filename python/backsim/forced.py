@@ -4,14 +4,16 @@ lines that speak of it have to be found."""
 from __future__ import annotations
 
 import re
+from collections.abc import Sequence
 from pathlib import Path
 
-from ..formats.text import read_bytes
+from .errors import type_of_path
+from .formats.text import read_bytes
 
 _BLANK = rb"[ \t\r]"
 
 
-def write_forced(files: tuple[str, str, str], site: str, value: str, folder: Path) -> tuple[str, str, str]:
+def write_forced(files: Sequence[type_of_path], site: str, value: str, folder: Path) -> tuple[str, str, str]:
     """Writes the three files into the folder, and gives their names. OSError where that can't be."""
     name = re.escape(site.encode("latin-1"))
     netlist, timing, stimulus = map(read_bytes, files)
