@@ -17,16 +17,16 @@ mod lock;
 mod strand;
 
 use cells::Cells;
-use circuit::{Circuit, Question};
+use circuit::Circuit;
 use claims::{Claims, Waiting};
 use journal::{Entry, section};
 use lock::Lock;
 use std::collections::VecDeque;
-use std::io::{self, BufRead, BufWriter, Write};
+use std::io::{self, BufWriter, Write};
 use std::sync::{Condvar, Mutex};
 use std::time::Instant;
-use std::{env, fs, mem, thread};
-use strand::{Next, Point, Strand};
+use std::{fs, mem, thread};
+use strand::{Asked, Next, Point, Strand};
 
 /// The cells for which a shard of the program has room; here only the head of the journal says so.
 const CAPACITY: usize = 16_384;
@@ -171,11 +171,7 @@ fn sections(shards: &[Shard], workers: usize) -> Vec<Vec<u8>> {
 }
 
 fn main() -> io::Result<()> {
-    let words: Vec<String> = env::args().collect();
-    let circuit = Circuit::read(&words[1], &words[2])?;
-    let workers: usize = words[4].parse().expect("a number of workers");
-    let shards: usize = words[5].parse().expect("a number of shards");
-    let questions = io::stdin().lock().lines().map(|line| Ok(Question::read(&line?))).collect::<io::Result<Vec<_>>>()?;
+    let Asked { circuit, journal, workers, shards, questions } = Asked::read()?;
     let begun = Instant::now();
     let strand = |(query, question)| Box::new(Strand::new(query, question, &circuit));
     let shared = Shared {
@@ -203,7 +199,7 @@ fn main() -> io::Result<()> {
     out.flush()?;
     let shards: Vec<Shard> = shared.shards.into_iter().map(|shard| shard.0.into_inner()).collect();
     let sections = sections(&shards, workers);
-    let mut journal = fs::File::create(&words[3])?;
+    let mut journal = fs::File::create(journal)?;
     write!(journal, "journal shards {} cells {CAPACITY}\nbatch 1\n", shards.len())?;
     for text in &sections {
         journal.write_all(text)?;

@@ -1,6 +1,30 @@
 //! A query being answered: the times of its window that are not heard yet, and the claimed points that it works on.
 use crate::circuit::{Cell, Circuit, Frame, Question, push_run};
 use crate::gates::Value;
+use std::env;
+use std::io::{self, BufRead};
+
+/// What a program of one batch is asked: its words, NETLIST STIMULUS JOURNAL WORKERS SHARDS, and a question a line of standard input.
+pub struct Asked {
+    pub circuit: Circuit,
+    pub journal: String,
+    pub workers: usize,
+    pub shards: usize,
+    pub questions: Vec<Question>,
+}
+
+impl Asked {
+    pub fn read() -> io::Result<Asked> {
+        let words: Vec<String> = env::args().collect();
+        Ok(Asked {
+            circuit: Circuit::read(&words[1], &words[2])?,
+            journal: words[3].clone(),
+            workers: words[4].parse().expect("a number of workers"),
+            shards: words[5].parse().expect("a number of shards"),
+            questions: io::stdin().lock().lines().map(|line| Ok(Question::read(&line?))).collect::<io::Result<_>>()?,
+        })
+    }
+}
 
 /// A signal and a time.
 pub type Point = (u32, u32);

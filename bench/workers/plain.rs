@@ -12,16 +12,16 @@ mod store;
 #[path = "../plain/strand.rs"]
 mod strand;
 
-use circuit::{Circuit, Question};
+use circuit::Circuit;
 use gates::Value;
 use std::collections::{BTreeMap, VecDeque};
 use std::fmt::Write as _;
-use std::io::{self, BufRead};
+use std::io;
 use std::sync::{Condvar, Mutex};
 use std::time::Instant;
-use std::{env, fs, thread};
+use std::{fs, thread};
 use store::Store;
-use strand::{Next, Point, Strand};
+use strand::{Asked, Next, Point, Strand};
 
 const CAPACITY: usize = 16_384;
 
@@ -186,11 +186,7 @@ fn write_entry(text: &mut String, entry: &Entry) {
 }
 
 fn main() -> io::Result<()> {
-    let words: Vec<String> = env::args().collect();
-    let circuit = Circuit::read(&words[1], &words[2])?;
-    let workers: usize = words[4].parse().expect("a number of workers");
-    let shards: u32 = words[5].parse().expect("a number of shards");
-    let questions = io::stdin().lock().lines().map(|line| Ok(Question::read(&line?))).collect::<io::Result<Vec<_>>>()?;
+    let Asked { circuit, journal, workers, shards, questions } = Asked::read()?;
     let begun = Instant::now();
     let shard = || {
         Mutex::new(Shard {
@@ -226,7 +222,7 @@ fn main() -> io::Result<()> {
     for (question, strand) in questions.iter().zip(&board.ended) {
         question.write(&mut out, strand.as_ref().map(|strand| &strand.runs[..]))?;
     }
-    fs::write(&words[3], journal_text(&shared.shards))?;
+    fs::write(journal, journal_text(&shared.shards))?;
     eprintln!("{} claims and fills, {} ms", shared.shards.iter().map(booked).sum::<u64>(), ran.as_millis());
     Ok(())
 }
