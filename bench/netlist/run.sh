@@ -21,7 +21,7 @@ bin=$out/target/release
 # A program of its own, beside copies of the crates that it stands on.
 work=$(mktemp -d)
 trap 'rm -rf "$work"' EXIT
-copy_crates "$work" owned_text gate_values text_rules line_faults bench_reader
+copy_crates "$work" bench_reader
 mkdir -p "$work/crates/netlist_time/src"
 cp "$here/program.txt" "$work/crates/netlist_time/src/main.rt"
 echo "netlist_time: line_faults bench_reader anyhow" >>"$work/crates.txt"

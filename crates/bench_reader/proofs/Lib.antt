@@ -3,6 +3,7 @@ pub mod Places
 pub mod Placing
 pub mod Chained
 pub mod Numbering
+pub mod Ordered
 pub mod Keys
 pub mod Sound
 pub mod Rows

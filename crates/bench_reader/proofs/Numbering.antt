@@ -8,7 +8,7 @@ use Rattle.std.proofs.lemmas.List.{length-set, get_or_append_left, get_or_push}
 use Rattle.text_rules.proofs.Cuts.{found, found_none}
 use Rattle.indexmap.specs.IndexSet.{insert_key}
 use Rattle.bench_reader.specs.Netlists.{place, is_among}
-use Rattle.bench_reader.specs.inner.Chains.{bucket_of, bucket_at, last_in, IsChained, AreChained, BeginsChain, IsNowhere, HasNumber, AreNumbered}
+use Rattle.bench_reader.specs.inner.Chains.{bucket_of, bucket_at, last_in, IsChained, AreChained, BeginsChain, IsNowhere, HasNumber, IsEachOnce}
 use Rattle.bench_reader.proofs.Places.{Distinct, distinct_insert, same_names, present_lt, absent_place, place_new}
 use Rattle.bench_reader.proofs.Chained.{chained-same, chained-link}
 
@@ -64,7 +64,7 @@ among-known names name number h = cases (is_among names name) refl
     cases true e = refl
     cases false e = let at = found (bytes_eq name) names number h in absurd (omega (arith, at.0, at.1, absent_place name names e))
 
-among-new : (names : List (List ℕ)) (name : List ℕ) → position (bytes_eq name) names ≡ None → is_among names name ≡ false
+pub among-new : (names : List (List ℕ)) (name : List ℕ) → position (bytes_eq name) names ≡ None → is_among names name ≡ false
 among-new names name h = cases (is_among names name) refl
   where
     cases : (b : Bool) → is_among names name ≡ b → b ≡ false
@@ -91,7 +91,7 @@ new-place names new name number h is number-is =
 
 -- all names are numbered, with a new one
 pub numbered-new : (names : List (List ℕ)) (name latest earlier new_latest new_earlier : List ℕ) (b : ℕ) → AreChained names latest earlier → Distinct names → position (bytes_eq name) names ≡ None → length names < length latest
-    → b ≡ bucket_of (length latest) name → b < length latest → new_latest ≡ set latest b (length names + 1) → new_earlier ≡ set earlier (length names) (get_or latest b 0) → AreNumbered (names ++ name ∷ []) new_latest new_earlier
+    → b ≡ bucket_of (length latest) name → b < length latest → new_latest ≡ set latest b (length names + 1) → new_earlier ≡ set earlier (length names) (get_or latest b 0) → IsEachOnce (names ++ name ∷ []) new_latest new_earlier
 numbered-new names name latest earlier new_latest new_earlier b c d fresh room b-is lt latest-is earlier-is = record {
   chains = chains-all new new_latest new_earlier (n + 1) count
       (subst (λ (l : List ℕ). IsChained (bucket_at new count) (n + 1) l new_earlier) (sym latest-is) (subst (λ (l : List ℕ). IsChained (bucket_at new count) (n + 1) (set latest b (n + 1)) l) (sym earlier-is) linked))

@@ -66,7 +66,7 @@ place_kept n m ks h = cases (is_among ks m)
     cases true = refl
     cases false = present_place n ks (m ∷ []) h
 
-in_kept : (n : List ℕ) (ks more : List (List ℕ)) → is_among ks n ≡ true → is_among (ks ++ more) n ≡ true
+pub in_kept : (n : List ℕ) (ks more : List (List ℕ)) → is_among ks n ≡ true → is_among (ks ++ more) n ≡ true
 in_kept n ks more h = list_any-append (bytes_eq n) ks more ∙ ap (λ (b : Bool). b || is_among more n) h
 
 pub is_among_kept : (n m : List ℕ) (ks : List (List ℕ)) → is_among ks n ≡ true → is_among (insert_key bytes_eq ks m) n ≡ true

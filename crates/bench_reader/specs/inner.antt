@@ -1,5 +1,6 @@
 pub mod TextLists
 pub mod Chains
+pub mod Index
 pub mod KeptNetlists
 pub mod Reading
 pub mod Views

@@ -1,7 +1,8 @@
 //! Names in chains, by a hash.
 
-ghost use Rattle.std.specs.Prelude.{◌≡◌, ◌+◌, ◌<◌, ◌≤◌, ◌^◌, length, set, slice_index, fold, MatchOption, IfOk, OnOk};
-ghost use Rattle.bench_reader.specs.inner.Chains.{AreChained, BeginsChain, IsNowhere, HasNumber};
+ghost use Rattle.std.specs.Prelude.{◌≡◌, ◌+◌, ◌++◌, ◌<◌, ◌≤◌, ◌^◌, [], ◌∷◌, length, set, slice_index, position, fold, None, MatchOption, IfOk, OnOk, OnErr};
+ghost use Rattle.std.specs.Str.{bytes_eq};
+ghost use Rattle.bench_reader.specs.inner.Chains.{AreChained, BeginsChain, IsEachOnce, IsNowhere, HasNumber};
 ghost use Rattle.bench_reader.specs.inner.Chains as chains;
 
 use crate::texts::TextList;
@@ -14,10 +15,15 @@ pub struct Chains {
     pub latest: Vec<u32>,
     /// For each name the one before it in its bucket.
     pub earlier: Vec<u32>,
+    /// Whether a name was linked to a chain that had the most names.
+    pub is_crowded: bool,
 }
 
 /// The fewest buckets, once there are names.
 const FEWEST: usize = 16;
+
+/// Only names that were chosen for it make a longer chain.
+const MOST_IN_CHAIN: usize = 32;
 
 /// 2 to the 64, divided by the golden ratio.
 const MIXER: u64 = 11_400_714_819_323_198_485;
@@ -112,6 +118,18 @@ pub fn bucket_of(hash: u64, count: usize) -> usize
     }
 }
 
+/// Whether the chain that begins with this entry has the most names.
+fn is_full(earlier: &[u32], last: u32) -> bool {
+    let mut last = last;
+    for _ in 0..MOST_IN_CHAIN {
+        if last == 0 {
+            return false;
+        }
+        last = earlier.get(last as usize - 1).copied().unwrap_or(0);
+    }
+    true
+}
+
 impl Chains {
     /// Puts the name with the next number into its bucket.
     pub fn link(&mut self, number: usize, bucket: usize)
@@ -122,6 +140,7 @@ impl Chains {
         ensures earlier { self.new.earlier.items ≡ set self.old.earlier.items number
             (slice_index self.old.latest.items bucket) }
     {
+        self.is_crowded = self.is_crowded || is_full(&self.earlier, self.latest[bucket]);
         self.earlier[number] = self.latest[bucket];
         self.latest[bucket] = number as u32 + 1;
     }
@@ -137,6 +156,7 @@ impl Chains {
         let mut all = Chains {
             latest: vec![in alloc; 0; count]?,
             earlier: vec![in alloc; 0; count]?,
+            is_crowded: false,
         };
         for number in 0..names.len() {
             all.link(number, bucket_of(hash_of(names.get(number)), count));
@@ -155,6 +175,39 @@ impl Chains {
         if count == self.latest.len() {
             *self = Chains::of_names(alloc, names, (2 * count).max(FEWEST))?;
         }
+        Ok(())
+    }
+
+    /// The number of the name, if it is one of these.
+    #[inline(always)]
+    pub fn find(&self, names: &TextList, name: &[u8], hash: u64) -> Option<u32>
+        requires chained { IsEachOnce names.now self.now.latest.items self.now.earlier.items }
+        requires hash { hash ≡ chains.hash_of name.now }
+        ensures { result ≡ position (bytes_eq name.now) names.now }
+    {
+        let buckets = self.latest.len();
+        if buckets == 0 {
+            return None;
+        }
+        let last = self.latest[bucket_of(hash, buckets)];
+        seek(names, &self.earlier, last, name)
+    }
+
+    /// Adds a name that is new, for which there is room.
+    pub fn add(&mut self, names: &mut TextList, name: &[u8], hash: u64) -> Result<(), AllocError>
+        requires chained { IsEachOnce names.old self.old.latest.items self.old.earlier.items }
+        requires room { length names.old < length self.old.latest.items }
+        requires hash { hash ≡ chains.hash_of name.now }
+        requires few { length names.old < 2147483648 }
+        requires fresh { position (bytes_eq name.now) names.old ≡ None }
+        ensures chained { IsEachOnce names.new self.new.latest.items self.new.earlier.items }
+        ensures added { OnOk result (names.new ≡ names.old ++ name.now ∷ []) }
+        ensures unchanged { OnErr result (names.new ≡ names.old) }
+    {
+        let number = names.len();
+        names.push(name)?;
+        let bucket = bucket_of(hash, self.latest.len());
+        self.link(number, bucket);
         Ok(())
     }
 }

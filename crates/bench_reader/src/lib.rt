@@ -42,8 +42,9 @@
 //! text, or 4 to 8 for each name where there are more names. `id_of` is one
 //! look-up, and the other calls read one place each. Names that differ in their
 //! last two digits alone are looked up beside one another, so numbered names
-//! that follow one another seldom wait for memory. The hash is fixed: a text
-//! whose names were chosen to share a hash is read slowly.
+//! that follow one another seldom wait for memory. The hash is fixed, but no
+//! choice of names makes look-ups slow: where more than 33 have one bucket, all
+//! are from then on found in the order of names, which costs a copy of each.
 //!
 //! ```text
 //! let netlist = read_bench(alloc, b"INPUT(a)\nOUTPUT(y)\ny = NOT(a)\n")?;
@@ -57,6 +58,7 @@
 mod chains;
 mod fault;
 mod form;
+mod index;
 mod names;
 mod netlist;
 mod reader;

@@ -7,20 +7,18 @@ ghost use Rattle.bench_reader.specs.Netlists.{out_of_memory, place};
 ghost use Rattle.bench_reader.specs.Views.{each_now};
 ghost use Rattle.bench_reader.specs.inner.Chains as chains;
 
-use crate::chains::{Chains, bucket_of, hash_of, seek};
+use crate::chains::{Chains, hash_of};
 use crate::fault::BenchFault;
+use crate::index::Index;
 use crate::texts::TextList;
 use std::alloc::{AllocError, Global};
 use std::marker::Model;
 
 /// Names, each once, numbered from 0 in the order in which they came.
-///
-/// A name is found by its hash: its bucket tells the last name there, and each name the one before
-/// it.
 #[derive(Drop)]
 pub struct Names {
     texts: TextList,
-    chains: Chains,
+    index: Index,
 }
 
 impl Model for Names {
@@ -28,11 +26,11 @@ impl Model for Names {
 
     ghost Value = { List (List ℕ) };
 
-    ghost use Rattle.bench_reader.specs.inner.Chains.{AreNumbered};
+    ghost use Rattle.bench_reader.specs.inner.Index.{IsIndex};
 
     ghost view = { λ n. n.texts };
 
-    ghost invariant = { λ n. AreNumbered n.texts n.chains.latest.items n.chains.earlier.items };
+    ghost invariant = { λ n. IsIndex n.texts n.index };
 }
 
 impl Names {
@@ -43,8 +41,8 @@ impl Names {
         ensures { IfOk result (λ names. names ≡ []) }
     {
         let texts = TextList::new(alloc);
-        let chains = Chains::of_names(alloc, &texts, count)?;
-        Ok(Names { texts, chains })
+        let index = Index::Chains(Chains::of_names(alloc, &texts, count)?);
+        Ok(Names { texts, index })
     }
 
     pub fn len(&self) -> usize
@@ -73,12 +71,7 @@ impl Names {
         requires { hash ≡ chains.hash_of name.now }
         ensures { result ≡ position (bytes_eq name.now) self.now }
     {
-        let buckets = self.chains.latest.len();
-        if buckets == 0 {
-            return None;
-        }
-        let last = self.chains.latest[bucket_of(hash, buckets)];
-        seek(&self.texts, &self.chains.earlier, last, name)
+        self.index.find(&self.texts, name, hash)
     }
 
     /// Gives a new name the next number.
@@ -91,11 +84,9 @@ impl Names {
         ensures number { IfOk result (λ number. number ≡ length self.old) }
         ensures unchanged { OnErr result (self.new ≡ self.old) }
     {
-        self.chains.make_room(alloc, &self.texts)?;
+        self.index.make_room(alloc, &self.texts)?;
         let number = self.texts.len();
-        self.texts.push(name)?;
-        let bucket = bucket_of(hash, self.chains.latest.len());
-        self.chains.link(number, bucket);
+        self.index.add(alloc, &mut self.texts, name, hash)?;
         Ok(number as u32)
     }
 

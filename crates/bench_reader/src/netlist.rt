@@ -51,7 +51,7 @@ impl Model for Netlist {
 }
 
 impl Netlist {
-    /// What holds of every netlist, for proofs. It does nothing.
+    /// The law of every netlist, which the join of a design needs: each row fits the names, and no name stands twice. It does nothing.
     pub fn facts(&self)
         ensures { IsNetlist self.now }
     {

@@ -186,3 +186,50 @@ fn reads_every_spelling(rt: HostRuntime) {
         Some(Driver::Gate(Kind::Buff, true))
     );
 }
+
+// Of each the first eight bytes times 11,400,714,819,323,198,485, then xor the last eight, then times the same number, is below
+// 2 to the 32, modulo 2 to the 64. So the buckets of names that go on with two bytes are those that these two say.
+static STEMS: [&[u8]; 5] = [
+    b"3Zl2Ogk7jHMOkzHm",
+    b"3Zl2Ogk7_SrxuE7U",
+    b"3Zl2Ogk7zsx4Pvbe",
+    b"3Zl2Ogk7es7v1mWX",
+    b"3Zl2Ogk7Ut6Y1uUw",
+];
+
+// of each ten times the first byte and the second are 602
+static ENDINGS: [&[u8]; 8] = [b"0z", b"1p", b"2f", b"3\\", b"4R", b"5H", b"6>", b"74"];
+
+/// A gate a line that has itself as its pin, of 40 names of one bucket, and this line.
+fn with_one_bucket(alloc: Global, line: &[u8]) -> Result<Vec<u8>, Fail> {
+    let mut text = Vec::new(alloc);
+    for stem in &STEMS {
+        for ending in &ENDINGS {
+            for part in [*stem, *ending, b" = NOT(", *stem, *ending, b")\n"] {
+                text.extend_from_slice(part)?;
+            }
+        }
+    }
+    text.extend_from_slice(line)?;
+    Ok(text)
+}
+
+// lines after these, with the number of the cause where they are refused
+static AFTER_ONE_BUCKET: [(&[u8], Option<u32>); 6] = [
+    (b"y = AND(3Zl2Ogk7jHMOkzHm0z, 3Zl2Ogk7Ut6Y1uUw74)", None),
+    (b"OUTPUT(3Zl2Ogk7Ut6Y1uUw74)", None),
+    (b"3Zl2Ogk7jHMOkzHm0z = NOT(3Zl2Ogk7Ut6Y1uUw74)", Some(4)),
+    (b"3Zl2Ogk7Ut6Y1uUw74 = NOT(3Zl2Ogk7jHMOkzHm0z)", Some(4)),
+    (b"INPUT(3Zl2Ogk7es7v1mWX0z)", Some(4)),
+    (b"y = NOT(3Zl2Ogk7VSsmnf5B0z)", Some(5)),
+];
+
+#[test]
+fn finds_the_names_of_one_bucket(rt: HostRuntime) -> Result<(), Fail> {
+    for (line, cause) in &AFTER_ONE_BUCKET {
+        let text = with_one_bucket(rt.alloc(), line)?;
+        let refused = cause.map(|cause| (41, cause));
+        assert_eq!(rt; refusal(rt.alloc(), &text), refused);
+    }
+    Ok(())
+}

@@ -21,12 +21,13 @@
 //! Reading takes one walk over the text and one copy of each name, so time and memory grow with
 //! the length of the text. A line is searched for a comment only where it has no form as it
 //! stands. A name is first compared with the one that came after the last name the time before,
-//! which finds it without a hash where the settings come in rounds over the inputs, or one input
-//! after another. Any other is looked up in a hash map, whose keys lie in the text.
+//! which finds it without a look-up where the settings come in rounds over the inputs, or one input
+//! after another. Any other is looked up in an ordered map, whose keys lie in the text.
 //!
 //! While each name is set at later and later times, its greatest time shows that none is set
-//! twice at one time. From the first setting on that is not later, a hash set of all settings
-//! shows it, with one look-up more a line.
+//! twice at one time. From the first setting on that is not later, an ordered set of all settings
+//! shows it, with one look-up more a line. Nothing is hashed, so no choice of names and times
+//! makes a look-up slow.
 //!
 //! ```text
 //! let stimulus = read_stimulus(alloc, b"horizon 10\nset a 0 1\n")?;
@@ -159,7 +160,7 @@ impl Stimulus {
         }
     }
 
-    /// Does nothing, and tells a proof that no time is above 1,000,000.
+    /// The law of every stimulus, which the join of a design needs: no time is above 1,000,000. It does nothing.
     pub fn facts(&self)
         ensures { IsStimulus self.now }
     {

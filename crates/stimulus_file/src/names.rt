@@ -6,7 +6,7 @@ ghost use Rattle.stimulus_file.specs.inner.Kept.{ArePlaces, Finds, HasNames, Sta
 
 use owned_text::{OutOfMemory, Text};
 use std::alloc::Global;
-use std::collections::HashMap;
+use std::collections::BTreeMap;
 
 /// The place of a name that is set once more, and whether that is later than ever before.
 #[derive(Clone, Copy)]
@@ -21,7 +21,7 @@ pub struct Names<'a> {
     pub texts: Vec<Text>,
     /// The greatest time at which each name is set.
     pub latest: Vec<u32>,
-    pub places: HashMap<&'a [u8], u32>,
+    pub places: BTreeMap<&'a [u8], u32>,
     /// The place of the name that was set after each when it was set last.
     pub followers: Vec<u32>,
     /// The place of the name that was set last.
@@ -35,7 +35,7 @@ impl<'a> Names<'a> {
         Names {
             texts: Vec::new(alloc),
             latest: Vec::new(alloc),
-            places: HashMap::new(alloc),
+            places: BTreeMap::new(alloc),
             followers: Vec::new(alloc),
             last: 0,
         }

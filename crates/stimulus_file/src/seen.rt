@@ -1,22 +1,22 @@
 //! Whether a name is set twice at one time.
 
 ghost use Rattle.std.specs.Prelude.{◌≡◌, IfOk, map, true, false};
-ghost use Rattle.std.specs.HashSet.{IsFromIterResult};
+ghost use Rattle.std.specs.BTreeSet.{IsFromIterResult};
 ghost use Rattle.std.specs.List.{list_any};
 ghost use Rattle.stimulus_file.specs.declared.NumberedSet.{NumberedSet as Numbered};
-ghost use Rattle.stimulus_file.specs.inner.Kept.{HasSeen, Tells, is_at, key_eq};
+ghost use Rattle.stimulus_file.specs.inner.Kept.{HasSeen, Tells, is_at, key_cmp};
 
 use crate::NumberedSet;
 use crate::names::Found;
 use std::alloc::{AllocError, Global};
-use std::collections::HashSet;
+use std::collections::BTreeSet;
 
 /// The places and times of some settings.
-pub type Seen = HashSet<(u32, u32)>;
+pub type Seen = BTreeSet<(u32, u32)>;
 
 /// The set that these settings make.
 fn seen_in(alloc: Global, sets: &[NumberedSet]) -> Result<Seen, AllocError>
-    ensures { IfOk result (IsFromIterResult key_eq (map (λ (set : Numbered). (set.name, set.time))
+    ensures { IfOk result (IsFromIterResult key_cmp (map (λ (set : Numbered). (set.name, set.time))
         sets.now)) }
 {
     sets.iter().map(|set| (set.name, set.time)).collect(alloc)

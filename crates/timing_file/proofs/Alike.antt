@@ -1,12 +1,16 @@
 -- The keys of the set of what was seen.
-use Rattle.std.proofs.Common.{◌≡◌, ◌||◌, Bool, true, false, List, [], ◌∷◌, refl, sym, arith}
-use Rattle.std.specs.Bool.{MatchBool, OnTrue}
+use Rattle.std.proofs.Common.{◌≡◌, ◌||◌, Bool, true, false, cond, List, [], ◌∷◌, refl, sym, ap, ap₂, ◌∙◌, arith}
+use Rattle.std.specs.declared.cmp.Ordering.{Ordering}
+use Rattle.std.specs.Bool.{OnTrue}
 use Rattle.std.specs.List.{list_any}
-use Rattle.std.specs.List.Sorted.{IsPermutation}
-use Rattle.std.proofs.lemmas.List.Sorted.{list_any-IsPermutation}
+use Rattle.std.specs.Ordering.{is_eq}
+use Rattle.std.specs.BTreeSet.{BTreeSet, contains}
+use Rattle.std.proofs.lemmas.Cmp.{eq_by_cmp_equiv}
 use Rattle.timing_file.specs.declared.entry.Subject.{Subject}
 use Rattle.timing_file.specs.declared.entry.Subject.TheVariants as keys
 use Rattle.timing_file.specs.contracts.entry.SubjectPartialEq.TheImpl.{eq-value}
+use Rattle.timing_file.specs.contracts.entry.SubjectOrd.TheImpl.{cmp-value}
+use Rattle.timing_file.specs.contracts.entry.SubjectOrd.TheImpl.Laws.{matches_eq-law, total-law}
 use Rattle.timing_file.specs.inner.Views.{is_alike}
 
 -- the derived equality is that of the subjects
@@ -20,16 +24,24 @@ eq-is (keys.InitOf name) b = grind arith
 eq-is (keys.PinOf name place) b = grind arith
 eq-is (keys.ClockOf flop) b = grind arith
 
--- two tests that agree at each element
-list_any-same : {X : Type 0} (p q : X → Bool) → ((x : X) → p x ≡ q x) → (xs : List X) → list_any p xs ≡ list_any q xs
-list_any-same p q same [] = refl
-list_any-same p q same (x ∷ xs) = rw (same x, list_any-same p q same xs) refl
+-- two subjects that the derived order does not tell apart
+tied : (a b : Subject) → is_eq (cmp-value.it a b) ≡ is_alike a b
+tied a b = sym (matches_eq-law a b) ∙ eq-is a b
 
-pub is_seen : (key : Subject) (keys : List Subject) → list_any (eq-value.it key) keys ≡ list_any (is_alike key) keys
-is_seen key keys = list_any-same (eq-value.it key) (is_alike key) (eq-is key) keys
+pub is_seen : (key : Subject) (seen : BTreeSet Subject) → contains cmp-value.it seen key ≡ list_any (is_alike key) seen.keys
+is_seen key seen = each seen.keys
+  where
+    each : (keys : List Subject) → list_any (λ k. is_eq (cmp-value.it key k)) keys ≡ list_any (is_alike key) keys
+    each [] = refl
+    each (k ∷ keys) = ap₂ (λ (a b : Bool). a || b) (tied key k) (each keys)
+
+joined : (a b : Bool) → cond a true b ≡ (a || b)
+joined true b = refl
+joined false b = refl
 
 -- a key that is new stands beside the others
-pub grown : (key : Subject) (old new : List Subject) (unchanged : Type 0) (added : Bool) → MatchBool added (IsPermutation (key ∷ old) new) unchanged
-    → OnTrue added ((q : Subject) → list_any (is_alike q) new ≡ (is_alike q key || list_any (is_alike q) old))
-grown key old new unchanged true permuted = λ q. sym (list_any-IsPermutation (is_alike q) (key ∷ old) new permuted)
-grown key old new unchanged false same = tt
+pub grown : (key : Subject) (old new : BTreeSet Subject) (added : Bool) → ((q : Subject) → contains cmp-value.it new q ≡ cond (is_eq (cmp-value.it key q)) true (contains cmp-value.it old q))
+    → OnTrue added ((q : Subject) → list_any (is_alike q) new.keys ≡ (is_alike q key || list_any (is_alike q) old.keys))
+grown key old new true puts = λ q.
+    sym (is_seen q new) ∙ puts q ∙ ap₂ (λ (a b : Bool). cond a true b) ((eq_by_cmp_equiv total-law).symm key q ∙ tied q key) (is_seen q old) ∙ joined (is_alike q key) (list_any (is_alike q) old.keys)
+grown key old new false puts = tt

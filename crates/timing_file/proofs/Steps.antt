@@ -55,12 +55,8 @@ flat_map-push {Y} f all s = flat_map-append f all (s ∷ []) ∙ ap (λ (l : Lis
 first-push : {Y : Type 0} (f : Statement → List Y) (all : List Statement) (s : Statement) → slice_get (flat_map f (all ++ s ∷ [])) 0 ≡ slice_get (flat_map f all ++ f s) 0
 first-push {Y} f all s = ap (λ (l : List Y). slice_get l 0) (flat_map-push f all s)
 
--- a list that a statement adds nothing to
-kept : {Y : Type 0} (l : List Y) → l ≡ l ++ []
-kept l = sym (append-nil l)
-
 first_kept : {Y : Type 0} (l : List Y) → slice_get l 0 ≡ slice_get (l ++ []) 0
-first_kept {Y} l = ap (λ (l : List Y). slice_get l 0) (kept l)
+first_kept {Y} l = ap (λ (l : List Y). slice_get l 0) (sym (append-nil l))
 
 abbrev repeats : Entry → List Statement → Bool
 repeats e all = list_any (λ s. same_subject (subject_of e) (subject_of s.entry)) all
@@ -103,14 +99,14 @@ content-push all n e h = cases e h ∙ sym (joined (record { line = n; entry = e
     joined s = made-same (first-push (λ s. clock_stated s.entry) all s) (first-push (λ s. default_stated s.entry) all s) (flat_map-push (λ s. kind_stated s.entry) all s) (flat_map-push (λ s. row_of s.line s.entry) all s) (flat_map-push (λ s. clock_row_of s.line s.entry) all s)
 
     cases : (e : Entry) → repeats e all ≡ false → with_entry (content_from all) n e ≡ made (slice_get (clocks_in all ++ clock_stated e) 0) (slice_get (defaults_in all ++ default_stated e) 0) (kinds_in all ++ kind_stated e) (rows_in all ++ row_of n e) (clock_rows_in all ++ clock_row_of n e)
-    cases (CommonClock c) h = made-same (ap (λ (l : List Clock). slice_get (l ++ c ∷ []) 0) (sym (no_clock c all h))) (first_kept (defaults_in all)) (kept (kinds_in all)) (kept (rows_in all)) (kept (clock_rows_in all))
-    cases (NamedClock m c) h = made-same (first_kept (clocks_in all)) (first_kept (defaults_in all)) (kept (kinds_in all)) (kept (rows_in all)) refl
-    cases (Default d) h = made-same (first_kept (clocks_in all)) (ap (λ (l : List ℕ). slice_get (l ++ d ∷ []) 0) (sym (no_default d all h))) (kept (kinds_in all)) (kept (rows_in all)) (kept (clock_rows_in all))
-    cases (DefaultOf k d) h = made-same (first_kept (clocks_in all)) (first_kept (defaults_in all)) refl (kept (rows_in all)) (kept (clock_rows_in all))
-    cases (DelayOf m d) h = made-same (first_kept (clocks_in all)) (first_kept (defaults_in all)) (kept (kinds_in all)) refl (kept (clock_rows_in all))
-    cases (InitOf m v) h = made-same (first_kept (clocks_in all)) (first_kept (defaults_in all)) (kept (kinds_in all)) refl (kept (clock_rows_in all))
-    cases (PinOf m k d) h = made-same (first_kept (clocks_in all)) (first_kept (defaults_in all)) (kept (kinds_in all)) refl (kept (clock_rows_in all))
-    cases (ClockedBy m c) h = made-same (first_kept (clocks_in all)) (first_kept (defaults_in all)) (kept (kinds_in all)) refl (kept (clock_rows_in all))
+    cases (CommonClock c) h = made-same (ap (λ (l : List Clock). slice_get (l ++ c ∷ []) 0) (sym (no_clock c all h))) (first_kept (defaults_in all)) (sym (append-nil (kinds_in all))) (sym (append-nil (rows_in all))) (sym (append-nil (clock_rows_in all)))
+    cases (NamedClock m c) h = made-same (first_kept (clocks_in all)) (first_kept (defaults_in all)) (sym (append-nil (kinds_in all))) (sym (append-nil (rows_in all))) refl
+    cases (Default d) h = made-same (first_kept (clocks_in all)) (ap (λ (l : List ℕ). slice_get (l ++ d ∷ []) 0) (sym (no_default d all h))) (sym (append-nil (kinds_in all))) (sym (append-nil (rows_in all))) (sym (append-nil (clock_rows_in all)))
+    cases (DefaultOf k d) h = made-same (first_kept (clocks_in all)) (first_kept (defaults_in all)) refl (sym (append-nil (rows_in all))) (sym (append-nil (clock_rows_in all)))
+    cases (DelayOf m d) h = made-same (first_kept (clocks_in all)) (first_kept (defaults_in all)) (sym (append-nil (kinds_in all))) refl (sym (append-nil (clock_rows_in all)))
+    cases (InitOf m v) h = made-same (first_kept (clocks_in all)) (first_kept (defaults_in all)) (sym (append-nil (kinds_in all))) refl (sym (append-nil (clock_rows_in all)))
+    cases (PinOf m k d) h = made-same (first_kept (clocks_in all)) (first_kept (defaults_in all)) (sym (append-nil (kinds_in all))) refl (sym (append-nil (clock_rows_in all)))
+    cases (ClockedBy m c) h = made-same (first_kept (clocks_in all)) (first_kept (defaults_in all)) (sym (append-nil (kinds_in all))) refl (sym (append-nil (clock_rows_in all)))
 
 -- a blank line
 pub blank_step : (before : List Line) (r : Reader) → HasRead before r → HasRead (before ++ Blank ∷ []) r

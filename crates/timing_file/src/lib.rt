@@ -31,7 +31,7 @@
 //! content. Whether a name is a gate or a flip-flop of some netlist is for the
 //! crate above to test.
 //!
-//! Reading takes one walk over the text, one look-up in a hash set a line and
+//! Reading takes one walk over the text, one look-up in an ordered set a line and
 //! one copy of each name, so time and memory grow with the length of the text.
 //! The set of what was seen borrows the names from the text. `default_of` looks
 //! through at most nine kinds.
@@ -158,7 +158,7 @@ impl Timing {
         Timing { stated }
     }
 
-    /// Does nothing, and tells a proof that each number is in its range.
+    /// The law of every timing, which the join of a design needs: each number is in its range. It does nothing.
     pub fn facts(&self)
         ensures { IsTiming self.now }
     {

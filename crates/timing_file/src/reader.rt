@@ -16,7 +16,7 @@ use crate::stated::Stated;
 use crate::{Timing, TimingCause, TimingFault};
 use line_faults::{LineReader, fault, read_lines};
 use std::alloc::Global;
-use std::collections::HashSet;
+use std::collections::BTreeSet;
 
 /// What is known after some lines. The names in `seen` lie in the text.
 #[derive(Drop)]
@@ -26,11 +26,11 @@ pub struct Reader<'a> {
     /// The first line that isn't blank is `version 2`.
     pub is_version_2: bool,
     pub stated: Stated,
-    pub seen: HashSet<Subject<'a>>,
+    pub seen: BTreeSet<Subject<'a>>,
 }
 
 /// Whether the subject is seen for the first time. It is seen from now on.
-fn is_first<'a>(seen: &mut HashSet<Subject<'a>>, subject: Subject<'a>) -> Result<bool, TimingFault>
+fn is_first<'a>(seen: &mut BTreeSet<Subject<'a>>, subject: Subject<'a>) -> Result<bool, TimingFault>
     ensures first { IfOk result (λ first. first ≡ not (was_seen seen.old.keys subject.entry)) }
     ensures added { IfOk result (λ first. OnTrue first
         (AddsSubject seen.old.keys seen.new.keys subject.entry)) }
@@ -132,7 +132,7 @@ pub fn read_timing(alloc: Global, text: &[u8]) -> Result<Timing, TimingFault>
         is_empty: true,
         is_version_2: false,
         stated: Stated::new(alloc),
-        seen: HashSet::new(alloc),
+        seen: BTreeSet::new(alloc),
     };
     let reader = read_lines(alloc, empty, text)?;
     Ok(Timing::new(reader.stated))

@@ -80,7 +80,11 @@ pub record HasNumber (names : List (List ℕ)) (name : List ℕ) (number : ℕ) 
   pub within : number < length names
   pub there : slice_index_or names number [] ≡ name
 
--- no name stands twice, and all are in chains
-pub record AreNumbered (names : List (List ℕ)) (latest earlier : List ℕ) : Type 0 where
+-- no name stands twice
+abbrev pub AreDistinct : List (List ℕ) → Type 0
+AreDistinct names = (i : ℕ) → i < length names → place names (slice_index_or names i []) ≡ i
+
+-- all names are in chains, each once
+pub record IsEachOnce (names : List (List ℕ)) (latest earlier : List ℕ) : Type 0 where
   pub chains : AreChained names latest earlier
-  pub distinct : (i : ℕ) → i < length names → place names (slice_index_or names i []) ≡ i
+  pub distinct : AreDistinct names

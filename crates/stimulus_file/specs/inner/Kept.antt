@@ -1,10 +1,12 @@
 -- What is kept of the settings that were read.
 use Rattle.std.specs.Prelude.{◌≡◌, ℕ, ◌<◌, Bool, true, false, not, ◌&&◌, nat_eq, List, [], ◌∷◌, ◌++◌, length, slice_index_or, Option, Some, None, ⊤}
 use Rattle.std.specs.List.{list_any}
-use Rattle.std.specs.Str.{bytes_eq}
 use Rattle.std.specs.Borrow.{Bor}
-use Rattle.std.specs.HashMap.{get}
-use Rattle.std.specs.HashSet.{HashSet}
+use Rattle.std.specs.declared.cmp.Ordering.{Ordering}
+use Rattle.std.specs.Ordering.{nat_cmp, ordering_then}
+use Rattle.std.specs.Cmp.Lexicographic.{slice_cmp}
+use Rattle.std.specs.BTreeMap.{get}
+use Rattle.std.specs.BTreeSet.{BTreeSet, contains}
 use Rattle.gate_values.specs.declared.Value.{Value}
 use Rattle.stimulus_file.specs.declared.NumberedSet.{NumberedSet}
 use Rattle.stimulus_file.specs.declared.names.Found.{Found}
@@ -30,12 +32,13 @@ abbrev pub StandsAt : List (List ℕ) → List ℕ → Option ℕ → Type 0
 StandsAt names name None = (i : ℕ) → i < length names → slice_index_or names i [] ≡ name → ⊥
 StandsAt names name (Some place) = IsPlace names name place
 
-abbrev pub same_bytes : Bor (List ℕ) → Bor (List ℕ) → Bool
-same_bytes a b = bytes_eq a.now b.now
+-- the order of names
+abbrev pub name_cmp : Bor (List ℕ) → Bor (List ℕ) → Ordering
+name_cmp a b = slice_cmp nat_cmp a.now b.now
 
 -- the map has the place of each name
 abbrev pub ArePlaces : Names → Type 0
-ArePlaces n = (q : Bor (List ℕ)) → StandsAt n.texts.items q.now (get same_bytes n.places q)
+ArePlaces n = (q : Bor (List ℕ)) → StandsAt n.texts.items q.now (get name_cmp n.places q)
 
 -- the names of these settings
 pub record HasNames (n : Names) (sets : List NumberedSet) : Type 0 where
@@ -56,16 +59,16 @@ pub record Finds (old new : Names) (sets : List NumberedSet) (name : List ℕ) (
   pub later : found.is_later ≡ true → list_any (is_at found.place time) sets ≡ false
   pub next : then_at sets found.place time (HasNames new)
 
--- two pairs of a place and a time
-abbrev pub key_eq : ℕ × ℕ → ℕ × ℕ → Bool
-key_eq a b = nat_eq a.0 b.0 && nat_eq a.1 b.1
+-- the order of pairs of a place and a time
+abbrev pub key_cmp : ℕ × ℕ → ℕ × ℕ → Ordering
+key_cmp a b = ordering_then (nat_cmp a.0 b.0) (nat_cmp a.1 b.1)
 
 -- the set, if there is one, has the places and times of these settings
-abbrev pub HasSeen : {S : Type 0} → Option (HashSet (ℕ × ℕ) S) → List NumberedSet → Type 0
+abbrev pub HasSeen : Option (BTreeSet (ℕ × ℕ)) → List NumberedSet → Type 0
 HasSeen None sets = ⊤
-HasSeen (Some seen) sets = (q : ℕ × ℕ) → list_any (key_eq q) seen.keys ≡ list_any (is_at q.0 q.1) sets
+HasSeen (Some seen) sets = (q : ℕ × ℕ) → contains key_cmp seen q ≡ list_any (is_at q.0 q.1) sets
 
 -- it was asked whether a setting at this place and time is new after these
-pub record Tells {S : Type 0} (seen : Option (HashSet (ℕ × ℕ) S)) (sets : List NumberedSet) (place time : ℕ) (is_new : Bool) : Type 0 where
+pub record Tells (seen : Option (BTreeSet (ℕ × ℕ))) (sets : List NumberedSet) (place time : ℕ) (is_new : Bool) : Type 0 where
   pub tells : is_new ≡ not (list_any (is_at place time) sets)
   pub next : then_at sets place time (HasSeen seen)
