@@ -9,8 +9,8 @@ use Rattle.bench_reader.specs.Netlists as netlists
 use Rattle.stimulus_file.specs.Stimulus.{SetRow}
 use Rattle.design.specs.declared.fault.JoinFile.TheVariants as file
 use Rattle.design.specs.declared.fault.JoinCause.TheVariants.{NotInput, PastHorizon}
-use Rattle.design.specs.Join.{number, driver_at, is_input, is_signal, setting_of, fault_of, cause_of_set, set_fault, unless}
-use Rattle.design.specs.inner.Said.{inputs_of, bucket_of, lists_in, HasSets}
+use Rattle.design.specs.Join.{number, driver_at, is_input, is_signal, setting_of, stated_settings, fault_of, cause_of_set, set_fault, unless}
+use Rattle.design.specs.inner.Said.{inputs_of, lists_in, HasSets}
 use Rattle.design.proofs.Places.{places-differ}
 
 filter-push : {A : Type 0} (p : A → Bool) (xs : List A) (x : A) → filter p (xs ++ x ∷ []) ≡ filter p xs ++ cond (p x) (x ∷ []) []
@@ -35,12 +35,12 @@ sets-none netlist buckets inputs count e = record {
     nothing (suc n) (suc s) = nothing n s
 
 module _ (netlist : netlists.Content) (before : List SetRow) (row : SetRow) (n : ℕ) (is-number : number netlist row.name ≡ Some n) where
-  more : (s : ℕ) → bucket_of netlist (before ++ row ∷ []) s ≡ bucket_of netlist before s ++ cond (nat_eq n s) (setting_of row ∷ []) []
+  more : (s : ℕ) → stated_settings netlist (before ++ row ∷ []) s ≡ stated_settings netlist before s ++ cond (nat_eq n s) (setting_of row ∷ []) []
   more s =
       ap (map setting_of) (filter-push (λ (r : SetRow). is_signal s (number netlist r.name)) before row)
       ∙ map-append setting_of (filter (λ (r : SetRow). is_signal s (number netlist r.name)) before) (cond (is_signal s (number netlist row.name)) (row ∷ []) [])
-      ∙ ap (λ (o : Option ℕ). bucket_of netlist before s ++ map setting_of (cond (is_signal s o) (row ∷ []) [])) is-number
-      ∙ ap (λ r. bucket_of netlist before s ++ r) (inner (nat_eq n s))
+      ∙ ap (λ (o : Option ℕ). stated_settings netlist before s ++ map setting_of (cond (is_signal s o) (row ∷ []) [])) is-number
+      ∙ ap (λ r. stated_settings netlist before s ++ r) (inner (nat_eq n s))
     where
       inner : (b : Bool) → map setting_of (cond b (row ∷ []) []) ≡ cond b (setting_of row ∷ []) []
       inner true = refl
@@ -75,16 +75,16 @@ module _ (netlist : netlists.Content) (before : List SetRow) (row : SetRow) (n :
         | false ↦ λ e. refl
       ] refl
 
-      go : (k : ℕ) → k < length (inputs_of netlist) → (c : Bool) → nat_eq place k ≡ c → get_or (lists_in (set old place b)) k [] ≡ bucket_of netlist (before ++ row ∷ []) (input k)
+      go : (k : ℕ) → k < length (inputs_of netlist) → (c : Bool) → nat_eq place k ≡ c → get_or (lists_in (set old place b)) k [] ≡ stated_settings netlist (before ++ row ∷ []) (input k)
       go k m true h =
           let same : place ≡ k = eqb-true place k h in
           let is : nat_eq n (input k) ≡ true = eq-eqb n (input k) (sym placed ∙ ap input same) in
           ap (λ xs. get_or xs k []) mapped ∙ ap (λ p. get_or (set (lists_in old) place b.items) p []) (sym same) ∙ get_or-set_same (lists_in old) place b.items [] inside
           ∙ put ∙ ap (λ r. r ++ setting_of row ∷ []) (was ∙ ap (λ p. get_or (lists_in old) p []) same ∙ has.each k m)
-          ∙ sym (more (input k) ∙ ap (λ c. bucket_of netlist before (input k) ++ cond c (setting_of row ∷ []) []) is)
+          ∙ sym (more (input k) ∙ ap (λ c. stated_settings netlist before (input k) ++ cond c (setting_of row ∷ []) []) is)
       go k m false h =
           ap (λ xs. get_or xs k []) mapped ∙ get_or-set_other (lists_in old) place k b.items [] (λ e. absurd (let f = sym h ∙ eq-eqb place k (sym e) in cc f)) ∙ has.each k m
-          ∙ sym (more (input k) ∙ ap (λ c. bucket_of netlist before (input k) ++ cond c (setting_of row ∷ []) []) (differs k m h) ∙ append-nil (bucket_of netlist before (input k)))
+          ∙ sym (more (input k) ∙ ap (λ c. stated_settings netlist before (input k) ++ cond c (setting_of row ∷ []) []) (differs k m h) ∙ append-nil (stated_settings netlist before (input k)))
 
   -- a setting of an input within the horizon
   pub set-passes : (horizon : ℕ) → is_input (driver_at netlist n) ≡ true → row.time ≤ horizon → set_fault netlist horizon row ≡ None

@@ -38,7 +38,7 @@ use Rattle.design.specs.Joined.{IsDesign}
 use Rattle.design.specs.inner.KeptDesigns.{KeptDesign, IsKeptDesign, joined_of, driver_of, flop_at, InTimeOrder, FitsRow}
 use Rattle.design.specs.KeptDesigns.{pins_with}
 use Rattle.design.specs.inner.KeptDesigns as kept
-use Rattle.design.specs.Join.{number, driver_at, is_dff, or_else, last_said, when, said_of, rows_say, delay_said, pin_said, initial_said, clock_said, clock_named, clock_of_row, flop_of, delay_of, pin_delay, pin_delays, joined_driver, joined_gate, circuit_from, settings_of, is_signal, setting_of, is_input, fault_of, cause_of_set, set_fault, unless, first_fault, schedule_of}
+use Rattle.design.specs.Join.{number, driver_at, is_dff, or_else, last_said, when, said_of, rows_say, delay_said, pin_said, initial_said, clock_said, clock_named, clock_of_row, flop_of, delay_of, pin_delay, pin_delays, joined_driver, joined_gate, circuit_from, settings_of, is_signal, setting_of, is_input, fault_of, cause_of_set, set_fault, unless, first_fault, changes_of, stated_settings}
 use Rattle.design.specs.inner.Said.{least_of, of_first, input_at, inputs_in, inputs_of, delays_of, delays_at, gate_delays, flops_of, flops_at, row_of, row_at, gate_row, HasSets, lists_in}
 use Rattle.design.specs.declared.fault.JoinFault.{JoinFault}
 use Rattle.design.specs.declared.fault.JoinFile.TheVariants as file
@@ -47,7 +47,8 @@ use Rattle.stimulus_file.specs.Ranges.{IsStimulus}
 use Rattle.design.proofs.Answered.{length-pins_with, get_or-pins_with, if_some}
 use Rattle.design.proofs.Places.{within, stands, one-within, one-stands, alone-at}
 use Rattle.design.proofs.Rowed.{row-sound}
-use Rattle.design.proofs.SortedSettings.{scheduled-order, order-differs, scheduled-all}
+use Rattle.design.proofs.SortedSettings.{order-differs}
+use Rattle.design.proofs.ChangedSettings.{changed-order, changed-all}
 
 -- the least delay of pins with these delays
 fold-least : (m : ℕ) (signals delays : List ℕ) → length delays ≡ length signals → fold (λ (n : ℕ) (p : Pin). min n p.delay) m (pins_with signals delays) ≡ fold min m delays
@@ -193,7 +194,7 @@ module _ (netlist : netlists.Content) (s : ℕ) where
       go true e k = (h.0 e, k)
       go false e k = k
 
-  within-bucket : (horizon : ℕ) (sets : List SetRow) → AllByRecursion (λ r. set_fault netlist horizon r ≡ None) sets → AllByRecursion (λ y. y.time ≤ horizon) (map setting_of (filter (λ (r : SetRow). is_signal s (number netlist r.name)) sets))
+  within-bucket : (horizon : ℕ) (sets : List SetRow) → AllByRecursion (λ r. set_fault netlist horizon r ≡ None) sets → AllByRecursion (λ y. y.time ≤ horizon) (stated_settings netlist sets s)
   within-bucket horizon sets h = kept-all (λ y. y.time ≤ horizon) sets (every sets h)
     where
       in-time : (r : SetRow) → set_fault netlist horizon r ≡ None → number netlist r.name ≡ Some s → r.time ≤ horizon
@@ -226,11 +227,11 @@ module _ (netlist : netlists.Content) (timing : timings.Content) (stimulus : sti
   joined s = joined_driver netlist timing stimulus.sets s (driver_at netlist s)
 
   in-order : (s : ℕ) → InTimeOrder (settings_of netlist stimulus.sets s)
-  in-order s = scheduled-order (map setting_of (filter (λ (r : SetRow). is_signal s (number netlist r.name)) stimulus.sets))
+  in-order s = changed-order (stated_settings netlist stimulus.sets s)
 
   settings-sound : (s : ℕ) → circuits.AreSettings stimulus.horizon (settings_of netlist stimulus.sets s)
   settings-sound s = record {
-    within = scheduled-all (λ (y : Setting). y.time ≤ stimulus.horizon) (map setting_of (filter (λ (r : SetRow). is_signal s (number netlist r.name)) stimulus.sets))
+    within = changed-all (λ (y : Setting). y.time ≤ stimulus.horizon) (stated_settings netlist stimulus.sets s)
         (within-bucket netlist s stimulus.horizon stimulus.sets (no-faults (set_fault netlist stimulus.horizon) stimulus.sets none));
     different = order-differs (settings_of netlist stimulus.sets s) (in-order s);
   }
@@ -394,14 +395,14 @@ module _ (netlist : netlists.Content) (timing : timings.Content) (stimulus : sti
 
 -- the settings of all inputs, put in order
 pub ordered-are : (netlist : netlists.Content) (sets : List SetRow) (buckets : List (Vec Setting)) (lists : List (List Setting)) → HasSets netlist sets buckets
-    → lists ≡ map (λ (b : Vec Setting). schedule_of b.items) buckets → lists ≡ map (settings_of netlist sets) (inputs_of netlist)
+    → lists ≡ map (λ (b : Vec Setting). changes_of b.items) buckets → lists ≡ map (settings_of netlist sets) (inputs_of netlist)
 ordered-are netlist sets buckets lists has e =
     let all = inputs_of netlist in
-    let long = ap length e ∙ length-map buckets (λ (b : Vec Setting). schedule_of b.items) ∙ has.long in
+    let long = ap length e ∙ length-map buckets (λ (b : Vec Setting). changes_of b.items) ∙ has.long in
     ext_get_or [] lists (map (settings_of netlist sets) all) (long ∙ sym (length-map all (settings_of netlist sets)))
-    (λ k l. let m : k < length all = omega (arith, l, long) in ap (λ xs. get_or xs k []) e ∙ at buckets k ∙ ap schedule_of (has.each k m) ∙ sym (get_or-map (settings_of netlist sets) all k 0 [] m))
+    (λ k l. let m : k < length all = omega (arith, l, long) in ap (λ xs. get_or xs k []) e ∙ at buckets k ∙ ap changes_of (has.each k m) ∙ sym (get_or-map (settings_of netlist sets) all k 0 [] m))
   where
-    at : (buckets : List (Vec Setting)) (k : ℕ) → get_or (map (λ (b : Vec Setting). schedule_of b.items) buckets) k [] ≡ schedule_of (get_or (lists_in buckets) k [])
+    at : (buckets : List (Vec Setting)) (k : ℕ) → get_or (map (λ (b : Vec Setting). changes_of b.items) buckets) k [] ≡ changes_of (get_or (lists_in buckets) k [])
     at [] k = refl
     at (b ∷ buckets) zero = refl
     at (b ∷ buckets) (suc k) = at buckets k

@@ -16,3 +16,6 @@ pub mod Named
 pub mod Bucketed
 pub mod Finished
 pub mod SettingOrder
+pub mod ChangedSettings
+pub mod Repeats
+pub mod Followed

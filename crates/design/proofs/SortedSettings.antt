@@ -167,18 +167,15 @@ dedup-climbs k (x ∷ xs) h up = go (is_at_one_time x k) refl (dedup-climbs k xs
     go true e same next = same
     go false e same next = (dedup-all (λ y. k.time < y.time) x xs (less e) (all-later k x xs (less e) up.0), next)
 
-climbs : (xs : List Setting) → Rises xs → Climbs (dedup is_at_one_time xs)
+pub climbs : (xs : List Setting) → Rises xs → Climbs (dedup is_at_one_time xs)
 climbs [] up = tt
 climbs (x ∷ xs) up = dedup-climbs x xs up.0 up.1
 
-order-from : (xs : List Setting) → Climbs xs → InTimeOrder xs
+pub order-from : (xs : List Setting) → Climbs xs → InTimeOrder xs
 order-from [] up i j e l m = absurd (omega arith)
 order-from (x ∷ xs) up i zero e l m = absurd (omega arith)
 order-from (x ∷ xs) up zero (suc j) e l m = All-from_recursion (λ (y : Setting). x.time < y.time) xs up.0 j e (omega arith)
 order-from (x ∷ xs) up (suc i) (suc j) e l m = order-from xs up.1 i j e (omega arith) (omega arith)
-
-pub scheduled-order : (xs : List Setting) → InTimeOrder (schedule_of xs)
-scheduled-order xs = order-from (schedule_of xs) (climbs (in_time_order xs) (in_order-rises xs))
 
 pub order-differs : (xs : List Setting) → InTimeOrder xs → AllPairs (λ a b. a.time ≢ b.time) xs
 order-differs xs h i j d l m = λ e. let k = h i j d l m in omega (arith, k, e)

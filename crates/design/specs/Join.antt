@@ -6,6 +6,7 @@ use Rattle.gate_values.specs.declared.Value.{Value}
 use Rattle.gate_values.specs.declared.Value.TheVariants.{X}
 use Rattle.gate_values.specs.declared.Kind.{Kind}
 use Rattle.gate_values.specs.declared.Kind.TheVariants.{Dff}
+use Rattle.gate_values.specs.Gates.{same_value}
 use Rattle.flip_flops.specs.declared.Clock.{Clock}
 use Rattle.circuit_meaning.specs.declared.Setting.{Setting}
 use Rattle.circuit_meaning.specs.declared.FlipFlop.{FlipFlop}
@@ -178,8 +179,21 @@ is_at_one_time a b = nat_eq a.time b.time
 abbrev pub schedule_of : List Setting → List Setting
 schedule_of settings = dedup is_at_one_time (in_time_order settings)
 
+-- the settings that change the value of an input, which has this value before them
+abbrev pub changes_from : Value → List Setting → List Setting
+changes_from value [] = []
+changes_from value (setting ∷ later) = if same_value setting.value value then changes_from value later else setting ∷ changes_from setting.value later
+
+-- An input is x until it is set. A setting that gives it the value that it has already is none.
+abbrev pub changes_of : List Setting → List Setting
+changes_of settings = changes_from X (schedule_of settings)
+
+-- the rows of an input as settings, as they stand in the file
+abbrev pub stated_settings : netlists.Content → List SetRow → ℕ → List Setting
+stated_settings netlist sets s = map setting_of (filter (λ row. is_signal s (number netlist row.name)) sets)
+
 abbrev pub settings_of : netlists.Content → List SetRow → ℕ → List Setting
-settings_of netlist sets s = schedule_of (map setting_of (filter (λ row. is_signal s (number netlist row.name)) sets))
+settings_of netlist sets s = changes_of (stated_settings netlist sets s)
 
 abbrev pub joined_gate : netlists.Content → timings.Content → ℕ → Bool → Kind → List ℕ → circuits.Driver
 joined_gate netlist timing s true kind pins = circuits.Flop (flop_of netlist timing s pins)

@@ -1,3 +1,4 @@
+pub mod Changes
 pub mod Given
 pub mod HeldSignals
 pub mod KeptDesigns

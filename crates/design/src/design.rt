@@ -129,7 +129,8 @@ impl Design {
         })
     }
 
-    /// What holds of every design.
+    /// The law of every design: its circuit is one, within the limits. Whoever reasons about the circuit needs it: walks, strands, the checker
+    /// of proofs, and answers.
     pub fn facts(&self)
         ensures { IsDesign self.now }
     {

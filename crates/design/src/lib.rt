@@ -4,7 +4,8 @@
 //! which row has which cause, and what the design is. In a design a signal is a number. The model of a design is the netlist's content
 //! and one circuit of `circuit_meaning`. The calls return what that circuit's definitions say of a signal at a time; how delays,
 //! clocks and settings are kept is hidden. [`Design::facts`] states what holds of every design. By [`order_of_settings_is_free`],
-//! nothing depends on the order in which a design keeps settings. [`Design::hold`] makes the design in which one signal is forced to a
+//! nothing depends on the order in which a design keeps settings. It keeps the settings that change the value of their input, and by
+//! [`repeated_settings_are_free`] no value depends on the others. [`Design::hold`] makes the design in which one signal is forced to a
 //! value. [`Design::reached`] returns the signals that read a signal, however far back; forcing it changes no others. Whoever asks for
 //! that more than once calls [`Design::with_readers`] before.
 //!
@@ -40,4 +41,4 @@ mod stated;
 pub use design::Design;
 pub use fault::{JoinCause, JoinFault, JoinFile};
 pub use flags::FlagList;
-pub use laws::order_of_settings_is_free;
+pub use laws::{order_of_settings_is_free, repeated_settings_are_free};

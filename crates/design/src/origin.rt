@@ -50,7 +50,7 @@ fn reads_of(view: SignalView<'_>) -> &[u32]
 }
 
 impl Origin {
-    /// What holds of it.
+    /// What holds of it, so that the design made of it begins by its law.
     pub fn facts(&self)
         ensures { IsDesign self.now }
     {

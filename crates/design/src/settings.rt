@@ -2,10 +2,12 @@
 
 ghost use Rattle.std.specs.Prelude.{◌≡◌, ◌<◌, List, ℕ, [], All, IfOk, map, length, vec_len, replicate};
 ghost use Rattle.design.specs.declared.fault.JoinFile.TheVariants as file;
+ghost use Rattle.gate_values.specs.declared.Value.TheVariants.{X};
 ghost use Rattle.bench_reader.specs.Netlists as netlists;
 ghost use Rattle.stimulus_file.specs.Stimulus.{SetRow};
 ghost use Rattle.stimulus_file.specs.Named.{named_rows, with_name, HavePlaces};
 ghost use Rattle.design.specs.Join as join;
+ghost use Rattle.design.specs.inner.Changes.{begins_with_x};
 ghost use Rattle.design.specs.inner.Said.{KnowsInputs, HasSets, TakesSet, TakesSets, inputs_of, input_of};
 
 use crate::fault::{JoinCause, JoinFault, JoinFile};
@@ -13,6 +15,7 @@ use crate::rows::Row;
 use crate::stated::Rows;
 use bench_reader::Netlist;
 use circuit_meaning::Setting;
+use gate_values::Value;
 use owned_text::Text;
 use std::alloc::{AllocError, Global};
 use stimulus_file::{NamedSets, NumberedSet};
@@ -127,14 +130,35 @@ fn scheduled(mut settings: Vec<Setting>) -> Result<Vec<Setting>, AllocError>
     Ok(settings)
 }
 
-/// The settings of each input, in the order of time.
-pub fn in_order(alloc: Global, settings: Vec<Vec<Setting>>) -> Result<Vec<Vec<Setting>>, AllocError>
-    ensures { IfOk result (λ lists. map (λ list. list.items) lists.items
-        ≡ map (λ list. join.schedule_of list.items) settings.items) }
+/// Whether the first of these settings gives the value x.
+fn begins_with_x(settings: &[Setting]) -> bool
+    ensures { result ≡ begins_with_x settings.now }
 {
-    let mut lists = Vec::with_capacity(alloc, settings.len())?;
-    for list in settings {
-        lists.push(scheduled(list)?)?;
+    match settings {
+        [] => false,
+        [first, ..] => first.value == Value::X,
+    }
+}
+
+/// The settings that change the value of an input, which is x before them.
+fn changes(mut settings: Vec<Setting>) -> Vec<Setting>
+    ensures { result.items ≡ join.changes_from X settings.items }
+{
+    settings.dedup_by_key(|setting| setting.value);
+    if begins_with_x(&settings) {
+        settings.remove(0);
+    }
+    settings
+}
+
+/// The settings of each input: the rows that change its value, in the order of time.
+pub fn in_order(alloc: Global, rows: Vec<Vec<Setting>>) -> Result<Vec<Vec<Setting>>, AllocError>
+    ensures { IfOk result (λ lists. map (λ list. list.items) lists.items
+        ≡ map (λ list. join.changes_of list.items) rows.items) }
+{
+    let mut lists = Vec::with_capacity(alloc, rows.len())?;
+    for list in rows {
+        lists.push(changes(scheduled(list)?))?;
     }
     Ok(lists)
 }

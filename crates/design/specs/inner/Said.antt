@@ -1,5 +1,5 @@
 -- What is kept of the rows of the two files while they are read.
-use Rattle.std.specs.Prelude.{◌≡◌, ℕ, zero, suc, Bool, ◌&&◌, nat_eq, List, [], ◌∷◌, ◌++◌, length, map, filter, slice_index_or, Option, Some, None, Result, Ok, Err, if◌then◌else◌, ◌⊎◌, ◌<◌, true, false, fold, min}
+use Rattle.std.specs.Prelude.{◌≡◌, ℕ, zero, suc, Bool, ◌&&◌, nat_eq, List, [], ◌∷◌, ◌++◌, length, map, slice_index_or, Option, Some, None, Result, Ok, Err, if◌then◌else◌, ◌⊎◌, ◌<◌, true, false, fold, min}
 use Rattle.std.specs.Option.{ok_or}
 use Rattle.std.specs.Global.{Vec}
 use Rattle.std.specs.Str.{bytes_eq}
@@ -24,7 +24,7 @@ use Rattle.design.specs.declared.stated.Stated.{Stated}
 use Rattle.design.specs.declared.stated.Rows.{Rows}
 use Rattle.std.specs.List.{range_with_len}
 use Rattle.design.specs.Causes.{out_of_memory}
-use Rattle.design.specs.Join.{number, driver_at, is_dff, is_input, clock_of_row, last_said, rows_say, delay_said, pin_said, initial_said, clock_said, timing_fault, set_fault, first_fault, is_signal, setting_of, pin_delays, flop_of}
+use Rattle.design.specs.Join.{number, driver_at, is_dff, is_input, clock_of_row, last_said, rows_say, delay_said, pin_said, initial_said, clock_said, timing_fault, set_fault, first_fault, stated_settings, pin_delays, flop_of}
 
 -- the clocks of these rows, by their names
 abbrev pub KnowsClocks : List ClockRow → List (Vec ℕ × Clock) → Type 0
@@ -91,16 +91,13 @@ input_numbered netlist (Some s) = ok_or (place_of netlist s) NotInput
 abbrev pub input_of : netlists.Content → List ℕ → Result ℕ JoinCause
 input_of netlist name = input_numbered netlist (number netlist name)
 
-abbrev pub bucket_of : netlists.Content → List SetRow → ℕ → List Setting
-bucket_of netlist rows s = map setting_of (filter (λ row. is_signal s (number netlist row.name)) rows)
-
 abbrev pub lists_in : List (Vec Setting) → List (List Setting)
 lists_in buckets = map (λ b. b.items) buckets
 
 -- the settings of each input in the order of the file
 pub record HasSets (netlist : netlists.Content) (rows : List SetRow) (buckets : List (Vec Setting)) : Type 0 where
   pub long : length buckets ≡ length (inputs_of netlist)
-  pub each : (k : ℕ) → k < length (inputs_of netlist) → slice_index_or (lists_in buckets) k [] ≡ bucket_of netlist rows (slice_index_or (inputs_of netlist) k 0)
+  pub each : (k : ℕ) → k < length (inputs_of netlist) → slice_index_or (lists_in buckets) k [] ≡ stated_settings netlist rows (slice_index_or (inputs_of netlist) k 0)
 
 abbrev pub TakesSet : netlists.Content → ℕ → List SetRow → SetRow → List (Vec Setting) → Result (Unit {0}) JoinFault → Type 0
 TakesSet netlist horizon before row buckets (Ok x) = (set_fault netlist horizon row ≡ None) × HasSets netlist (before ++ row ∷ []) buckets

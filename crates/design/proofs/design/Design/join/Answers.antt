@@ -1,4 +1,4 @@
-use Rattle.std.proofs.Common.{ap, ◌∙◌, sym, subst, Err}
+use Rattle.std.proofs.Common.{ap, ◌∙◌, sym, subst, Err, inl, refl}
 use Rattle.std.proofs.lemmas.Result.{err_from_is_err_and}
 use Rattle.stimulus_file.specs.Named.{named_rows}
 use Rattle.design.specs.Join.{AnswersDesign, design_of}
@@ -46,3 +46,13 @@ returns c =
     (c.in_ok-of.ensures ∙ joined-is netlist timing stimulus c.facts.ensures c.facts-2.ensures c.facts-3.ensures none
     c.horizon-horizon.result c.in_ok-kept.kept.rows.items c.in_ok-kept.kept.delays.items c.in_ok-kept.kept.flops.items (lists_in c.in_ok-settings-2.settings.items)
     c.horizon-horizon.ensures kept.rows kept.delays kept.flops (ordered-are netlist stimulus.sets c.in_ok-settings.settings.items (lists_in c.in_ok-settings-2.settings.items) has c.in_ok-settings-2.ensures))
+
+pub returns-in_err-kept : goal.returns-in_err-kept
+returns-in_err-kept c =
+    let p = err_from_is_err_and c.from_residual-in_err-kept.result c.from_residual-in_err-kept.ensures.1 in
+    subst (λ r. AnswersDesign r (design_of c.args.netlist c.args.timing.now c.args.stimulus.now)) (sym (p.1 ∙ ap Err p.2)) (inl refl)
+
+pub returns-in_err-settings-2 : goal.returns-in_err-settings-2
+returns-in_err-settings-2 c =
+    let p = err_from_is_err_and c.from_residual-in_err-settings-2.result c.from_residual-in_err-settings-2.ensures.1 in
+    subst (λ r. AnswersDesign r (design_of c.args.netlist c.args.timing.now c.args.stimulus.now)) (sym (p.1 ∙ ap Err p.2)) (inl refl)
