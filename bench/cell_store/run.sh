@@ -7,7 +7,7 @@ set -euo pipefail
 here=$(cd "$(dirname "$0")" && pwd)
 . "$here/../common.sh"
 begin "$here"
-copy_crates "$copy/repository" owned_text gate_values valid_intervals cell_store
+copy_crates "$copy/repository" cell_store
 echo "cell_store_time: owned_text gate_values valid_intervals cell_store" >>"$copy/repository/crates.txt"
 program=$copy/repository/crates/cell_store_time
 mkdir -p "$program/src" "$program/specs" "$program/proofs/put" "$program"/proofs/{put_all,put_in_order}

@@ -9,6 +9,7 @@ use Rattle.cell_store.specs.declared.heads.Head.{Head}
 use Rattle.cell_store.specs.declared.index.Place.{Place}
 use Rattle.cell_store.specs.declared.index.Node.{Node}
 use Rattle.cell_store.specs.declared.index.Gap.{Gap}
+use Rattle.cell_store.specs.inner.Heads.{has_map}
 use Rattle.cell_store.specs.inner.Index.{key_cmp}
 use Rattle.cell_store.specs.inner.Lists.{key_at, place_in, held_in, link_in, bound, held_at, link_at, first_in, listed, or_else, firsts, IsIndex, AreLists, IsLink, IsOn, Below, IsReached, IsAfter, IsBefore, IsGap, IsLastAt, IsNoneAt, IsPutIn, IsTakenOut, IsListed, HeadSet, AreSteady, AreAllSteady, longer_first, shorter_first, place_starting, starts_at, start_and_place, later_of}
 use Rattle.cell_store.proofs.Found.{some_same, none_some}
@@ -164,7 +165,7 @@ module _ (nodes : List Node) (heads : ℕ → Head) (mapped : Key → Option Pla
   steady_index new heads' s = record {
     lists = same_links (held_at nodes) (held_at new) (link_at nodes) (link_at new) (firsts heads) (firsts heads') s.lists.held s.lists.link (λ n. ap first_in (s.all n)) index.lists;
     apart = λ i k p at. index.apart i k p (sym (s.lists.held i) ∙ at);
-    told = λ k some. ap (λ (h : Head). h.more) (s.all k.signal) ∙ index.told k some;
+    told = λ k some. ap (λ (h : Head). has_map h.more) (s.all k.signal) ∙ index.told k some;
   }
 
   pub steady_places : (new : List Node) (heads' : ℕ → Head) → AreAllSteady nodes new heads heads' → (q : Key) → or_else (listed new q) (mapped q) ≡ or_else (listed nodes q) (mapped q)
@@ -210,8 +211,8 @@ module _ (nodes : List Node) (heads : ℕ → Head) (mapped : Key → Option Pla
           (λ (e : held_at nodes i ≡ Some (k, p)). index.apart i k p e)
           (was_held (held_at nodes) (held_at new) l.i key place l.free new_here new_others i (k, p) at);
       told = λ k some. ⊎_elim
-          (λ (e : key.signal ≡ k.signal). subst (λ (s : ℕ). (heads' s).more ≡ true) e (ap (λ (h : Head). h.more) its_head ∙ l.more ∙ ap (λ (s : ℕ). (heads s).more) e ∙ index.told k some))
-          (λ (h : nat_eq key.signal k.signal ≡ false). ap (λ (x : Head). x.more) (other_head k.signal h) ∙ index.told k some)
+          (λ (e : key.signal ≡ k.signal). subst (λ (s : ℕ). has_map (heads' s).more ≡ true) e (ap (λ (h : Head). has_map h.more) its_head ∙ ap has_map l.more ∙ ap (λ (s : ℕ). has_map (heads s).more) e ∙ index.told k some))
+          (λ (h : nat_eq key.signal k.signal ≡ false). ap (λ (x : Head). has_map x.more) (other_head k.signal h) ∙ index.told k some)
           (same_or_not key.signal k.signal);
     }
 
@@ -260,8 +261,8 @@ module _ (nodes : List Node) (heads : ℕ → Head) (mapped : Key → Option Pla
       lists = left_lists;
       apart = λ j k p at. index.apart j k p (left (held_at nodes) (held_at new) i key place was gone left_others once j (k, p) at).1;
       told = λ k some. ⊎_elim
-          (λ (e : key.signal ≡ k.signal). subst (λ (s : ℕ). (heads' s).more ≡ true) e (ap (λ (h : Head). h.more) head_now ∙ more ∙ ap (λ (s : ℕ). (heads s).more) e ∙ index.told k some))
-          (λ (h : nat_eq key.signal k.signal ≡ false). ap (λ (x : Head). x.more) (head_else k.signal h) ∙ index.told k some)
+          (λ (e : key.signal ≡ k.signal). subst (λ (s : ℕ). has_map (heads' s).more ≡ true) e (ap (λ (h : Head). has_map h.more) head_now ∙ ap has_map more ∙ ap (λ (s : ℕ). has_map (heads s).more) e ∙ index.told k some))
+          (λ (h : nat_eq key.signal k.signal ≡ false). ap (λ (x : Head). has_map x.more) (head_else k.signal h) ∙ index.told k some)
           (same_or_not key.signal k.signal);
     }
 
@@ -276,7 +277,7 @@ module _ (nodes : List Node) (heads : ℕ → Head) (mapped : Key → Option Pla
   -- ---- the map changes at a key that no list has
   module _ (heads' : ℕ → Head) (mapped' : Key → Option Place) (key : Key) (o : Option Place) (unlisted : listed nodes key ≡ None)
       (changed : (q : Key) → mapped' q ≡ cond (is_eq (key_cmp key q)) o (mapped q))
-      (same : (s : ℕ) → first_in (heads' s) ≡ first_in (heads s)) (told : (k : Key) → IsSome (mapped k) → (heads' k.signal).more ≡ true) (itself : IsSome o → (heads' key.signal).more ≡ true) where
+      (same : (s : ℕ) → first_in (heads' s) ≡ first_in (heads s)) (told : (k : Key) → IsSome (mapped k) → has_map (heads' k.signal).more ≡ true) (itself : IsSome o → has_map (heads' key.signal).more ≡ true) where
     pub mapped_index : IsIndex nodes heads' mapped'
     mapped_index = record {
       lists = same_links (held_at nodes) (held_at nodes) (link_at nodes) (link_at nodes) (firsts heads) (firsts heads') (λ j. refl) (λ j. refl) same index.lists;
@@ -287,8 +288,8 @@ module _ (nodes : List Node) (heads : ℕ → Head) (mapped : Key → Option Pla
             | false ↦ λ t. index.apart i k p at
           ]) refl;
       told = λ k some.
-          (elim (is_eq (key_cmp key k)) as (λ b. is_eq (key_cmp key k) ≡ b → IsSome (cond b o (mapped k)) → (heads' k.signal).more ≡ true) [
-            | true ↦ λ t s. subst (λ (j : Key). (heads' j.signal).more ≡ true) (equal_keys key k t) (itself s)
+          (elim (is_eq (key_cmp key k)) as (λ b. is_eq (key_cmp key k) ≡ b → IsSome (cond b o (mapped k)) → has_map (heads' k.signal).more ≡ true) [
+            | true ↦ λ t s. subst (λ (j : Key). has_map (heads' j.signal).more ≡ true) (equal_keys key k t) (itself s)
             | false ↦ λ t s. told k s
           ]) refl (subst (λ (w : Option Place). IsSome w) (changed k) some);
     }
@@ -307,15 +308,15 @@ gap_here nodes items first heads head signal start gap list is at g =
 -- ---- a head says that the map may have more
 pub record IsMore (heads new : ℕ → Head) (signal : ℕ) : Type 0 where
   pub same : (s : ℕ) → first_in (new s) ≡ first_in (heads s)
-  pub still : (s : ℕ) → (heads s).more ≡ true → (new s).more ≡ true
-  pub itself : (new signal).more ≡ true
+  pub still : (s : ℕ) → has_map (heads s).more ≡ true → has_map (new s).more ≡ true
+  pub itself : has_map (new signal).more ≡ true
 
-pub more_set : (heads new : ℕ → Head) (signal : ℕ) (b : Bool) (h : Head) → first_in h ≡ first_in (heads signal) → h.more ≡ true
-    → ((s : ℕ) → new s ≡ cond (b && nat_eq signal s) h (heads s)) → (b ≡ false → (heads signal).more ≡ true) → IsMore heads new signal
+pub more_set : (heads new : ℕ → Head) (signal : ℕ) (b : Bool) (h : Head) → first_in h ≡ first_in (heads signal) → has_map h.more ≡ true
+    → ((s : ℕ) → new s ≡ cond (b && nat_eq signal s) h (heads s)) → (b ≡ false → has_map (heads signal).more ≡ true) → IsMore heads new signal
 more_set heads new signal false h first more set told = record {
   same = λ s. ap first_in (set s);
-  still = λ s m. ap (λ (x : Head). x.more) (set s) ∙ m;
-  itself = ap (λ (x : Head). x.more) (set signal) ∙ told refl;
+  still = λ s m. ap (λ (x : Head). has_map x.more) (set s) ∙ m;
+  itself = ap (λ (x : Head). has_map x.more) (set signal) ∙ told refl;
 }
 more_set heads new signal true h first more set told = record {
   same = λ s. ⊎_elim
@@ -323,10 +324,10 @@ more_set heads new signal true h first more set told = record {
       (λ (d : nat_eq signal s ≡ false). ap first_in (past s d))
       (same_or_not signal s);
   still = λ s m. ⊎_elim
-      (λ (e : signal ≡ s). ap (λ (x : Head). x.more) (at s (eq-eqb signal s e)) ∙ more)
-      (λ (d : nat_eq signal s ≡ false). ap (λ (x : Head). x.more) (past s d) ∙ m)
+      (λ (e : signal ≡ s). ap (λ (x : Head). has_map x.more) (at s (eq-eqb signal s e)) ∙ more)
+      (λ (d : nat_eq signal s ≡ false). ap (λ (x : Head). has_map x.more) (past s d) ∙ m)
       (same_or_not signal s);
-  itself = ap (λ (x : Head). x.more) (at signal (eq-eqb signal signal refl)) ∙ more;
+  itself = ap (λ (x : Head). has_map x.more) (at signal (eq-eqb signal signal refl)) ∙ more;
 }
   where
     at : (s : ℕ) → nat_eq signal s ≡ true → new s ≡ h
@@ -351,7 +352,7 @@ counted held head start r =
     (same_or_not head.many 0)
 
 -- what the map says of a signal that may have something there, it says of any
-pub none_mapped : {X : Type 0} (heads : ℕ → Head) (mapped : Key → Option Place) (p : Point) → ((k : Key) → IsSome (mapped k) → (heads k.signal).more ≡ true) → (o : Option X) → (b : Bool) → b ≡ (heads p.signal).more
+pub none_mapped : {X : Type 0} (heads : ℕ → Head) (mapped : Key → Option Place) (p : Point) → ((k : Key) → IsSome (mapped k) → has_map (heads k.signal).more ≡ true) → (o : Option X) → (b : Bool) → b ≡ has_map (heads p.signal).more
     → IfNone o (b ≡ true → IsNoneAt mapped p) → IfNone o (IsNoneAt mapped p)
 none_mapped heads mapped p told (Some x) b is h = tt
 none_mapped heads mapped p told None true is h = h refl
@@ -359,7 +360,7 @@ none_mapped heads mapped p told None false is h =
     λ k of early.
     (elim (mapped k) as (λ o. mapped k ≡ o → o ≡ None) [
       | None ↦ λ e. refl
-      | Some q ↦ λ e. absurd (true≢false (sym (told k (subst (λ (o : Option Place). IsSome o) (sym e) refl)) ∙ ap (λ (s : ℕ). (heads s).more) of ∙ sym is))
+      | Some q ↦ λ e. absurd (true≢false (sym (told k (subst (λ (o : Option Place). IsSome o) (sym e) refl)) ∙ ap (λ (s : ℕ). has_map (heads s).more) of ∙ sym is))
     ]) refl
 
 -- the link behind a cell does not lead to a node whose cell begins later

@@ -20,4 +20,5 @@ pub mod Indexed
 pub mod Nodes
 pub mod Pages
 pub mod Results
-pub mod Moved
+pub mod Owned
+pub mod Emptied

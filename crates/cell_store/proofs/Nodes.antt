@@ -5,10 +5,11 @@ use Rattle.std.proofs.lemmas.List.{length-append}
 use Rattle.std.proofs.lemmas.Option.{slice_get_within, slice_get_past}
 use Rattle.std.specs.List.{slice_get, slice_set}
 use Rattle.cell_store.specs.declared.Key.{Key}
+use Rattle.cell_store.specs.declared.heads.Head.{Head}
 use Rattle.cell_store.specs.declared.index.Place.{Place}
 use Rattle.cell_store.specs.declared.index.Node.{Node}
 use Rattle.cell_store.specs.declared.index.Gap.{Gap}
-use Rattle.cell_store.specs.inner.Lists.{key_at, place_in, held_in, link_in, bound, held_at, link_at, IsOn, IsLink, Any, Below, IsSearchable, IsBefore, IsAfter, IsBehind, IsGap, IsHeld, IsFree, IsPutIn, IsTakenOut, AreSteady, is_it, way_from, start_after}
+use Rattle.cell_store.specs.inner.Lists.{IsIndex, Within, first_in, key_at, place_in, held_in, link_in, bound, held_at, link_at, IsOn, IsLink, Any, Below, IsSearchable, IsBefore, IsAfter, IsBehind, IsGap, IsHeld, IsFree, IsPutIn, IsTakenOut, AreSteady, is_it, way_from, start_after}
 use Rattle.cell_store.proofs.Found.{some_same, none_some}
 use Rattle.cell_store.proofs.Links.{Cell, cell_same, same_or_not, not_one}
 use Rattle.cell_store.proofs.Indexed.{IsNode, node_of}
@@ -214,3 +215,17 @@ pushed_free nodes n i is none = record {
   within = omega (arith, is, length-append nodes (n ∷ []));
   free = pushed_held nodes n none i ∙ past_none held_in nodes i (sym is);
 }
+
+-- ---- an index can be searched
+pub searchable : (nodes items : List Node) (heads : ℕ → Head) (mapped : Key → Option Place) (first : Option ℕ) (head : Head) (signal : ℕ) → IsIndex nodes heads mapped → items ≡ nodes → first ≡ first_in head → head ≡ heads signal → IsSearchable items first signal
+searchable nodes items heads mapped first head signal index list is at =
+    subst (λ (l : List Node). IsSearchable l first signal) (sym list)
+    (subst (λ (o : Option ℕ). IsSearchable nodes o signal) (sym (is ∙ ap first_in at)) (record { head = index.lists.heads signal; links = index.lists.links }))
+
+-- what a search finds is there
+pub gap_within : (nodes : List Node) (first : Option ℕ) (signal start : ℕ) (gap : Gap) → IsGap (held_at nodes) (link_at nodes) first signal start gap → IfSome gap.after (Within nodes)
+gap_within nodes first signal start gap g = by gap.after g.after
+  where
+    by : (o : Option ℕ) → IfSome o (IsAfter (held_at nodes) signal start) → IfSome o (Within nodes)
+    by None h = tt
+    by (Some i) h = held_within nodes i (subst (λ (c : Option Cell). IsSome c) (sym h.at) refl)

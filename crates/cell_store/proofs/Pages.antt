@@ -6,7 +6,7 @@ use Rattle.std.specs.Global.{Vec}
 use Rattle.std.specs.List.{slice_get, slice_set}
 use Rattle.cell_store.specs.declared.heads.Head.{Head}
 use Rattle.cell_store.specs.declared.heads.Heads.{Heads}
-use Rattle.cell_store.specs.inner.Heads.{local_of, no_head, elsewhere, or_none, head_on, on_page, head_at, head_for, HasPlace}
+use Rattle.cell_store.specs.inner.Heads.{local_of, no_head, elsewhere, or_none, head_on, on_page, head_at, head_for, HasHead, HasPlace}
 use Rattle.cell_store.proofs.Found.{some_same, none_some}
 use Rattle.cell_store.proofs.Links.{same_or_not, not_one}
 use Rattle.cell_store.proofs.Nodes.{get_set}
@@ -48,16 +48,20 @@ module _ (pages : List (Vec Head)) (n : ℕ) (page longer : Vec Head) (at : slic
     long = let m : k % 64 < 64 = mod-lt k (omega arith) in omega (arith, m, long);
   }
 
+no_head_has : {P : Type 0} → HasHead no_head → P
+no_head_has (inl some) = absurd (omega (arith, some))
+no_head_has (inr own) = absurd (true≢false (sym own))
+
 -- a head that says something has its place
-pub has_place : (pages : List (Vec Head)) (k : ℕ) → 0 < (head_at pages (Some k)).many → HasPlace pages k
+pub has_place : (pages : List (Vec Head)) (k : ℕ) → HasHead (head_at pages (Some k)) → HasPlace pages k
 has_place pages k some =
-    (elim (slice_get pages (k / 64)) as (λ o. slice_get pages (k / 64) ≡ o → 0 < (on_page o (k % 64)).many → HasPlace pages k) [
-      | None ↦ λ e s. absurd (omega (arith, s))
+    (elim (slice_get pages (k / 64)) as (λ o. slice_get pages (k / 64) ≡ o → HasHead (on_page o (k % 64)) → HasPlace pages k) [
+      | None ↦ λ e s. no_head_has s
       | Some page ↦ λ e s. record {
         page = page;
         is = e;
-        long = (elim (slice_get page.items (k % 64)) as (λ o. slice_get page.items (k % 64) ≡ o → 0 < (or_none o).many → k % 64 < vec_len page) [
-          | None ↦ λ f t. absurd (omega (arith, t))
+        long = (elim (slice_get page.items (k % 64)) as (λ o. slice_get page.items (k % 64) ≡ o → HasHead (or_none o) → k % 64 < vec_len page) [
+          | None ↦ λ f t. no_head_has t
           | Some h ↦ λ f t. omega (arith, slice_get_within page.items (k % 64) h f, page_len page)
         ]) refl s;
       }

@@ -2,5 +2,6 @@ pub mod Beside
 pub mod Index
 pub mod Heads
 pub mod Lists
+pub mod Maps
 pub mod Slots
 pub mod Notes

@@ -1,7 +1,8 @@
 //! A table of heads by signal, in pages that are made when they are needed.
 
-ghost use Rattle.std.specs.Prelude.{◌≡◌, true, false, ◌<◌, ◌≤◌, ◌&&◌, ◌/◌, ◌%◌, ℕ, IfOk, OnErr, OnOk, Some, length, nat_eq, if◌then◌else◌, vec_len};
-ghost use Rattle.cell_store.specs.inner.Heads.{head_at, head_for, head_on, local_of, HasPlace};
+ghost use Rattle.std.specs.Prelude.{◌≡◌, false, ◌<◌, ◌≤◌, ◌&&◌, ◌/◌, ◌%◌, ℕ, IfOk, OnErr, OnOk, Some, length, nat_eq, if◌then◌else◌, vec_len};
+ghost use Rattle.cell_store.specs.inner.Heads.{head_at, head_for, head_on, local_of, has_map, is_own, no_head, HasHead, HasPlace};
+ghost use Rattle.cell_store.specs.declared.heads.More.TheVariants.{Common};
 
 use owned_text::OutOfMemory;
 use std::alloc::Global;
@@ -11,12 +12,37 @@ const PAGE: u32 = 64;
 
 const MOST_PAGES: u32 = 65_536;
 
-/// Where the cells of a signal are: the first node of its list, how many nodes that has, and whether the ordered map may have others.
+/// Where cells of a signal are, beside its list: nowhere, in a map of its own, or in the common map.
+#[derive(Clone, Copy)]
+pub enum More {
+    Nothing,
+    Own,
+    Common,
+}
+
+/// Where the cells of a signal are: how many nodes its list has, and the first of these, or the number of its own map. A signal with such
+/// a map has no list.
 #[derive(Clone, Copy)]
 pub struct Head {
     pub first: u16,
     pub many: u8,
-    pub more: bool,
+    pub more: More,
+}
+
+impl Head {
+    /// Whether the signal has a map of its own.
+    pub fn is_own(&self) -> bool
+        ensures { result ≡ is_own self.now.more }
+    {
+        matches!(self.more, More::Own)
+    }
+
+    /// Whether the signal may have cells in a map.
+    pub fn has_map(&self) -> bool
+        ensures { result ≡ has_map self.now.more }
+    {
+        !matches!(self.more, More::Nothing)
+    }
 }
 
 /// The heads of the signals that leave one residue when they are divided by the stride. Another signal has no place here, nor has one
@@ -32,7 +58,8 @@ pub struct Heads {
 impl Heads {
     /// No signal has a cell.
     pub fn new(alloc: Global, stride: u32, residue: u32) -> Heads
-        ensures { (s : ℕ) → (head_for result s).many ≡ 0 }
+        ensures many { (s : ℕ) → (head_for result s).many ≡ 0 }
+        ensures own { (s : ℕ) → is_own (head_for result s).more ≡ false }
     {
         Heads {
             stride,
@@ -51,7 +78,7 @@ impl Heads {
     /// Gives a signal this head, where it has a place here. Returns whether it has.
     pub fn set(&mut self, signal: u32, head: Head) -> Result<bool, OutOfMemory>
         ensures set { IfOk result (λ set. (s : ℕ) → head_for self.new s ≡ (if set && nat_eq signal s then head else head_for self.old s)) }
-        ensures told { IfOk result (λ set. set ≡ false → (head_for self.old signal).more ≡ true) }
+        ensures told { IfOk result (λ set. set ≡ false → (head_for self.old signal).more ≡ Common) }
         ensures err { OnErr result ((s : ℕ) → head_for self.new s ≡ head_for self.old s) }
     {
         let Some(local) = local_number(self.stride, self.residue, signal) else {
@@ -62,9 +89,9 @@ impl Heads {
         Ok(true)
     }
 
-    /// Gives a signal that has a list another head.
+    /// Gives a signal that has a list or a map of its own another head.
     pub fn replace(&mut self, signal: u32, head: Head)
-        requires { 0 < (head_for self.old signal).many }
+        requires { HasHead (head_for self.old signal) }
         ensures { (s : ℕ) → head_for self.new s ≡ (if nat_eq signal s then head else head_for self.old s) }
     {
         let Some(local) = local_number(self.stride, self.residue, signal) else {
@@ -95,7 +122,7 @@ fn head_in(pages: &[Vec<Head>], local: Option<u32>) -> Head
         return Head {
             first: 0,
             many: 0,
-            more: true,
+            more: More::Common,
         };
     };
     if let Some(page) = pages.get((local / PAGE) as usize) {
@@ -103,10 +130,17 @@ fn head_in(pages: &[Vec<Head>], local: Option<u32>) -> Head
             return *head;
         }
     }
+    no_head()
+}
+
+// The head of a signal of which nothing is stored.
+pub fn no_head() -> Head
+    ensures { result ≡ no_head }
+{
     Head {
         first: 0,
         many: 0,
-        more: false,
+        more: More::Nothing,
     }
 }
 
@@ -131,11 +165,7 @@ fn fill_page(page: &mut Vec<Head>) -> Result<(), OutOfMemory>
         page.reserve(PAGE as usize)?;
     }
     while page.len() < PAGE as usize {
-        page.push(Head {
-            first: 0,
-            many: 0,
-            more: false,
-        })?;
+        page.push(no_head())?;
     }
     Ok(())
 }

@@ -1,18 +1,22 @@
 //! The index of a store: the place of each cell by its key.
 //!
-//! The cells of a signal are a list, the latest first, behind its [`Head`]. The nodes of all lists are in one array. Where a list has
-//! [`MOST_LISTED`] nodes, the further cells of its signal go into an ordered map, and each takes the first cell of the list with it. So
-//! the list is empty soon, and a search reads the map alone. The signal stays with the map. So do signals with no place among the heads.
+//! The cells of a signal are a list, the latest first, behind its [`Head`]. The nodes of all lists are in one array. A signal with more
+//! cells than [`MOST_LISTED`] gets an ordered map of its own, and its list goes into it. It has the map until this is empty. Where no map
+//! can be had, further cells go into the common map, and the list stays beside. Signals with no place among the heads have all their cells
+//! in the common map.
 
-ghost use Rattle.std.specs.Prelude.{◌≡◌, true, if◌then◌else◌, ◌+◌, ◌<◌, ◌≤◌, ⊤, ℕ, None, Some, IfNone, IfOk, IfSome, OnErr, false, length, nat_eq, option_map, slice_get, unwrap_or};
-ghost use Rattle.std.specs.BTreeMap.{get, IsUnchanged, Updates};
+ghost use Rattle.std.specs.Prelude.{◌≡◌, true, if◌then◌else◌, ◌+◌, ◌<◌, ◌≤◌, ⊤, ℕ, None, Some, IfNone, IfOk, IfSome, OnErr, OnOk, false, length, nat_eq, option_map, slice_get, unwrap_or};
+ghost use Rattle.std.specs.BTreeMap.{get};
+ghost use Rattle.std.specs.Ordering.{nat_cmp};
 ghost use Rattle.cell_store.specs.declared.Key.{Key};
-ghost use Rattle.cell_store.specs.inner.Heads.{head_for};
-ghost use Rattle.cell_store.specs.inner.Index.{key_cmp};
-ghost use Rattle.cell_store.specs.inner.Lists.{AreAllSteady, AreSteady, IsFree, IsGap, IsHeld, IsIndex, IsLastAt, IsListedOr, IsNoneAt, IsPutIn, IsSearchable, IsTakenOut, Same, Sets, Within, bound, first_in, held_at, held_in, later_of, link_at, link_in, listed, longer_first, or_else, place_in, place_of, place_starting, shorter_first, start_and_place, starts_at};
+ghost use Rattle.cell_store.specs.declared.heads.More.TheVariants.{Nothing, Own};
+ghost use Rattle.cell_store.specs.inner.Heads.{has_map, head_for};
+ghost use Rattle.cell_store.specs.inner.Maps.{IsThere, IsUnmapped, IsWhole, mapped_in, place_of};
+ghost use Rattle.cell_store.specs.inner.Lists.{AreAllSteady, AreLists, AreSteady, IsEmptied, IsFree, IsGap, IsHeld, IsLastAt, IsListedOr, IsNoneAt, IsPutIn, IsSearchable, IsTakenOut, Same, Sets, Within, bound, first_in, firsts, held_at, held_in, key_at, link_at, link_in, listed, later_of, longer_first, or_else, place_in, place_starting, shorter_first, start_and_place, starts_at};
 
 use crate::Key;
-use crate::heads::{Head, Heads};
+use crate::heads::{Head, Heads, More, no_head};
+use crate::maps::Maps;
 use gate_values::Value;
 use owned_text::OutOfMemory;
 use std::alloc::Global;
@@ -59,32 +63,34 @@ pub struct CellIndex {
     nodes: Vec<Node>,
     // the node that was freed last, where it is free
     free: u16,
-    more: BTreeMap<Key, Place>,
+    maps: Maps,
 }
 
 impl Model for CellIndex {
-    ghost use Rattle.std.specs.BTreeMap.{get};
     ghost use Rattle.cell_store.specs.inner.Heads.{head_for};
-    ghost use Rattle.cell_store.specs.inner.Index.{key_cmp};
-    ghost use Rattle.cell_store.specs.inner.Lists.{Places, IsIndex};
+    ghost use Rattle.cell_store.specs.inner.Maps.{IsWhole, Places};
+    ghost use Rattle.cell_store.specs.contracts.maps.Maps as the_maps;
+    ghost use Rattle.std.specs.Coded.{codes};
 
     ghost Value = { Places };
 
-    ghost view = { λ s. record { nodes = s.nodes.items; mapped = s.more.entries } };
+    ghost coded = { Prim.hlevel (codes, the_maps.the_row.coded) };
 
-    ghost invariant = { λ s. IsIndex s.nodes.items (head_for s.heads) (get key_cmp s.more) };
+    ghost view = { λ s. record { nodes = s.nodes.items; heads = s.heads; maps = s.maps } };
+
+    ghost invariant = { λ s. IsWhole s.nodes.items (head_for s.heads) s.maps };
 }
 
 impl CellIndex {
-    /// No key has a place.
-    pub fn new(alloc: Global, stride: u32, residue: u32) -> CellIndex
+    /// No key has a place. There will be at most `capacity` places, or one more for a time.
+    pub fn new(alloc: Global, capacity: u32, stride: u32, residue: u32) -> CellIndex
         ensures { (k : Key) → place_of result k ≡ None }
     {
         CellIndex {
             heads: Heads::new(alloc, stride, residue),
             nodes: Vec::new(alloc),
             free: 0,
-            more: BTreeMap::new(alloc),
+            maps: Maps::new(alloc, (capacity / MOST_LISTED as u32) as usize + 1),
         }
     }
 
@@ -100,7 +106,7 @@ impl CellIndex {
         };
         let gap = gap_at(&self.nodes, first_of(head), at);
         let listed = listed_at(&self.nodes, gap.after);
-        later(listed, last_mapped(&self.more, head.more, p))
+        later(listed, self.maps.last_at(head, p))
     }
 
     /// Gives a key this place. A key that has a place keeps it, and its slot is returned.
@@ -111,6 +117,9 @@ impl CellIndex {
         ensures err { OnErr result (Same (place_of self.old) (place_of self.new)) }
     {
         let head = self.heads.at(key.signal);
+        if head.is_own() {
+            return self.maps.insert(head, key, place);
+        }
         let gap = gap_at(&self.nodes, first_of(head), key);
         if let Some(had) = place_starting(&self.nodes, gap.after, key.start) {
             return Ok(Some(had.slot as u32));
@@ -119,10 +128,9 @@ impl CellIndex {
         if add_listed(heads, nodes, free, key, place, gap)? {
             return Ok(None);
         }
-        self.heads.set(key.signal, Head { more: true, ..head })?;
         let (heads, nodes, free) = (&mut self.heads, &mut self.nodes, &mut self.free);
-        move_first(heads, nodes, free, &mut self.more, key.signal)?;
-        insert_mapped(&mut self.more, key, place)
+        use_map(heads, nodes, free, &mut self.maps, key.signal)?;
+        self.maps.insert(self.heads.at(key.signal), key, place)
     }
 
     /// Takes the place of a key away.
@@ -132,7 +140,7 @@ impl CellIndex {
         let head = self.heads.at(key.signal);
         let gap = gap_at(&self.nodes, first_of(head), *key);
         let Some(i) = node_starting(&self.nodes, gap.after, key.start) else {
-            self.more.remove(key);
+            remove_mapped(&mut self.heads, &mut self.maps, head, key);
             return;
         };
         let next = link_of(i, &self.nodes[i as usize]);
@@ -225,43 +233,6 @@ fn node_starting(nodes: &[Node], at: Option<u16>, start: u32) -> Option<u16>
     }
 }
 
-// Gives a key this place in the map, in one search. A key that has a place keeps it, by a second search, and its slot is returned.
-fn insert_mapped(
-    more: &mut BTreeMap<Key, Place>,
-    key: Key,
-    place: Place,
-) -> Result<Option<u32>, OutOfMemory>
-    ensures had { IfOk result (λ had. had ≡ option_map (λ p. p.slot) (get key_cmp more.old key)) }
-    ensures new { IfOk result (λ had. IfNone had (Updates key_cmp more.old more.new key (Some place))) }
-    ensures stays { IfOk result (λ had. IfSome had (λ _. (k : Key) → get key_cmp more.new k ≡ get key_cmp more.old k)) }
-    ensures err { OnErr result (IsUnchanged more.old more.new) }
-{
-    let Some(had) = more.insert(key, place)? else {
-        return Ok(None);
-    };
-    more.insert(key, had)?;
-    Ok(Some(had.slot as u32))
-}
-
-fn last_mapped(more: &BTreeMap<Key, Place>, told: bool, p: Point) -> Option<(u32, Place)>
-    ensures last { IfSome result (λ last. IsLastAt (get key_cmp more.now) p last.0 last.1) }
-    ensures none { IfNone result (told ≡ true → IsNoneAt (get key_cmp more.now) p) }
-{
-    if !told {
-        return None;
-    }
-    let at = Key {
-        signal: p.signal,
-        start: p.time,
-    };
-    let (key, place) = more.range(..=at).next_back()?;
-    if key.signal == p.signal {
-        Some((key.start, *place))
-    } else {
-        None
-    }
-}
-
 fn later(a: Option<(u32, Place)>, b: Option<(u32, Place)>) -> Option<(u32, Place)>
     ensures { result ≡ later_of a b }
 {
@@ -272,7 +243,7 @@ fn later(a: Option<(u32, Place)>, b: Option<(u32, Place)>) -> Option<(u32, Place
     }
 }
 
-// Puts a cell into a list, where the map has no cell of its signal, the list has room, and there can be a node. Returns whether it did.
+// Puts a cell into a list, where no map has a cell of its signal, the list has room, and there can be a node. Returns whether it did.
 fn add_listed(
     heads: &mut Heads,
     nodes: &mut Vec<Node>,
@@ -284,12 +255,12 @@ fn add_listed(
     requires before { IfSome gap.before (IsHeld nodes.old.items) }
     requires after { IfSome gap.after (IsHeld nodes.old.items) }
     requires head { IfSome gap.before (λ _. 0 < (head_for heads.old key.signal).many) }
-    ensures alone { IfOk result (λ listed. listed ≡ true → (head_for heads.old key.signal).more ≡ false) }
+    ensures alone { IfOk result (λ listed. listed ≡ true → (head_for heads.old key.signal).more ≡ Nothing) }
     ensures listed { IfOk result (λ listed. IsListedOr listed nodes.old.items nodes.new.items (head_for heads.old) (head_for heads.new) key place gap) }
     ensures err { OnErr result (AreAllSteady nodes.old.items nodes.new.items (head_for heads.old) (head_for heads.new)) }
 {
     let head = heads.at(key.signal);
-    if head.more || head.many >= MOST_LISTED {
+    if !matches!(head.more, More::Nothing) || head.many >= MOST_LISTED {
         return Ok(false);
     }
     let Some(i) = free_node(nodes, free)? else {
@@ -302,36 +273,110 @@ fn add_listed(
     Ok(true)
 }
 
-// Takes the first cell of a signal's list into the map, if it has one there.
-fn move_first(
+// Gives a signal a map: its own, into which its list goes, or where it has none or can have none the common one.
+fn use_map(
     heads: &mut Heads,
     nodes: &mut Vec<Node>,
     free: &mut u16,
-    more: &mut BTreeMap<Key, Place>,
+    maps: &mut Maps,
     signal: u32,
 ) -> Result<(), OutOfMemory>
-    requires index { IsIndex nodes.old.items (head_for heads.old) (get key_cmp more.old) }
-    requires told { (head_for heads.old signal).more ≡ true }
-    ensures index { IsIndex nodes.new.items (head_for heads.new) (get key_cmp more.new) }
-    ensures told { (head_for heads.new signal).more ≡ true }
-    ensures listed { (q : Key) → listed nodes.old.items q ≡ None → listed nodes.new.items q ≡ None }
-    ensures same { (q : Key) → or_else (listed nodes.new.items q) (get key_cmp more.new q) ≡ or_else (listed nodes.old.items q) (get key_cmp more.old q) }
+    requires whole { IsWhole nodes.old.items (head_for heads.old) maps.old }
+    ensures whole { IsWhole nodes.new.items (head_for heads.new) maps.new }
+    ensures told { OnOk result (has_map (head_for heads.new signal).more ≡ true) }
+    ensures same { (q : Key) → or_else (listed nodes.new.items q) (mapped_in (head_for heads.new) maps.new q) ≡ or_else (listed nodes.old.items q) (mapped_in (head_for heads.old) maps.old q) }
+    ensures unlisted { (q : Key) → listed nodes.old.items q ≡ None → listed nodes.new.items q ≡ None }
 {
     let head = heads.at(signal);
-    let Some(i) = first_of(head) else {
+    if head.has_map() {
         return Ok(());
+    }
+    if move_list(heads, nodes, free, maps, signal)? {
+        return Ok(());
+    }
+    let head = Head {
+        more: More::Common,
+        ..head
     };
-    let node = nodes[i as usize];
-    let key = Key {
-        signal,
-        start: node.start,
-    };
-    more.insert(key, place_in(&node))?;
-    let next = link_of(i, &node);
-    take_out(nodes, i, None, next, *free);
-    *free = i;
-    heads.replace(signal, shorter(head, None, next));
+    heads.set(signal, head)?;
     Ok(())
+}
+
+// Moves the list of a signal into a map of its own, where one can be had. Returns whether it did.
+fn move_list(
+    heads: &mut Heads,
+    nodes: &mut Vec<Node>,
+    free: &mut u16,
+    maps: &mut Maps,
+    signal: u32,
+) -> Result<bool, OutOfMemory>
+    requires whole { IsWhole nodes.old.items (head_for heads.old) maps.old }
+    requires alone { (head_for heads.old signal).more ≡ Nothing }
+    ensures whole { IsWhole nodes.new.items (head_for heads.new) maps.new }
+    ensures told { IfOk result (λ moved. moved ≡ true → has_map (head_for heads.new signal).more ≡ true) }
+    ensures heads { IfOk result (λ moved. moved ≡ false → (s : ℕ) → head_for heads.new s ≡ head_for heads.old s) }
+    ensures same { (q : Key) → or_else (listed nodes.new.items q) (mapped_in (head_for heads.new) maps.new q) ≡ or_else (listed nodes.old.items q) (mapped_in (head_for heads.old) maps.old q) }
+    ensures unlisted { (q : Key) → listed nodes.old.items q ≡ None → listed nodes.new.items q ≡ None }
+{
+    if heads.at(signal).many == 0 {
+        return Ok(false);
+    }
+    let cells = listed_cells(heads, nodes, signal)?;
+    let Some(first) = maps.add(signal, cells)? else {
+        return Ok(false);
+    };
+    free_list(heads, nodes, free, signal);
+    let head = Head {
+        first,
+        many: 0,
+        more: More::Own,
+    };
+    heads.replace(signal, head);
+    Ok(true)
+}
+
+// The places of a signal's list by their starts.
+fn listed_cells(
+    heads: &Heads,
+    nodes: &Vec<Node>,
+    signal: u32,
+) -> Result<BTreeMap<u32, Place>, OutOfMemory>
+    requires { AreLists (held_at nodes.now.items) (link_at nodes.now.items) (firsts (head_for heads.now)) }
+    ensures { IfOk result (λ cells. (t : ℕ) → get nat_cmp cells t ≡ listed nodes.now.items (key_at signal t)) }
+{
+    let mut cells = BTreeMap::new(*nodes.allocator());
+    let mut at = first_of(heads.at(signal));
+    while let Some(i) = at {
+        let node = nodes[i as usize];
+        cells.insert(node.start, place_in(&node))?;
+        at = link_of(i, &node);
+    }
+    Ok(cells)
+}
+
+// Frees the nodes of a signal's list.
+fn free_list(heads: &Heads, nodes: &mut Vec<Node>, free: &mut u16, signal: u32)
+    requires { AreLists (held_at nodes.old.items) (link_at nodes.old.items) (firsts (head_for heads.now)) }
+    ensures { IsEmptied nodes.old.items nodes.new.items signal }
+{
+    let mut at = first_of(heads.at(signal));
+    while let Some(i) = at {
+        at = link_of(i, &nodes[i as usize]);
+        write_node(nodes, i, free_at(*free));
+        *free = i;
+    }
+}
+
+// Takes a place away from the map of a head. A map of its own that is empty then is given up.
+fn remove_mapped(heads: &mut Heads, maps: &mut Maps, head: Head, key: &Key)
+    requires head { head ≡ head_for heads.old key.now.signal }
+    requires there { IsThere head maps.old }
+    ensures { IsUnmapped (head_for heads.old) (head_for heads.new) maps.old maps.new key.now }
+{
+    maps.remove(head, key);
+    if maps.release_empty(head) {
+        heads.replace(key.signal, no_head());
+    }
 }
 
 fn place_in(node: &Node) -> Place

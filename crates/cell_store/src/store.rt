@@ -1,5 +1,5 @@
 ghost use Rattle.std.specs.Prelude.{◌≡◌, ℕ, ◌-◌, ◌<◌, ◌≤◌, ◌↔◌, [], IsTrue, List, not, map, find, drop, reverse, take, option_map, unwrap_or, IfNone, IfOk, IfSome, None, OnErr, OnOk, length, nat_lt, slice_get, if◌then◌else◌};
-ghost use Rattle.cell_store.specs.inner.Lists.{place_of};
+ghost use Rattle.cell_store.specs.inner.Maps.{place_of};
 ghost use Rattle.valid_intervals.specs.declared.SignalCell.{SignalCell};
 ghost use Rattle.valid_intervals.specs.Spans.{IsSpan};
 ghost use Rattle.valid_intervals.specs.Cells as cells;
@@ -34,7 +34,7 @@ pub struct CellStore {
 
 impl Model for CellStore {
     ghost use Rattle.cell_store.specs.Recency.{Contents, contents};
-    ghost use Rattle.cell_store.specs.inner.Lists.{place_of};
+    ghost use Rattle.cell_store.specs.inner.Maps.{place_of};
     ghost use Rattle.cell_store.specs.inner.Index.{cells_of, IsFront, IsSoundStore};
 
     ghost Value = { Contents };
@@ -60,7 +60,7 @@ impl CellStore {
         let cells = NonZeroUsize::new(capacity as usize).unwrap();
         Ok(CellStore {
             cache: RecentCells::new(alloc, cells)?,
-            index: CellIndex::new(alloc, stride, residue),
+            index: CellIndex::new(alloc, capacity, stride, residue),
             free: Vec::new(alloc),
             front: None,
         })

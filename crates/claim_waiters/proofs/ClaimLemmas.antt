@@ -1,6 +1,7 @@
 -- What the table's two maps show.
-use Rattle.std.proofs.Common.{◌≡◌, ℕ, true, false, cond, List, [], ◌∷◌, ◌++◌, refl, ap, sym, ◌∙◌, subst, Result, Ok, Err, OnOk, OnErr, Option, Some, None, option_map, unwrap_or, IsSome, All, inl, inr, true≢false, arith}
+use Rattle.std.proofs.Common.{◌≡◌, ℕ, true, false, cond, List, [], ◌∷◌, ◌++◌, refl, ap, sym, ◌∙◌, subst, Bool, Result, Ok, Err, IsTrue, IfOk, OnOk, OnErr, ◌↔◌, Option, Some, None, option_map, unwrap_or, IsSome, All, inl, inr, true≢false, arith}
 use Rattle.std.specs.declared.cmp.Ordering.TheVariants.{Less, Equal, Greater}
+use Rattle.std.specs.Bool.{OnTrue, OnFalse}
 use Rattle.std.specs.Ordering.{is_eq, is_gt, match_ordering}
 use Rattle.std.specs.BTreeMap.{insert_entry, is_at}
 use Rattle.std.specs.Map.{keys_of, remove_entry}
@@ -14,15 +15,7 @@ use Rattle.valid_intervals.specs.declared.Point.{Point}
 use Rattle.valid_intervals.specs.Cells.{point_cmp}
 use Rattle.claim_waiters.specs.Claims.{WaitedClaim, Claims, IsAtMost, claim_at, holder_in, waiters_of, first_of, with_claim, without_claim, with_waiter}
 use Rattle.claim_waiters.specs.inner.View.{at, claims_with, those_in, IsKept}
-use Rattle.claim_waiters.proofs.Tables.{at-is, at-same, same-itself, put-back}
-
-pub by_case_ok : {X E : Type 0} (r : Result X E) (A P : Type 0) → OnOk r A → (A → P) → OnOk r P
-by_case_ok (Ok x) A P a f = f a
-by_case_ok (Err e) A P a f = tt
-
-pub by_case_err : {X E : Type 0} (r : Result X E) (A P : Type 0) → OnErr r A → (A → P) → OnErr r P
-by_case_err (Ok x) A P a f = tt
-by_case_err (Err e) A P a f = f a
+use Rattle.claim_waiters.proofs.Tables.{at-is, at-same, at-inserted, same-itself, put-back}
 
 -- no point of a list is p
 abbrev NoneIs : Point → List Point → Type 0
@@ -213,3 +206,18 @@ module _ {R : Type 0} where
       by : (o : Option R) → (IsSome o → IsSome (at holders p)) → o ≡ None
       by None f = refl
       by (Some room) f = let h : IsSome (at holders p) = f refl in let k = rw none at h in cc k
+
+-- what a claim leaves, whether the point was free or not
+module _ {E : Type 0} (holders new : List (Point × ℕ)) (p : Point) (q : ℕ) where
+  pub kept-by-claim : {R : Type 0} (rooms : List (Point × R)) (r : Result Bool E) → IsStrictlySortedBy point_cmp (keys_of new) → IfOk r (λ free. IsTrue free ↔ (at holders p ≡ None)) → IfOk r (λ free. OnTrue free (new ≡ insert_entry point_cmp holders p q))
+      → IfOk r (λ free. OnFalse free (new ≡ holders)) → OnErr r (new ≡ holders) → IsKept holders rooms → IsKept new rooms
+  kept-by-claim rooms (Ok true) order free claimed taken err kept =
+      kept-claimed holders new rooms p q order (λ x. ap (λ es. at es x) claimed ∙ at-inserted holders p q x (free.0 refl) ∙ ap (λ b. cond b (Some q) (at holders x)) (sym (at-same p x))) kept
+  kept-by-claim rooms (Ok false) order free claimed taken err kept = subst (λ es. IsKept es rooms) (sym taken) kept
+  kept-by-claim rooms (Err e) order free claimed taken err kept = subst (λ es. IsKept es rooms) (sym err) kept
+
+  pub once-claimed : {Goal : Type 0} (r : Result Bool E) → IfOk r (λ free. IsTrue free ↔ (at holders p ≡ None)) → IfOk r (λ free. OnTrue free (new ≡ insert_entry point_cmp holders p q))
+      → (at holders p ≡ None → new ≡ insert_entry point_cmp holders p q → Goal) → IfOk r (λ free. OnTrue free Goal)
+  once-claimed (Ok true) free claimed then = then (free.0 refl) claimed
+  once-claimed (Ok false) free claimed then = tt
+  once-claimed (Err e) free claimed then = tt

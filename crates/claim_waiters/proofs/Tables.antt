@@ -102,7 +102,7 @@ module _ {X : Type 0} where
       ]) refl n
 
   -- no key that comes after k is p, where p comes before k
-  none-before : (es : List (Point × X)) (k p : Point) → AllByRecursion (λ y. point_cmp k y ≡ Less) (keys_of es) → point_cmp p k ≡ Less → at es p ≡ None
+  pub none-before : (es : List (Point × X)) (k p : Point) → AllByRecursion (λ y. point_cmp k y ≡ Less) (keys_of es) → point_cmp p k ≡ Less → at es p ≡ None
   none-before [] k p all before = refl
   none-before (e ∷ es) k p all before =
       let after : point_cmp k e.0 ≡ Less = all.0 in

@@ -11,8 +11,9 @@
 //! a room with its first waiter, and most never have one; `take` then hands out an empty one.
 //!
 //! With n claims each call takes O(log n) steps. `wait` also puts one waiter into a room, and `take` moves the room out.
-//! The rooms lie in a map of their own, so that a claim for which nothing waits takes 12 bytes of the map of the claims: its
-//! point and its query. `claim` and `wait` may allocate; on failure they leave the table as it was, but that `wait` may have
+//! Up to 32 claims are a list in the order of their points, which takes no memory again; more are an ordered map, until all of
+//! these have ended. The rooms lie in a map of their own, so that a claim for which nothing waits takes 12 bytes: its point and
+//! its query. `claim` and `wait` may allocate; on failure they leave the table as it was, but that `wait` may have
 //! made the claim's room, which serves the next waiter. `take`, `holder` and `first` do not allocate.
 //!
 //! ```text
@@ -24,6 +25,7 @@
 //! ```
 #![tactic(auto)]
 
+mod holders;
 mod table;
 #[cfg(test)]
 mod tests;

@@ -2,6 +2,7 @@ ghost use Rattle.std.specs.Prelude.{◌≡◌, ◌↔◌, ◌++◌, ◌∷◌, l
 ghost use Rattle.std.specs.Bool.{OnFalse, OnTrue};
 ghost use Rattle.claim_waiters.specs.Claims.{claim_at, first_of, holder_in, waiters_of, with_claim, with_waiter, without_claim, IsAtMost, IsInOrder};
 
+use crate::holders::Holders;
 use crate::waiter::Waiter;
 use owned_text::OutOfMemory;
 use std::alloc::Global;
@@ -13,7 +14,7 @@ use valid_intervals::Point;
 #[derive(Drop)]
 pub struct ClaimTable<W: Waiter> {
     // The query that has claimed each point.
-    holders: BTreeMap<Point, u32>,
+    holders: Holders,
     // The waiters of the claimed points for which some wait. A room is empty where there was no memory for the first.
     rooms: BTreeMap<Point, W::Room>,
     alloc: Global,
@@ -26,9 +27,9 @@ impl<W: Waiter> Model for ClaimTable<W> {
 
     ghost use Rattle.claim_waiters.specs.inner.View.{claims_of, IsKept};
 
-    ghost view = { λ t. claims_of W.items t.holders.entries t.rooms.entries };
+    ghost view = { λ t. claims_of W.items t.holders t.rooms.entries };
 
-    ghost invariant = { λ t. IsKept t.holders.entries t.rooms.entries };
+    ghost invariant = { λ t. IsKept t.holders t.rooms.entries };
 }
 
 impl<W: Waiter> ClaimTable<W> {
@@ -37,17 +38,19 @@ impl<W: Waiter> ClaimTable<W> {
         ensures { result ≡ [] }
     {
         ClaimTable {
-            holders: BTreeMap::new(alloc),
+            holders: Holders::new(alloc),
             rooms: BTreeMap::new(alloc),
             alloc,
         }
     }
 
-    /// What holds of every table: its points are in order, so none is claimed twice.
+    /// The law of every table: its points are in order, so none is claimed twice. Who ends a claim or adds a waiter needs it, to say what
+    /// is left at each point.
     pub fn facts(&self)
         ensures { IsInOrder self.now }
     {
-        let _len = self.holders.len();
+        // A proof knows the invariant of a value whose field the body reads.
+        let _ = &self.holders;
     }
 
     /// The number of claimed points.
@@ -61,7 +64,7 @@ impl<W: Waiter> ClaimTable<W> {
     pub fn is_empty(&self) -> bool
         ensures { IsTrue result ↔ (self.now ≡ []) }
     {
-        self.holders.is_empty()
+        self.holders.len() == 0
     }
 
     /// Claims a point for a query, if the point is free, and says whether it was. A new claim has no waiter yet.
@@ -72,23 +75,14 @@ impl<W: Waiter> ClaimTable<W> {
         ensures err_free { OnErr result (claim_at self.old p ≡ None) }
         ensures err { OnErr result (self.new ≡ self.old) }
     {
-        match self.holders.insert(p, q) {
-            Ok(None) => Ok(true),
-            Ok(Some(holder)) => {
-                // The place is there, so this takes no memory.
-                let _ = self.holders.insert(p, holder);
-                Ok(false)
-            }
-            Err(_) => Err(OutOfMemory),
-        }
+        self.holders.claim(self.alloc, q, p)
     }
 
     /// The query that has claimed the point.
     pub fn holder(&self, p: Point) -> Option<u32>
         ensures { result ≡ holder_in self.now p }
     {
-        let q = self.holders.get(&p)?;
-        Some(*q)
+        self.holders.get(p)
     }
 
     /// Appends a waiter at a claimed point. On failure hands it back.
@@ -110,7 +104,7 @@ impl<W: Waiter> ClaimTable<W> {
         ensures waiters { waiters_of self.old p ≡ Some (W.items result) }
         ensures rest { self.new ≡ without_claim self.old p }
     {
-        self.holders.remove(&p);
+        self.holders.remove(p);
         match self.rooms.remove(&p) {
             Some(room) => room,
             None => W::none(self.alloc),
@@ -123,7 +117,7 @@ impl<W: Waiter> ClaimTable<W> {
         ensures least { IfSome result (λ first. All (λ claimed. IsAtMost first.1 claimed.0)
             self.now) }
     {
-        let (p, q) = self.holders.first_key_value()?;
-        Some((*q, *p))
+        let (p, q) = self.holders.first()?;
+        Some((q, p))
     }
 }

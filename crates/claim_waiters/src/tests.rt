@@ -68,3 +68,26 @@ fn waiters_come_back_in_their_order(rt: HostRuntime) -> Result<(), Fail> {
     }
     Ok(())
 }
+
+#[test]
+fn many_claims_are_in_the_order_of_their_points(rt: HostRuntime) -> Result<(), Fail> {
+    let mut claims: ClaimTable<Ticket> = ClaimTable::new(rt.alloc());
+    for signal in 0..40 {
+        assert!(rt; claims.claim(100 - signal, point(39 - signal, 5))?);
+    }
+    assert!(rt;
+        !claims.claim(7, point(39, 5))?,
+        "claimed while there were few"
+    );
+    assert_eq!(rt; claims.len(), 40);
+    for signal in 0..40 {
+        assert_eq!(rt; claims.first(), Some((61 + signal, point(signal, 5))));
+        if claims.holder(point(signal, 5)).is_some() {
+            assert!(rt; claims.take(point(signal, 5)).is_empty());
+        }
+    }
+    assert!(rt; claims.is_empty());
+    assert!(rt; claims.claim(8, point(39, 5))?, "all have ended");
+    assert_eq!(rt; claims.holder(point(39, 5)), Some(8));
+    Ok(())
+}

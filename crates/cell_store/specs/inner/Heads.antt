@@ -1,8 +1,10 @@
 -- The table of heads: which signals have a place in it, and where.
-use Rattle.std.specs.Prelude.{◌≡◌, vec_len, ℕ, ◌/◌, ◌%◌, ◌<◌, ◌≤◌, nat_eq, nat_lt, true, false, if◌then◌else◌, List, Option, Some, None, length, slice_get}
+use Rattle.std.specs.Prelude.{◌≡◌, ◌⊎◌, Bool, vec_len, ℕ, ◌/◌, ◌%◌, ◌<◌, ◌≤◌, nat_eq, nat_lt, true, false, if◌then◌else◌, List, Option, Some, None, length, slice_get}
 use Rattle.std.specs.Global.{Vec}
 use Rattle.cell_store.specs.declared.heads.Head.{Head}
 use Rattle.cell_store.specs.declared.heads.Heads.{Heads}
+use Rattle.cell_store.specs.declared.heads.More.{More}
+use Rattle.cell_store.specs.declared.heads.More.TheVariants.{Nothing, Own, Common}
 
 -- the number of a signal among those of the table, where it is one
 abbrev pub local_of : ℕ → ℕ → ℕ → Option ℕ
@@ -13,11 +15,27 @@ local_of stride residue signal =
 
 -- the head of a signal of which nothing is stored
 abbrev pub no_head : Head
-no_head = record { first = 0; many = 0; more = false }
+no_head = record { first = 0; many = 0; more = Nothing }
 
--- that of a signal with no place: its cells are in the ordered map
+-- that of a signal with no place: its cells are in the common map
 abbrev pub elsewhere : Head
-elsewhere = record { first = 0; many = 0; more = true }
+elsewhere = record { first = 0; many = 0; more = Common }
+
+-- a map of its own
+abbrev pub is_own : More → Bool
+is_own Nothing = false
+is_own Own = true
+is_own Common = false
+
+-- a map beside the list
+abbrev pub has_map : More → Bool
+has_map Nothing = false
+has_map Own = true
+has_map Common = true
+
+-- something of the signal is stored, and not in the common map alone
+abbrev pub HasHead : Head → Type 0
+HasHead head = (0 < head.many) ⊎ (is_own head.more ≡ true)
 
 abbrev pub or_none : Option Head → Head
 or_none (Some head) = head

@@ -1,11 +1,10 @@
--- The lists of an index: nodes in one array, each linked to the node of its signal that begins before it, and the ordered map beside them.
-use Rattle.std.specs.Prelude.{◌≡◌, ℕ, ◌<◌, ◌≤◌, Bool, true, false, ◌&&◌, nat_eq, nat_lt, suc, if◌then◌else◌, List, [], ◌∷◌, slice_get, Option, Some, None, IfSome, IfNone, IsSome, option_map, length}
+-- The lists of an index: nodes in one array, each linked to the node of its signal that begins before it, and the maps beside them.
+use Rattle.std.specs.Prelude.{◌≡◌, ℕ, ◌<◌, ◌≤◌, Bool, true, false, ◌&&◌, not, nat_eq, nat_lt, suc, if◌then◌else◌, List, [], ◌∷◌, slice_get, Option, Some, None, IfSome, IfNone, IsSome, option_map, length}
 use Rattle.std.specs.Ordering.{is_eq}
-use Rattle.std.specs.Map.{lookup}
-use Rattle.std.specs.BTreeMap.{is_at}
 use Rattle.valid_intervals.specs.declared.Point.{Point}
 use Rattle.cell_store.specs.declared.Key.{Key}
 use Rattle.cell_store.specs.declared.heads.Head.{Head}
+use Rattle.cell_store.specs.inner.Heads.{has_map}
 use Rattle.cell_store.specs.declared.index.Place.{Place}
 use Rattle.cell_store.specs.declared.index.Node.{Node}
 use Rattle.cell_store.specs.declared.index.Gap.{Gap}
@@ -13,11 +12,6 @@ use Rattle.cell_store.specs.inner.Index.{key_cmp}
 
 abbrev pub key_at : ℕ → ℕ → Key
 key_at signal start = record { signal = signal; start = start }
-
--- what an index has: the nodes of the lists, and the entries of the map
-pub record Places : Type 0 where
-  pub nodes : List Node
-  pub mapped : List (Key × Place)
 
 -- ---- what a node says
 abbrev pub place_in : Node → Place
@@ -64,9 +58,6 @@ abbrev pub or_else : Option Place → Option Place → Option Place
 or_else (Some p) other = Some p
 or_else None other = other
 
-abbrev pub place_of : Places → Key → Option Place
-place_of s k = or_else (listed s.nodes k) (lookup (is_at (key_cmp k)) s.mapped)
-
 -- ---- links
 -- where a link leads to: to the last cell of the signal among those whose start is low
 pub record IsReached (held : ℕ → Option (Key × Place)) (link : Option ℕ) (start : ℕ) : Type 0 where
@@ -103,11 +94,11 @@ pub record AreLists (held : ℕ → Option (Key × Place)) (link : ℕ → Optio
 abbrev pub firsts : (ℕ → Head) → ℕ → Option ℕ
 firsts heads signal = first_in (heads signal)
 
--- and the map has the others, of signals whose heads say so
+-- and the maps have the others, of signals whose heads say so
 pub record IsIndex (nodes : List Node) (heads : ℕ → Head) (mapped : Key → Option Place) : Type 0 where
   pub lists : AreLists (held_at nodes) (link_at nodes) (firsts heads)
   pub apart : (i : ℕ) (k : Key) (p : Place) → held_at nodes i ≡ Some (k, p) → mapped k ≡ None
-  pub told : (k : Key) → IsSome (mapped k) → (heads k.signal).more ≡ true
+  pub told : (k : Key) → IsSome (mapped k) → has_map (heads k.signal).more ≡ true
 
 -- ---- a place in a list, for a cell that begins at a time
 pub record IsBefore (held : ℕ → Option (Key × Place)) (link : ℕ → Option ℕ) (signal start : ℕ) (after : Option ℕ) (i : ℕ) : Type 0 where
@@ -197,6 +188,16 @@ pub record AreAllSteady (nodes new : List Node) (heads heads' : ℕ → Head) : 
 abbrev pub IsListedOr : Bool → (nodes new : List Node) (heads heads' : ℕ → Head) (key : Key) (place : Place) (gap : Gap) → Type 0
 IsListedOr true nodes new heads heads' key place gap = IsListed nodes new heads heads' key place gap
 IsListedOr false nodes new heads heads' key place gap = AreAllSteady nodes new heads heads'
+
+-- the cells of a signal that begin at this time or later are gone
+abbrev pub without_late : ℕ → ℕ → Option (Key × Place) → Option (Key × Place)
+without_late signal time (Some e) = if nat_eq e.0.signal signal && not (nat_lt e.0.start time) then None else Some e
+without_late signal time None = None
+
+-- the list of a signal is gone, and the others stay
+pub record IsEmptied (nodes new : List Node) (signal : ℕ) : Type 0 where
+  pub held : (j : ℕ) → held_at new j ≡ without_late signal 0 (held_at nodes j)
+  pub link : (j : ℕ) → IsSome (held_at new j) → link_at new j ≡ link_at nodes j
 
 -- how far a search can still go
 abbrev pub start_after : Option Node → ℕ

@@ -113,14 +113,17 @@ fn one_call(
     }
 }
 
-// Of the four signals two have lists in the index, and two are in its map alone.
+// Of the four signals two have lists in the index, or maps of their own, and two are in its common map alone. All cells go, and more come.
 fn agree(alloc: Global, capacity: u32, calls: u32) -> Result<bool, OutOfMemory>
     requires { (0 < capacity) × (capacity ≤ 65536) }
 {
     let mut store = CellStore::new(alloc, capacity, 2, 1)?;
     let mut plain = PlainStore::new(alloc, capacity)?;
     let mut draws = Draws { x: 1 };
-    for _call in 0..calls {
+    for call in 0..calls {
+        if call == calls / 2 && !trim_both(&mut store, &mut plain, 0)? {
+            return Ok(false);
+        }
         if !one_call(&mut store, &mut plain, &mut draws, capacity / 2)? {
             return Ok(false);
         }
@@ -137,10 +140,108 @@ fn the_store_and_the_plain_list_agree(rt: HostRuntime) -> Result<(), Fail> {
     Ok(())
 }
 
-// A signal has up to 40 cells, more than a list of the index.
+// A signal has up to 40 cells, more than a list of the index. So it gets a map, gives it up where all cells go, and gets one again.
 #[test]
 fn they_agree_where_lists_are_full(rt: HostRuntime) -> Result<(), Fail> {
     assert!(rt; agree(rt.alloc(), 158, 4_000)?);
+    Ok(())
+}
+
+// Puts 20 cells of each of four signals into a store for 20, and after each uses the first cell of each signal. So the first two signals
+// keep a cell each in their maps while the others go through, and there is no other map.
+fn keep_first_cells(alloc: Global) -> Result<bool, OutOfMemory> {
+    let mut store = CellStore::new(alloc, 20, 2, 1)?;
+    let mut plain = PlainStore::new(alloc, 20)?;
+    for call in 0..80u32 {
+        let Some(cell) = cell_at(call % 20 * 10, Value::One) else {
+            return Ok(false);
+        };
+        let signal = call / 20 * 2 + 1;
+        if !put_both(&mut store, &mut plain, &SignalCell { signal, cell })? {
+            return Ok(false);
+        }
+        if !find_first_cells(&mut store, &mut plain, call / 20)? {
+            return Ok(false);
+        }
+    }
+    trim_both(&mut store, &mut plain, 0)
+}
+
+fn find_first_cells(
+    store: &mut CellStore,
+    plain: &mut PlainStore,
+    last: u32,
+) -> Result<bool, OutOfMemory>
+    requires last { last < 4 }
+    requires same { store.old ≡ plain.old }
+    ensures { OnOk result (store.new ≡ plain.new) }
+{
+    for i in 0..last + 1 {
+        let p = Point {
+            signal: i * 2 + 1,
+            time: 0,
+        };
+        if !find_both(store, plain, p)? {
+            return Ok(false);
+        }
+    }
+    Ok(true)
+}
+
+#[test]
+fn they_agree_where_no_further_map_is_had(rt: HostRuntime) -> Result<(), Fail> {
+    assert!(rt; keep_first_cells(rt.alloc())?);
+    Ok(())
+}
+
+// Finds the first two signals in turn.
+fn use_in_turn(
+    store: &mut CellStore,
+    plain: &mut PlainStore,
+    rounds: u32,
+) -> Result<bool, OutOfMemory>
+    requires { store.old ≡ plain.old }
+    ensures { OnOk result (store.new ≡ plain.new) }
+{
+    for round in 0..rounds {
+        let p = Point {
+            signal: round % 2 + 1,
+            time: 0,
+        };
+        if !find_both(store, plain, p)? {
+            return Ok(false);
+        }
+    }
+    Ok(true)
+}
+
+// Puts cells of three signals, uses the first two in turn, and puts a fourth into the full store. Returns whether the third went.
+fn unused_goes(alloc: Global, uses: u32) -> Result<bool, OutOfMemory> {
+    let Some(cell) = cell_at(0, Value::One) else {
+        return Ok(false);
+    };
+    let mut store = CellStore::new(alloc, 3, 1, 0)?;
+    let mut plain = PlainStore::new(alloc, 3)?;
+    for signal in 1..4 {
+        if !put_both(&mut store, &mut plain, &SignalCell { signal, cell })? {
+            return Ok(false);
+        }
+    }
+    if !use_in_turn(&mut store, &mut plain, uses)? {
+        return Ok(false);
+    }
+    if !put_both(&mut store, &mut plain, &SignalCell { signal: 4, cell })? {
+        return Ok(false);
+    }
+    Ok(store.find(Point { signal: 3, time: 0 }).is_none())
+}
+
+// The notes of three slots are thinned after some uses, once and again. Of the two cells that are used each was used later than the third.
+#[test]
+fn the_last_use_counts_where_notes_are_thinned(rt: HostRuntime) -> Result<(), Fail> {
+    for uses in 2..40 {
+        assert!(rt; unused_goes(rt.alloc(), uses)?);
+    }
     Ok(())
 }
 

@@ -1,4 +1,5 @@
-use Rattle.std.specs.Prelude.{ℕ, List, [], map, Option, Some, None, IsSome}
+use Rattle.std.specs.Prelude.{ℕ, zero, suc, Bool, true, false, List, [], ◌∷◌, map, Option, Some, None, IsSome, if◌then◌else◌}
+use Rattle.std.specs.Ordering.{is_gt}
 use Rattle.std.specs.BTreeMap.{is_at}
 use Rattle.std.specs.List.Sorted.{IsStrictlySortedBy}
 use Rattle.std.specs.Map.{keys_of, lookup}
@@ -9,6 +10,16 @@ use Rattle.valid_intervals.specs.Cells.{point_cmp}
 -- the value at a point
 abbrev pub at : {X : Type 0} → List (Point × X) → Point → Option X
 at es p = lookup (is_at (point_cmp p)) es
+
+-- how many points of a list stand before the point, up to the first that does not
+abbrev pub place_in : {X : Type 0} → List (Point × X) → Point → ℕ
+place_in [] p = zero
+place_in (e ∷ es) p = if is_gt (point_cmp p e.0) then suc (place_in es p) else zero
+
+-- the claims of the list, or of the map where they are many
+abbrev pub held_in : Bool → List (Point × ℕ) → List (Point × ℕ) → List (Point × ℕ)
+held_in true few many = many
+held_in false few many = few
 
 -- the points are in order, and each that has a room is claimed
 abbrev pub IsKept : {R : Type 0} → List (Point × ℕ) → List (Point × R) → Type 0

@@ -4,7 +4,8 @@ use Rattle.valid_intervals.specs.Cells.{covers}
 use Rattle.cell_store.specs.declared.Key.{Key}
 use Rattle.cell_store.specs.declared.index.Place.{Place}
 use Rattle.cell_store.specs.inner.Index.{end_in, cells_of, IsPlaced}
-use Rattle.cell_store.specs.inner.Lists.{place_of, key_at, IsLastAt, IsNoneAt}
+use Rattle.cell_store.specs.inner.Lists.{key_at, IsLastAt, IsNoneAt}
+use Rattle.cell_store.specs.inner.Maps.{place_of}
 use Rattle.cell_store.proofs.Entries.{Entry}
 use Rattle.cell_store.proofs.Found.{covered, past, none_before}
 use Rattle.cell_store.proofs.Placed.{cell_in, IsSlotOf, slot_found, no_slot_found, end_of_place, no_end_of_place, has_place}

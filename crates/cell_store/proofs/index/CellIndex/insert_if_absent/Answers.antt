@@ -1,21 +1,69 @@
-use Rattle.std.proofs.Common.{◌≡◌, ℕ, Bool, true, false, cond, List, Option, Some, None, IsSome, option_map, refl, sym, ap, subst, ◌∙◌, true≢false}
-use Rattle.std.specs.BTreeMap.{get, is_at, IsUnchanged}
-use Rattle.std.specs.Map.{lookup}
+use Rattle.std.proofs.Common.{◌≡◌, ℕ, Bool, true, false, cond, List, Option, Some, None, IsSome, Result, IfOk, IfNone, IfSome, OnErr, option_map, refl, sym, ap, subst, ◌∙◌}
 use Rattle.std.specs.List.{slice_get}
 use Rattle.std.specs.Ordering.{is_eq}
 use Rattle.cell_store.specs.declared.Key.{Key}
 use Rattle.cell_store.specs.declared.heads.Head.{Head}
+use Rattle.cell_store.specs.declared.heads.More.TheVariants.{Nothing}
 use Rattle.cell_store.specs.declared.index.Place.{Place}
 use Rattle.cell_store.specs.declared.index.Node.{Node}
-use Rattle.cell_store.specs.inner.Heads.{head_for}
+use Rattle.cell_store.specs.inner.Heads.{has_map, is_own, head_for}
 use Rattle.cell_store.specs.inner.Index.{key_cmp}
-use Rattle.cell_store.specs.inner.Lists.{Places, held_at, link_at, firsts, first_in, bound, listed, or_else, place_of, place_starting, IsGap, IsIndex, IsListed, IsListedOr, AreAllSteady}
-use Rattle.cell_store.proofs.Results.{on_err, on_error, if_value, none_had, some_had, in_each}
+use Rattle.cell_store.specs.inner.Lists.{held_at, link_at, firsts, bound, listed, or_else, place_starting, IsGap, IsListed, IsListedOr, AreAllSteady}
+use Rattle.cell_store.specs.inner.Maps.{mapped_in, Places, place_of, IsWhole}
+use Rattle.cell_store.proofs.Results.{on_err, on_error, if_value, none_had, some_had}
 use Rattle.cell_store.proofs.Listed.{listed_same}
-use Rattle.cell_store.proofs.Indexed.{IsMore, gap_here, more_set, told_index, listed_starting, steady_index, steady_places, listed_index, listed_places, mapped_index, mapped_places}
-use Rattle.cell_store.proofs.index.CellIndex.insert_if_absent.Goals.{After-place_starting, After-set, In_ok-set, After-move_first, After-insert_mapped, Then-branch}
+use Rattle.cell_store.proofs.Indexed.{gap_here, listed_starting, listed_index, listed_places}
+use Rattle.cell_store.proofs.Owned.{there, own_has, own_unlisted, nothing_mapped, not_own, set_whole, set_mapped, steady_whole, steady_all, insert_whole, insert_had, insert_new, insert_same}
+use Rattle.cell_store.proofs.index.CellIndex.insert_if_absent.Goals.{Then-is_own, After-insert, After-place_starting, Then-branch, After-use_map, After-insert-2}
 use Rattle.cell_store.proofs.index.CellIndex.insert_if_absent.Goals as goal
 
+-- ---- the signal has a map of its own
+pub insert-requires : goal.insert-requires
+insert-requires c = there c.self.inside.nodes.items (head_for c.self.inside.heads) c.self.inside.maps c.self.invariant c.args.key.signal c.at-head.result c.at-head.ensures
+
+not_in_list : (c : Then-is_own) → listed c.self.inside.nodes.items c.args.key ≡ None
+not_in_list c = own_unlisted c.self.inside.nodes.items (head_for c.self.inside.heads) c.self.inside.maps c.self.invariant c.args.key c.at-head.result c.at-head.ensures (sym c.is_own.ensures ∙ c.if-is_own.true)
+
+in_map : (c : Then-is_own) → has_map c.at-head.result.more ≡ true
+in_map c = own_has c.at-head.result.more (sym c.is_own.ensures ∙ c.if-is_own.true)
+
+pub invariant_of-self : goal.invariant_of-self
+invariant_of-self c =
+    let w = (goal.at.invariant_of-self c).Then-is_own in
+    insert_whole c.self.inside.nodes.items (head_for c.self.inside.heads) c.self.inside.maps c.insert.new.self c.self.invariant c.args.key c.args.place c.at-head.result c.at-head.ensures (not_in_list w) (in_map w) c.insert.result c.insert.ensures.new
+    c.insert.ensures.stays c.insert.ensures.err
+
+pub returns-then-is_own-clause-had : goal.returns-then-is_own-clause-had
+returns-then-is_own-clause-had c =
+    let w = (goal.at.returns-then-is_own-clause-had c).Then-is_own in
+    if_value c.insert.result (λ had e. e ∙ ap (λ (s : Places). option_map (λ (p : Place). p.slot) (place_of s c.args.key)) c.self.view_is)
+    (insert_had c.self.inside.nodes.items (head_for c.self.inside.heads) c.self.inside.maps c.insert.new.self c.self.invariant c.args.key c.args.place c.at-head.result c.at-head.ensures (not_in_list w) (in_map w) c.insert.result c.insert.ensures.had)
+
+pub returns-then-is_own-clause-new : goal.returns-then-is_own-clause-new
+returns-then-is_own-clause-new c =
+    let w = (goal.at.returns-then-is_own-clause-new c).Then-is_own in
+    none_had c.insert.result (λ sets q. sets q ∙ ap (λ (s : Places). cond (is_eq (key_cmp c.args.key q)) (Some c.args.place) (place_of s q)) c.self.view_is)
+    (insert_new c.self.inside.nodes.items (head_for c.self.inside.heads) c.self.inside.maps c.insert.new.self c.self.invariant c.args.key c.args.place c.at-head.result c.at-head.ensures (not_in_list w) (in_map w) c.insert.result c.insert.ensures.new)
+
+pub returns-then-is_own-clause-stays : goal.returns-then-is_own-clause-stays
+returns-then-is_own-clause-stays c =
+    let w = (goal.at.returns-then-is_own-clause-stays c).Then-is_own in
+    some_had c.insert.result
+    (λ st q.
+    insert_same c.self.inside.nodes.items (head_for c.self.inside.heads) c.self.inside.maps c.insert.new.self c.self.invariant c.args.key c.args.place c.at-head.result c.at-head.ensures (not_in_list w) (in_map w) c.insert.result st q
+    ∙ ap (λ (s : Places). place_of s q) c.self.view_is)
+    c.insert.ensures.stays
+
+pub returns-then-is_own-clause-err : goal.returns-then-is_own-clause-err
+returns-then-is_own-clause-err c =
+    let w = (goal.at.returns-then-is_own-clause-err c).Then-is_own in
+    on_error c.insert.result
+    (λ st q.
+    insert_same c.self.inside.nodes.items (head_for c.self.inside.heads) c.self.inside.maps c.insert.new.self c.self.invariant c.args.key c.args.place c.at-head.result c.at-head.ensures (not_in_list w) (in_map w) c.insert.result st q
+    ∙ ap (λ (s : Places). place_of s q) c.self.view_is)
+    c.insert.ensures.err
+
+-- ---- a search in its list
 spot : (c : After-place_starting) → IsGap (held_at c.self.inside.nodes.items) (link_at c.self.inside.nodes.items) (firsts (head_for c.self.inside.heads) c.args.key.signal) c.args.key.signal c.args.key.start c.gap_at-gap.result
 spot c =
     gap_here c.self.inside.nodes.items c.deref.result.now c.first_of.result (head_for c.self.inside.heads) c.at-head.result c.args.key.signal c.args.key.start c.gap_at-gap.result c.deref.ensures.value c.first_of.ensures c.at-head.ensures
@@ -25,27 +73,29 @@ listed_is : (c : After-place_starting) → listed c.self.inside.nodes.items c.ar
 listed_is c =
     sym
     (c.place_starting.ensures ∙ ap (λ (l : List Node). place_starting (bound (slice_get l) c.gap_at-gap.result.after) c.args.key.start) c.deref-2.ensures.value
-    ∙ listed_starting c.self.inside.nodes.items (head_for c.self.inside.heads) (get key_cmp c.self.inside.more) c.self.invariant c.args.key.signal c.args.key.start c.gap_at-gap.result (spot c))
+    ∙ listed_starting c.self.inside.nodes.items (head_for c.self.inside.heads) (mapped_in (head_for c.self.inside.heads) c.self.inside.maps) c.self.invariant.index c.args.key.signal c.args.key.start c.gap_at-gap.result (spot c))
 
 -- what the index had
 pub returns-in-Some-clause-had : goal.returns-in-Some-clause-had
 returns-in-Some-clause-had c =
     sym
     (ap (λ (s : Places). option_map (λ (p : Place). p.slot) (place_of s c.args.key)) (sym c.self.view_is)
-    ∙ ap (λ (o : Option Place). option_map (λ (p : Place). p.slot) (or_else o (get key_cmp c.self.inside.more c.args.key))) (listed_is (goal.at.returns-in-Some-clause-had c).After-place_starting ∙ c.in-Some.is))
+    ∙ ap (λ (o : Option Place). option_map (λ (p : Place). p.slot) (or_else o (mapped_in (head_for c.self.inside.heads) c.self.inside.maps c.args.key)))
+    (listed_is (goal.at.returns-in-Some-clause-had c).After-place_starting ∙ c.in-Some.is))
 
 unlisted : (c : After-place_starting) → c.place_starting.result ≡ None → listed c.self.inside.nodes.items c.args.key ≡ None
 unlisted c none = listed_is c ∙ none
 
 -- ---- nothing changed
-pub invariant_of-self : goal.invariant_of-self
-invariant_of-self c = steady_index c.self.inside.nodes.items (head_for c.self.inside.heads) (get key_cmp c.self.inside.more) c.self.invariant c.add_listed.new.nodes.items (head_for c.add_listed.new.heads) c.in_err-add_listed.ensures.err
+pub invariant_of-self-in_err-add_listed : goal.invariant_of-self-in_err-add_listed
+invariant_of-self-in_err-add_listed c =
+    steady_whole c.self.inside.nodes.items c.add_listed.new.nodes.items (head_for c.self.inside.heads) (head_for c.add_listed.new.heads) c.self.inside.maps c.self.invariant c.in_err-add_listed.ensures.err
 
 pub returns-in_err-add_listed-clause-err : goal.returns-in_err-add_listed-clause-err
 returns-in_err-add_listed-clause-err c =
     on_err c.from_residual.result
     (λ q.
-    steady_places c.self.inside.nodes.items (head_for c.self.inside.heads) (get key_cmp c.self.inside.more) c.self.invariant c.add_listed.new.nodes.items (head_for c.add_listed.new.heads) c.in_err-add_listed.ensures.err q
+    steady_all c.self.inside.nodes.items c.add_listed.new.nodes.items (head_for c.self.inside.heads) (head_for c.add_listed.new.heads) c.self.inside.maps c.self.invariant c.in_err-add_listed.ensures.err q
     ∙ ap (λ (s : Places). place_of s q) c.self.view_is)
 
 -- ---- the cell came into a list
@@ -54,162 +104,116 @@ came c =
     subst (λ (b : Bool). IsListedOr b c.self.inside.nodes.items c.add_listed.new.nodes.items (head_for c.self.inside.heads) (head_for c.add_listed.new.heads) c.args.key c.args.place c.gap_at-gap.result) c.if-branch.true
     c.in_ok-add_listed.ensures.listed
 
--- the map has no cell of its signal
-unmapped : (c : Then-branch) → get key_cmp c.self.inside.more c.args.key ≡ None
-unmapped c =
-    (elim (get key_cmp c.self.inside.more c.args.key) as (λ o. get key_cmp c.self.inside.more c.args.key ≡ o → o ≡ None) [
-      | None ↦ λ e. refl
-      | Some p ↦ λ e.
-          absurd (true≢false (sym (c.self.invariant.told c.args.key (subst (λ (o : Option Place). IsSome o) (sym e) refl)) ∙ c.in_ok-add_listed.ensures.alone c.if-branch.true))
-    ]) refl
+-- no map has a cell of its signal
+unmapped : (c : Then-branch) → mapped_in (head_for c.self.inside.heads) c.self.inside.maps c.args.key ≡ None
+unmapped c = nothing_mapped c.self.inside.nodes.items (head_for c.self.inside.heads) c.self.inside.maps c.self.invariant c.args.key (c.in_ok-add_listed.ensures.alone c.if-branch.true)
+
+was_not : (c : Then-branch) → is_own (head_for c.self.inside.heads c.args.key.signal).more ≡ false
+was_not c = not_own (head_for c.self.inside.heads c.args.key.signal).more (c.in_ok-add_listed.ensures.alone c.if-branch.true)
+
+is_not : (c : Then-branch) → is_own (came c).head.more ≡ false
+is_not c = ap is_own (came c).more ∙ was_not c
 
 pub invariant_of-self-then-branch : goal.invariant_of-self-then-branch
 invariant_of-self-then-branch c =
     let w = goal.at.invariant_of-self-then-branch c in
-    listed_index c.self.inside.nodes.items (head_for c.self.inside.heads) (get key_cmp c.self.inside.more) c.self.invariant c.add_listed.new.nodes.items (head_for c.add_listed.new.heads) c.args.key c.args.place c.gap_at-gap.result
-    (spot w.After-place_starting) (unlisted w.After-place_starting c.in_default.is) (unmapped c) (came c)
+    let l = came w.Then-branch in
+    set_whole (head_for c.self.inside.heads) (head_for c.add_listed.new.heads) c.args.key.signal l.head l.set c.self.inside.nodes.items c.add_listed.new.nodes.items c.self.inside.maps c.self.invariant
+    (listed_index c.self.inside.nodes.items (head_for c.self.inside.heads) (mapped_in (head_for c.self.inside.heads) c.self.inside.maps) c.self.invariant.index c.add_listed.new.nodes.items (head_for c.add_listed.new.heads) c.args.key c.args.place
+    c.gap_at-gap.result (spot w.After-place_starting) (unlisted w.After-place_starting c.in_default.is) (unmapped w.Then-branch) l)
+    (is_not w.Then-branch) (was_not w.Then-branch) (λ common. l.more ∙ common)
 
 pub returns-then-branch-clause-had : goal.returns-then-branch-clause-had
 returns-then-branch-clause-had c =
     let w = goal.at.returns-then-branch-clause-had c in
     sym
     (ap (λ (s : Places). option_map (λ (p : Place). p.slot) (place_of s c.args.key)) (sym c.self.view_is)
-    ∙ ap (λ (o : Option Place). option_map (λ (p : Place). p.slot) (or_else o (get key_cmp c.self.inside.more c.args.key))) (unlisted w.After-place_starting c.in_default.is)
+    ∙ ap (λ (o : Option Place). option_map (λ (p : Place). p.slot) (or_else o (mapped_in (head_for c.self.inside.heads) c.self.inside.maps c.args.key))) (unlisted w.After-place_starting c.in_default.is)
     ∙ ap (option_map (λ (p : Place). p.slot)) (unmapped w.Then-branch))
 
 pub returns-then-branch-clause-new : goal.returns-then-branch-clause-new
 returns-then-branch-clause-new c =
     λ q.
     let w = goal.at.returns-then-branch-clause-new c in
-    listed_places c.self.inside.nodes.items (head_for c.self.inside.heads) (get key_cmp c.self.inside.more) c.self.invariant c.add_listed.new.nodes.items (head_for c.add_listed.new.heads) c.args.key c.args.place c.gap_at-gap.result
-    (spot w.After-place_starting) (unlisted w.After-place_starting c.in_default.is) (unmapped w.Then-branch) (came w.Then-branch) q
+    let l = came w.Then-branch in
+    ap (or_else (listed c.add_listed.new.nodes.items q))
+    (set_mapped (head_for c.self.inside.heads) (head_for c.add_listed.new.heads) c.args.key.signal l.head l.set c.self.inside.maps (is_not w.Then-branch) (was_not w.Then-branch) q)
+    ∙ listed_places c.self.inside.nodes.items (head_for c.self.inside.heads) (mapped_in (head_for c.self.inside.heads) c.self.inside.maps) c.self.invariant.index c.add_listed.new.nodes.items (head_for c.add_listed.new.heads) c.args.key c.args.place
+    c.gap_at-gap.result (spot w.After-place_starting) (unlisted w.After-place_starting c.in_default.is) (unmapped w.Then-branch) l q
     ∙ ap (λ (s : Places). cond (is_eq (key_cmp c.args.key q)) (Some c.args.place) (place_of s q)) c.self.view_is
 
--- ---- it goes into the map
-pub invariant_of-self-in_err-set : goal.invariant_of-self-in_err-set
-invariant_of-self-in_err-set c =
-    let steady : AreAllSteady c.self.inside.nodes.items c.add_listed.new.nodes.items (head_for c.self.inside.heads) (head_for c.add_listed.new.heads) =
-    subst (λ (b : Bool). IsListedOr b c.self.inside.nodes.items c.add_listed.new.nodes.items (head_for c.self.inside.heads) (head_for c.add_listed.new.heads) c.args.key c.args.place c.gap_at-gap.result) c.if-branch.false
-    c.in_ok-add_listed.ensures.listed in
-    steady_index c.self.inside.nodes.items (head_for c.self.inside.heads) (get key_cmp c.self.inside.more) c.self.invariant c.add_listed.new.nodes.items (head_for c.set.new.self)
-    (record { lists = steady.lists; all = λ s. c.in_err-set.ensures.err s ∙ steady.all s })
-
-pub returns-in_err-set-clause-err : goal.returns-in_err-set-clause-err
-returns-in_err-set-clause-err c =
-    let steady : AreAllSteady c.self.inside.nodes.items c.add_listed.new.nodes.items (head_for c.self.inside.heads) (head_for c.add_listed.new.heads) =
-    subst (λ (b : Bool). IsListedOr b c.self.inside.nodes.items c.add_listed.new.nodes.items (head_for c.self.inside.heads) (head_for c.add_listed.new.heads) c.args.key c.args.place c.gap_at-gap.result) c.if-branch.false
-    c.in_ok-add_listed.ensures.listed in
-    on_err c.from_residual-in_err-set.result
-    (λ q.
-    steady_places c.self.inside.nodes.items (head_for c.self.inside.heads) (get key_cmp c.self.inside.more) c.self.invariant c.add_listed.new.nodes.items (head_for c.add_listed.new.heads) steady q
-    ∙ ap (λ (s : Places). place_of s q) c.self.view_is)
-
-steady_in : (c : After-set) → AreAllSteady c.self.inside.nodes.items c.add_listed.new.nodes.items (head_for c.self.inside.heads) (head_for c.add_listed.new.heads)
+-- ---- it goes into a map
+steady_in : (c : After-use_map) → AreAllSteady c.self.inside.nodes.items c.add_listed.new.nodes.items (head_for c.self.inside.heads) (head_for c.add_listed.new.heads)
 steady_in c =
     subst (λ (b : Bool). IsListedOr b c.self.inside.nodes.items c.add_listed.new.nodes.items (head_for c.self.inside.heads) (head_for c.add_listed.new.heads) c.args.key c.args.place c.gap_at-gap.result) c.if-branch.false
     c.in_ok-add_listed.ensures.listed
 
-index_in : (c : After-set) → IsIndex c.add_listed.new.nodes.items (head_for c.add_listed.new.heads) (get key_cmp c.self.inside.more)
-index_in c = steady_index c.self.inside.nodes.items (head_for c.self.inside.heads) (get key_cmp c.self.inside.more) c.self.invariant c.add_listed.new.nodes.items (head_for c.add_listed.new.heads) (steady_in c)
+pub use_map-requires : goal.use_map-requires
+use_map-requires c = record {
+  whole = steady_whole c.self.inside.nodes.items c.add_listed.new.nodes.items (head_for c.self.inside.heads) (head_for c.add_listed.new.heads) c.self.inside.maps c.self.invariant
+      (subst (λ (b : Bool). IsListedOr b c.self.inside.nodes.items c.add_listed.new.nodes.items (head_for c.self.inside.heads) (head_for c.add_listed.new.heads) c.args.key c.args.place c.gap_at-gap.result) c.if-branch.false
+      c.in_ok-add_listed.ensures.listed);
+}
 
-more_in : (c : In_ok-set) → AreAllSteady c.self.inside.nodes.items c.add_listed.new.nodes.items (head_for c.self.inside.heads) (head_for c.add_listed.new.heads) → IsMore (head_for c.add_listed.new.heads) (head_for c.set.new.self) c.args.key.signal
-more_in c steady =
-    more_set (head_for c.add_listed.new.heads) (head_for c.set.new.self) c.args.key.signal c.in_ok-set.field-0 (record { first = c.at-head.result.first; many = c.at-head.result.many; more = true })
-    (ap first_in (c.at-head.ensures ∙ sym (steady.all c.args.key.signal))) refl c.in_ok-set.ensures.set c.in_ok-set.ensures.told
-
-pub move_first-requires-clause-index : goal.move_first-requires-clause-index
-move_first-requires-clause-index c =
-    let w = goal.at.move_first-requires-clause-index c in
-    told_index c.add_listed.new.nodes.items (head_for c.add_listed.new.heads) (head_for c.set.new.self) (get key_cmp c.self.inside.more) (get key_cmp c.self.inside.more) c.args.key.signal (index_in w.After-set) (more_in w.In_ok-set (steady_in w.After-set)) (λ q. refl)
-
-pub move_first-requires-clause-told : goal.move_first-requires-clause-told
-move_first-requires-clause-told c = let w = goal.at.move_first-requires-clause-told c in (more_in w.In_ok-set (steady_in w.After-set)).itself
-
--- the places stay while a cell is moved
-kept : (c : After-move_first) → AreAllSteady c.self.inside.nodes.items c.add_listed.new.nodes.items (head_for c.self.inside.heads) (head_for c.add_listed.new.heads)
-    → (q : Key) → or_else (listed c.move_first.new.nodes.items q) (get key_cmp c.move_first.new.more q) ≡ place_of c.args.self.now q
-kept c steady q =
-    c.move_first.ensures.same q
-    ∙ steady_places c.self.inside.nodes.items (head_for c.self.inside.heads) (get key_cmp c.self.inside.more) c.self.invariant c.add_listed.new.nodes.items (head_for c.add_listed.new.heads) steady q
+kept : (c : After-use_map) → (q : Key) → or_else (listed c.use_map.new.nodes.items q) (mapped_in (head_for c.use_map.new.heads) c.use_map.new.maps q) ≡ place_of c.args.self.now q
+kept c q =
+    c.use_map.ensures.same q
+    ∙ steady_all c.self.inside.nodes.items c.add_listed.new.nodes.items (head_for c.self.inside.heads) (head_for c.add_listed.new.heads) c.self.inside.maps c.self.invariant (steady_in c) q
     ∙ ap (λ (s : Places). place_of s q) c.self.view_is
 
-pub returns-in_err-move_first-clause-err : goal.returns-in_err-move_first-clause-err
-returns-in_err-move_first-clause-err c =
-    let w = goal.at.returns-in_err-move_first-clause-err c in
-    on_err c.from_residual-in_err-move_first.result (kept w.After-move_first (steady_in w.After-set))
+pub returns-in_err-use_map-clause-err : goal.returns-in_err-use_map-clause-err
+returns-in_err-use_map-clause-err c = on_err c.from_residual-in_err-use_map.result (kept (goal.at.returns-in_err-use_map-clause-err c).After-use_map)
 
-unlisted_in : (c : After-move_first) → AreAllSteady c.self.inside.nodes.items c.add_listed.new.nodes.items (head_for c.self.inside.heads) (head_for c.add_listed.new.heads)
-    → listed c.self.inside.nodes.items c.args.key ≡ None → listed c.move_first.new.nodes.items c.args.key ≡ None
-unlisted_in c steady none =
-    let index : IsIndex c.add_listed.new.nodes.items (head_for c.add_listed.new.heads) (get key_cmp c.self.inside.more) =
-    steady_index c.self.inside.nodes.items (head_for c.self.inside.heads) (get key_cmp c.self.inside.more) c.self.invariant c.add_listed.new.nodes.items (head_for c.add_listed.new.heads) steady in
-    c.move_first.ensures.listed c.args.key (listed_same c.self.inside.nodes.items c.add_listed.new.nodes.items c.self.invariant.lists.once index.lists.once steady.lists.held c.args.key ∙ none)
+unlisted_in : (c : After-use_map) → listed c.self.inside.nodes.items c.args.key ≡ None → listed c.use_map.new.nodes.items c.args.key ≡ None
+unlisted_in c none =
+    let s = steady_in c in
+    c.use_map.ensures.unlisted c.args.key
+    (listed_same c.self.inside.nodes.items c.add_listed.new.nodes.items c.self.invariant.index.lists.once
+    (steady_whole c.self.inside.nodes.items c.add_listed.new.nodes.items (head_for c.self.inside.heads) (head_for c.add_listed.new.heads) c.self.inside.maps c.self.invariant s).index.lists.once s.lists.held c.args.key
+    ∙ none)
 
--- ---- it is put into the map
-module _ (c : After-insert_mapped) (unlisted : listed c.move_first.new.nodes.items c.args.key ≡ None)
-    (kept : (q : Key) → or_else (listed c.move_first.new.nodes.items q) (get key_cmp c.move_first.new.more q) ≡ place_of c.args.self.now q) where
-  index_then : IsIndex c.move_first.new.nodes.items (head_for c.move_first.new.heads) (get key_cmp c.insert_mapped.new.more)
-  index_then =
-      in_each c.insert_mapped.result c.insert_mapped.ensures.new c.insert_mapped.ensures.stays c.insert_mapped.ensures.err
-      (λ updates.
-      mapped_index c.move_first.new.nodes.items (head_for c.move_first.new.heads) (get key_cmp c.move_first.new.more) c.move_first.ensures.index (head_for c.move_first.new.heads) (get key_cmp c.insert_mapped.new.more) c.args.key (Some c.args.place)
-      unlisted updates.0 (λ s. refl) (λ k some. c.move_first.ensures.index.told k some) (λ some. c.move_first.ensures.told))
-      stays_in
-      (λ unchanged. stays_in (same_map unchanged))
-    where
-      stays_in : ((q : Key) → get key_cmp c.insert_mapped.new.more q ≡ get key_cmp c.move_first.new.more q) → IsIndex c.move_first.new.nodes.items (head_for c.move_first.new.heads) (get key_cmp c.insert_mapped.new.more)
-      stays_in same =
-          told_index c.move_first.new.nodes.items (head_for c.move_first.new.heads) (head_for c.move_first.new.heads) (get key_cmp c.move_first.new.more) (get key_cmp c.insert_mapped.new.more) c.args.key.signal c.move_first.ensures.index
-          (record { same = λ s. refl; still = λ s m. m; itself = c.move_first.ensures.told }) same
+pub insert-requires-2 : goal.insert-requires-2
+insert-requires-2 c = there c.use_map.new.nodes.items (head_for c.use_map.new.heads) c.use_map.new.maps c.use_map.ensures.whole c.args.key.signal c.at.result c.at.ensures
 
-      same_map : IsUnchanged c.move_first.new.more c.insert_mapped.new.more → (q : Key) → get key_cmp c.insert_mapped.new.more q ≡ get key_cmp c.move_first.new.more q
-      same_map unchanged q = ap (λ (es : List (Key × Place)). lookup (is_at (key_cmp q)) es) unchanged
-
-  its_place : get key_cmp c.move_first.new.more c.args.key ≡ place_of c.args.self.now c.args.key
-  its_place = sym (ap (λ (o : Option Place). or_else o (get key_cmp c.move_first.new.more c.args.key)) unlisted) ∙ kept c.args.key
-
-  placed_then : ((q : Key) → get key_cmp c.insert_mapped.new.more q ≡ cond (is_eq (key_cmp c.args.key q)) (Some c.args.place) (get key_cmp c.move_first.new.more q)) → (q : Key)
-      → or_else (listed c.move_first.new.nodes.items q) (get key_cmp c.insert_mapped.new.more q) ≡ cond (is_eq (key_cmp c.args.key q)) (Some c.args.place) (place_of c.args.self.now q)
-  placed_then changed q =
-      mapped_places c.move_first.new.nodes.items (head_for c.move_first.new.heads) (get key_cmp c.move_first.new.more) c.move_first.ensures.index (head_for c.move_first.new.heads) (get key_cmp c.insert_mapped.new.more) c.args.key (Some c.args.place)
-      unlisted changed (λ s. refl) (λ k some. c.move_first.ensures.index.told k some) (λ some. c.move_first.ensures.told) q
-      ∙ ap (cond (is_eq (key_cmp c.args.key q)) (Some c.args.place)) (kept q)
-
-  same_then : ((q : Key) → get key_cmp c.insert_mapped.new.more q ≡ get key_cmp c.move_first.new.more q) → (q : Key) → or_else (listed c.move_first.new.nodes.items q) (get key_cmp c.insert_mapped.new.more q) ≡ place_of c.args.self.now q
-  same_then same q = ap (or_else (listed c.move_first.new.nodes.items q)) (same q) ∙ kept q
+has_in : (c : After-insert-2) → has_map c.at.result.more ≡ true
+has_in c = ap (λ (h : Head). has_map h.more) c.at.ensures ∙ c.in_ok-use_map.ensures.told
 
 pub invariant_of-self-2 : goal.invariant_of-self-2
 invariant_of-self-2 c =
     let w = goal.at.invariant_of-self-2 c in
-    index_then w.After-insert_mapped (unlisted_in w.After-move_first (steady_in w.After-set) (unlisted w.After-place_starting c.in_default.is)) (kept w.After-move_first (steady_in w.After-set))
+    insert_whole c.use_map.new.nodes.items (head_for c.use_map.new.heads) c.use_map.new.maps c.insert-2.new.self c.use_map.ensures.whole c.args.key c.args.place c.at.result c.at.ensures
+    (unlisted_in w.After-use_map (unlisted w.After-place_starting c.in_default.is)) (has_in w.After-insert-2) c.insert-2.result c.insert-2.ensures.new c.insert-2.ensures.stays c.insert-2.ensures.err
 
 pub returns-clause-had : goal.returns-clause-had
 returns-clause-had c =
     let w = goal.at.returns-clause-had c in
-    if_value c.insert_mapped.result
-    (λ had is.
-    is ∙ ap (option_map (λ (p : Place). p.slot)) (its_place w.After-insert_mapped (unlisted_in w.After-move_first (steady_in w.After-set) (unlisted w.After-place_starting c.in_default.is)) (kept w.After-move_first (steady_in w.After-set))))
-    c.insert_mapped.ensures.had
+    if_value c.insert-2.result (λ had e. e ∙ ap (option_map (λ (p : Place). p.slot)) (kept w.After-use_map c.args.key))
+    (insert_had c.use_map.new.nodes.items (head_for c.use_map.new.heads) c.use_map.new.maps c.insert-2.new.self c.use_map.ensures.whole c.args.key c.args.place c.at.result c.at.ensures
+    (unlisted_in w.After-use_map (unlisted w.After-place_starting c.in_default.is)) (has_in w.After-insert-2) c.insert-2.result c.insert-2.ensures.had)
 
 pub returns-clause-new : goal.returns-clause-new
 returns-clause-new c =
     let w = goal.at.returns-clause-new c in
-    none_had c.insert_mapped.result
-    (λ updates. placed_then w.After-insert_mapped (unlisted_in w.After-move_first (steady_in w.After-set) (unlisted w.After-place_starting c.in_default.is)) (kept w.After-move_first (steady_in w.After-set)) updates.0)
-    c.insert_mapped.ensures.new
+    none_had c.insert-2.result (λ sets q. sets q ∙ ap (cond (is_eq (key_cmp c.args.key q)) (Some c.args.place)) (kept w.After-use_map q))
+    (insert_new c.use_map.new.nodes.items (head_for c.use_map.new.heads) c.use_map.new.maps c.insert-2.new.self c.use_map.ensures.whole c.args.key c.args.place c.at.result c.at.ensures
+    (unlisted_in w.After-use_map (unlisted w.After-place_starting c.in_default.is)) (has_in w.After-insert-2) c.insert-2.result c.insert-2.ensures.new)
 
 pub returns-clause-stays : goal.returns-clause-stays
 returns-clause-stays c =
     let w = goal.at.returns-clause-stays c in
-    some_had c.insert_mapped.result
-    (same_then w.After-insert_mapped (unlisted_in w.After-move_first (steady_in w.After-set) (unlisted w.After-place_starting c.in_default.is)) (kept w.After-move_first (steady_in w.After-set)))
-    c.insert_mapped.ensures.stays
+    some_had c.insert-2.result
+    (λ st q.
+    insert_same c.use_map.new.nodes.items (head_for c.use_map.new.heads) c.use_map.new.maps c.insert-2.new.self c.use_map.ensures.whole c.args.key c.args.place c.at.result c.at.ensures
+    (unlisted_in w.After-use_map (unlisted w.After-place_starting c.in_default.is)) (has_in w.After-insert-2) c.insert-2.result st q
+    ∙ kept w.After-use_map q)
+    c.insert-2.ensures.stays
 
 pub returns-clause-err : goal.returns-clause-err
 returns-clause-err c =
     let w = goal.at.returns-clause-err c in
-    on_error c.insert_mapped.result
-    (λ unchanged.
-    same_then w.After-insert_mapped (unlisted_in w.After-move_first (steady_in w.After-set) (unlisted w.After-place_starting c.in_default.is)) (kept w.After-move_first (steady_in w.After-set))
-    (λ q. ap (λ (es : List (Key × Place)). lookup (is_at (key_cmp q)) es) unchanged))
-    c.insert_mapped.ensures.err
+    on_error c.insert-2.result
+    (λ st q.
+    insert_same c.use_map.new.nodes.items (head_for c.use_map.new.heads) c.use_map.new.maps c.insert-2.new.self c.use_map.ensures.whole c.args.key c.args.place c.at.result c.at.ensures
+    (unlisted_in w.After-use_map (unlisted w.After-place_starting c.in_default.is)) (has_in w.After-insert-2) c.insert-2.result st q
+    ∙ kept w.After-use_map q)
+    c.insert-2.ensures.err

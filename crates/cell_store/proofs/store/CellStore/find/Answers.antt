@@ -1,7 +1,7 @@
 use Rattle.std.proofs.Common.{◌≡◌, ℕ, nat_eq, List, Some, option_map, sym, ap, subst, ◌∙◌}
 use Rattle.std.specs.List.{slice_get}
 use Rattle.std.specs.Map.{lookup_entry}
-use Rattle.cell_store.specs.inner.Lists.{place_of}
+use Rattle.cell_store.specs.inner.Maps.{place_of}
 use Rattle.lru.specs.LruCache.{LruCache}
 use Rattle.valid_intervals.specs.declared.SignalCell.{SignalCell}
 use Rattle.valid_intervals.specs.Cells.{covers, cell_for, to_front, stored_at}

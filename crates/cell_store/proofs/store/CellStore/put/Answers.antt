@@ -1,6 +1,7 @@
 use Rattle.std.proofs.Common.{arith, ◌<◌, refl, ◌≡◌, ℕ, ◌-◌, true, false, List, length, take, Option, None, Some, IfNone, IfSome, cond, nat_eq, option_map, unwrap_or, sym, ap, ap₂, subst, ◌∙◌}
 use Rattle.std.specs.List.{slice_get}
-use Rattle.cell_store.specs.inner.Lists.{place_of, Sets}
+use Rattle.cell_store.specs.inner.Lists.{Sets}
+use Rattle.cell_store.specs.inner.Maps.{place_of}
 use Rattle.std.specs.Map.{lookup_entry}
 use Rattle.std.specs.Ordering.{is_eq}
 use Rattle.lru.specs.LruCache.{LruCache}

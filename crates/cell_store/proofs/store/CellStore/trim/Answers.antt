@@ -1,5 +1,5 @@
 use Rattle.std.proofs.Common.{ℕ, refl, ◌+◌, List, [], ◌∷◌, ◌++◌, sym, subst, ◌∙◌, arith}
-use Rattle.cell_store.specs.inner.Lists.{place_of}
+use Rattle.cell_store.specs.inner.Maps.{place_of}
 use Rattle.cell_store.specs.declared.Key.{Key}
 use Rattle.cell_store.specs.inner.Index.{key_cmp, IsFront, IsSoundStore}
 use Rattle.cell_store.proofs.Trims.{IsTrimming, trim_begins, many_lost, trim_goes_on, trim_ends}

@@ -10,4 +10,4 @@ use Rattle.claim_waiters.proofs.table.ClaimTable.facts.Goals as goal
 pub returns : goal.returns
 returns g c =
     subst (λ (v : Claims g.row.W.Denot). IsInOrder v) c.self.view_is
-    (subst (λ (l : List Point). IsStrictlySortedBy point_cmp l) (sym (keys_of-claims (λ p. those_in g.W.Waiter.items (at c.self.inside.rooms.entries p)) c.self.inside.holders.entries)) c.self.invariant.0)
+    (subst (λ (l : List Point). IsStrictlySortedBy point_cmp l) (sym (keys_of-claims (λ p. those_in g.W.Waiter.items (at c.self.inside.rooms.entries p)) c.self.inside.holders)) c.self.invariant.0)
