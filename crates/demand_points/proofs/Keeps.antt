@@ -78,8 +78,8 @@ finished-demand b d e old new is p h steps =
     (record { charge = fits.charge; claims = omega arith })
 
 -- a fill is counted
-pub fill-room : (b : Batch) (s : Parts) → IsDemand b s → (p : Point) → next (strand_of b.circuit s) ≡ Fill p → s.budget < 2 ^ 32 → s.filled + 1 < 2 ^ 32
-fill-room b s is p h small =
+pub fill-room : (b : Batch) (s : Parts) → IsDemand b s → (p : Point) → next (strand_of b.circuit s) ≡ Fill p → s.filled < s.budget
+fill-room b s is p h =
     let n = stack-count b.circuit s in
     let some = length-rest (strand_of b.circuit s).stack p (fill-top (strand_of b.circuit s) p h) in
     let charge = is.charge in

@@ -85,7 +85,6 @@ impl Parts {
         ensures undone { IsUndone self.old self.new }
         ensures again { StaysAtRoot design.now.circuit self.old self.new }
     {
-        design.facts();
         match self.stack.top() {
             Some(_) => self.stack.hear_bases(design),
             None => self.skip_roots(design),
@@ -224,7 +223,6 @@ impl Parts {
         ensures { (p : Point) → next (strand_of design.now.circuit self.now) ≡ Fill p
             → result ≡ cell_at design.now.circuit p }
     {
-        design.facts();
         match self.stack.top() {
             Some(walk) => {
                 if walk.is_done() {
@@ -243,7 +241,7 @@ impl Parts {
     pub fn finish(&mut self, design: &Design, cell: &Cell)
         requires running { IsRunning design.now.circuit self.old }
         requires fills { IsFilling (strand_of design.now.circuit self.old) }
-        requires room { self.old.filled + 1 < 2 ^ 32 }
+        requires room { self.old.filled < self.old.budget }
         requires cell { (p : Point) → next (strand_of design.now.circuit self.old) ≡ Fill p
             → cell.now ≡ cell_at design.now.circuit p }
         ensures { TakesStepTo design.now.circuit after_fill self.old self.new }

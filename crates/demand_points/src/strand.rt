@@ -103,11 +103,13 @@ impl<B: BatchName> Strand<B> {
         }
     }
 
-    /// What is known of every strand.
+    /// The law of every strand: what it asks for and holds is that of a query of its batch, within its budget. A shard needs it before it
+    /// writes an entry for the strand, and whoever answers a query once the strand has ended.
     pub fn facts(&self)
         ensures { IsKnownStrand B.batch self.now }
     {
-        let _number = self.parts.number;
+        // A proof knows the invariant of a value whose field the body reads.
+        let _ = &self.parts;
     }
 
     /// The query, window and budget that it was started with.
@@ -243,7 +245,6 @@ impl<B: BatchName> Strand<B> {
             → cell.now ≡ cell_at B.batch.circuit p }
         ensures { TakesStep strands.after_fill self.old self.new }
     {
-        let _budget = self.parts.budget;
         self.settled = false;
         self.parts.finish(design, cell);
     }

@@ -89,7 +89,7 @@ refused-legal = record {
               ((refl, omega arith), of (at 3 4) needs34),
               (
                 (refl, refl, refl),
-                ((refl, omega arith), of (at 2 3) needs23),
+                ((refl, omega arith), of (at 2 3) needs23, (query, (0, omega arith, refl), refl, omega arith)),
                 (
                   (refl, refl),
                   ((refl, omega arith), any),

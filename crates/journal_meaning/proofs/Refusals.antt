@@ -1,5 +1,5 @@
 -- Worked examples: journals that are not legal.
-use Rattle.std.proofs.Common.{◌≡◌, ℕ, ◌⊎◌, refl, sym, ap, subst, arith, inl, inr, true≢false, [], ◌∷◌, List, Contains}
+use Rattle.std.proofs.Common.{◌≡◌, ℕ, ◌≤◌, ◌⊎◌, refl, sym, ap, subst, arith, inl, inr, true≢false, [], ◌∷◌, List, Contains}
 use Rattle.std.proofs.lemmas.List.Elements.{All-from_recursion, All-contains}
 use Rattle.gate_values.specs.declared.Value.TheVariants.{Zero, One}
 use Rattle.valid_intervals.specs.declared.Cell.{Cell}
@@ -7,10 +7,11 @@ use Rattle.valid_intervals.specs.declared.SignalCell.{SignalCell}
 use Rattle.circuit_meaning.specs.Forward.{rows_below, row_at, last_setting, value}
 use Rattle.circuit_meaning.specs.Cells.{span, least_delay, next_setting}
 use Rattle.circuit_meaning.specs.Need.{IsInCone, Itself, Reads, IsNeeded}
-use Rattle.journal_meaning.specs.declared.Entry.TheVariants.{Claimed, Filled, Evicted, Dropped}
+use Rattle.journal_meaning.specs.declared.Entry.TheVariants.{Claimed, Filled, Evicted, Dropped, Spent}
+use Rattle.batch_meaning.specs.declared.Query.{Query}
 use Rattle.batch_meaning.specs.Batches.{Batch, window_of}
 use Rattle.journal_meaning.specs.Replay.{IsLegalBatch}
-use Rattle.journal_meaning.proofs.Examples.{at, cell, both, first_query, tight, both15, second_query, again, third}
+use Rattle.journal_meaning.proofs.Examples.{at, cell, both, first_query, tight, both15, second_query, again, third_query, third}
 use Rattle.circuit_meaning.specs.Circuit.{driver, read_by}
 use Rattle.circuit_meaning.proofs.Points.{needed-in_cone}
 use Rattle.journal_meaning.proofs.Claims.{some≢none}
@@ -100,3 +101,10 @@ not-filled h = true≢false h.ended.made
 -- a second claim of a point, by another query or the same
 claimed-twice : IsLegalBatch third 0 [] (Claimed 3 (at 1 3) ∷ Claimed 3 (at 1 3) ∷ Dropped 3 (at 1 3) ∷ []) → ⊥
 claimed-twice h = some≢none 3 h.legal.2.0.2
+
+-- a refusal of a query that is said to have more claims than its budget
+spent-beyond : IsLegalBatch third 0 [] (Spent 3 (at 1 3) 500001 ∷ []) → ⊥
+spent-beyond h =
+    let of = h.legal.1.2 in
+    let k : 500001 ≤ 500000 = subst (λ (q : Query). 500001 ≤ q.budget) (only third_query of.0 of.1) of.3 in
+    omega (arith, k)

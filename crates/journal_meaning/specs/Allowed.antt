@@ -25,4 +25,4 @@ IsAllowed b shard (Claimed q p) = IsAt b shard p × OfQuery b q (λ y. IsNeededB
 IsAllowed b shard (Filled q p x) = IsAt b shard p × OfQuery b q (λ y. ⊤) × (x ≡ cell_at b.circuit p)
 IsAllowed b shard (Evicted signal start) = ⊤
 IsAllowed b shard (Dropped q p) = IsAt b shard p × OfQuery b q (λ y. ⊤)
-IsAllowed b shard (Spent q p claims) = IsAt b shard p × OfQuery b q (λ y. IsNeededBy b y p)
+IsAllowed b shard (Spent q p claims) = IsAt b shard p × OfQuery b q (λ y. IsNeededBy b y p) × OfQuery b q (λ y. claims ≤ y.budget)

@@ -7,7 +7,7 @@
 //! - [`Entry`] is a plain value that every crate above uses. The definitions in `specs/` use it as their record, together with the
 //!   points and cells of `valid_intervals` and the queries of `batch_meaning`.
 //! - `specs/States` is the state of a shard. `specs/Table` says what each entry needs of the state and changes in it. `specs/Allowed`
-//!   says what it may name: points that a query of the batch needs, and right cells.
+//!   says what it may name: points that a query of the batch needs, right cells, and at most a query's budget of claims.
 //! - `specs/Replay` folds the table over a journal, and says which journals of a batch and of a trim are legal. `specs/Sections`
 //!   joins them to the journal of a session.
 //! - `specs/Counts` counts evaluations, those of different points, and repeated ones. `specs/Answers` says when a query is closed,
@@ -49,7 +49,7 @@ pub enum Entry {
     Evicted { signal: u32, start: u32 },
     /// The claim ends without an evaluation.
     Dropped { q: u32, p: Point },
-    /// The query's budget was spent, so it was refused the point. It had `claims` claims.
+    /// The query's budget was spent, so it was refused the point. It had `claims` claims, at most its budget.
     Spent { q: u32, p: Point, claims: u32 },
 }
 

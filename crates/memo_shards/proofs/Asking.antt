@@ -12,6 +12,7 @@ use Rattle.strand_meaning.specs.Strands.{Frame, Strand, IsStrand, IsOnStack, roo
 use Rattle.strand_meaning.proofs.Stacks.{asks-first, first-askable}
 use Rattle.strand_meaning.proofs.Started.{query-within}
 use Rattle.strand_meaning.proofs.Wanted.{asks-needed, held-within}
+use Rattle.plan_machine.proofs.Shards.{claims-within}
 use Rattle.demand_points.specs.Demands.{Demand, IsKnownStrand, roots_left}
 
 no-window : (c : Circuit) (w : Window) (root : ℕ) → w.stop ≤ root → roots_left c w root ≡ []
@@ -40,6 +41,7 @@ module _ (b : Batch) (s : Demand) (known : IsKnownStrand b s) where
     pub lawful : IsLawful b
     pub needed : OfQuery b s.strand.query.number (λ q. IsNeededBy b q p)
     pub within : p.time ≤ b.circuit.horizon
+    pub claims : OfQuery b s.strand.query.number (λ q. length s.strand.stack ≤ q.budget)
 
   pub asked-by : (spent : Bool) (p : Point) → next_in spent s.strand.roots s.strand.stack ≡ Ask p → next awake ≡ Ask p → IsAsked p
   asked-by spent p h k =
@@ -50,7 +52,12 @@ module _ (b : Batch) (s : Demand) (known : IsKnownStrand b s) where
       let a = first-askable b.circuit (window_of s.strand.query) s.strand.roots s.strand.stack p is.roots is.chain (asks-first awake p k) in
       let before : p.time < s.strand.query.to = needed-before b.circuit lawful.circuit (window_of s.strand.query) p.signal p.time a.needed in
       let window = (query-within b lawful s.strand.query is.known).window in
-      record { lawful = lawful; needed = ((asks-needed b lawful awake still).asked p k).needed; within = omega (arith, before, window) }
+      record {
+        lawful = lawful;
+        needed = ((asks-needed b lawful awake still).asked p k).needed;
+        within = omega (arith, before, window);
+        claims = claims-within b awake still;
+      }
 
   unspent : (spent : Bool) (st : List Frame) (p : Point) → next_in spent s.strand.roots st ≡ Ask p → next_in false s.strand.roots st ≡ Ask p
   unspent true [] p h = absurd (cc h)
@@ -72,4 +79,9 @@ module _ (b : Batch) (s : Demand) (known : IsKnownStrand b s) where
       let live : 0 < s.to = let l = known.busy (held-some s.strand.stack p h) in omega (arith, l) in
       let lawful = known.lawful live in
       let is : IsStrand b s.strand = known.strand live in
-      record { lawful = lawful; needed = ((asks-needed b lawful s.strand is).on_stack p h).needed; within = held-within b lawful s.strand is p h }
+      record {
+        lawful = lawful;
+        needed = ((asks-needed b lawful s.strand is).on_stack p h).needed;
+        within = held-within b lawful s.strand is p h;
+        claims = claims-within b s.strand is;
+      }

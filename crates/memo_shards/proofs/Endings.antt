@@ -33,7 +33,7 @@ use Rattle.memo_shards.specs.inner.View.{AsksThere, Agrees}
 use Rattle.memo_shards.specs.Ends.{LeavesNone, FillsIt, DropsIt, with_shard}
 use Rattle.memo_shards.specs.inner.Ends.{after_eviction}
 use Rattle.memo_shards.proofs.Asking.{refused}
-use Rattle.memo_shards.proofs.Waits.{waits-at}
+use Rattle.memo_shards.proofs.Waits.{ordered-without, waits-at}
 use Rattle.memo_shards.proofs.Entries.{ours, agrees-at, shard-is, shown, shown_with}
 
 -- right cells fit a store of right cells
@@ -110,9 +110,12 @@ module _ (b : Batch) (opening : List SignalCell) (n : ℕ) (store : Contents) (c
   h = shard_at opening es
 
   -- a strand is spent
-  module _ (w : Demand) (known : demands.IsKnownStrand b w) (p : Point) (refuse : next_in false w.strand.roots w.strand.stack ≡ Ask p) (here : p.signal % b.shards ≡ n) (missed : stored_at h.state.cells p ≡ None) (free : holder h.state.claims p ≡ None) (held : ℕ) where
+  module _ (w : Demand) (known : demands.IsKnownStrand b w) (p : Point) (refuse : next_in false w.strand.roots w.strand.stack ≡ Ask p) (here : p.signal % b.shards ≡ n) (missed : stored_at h.state.cells p ≡ None) (free : holder h.state.claims p ≡ None) where
+    abbrev held : ℕ
+    held = length w.strand.stack
+
     spent-is : IsShard b n opening (shard_with_entry (entry.Spent w.strand.query.number p held) h)
-    spent-is = let a = refused b w known p refuse in spent-shard b n opening h is.shard w.strand.query.number p (here, a.within) held a.needed missed free
+    spent-is = let a = refused b w known p refuse in spent-shard b n opening h is.shard w.strand.query.number p (here, a.within) held a.needed a.claims missed free
 
     pub spent-agrees : Agrees b opening n store claims (es ++ entry.Spent w.strand.query.number p held ∷ [])
     spent-agrees = agrees-at b opening n is.lawful is.among (shard_with_entry (entry.Spent w.strand.query.number p held) h) spent-is store claims is.stored is.holders is.asks
@@ -136,18 +139,18 @@ module _ (b : Batch) (opening : List SignalCell) (n : ℕ) (store : Contents) (c
       dropped-agrees = agrees-at b opening n is.lawful is.among (shard_with_entry (entry.Dropped q p) h) dropped-is store (without_claim claims p) is.stored without-holders
           (tables.each-removed AsksThere (is_at (point_cmp p)) claims is.asks)
 
-      pub leaves-none : (left : Claims Demand) → left ≡ without_claim claims p → IsInOrder left → (k : Shard) (l : Shard) → LeavesNone (record { number = n; shard = k; waiting = waits_in claims }) (record { number = n; shard = l; waiting = waits_in left }) p
-      leaves-none left e ordered k l x =
-          waits-at left ordered x ∙ ap (λ z. waiters_at z x) e ∙ tables.waiters-without claims p x order ∙ sym (ap (cond (same_point p x) []) (waits-at claims order x))
+      pub leaves-none : (left : Claims Demand) → left ≡ without_claim claims p → (k : Shard) (l : Shard) → LeavesNone (record { number = n; shard = k; waiting = waits_in claims }) (record { number = n; shard = l; waiting = waits_in left }) p
+      leaves-none left e k l x =
+          waits-at left (subst IsInOrder (sym e) (ordered-without (is_at (point_cmp p)) claims order)) x ∙ ap (λ z. waiters_at z x) e ∙ tables.waiters-without claims p x order ∙ sym (ap (cond (same_point p x) []) (waits-at claims order x))
 
-      pub dropped-shown : (w s : Demand) → w.strand.query.number ≡ q → TakesStep after_drop w s → (woken : List Demand) → waiters_of claims p ≡ Some woken → (left : Claims Demand) → left ≡ without_claim claims p → IsInOrder left
+      pub dropped-shown : (w s : Demand) → w.strand.query.number ≡ q → TakesStep after_drop w s → (woken : List Demand) → waiters_of claims p ≡ Some woken → (left : Claims Demand) → left ≡ without_claim claims p
           → (fs : List Entry) → fs ≡ es ++ entry.Dropped q p ∷ [] → DropsIt (shown b opening n store claims es is) (shown_with b opening n store claims es is fs left) p w s woken
-      dropped-shown w s number steps woken e left rest ordered fs items = record {
+      dropped-shown w s number steps woken e left rest fs items = record {
         strand = steps;
         same = sym (waits-at claims order p ∙ waiters-are (claim_at claims p) woken e);
         number = refl;
         shard = ap (shard_at opening) items ∙ shard-is b opening n (shard_with_entry (entry.Dropped q p) h) dropped-is ∙ ap (λ m. shard_with_entry (entry.Dropped m p) h) (sym number);
-        waiting = leaves-none left rest ordered h (shard_at opening fs);
+        waiting = leaves-none left rest h (shard_at opening fs);
       }
 
       -- a point is filled
@@ -170,14 +173,14 @@ module _ (b : Batch) (opening : List SignalCell) (n : ℕ) (store : Contents) (c
       filled-items fs e = e ∙ ap (λ (z : Contents). after_eviction (cond (pushes_out x z) (last_key z.cells) None) es ++ entry.Filled q p (cell_at b.circuit p) ∷ []) is.stored
           ∙ ap (λ l. l ++ entry.Filled q p (cell_at b.circuit p) ∷ []) (put-items b.capacity x h)
 
-      pub filled-shown : (w s : Demand) → w.strand.query.number ≡ q → TakesStep after_fill w s → (waited woken : List Demand) → waiters_of claims p ≡ Some waited → AllZip (TakesStep after_answer) waited woken → (left : Claims Demand) → left ≡ without_claim claims p → IsInOrder left
+      pub filled-shown : (w s : Demand) → w.strand.query.number ≡ q → TakesStep after_fill w s → (waited woken : List Demand) → waiters_of claims p ≡ Some waited → AllZip (TakesStep after_answer) waited woken → (left : Claims Demand) → left ≡ without_claim claims p
           → (fs : List Entry) → fs ≡ k.journal → FillsIt b (shown b opening n store claims es is) (shown_with b opening n store claims es is fs left) p w s woken
-      filled-shown w s number steps waited woken e hears left rest ordered fs items = record {
+      filled-shown w s number steps waited woken e hears left rest fs items = record {
         strand = steps;
         hears = subst (λ l. AllZip (TakesStep after_answer) l woken) (sym (waits-at claims order p ∙ waiters-are (claim_at claims p) waited e)) hears;
         number = refl;
         shard = ap (shard_at opening) items ∙ shard-is b opening n k filled-is ∙ ap (λ m. filled_shard b.capacity m p (cell_at b.circuit p) h) (sym number);
-        waiting = leaves-none left rest ordered h (shard_at opening fs);
+        waiting = leaves-none left rest h (shard_at opening fs);
       }
 
     -- the cell of a claimed point fits the store

@@ -2,10 +2,11 @@
 use Rattle.std.proofs.Common.{◌≡◌, Result, Ok, Err, OnOk, OnErr, IfErr, ℕ, ◌%◌, ◌<◌, cond, List, [], ◌∷◌, ◌++◌, refl, ap, ap₂, sym, ◌∙◌, subst, Option, Some, None, option_map, IsSome}
 use Rattle.std.specs.List.{AllByRecursion}
 use Rattle.owned_text.specs.declared.OutOfMemory.{OutOfMemory}
+use Rattle.std.specs.BTreeMap.{is_at}
 use Rattle.valid_intervals.specs.declared.Cell.{Cell}
 use Rattle.valid_intervals.specs.declared.Point.{Point}
 use Rattle.valid_intervals.specs.declared.SignalCell.{SignalCell}
-use Rattle.valid_intervals.specs.Cells.{same_point, covers, cell_for, to_front, stored_at}
+use Rattle.valid_intervals.specs.Cells.{point_cmp, same_point, covers, cell_for, to_front, stored_at}
 use Rattle.cell_store.specs.Recency.{Contents, contents, with_cells}
 use Rattle.journal_meaning.specs.declared.Entry.{Entry}
 use Rattle.journal_meaning.specs.declared.Entry.TheVariants as entry
@@ -31,7 +32,7 @@ use Rattle.memo_shards.specs.inner.KeptShards.{waits_in, waits_for}
 use Rattle.memo_shards.specs.inner.View.{AsksThere, Agrees}
 use Rattle.memo_shards.specs.Asks.{Tells, ClaimsIt, OfPark}
 use Rattle.memo_shards.proofs.Asking.{asked}
-use Rattle.memo_shards.proofs.Waits.{waits-at, waits-claimed, each-claimed, each-waits}
+use Rattle.memo_shards.proofs.Waits.{ordered-waited, waits-at, waits-claimed, each-claimed, each-waits}
 
 -- a result, by its case
 pub by_case : {X E : Type 0} (r : Result X E) (A B P : Type 0) → OnOk r A → OnErr r B → (A → P) → (B → P) → P
@@ -194,13 +195,13 @@ module _ (b : Batch) (opening : List SignalCell) (n : ℕ) where
         (tables.each-waited AsksThere claims p w (λ c h. each-append (λ (v : Demand). next v.strand ≡ Ask p) c.waiters (w ∷ []) h (asks, tt)) is.asks)
 
     pub parked : (w : Demand) (p : Point) → next w.strand ≡ Ask p → stored_at now.state.cells p ≡ None → IsSome (holder now.state.claims p) → IsInOrder claims
-        → (r : Result Unit (Demand × OutOfMemory)) (cs : Claims Demand) → IsInOrder cs → OnOk r (cs ≡ with_waiter claims p w) → OnErr r (cs ≡ claims) → IfErr r (λ e. e.0 ≡ w) → OfPark shown (shown_with es cs) p w r
-    parked w p asks missed held order (Ok u) cs ordered ok err back = record {
+        → (r : Result Unit (Demand × OutOfMemory)) (cs : Claims Demand) → OnOk r (cs ≡ with_waiter claims p w) → OnErr r (cs ≡ claims) → IfErr r (λ e. e.0 ≡ w) → OfPark shown (shown_with es cs) p w r
+    parked w p asks missed held order (Ok u) cs ok err back = record {
       missed = missed;
       claimed = held;
       number = refl;
       shard = refl;
-      waiting = λ x. waits-at cs ordered x ∙ ap (λ l. waiters_at l x) ok ∙ tables.waiters-waited claims p w x (some-claim p held)
+      waiting = λ x. waits-at cs (subst IsInOrder (sym ok) (ordered-waited (is_at (point_cmp p)) claims w order)) x ∙ ap (λ l. waiters_at l x) ok ∙ tables.waiters-waited claims p w x (some-claim p held)
           ∙ sym (ap₂ (λ a b. cond (same_point p x) (a ++ w ∷ []) b) (waits-at claims order p) (waits-at claims order x));
     }
-    parked w p asks missed held order (Err e) cs ordered ok err back = (back, ap (λ l. shown_with es l) err)
+    parked w p asks missed held order (Err e) cs ok err back = (back, ap (λ l. shown_with es l) err)

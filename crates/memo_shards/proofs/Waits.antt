@@ -1,20 +1,47 @@
 -- The waiters of a table, as one list.
-use Rattle.std.proofs.Common.{◌≡◌, true, false, cond, List, [], ◌∷◌, ◌++◌, map, refl, ap, ◌∙◌, subst, Some, None, IsSome, arith, inl, inr}
+use Rattle.std.proofs.Common.{◌≡◌, Bool, true, false, cond, List, [], ◌∷◌, ◌++◌, map, refl, sym, ap, ◌∙◌, subst, Some, None, IsSome, arith, inl, inr}
 use Rattle.std.specs.declared.cmp.Ordering.TheVariants.{Less, Equal, Greater}
 use Rattle.std.specs.Ordering.{is_eq, match_ordering}
 use Rattle.std.specs.List.{AllByRecursion}
 use Rattle.std.specs.BTreeMap.{is_at}
-use Rattle.std.specs.Map.{keys_of}
+use Rattle.std.specs.Map.{keys_of, remove_entry}
+use Rattle.std.specs.List.Sorted.{IsStrictlySortedBy}
 use Rattle.std.proofs.lemmas.Bool.{cases_Bool}
 use Rattle.std.proofs.lemmas.Bool.Decides.{nat_tests}
 use Rattle.std.proofs.lemmas.Map.Keys.{sorted_head, sorted_tail}
 use Rattle.valid_intervals.specs.declared.Point.{Point}
 use Rattle.valid_intervals.specs.Cells.{same_point, point_cmp}
-use Rattle.claim_waiters.specs.Claims.{Claims, IsInOrder, claim_at, waiters_at, with_claim}
+use Rattle.claim_waiters.specs.Claims.{Claims, IsInOrder, claim_at, waiters_at, with_claim, add_waiter}
 use Rattle.claim_waiters.proofs.Tables.{at-same, at-back, same-is, same-itself}
 use Rattle.demand_points.specs.Demands.{Demand}
 use Rattle.memo_shards.specs.KeptShards.{Waiting, waiting_at}
 use Rattle.memo_shards.specs.inner.KeptShards.{waits_for, waits_in}
+
+-- the claims stay in order where one ends, or hears of one more waiter
+keys-left : (P : Point → Type 0) (test : Point → Bool) (es : Claims Demand) → AllByRecursion P (keys_of es) → AllByRecursion P (keys_of (remove_entry test es))
+keys-left P test [] h = tt
+keys-left P test (e ∷ es) h = elim (test e.0) as (λ t. AllByRecursion P (keys_of (cond t es (e ∷ remove_entry test es)))) [
+  | true ↦ h.1
+  | false ↦ (h.0, keys-left P test es h.1)
+]
+
+pub ordered-without : (test : Point → Bool) (es : Claims Demand) → IsInOrder es → IsInOrder (remove_entry test es)
+unfolding IsStrictlySortedBy
+ordered-without test [] h = tt
+ordered-without test (e ∷ es) h = elim (test e.0) as (λ t. IsStrictlySortedBy point_cmp (keys_of (cond t es (e ∷ remove_entry test es)))) [
+  | true ↦ h.1
+  | false ↦ (keys-left (λ y. point_cmp e.0 y ≡ Less) test es h.0, ordered-without test es h.1)
+]
+
+keys-waited : (test : Point → Bool) (es : Claims Demand) (w : Demand) → keys_of (add_waiter test es w) ≡ keys_of es
+keys-waited test [] w = refl
+keys-waited test (e ∷ es) w = elim (test e.0) as (λ t. keys_of (cond t ((e.0, record { q = e.1.q; waiters = e.1.waiters ++ w ∷ [] }) ∷ es) (e ∷ add_waiter test es w)) ≡ e.0 ∷ keys_of es) [
+  | true ↦ refl
+  | false ↦ ap (λ l. e.0 ∷ l) (keys-waited test es w)
+]
+
+pub ordered-waited : (test : Point → Bool) (es : Claims Demand) (w : Demand) → IsInOrder es → IsInOrder (add_waiter test es w)
+ordered-waited test es w h = subst (IsStrictlySortedBy point_cmp) (sym (keys-waited test es w)) h
 
 waiting-append : (xs ys : List Waiting) (x : Point) → waiting_at (xs ++ ys) x ≡ waiting_at xs x ++ waiting_at ys x
 waiting-append [] ys x = refl

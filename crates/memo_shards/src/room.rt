@@ -20,9 +20,10 @@ pub fn make_room(journal: &mut Vec<Entry>, claims: usize, entries: usize) -> Res
         journal.new) }
     ensures kept { vec_len journal.new + 2 * claims ≤ vec_capacity journal.new }
 {
-    // it says how large a capacity can be
-    let _capacity = journal.capacity();
-    let Some(room) = (2 * claims).checked_add(entries) else {
+    let room = claims
+        .checked_mul(2)
+        .and_then(|ends| ends.checked_add(entries));
+    let Some(room) = room else {
         return Err(OutOfMemory);
     };
     journal.reserve(room)?;

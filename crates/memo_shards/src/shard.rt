@@ -86,7 +86,7 @@ impl<B: BatchName> Shard<B> {
               = [];
         } }
     {
-        // it says that the cells are apart and within the capacity
+        // For the proof: it says that the cells are apart, and no more than there is room for, so the shard begins legal.
         let _len = store.len();
         Shard {
             number,
@@ -96,7 +96,8 @@ impl<B: BatchName> Shard<B> {
         }
     }
 
-    /// What is known of every shard.
+    /// The law of every shard: its journal is legal, its cells are right, and who waits waits at a claim. A plan needs it of its shards,
+    /// and whoever hands them on.
     pub fn facts(&self)
         ensures { IsKnownShard B.batch B.opening self.now }
     {
@@ -227,7 +228,6 @@ impl<B: BatchName> Shard<B> {
         let cell = strand.top_cell(design);
         record_fill(&mut self.store, &mut self.journal, q, p, &cell)?;
         let mut woken = self.claims.take(p);
-        self.claims.facts();
         hear_all(&mut woken, design, &cell);
         strand.finish_with(design, &cell);
         Ok(Step::Filled(woken))
@@ -243,7 +243,6 @@ impl<B: BatchName> Shard<B> {
         self.claims.facts();
         let q = strand.query().number;
         let woken = self.claims.take(p);
-        self.claims.facts();
         self.journal.push_reserved(Entry::Dropped { q, p });
         let _ = strand.drop_top();
         Step::Dropped(woken)
@@ -280,9 +279,7 @@ impl<B: BatchName> Shard<B> {
         ensures { OfPark self.old self.new p strand result }
     {
         self.claims.facts();
-        let parked = self.claims.wait(p, strand);
-        self.claims.facts();
-        parked
+        self.claims.wait(p, strand)
     }
 
     /// Records that the spent strand was refused the point.
@@ -298,7 +295,7 @@ impl<B: BatchName> Shard<B> {
     {
         strand.facts();
         let q = strand.query().number;
-        // at most the budget, so that the number of what it holds fits
+        // For the proof: what was charged fits, and so does the number of what it holds.
         let _charged = strand.charge();
         let claims = strand.claims() as u32;
         make_room(&mut self.journal, self.claims.len(), 1)?;

@@ -75,7 +75,7 @@ impl<B: BatchName> Plan<B> {
         Ok(Plan { places, shards })
     }
 
-    /// What holds of every plan.
+    /// The law of every plan: it is one of a lawful batch, and sound. Whoever starts a strand of it alone needs it.
     pub fn facts(&self)
         ensures lawful { IsLawful B.batch }
         ensures sound { IsSound B.batch B.opening self.now }

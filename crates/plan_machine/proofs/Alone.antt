@@ -35,7 +35,7 @@ use Rattle.plan_machine.specs.Sound.{IsSound, HasEnded}
 use Rattle.plan_machine.specs.Journals.{journals, entries, evictions_for, entries_of}
 use Rattle.plan_machine.specs.Alone.{plan_refusing, roots_of, AreFed, IsUnspent, points_on, drops, IsUnderWay, IsGivingUp, IsAtPoint, IsAlone, RunsAlone, IsServedAlone, IsRefusedAlone, IsOutcome, RanAlone, TurnsAlone}
 use Rattle.plan_machine.proofs.Links.{set-here, set-other}
-use Rattle.plan_machine.proofs.Shards.{found, spent-shard}
+use Rattle.plan_machine.proofs.Shards.{found, claims-within, spent-shard}
 use Rattle.plan_machine.proofs.Steps.{claims-same, shards-after, home-shard, here-of, asked-wanted, some-shard, told-sound, claimed-sound, spent-sound, filled-sound, dropped-sound}
 use Rattle.plan_machine.proofs.Measure.{woken-itself}
 use Rattle.plan_machine.proofs.Ready.{has-ended}
@@ -237,7 +237,7 @@ module _ (b : Batch) (lawful : IsLawful b) (opening : ℕ → List SignalCell) (
           let wanted = asked-wanted b lawful opening plan alone.sound n s alone.at alone.awake p e in
           let here = here-of b lawful opening plan alone.sound n s alone.at alone.awake p wanted in
           let shard : IsShard b (home plan p) (opening (home plan p)) h =
-          spent-shard b (home plan p) (opening (home plan p)) (shard_of plan p) (home-shard b lawful opening plan alone.sound n s alone.at alone.awake p) s.query.number p here held wanted f (unclaimed p e) in
+          spent-shard b (home plan p) (opening (home plan p)) (shard_of plan p) (home-shard b lawful opening plan alone.sound n s alone.at alone.awake p) s.query.number p here held wanted (claims-within b s is) f (unclaimed p e) in
           let new = with_shard mid p h in
           let whole : IsSound b opening new = shard-sound b lawful opening mid sound p h shard refl n (given_up s) at alone.awake in
           let longer : AreAdded (journals plan) (entry ∷ []) (journals new) = shard-added b lawful opening plan alone.sound p h (entry ∷ []) refl (refl, tt) in

@@ -1,8 +1,9 @@
 -- Worked examples: plans of one shard, computed from the definitions.
-use Rattle.std.proofs.Common.{◌≡◌, ℕ, ◌+◌, ◌<◌, ◌≤◌, ◌≢◌, refl, subst, arith, inl, map, true, false, List, [], ◌∷◌, get_or, None, Contains}
+use Rattle.std.proofs.Common.{◌≡◌, ℕ, ◌+◌, ◌<◌, ◌≤◌, ◌≢◌, refl, subst, arith, inl, map, true, false, List, [], ◌∷◌, get_or, None, Contains, sym}
 use Rattle.std.specs.List.{AllByRecursion}
 use Rattle.std.proofs.lemmas.List.Elements.{All-from_recursion}
 use Rattle.std.proofs.lemmas.List.Kept.{AllPairs-cons}
+use Rattle.std.proofs.Math.Arith.{lt-one}
 use Rattle.gate_values.specs.declared.Value.{Value}
 use Rattle.gate_values.specs.declared.Value.TheVariants.{One}
 use Rattle.gate_values.specs.declared.Kind.TheVariants.{Buff}
@@ -229,15 +230,12 @@ no-cells n = []
 empty-shard : IsShard shared 0 [] no_shard
 empty-shard = record { legal = tt; state = refl; right = tt; fits = omega arith; made = refl }
 
-only-shard : (n : ℕ) → n < 1 → 0 ≡ n
-only-shard n low = omega (arith, low)
-
 shared-fresh : IsFresh shared no-cells (no_shard ∷ [])
 unfolding no-cells
 shared-fresh = record {
   count = refl;
-  right = λ n low. subst (λ k. IsShard shared k [] (get_or (no_shard ∷ []) k no_shard)) (only-shard n low) empty-shard;
-  free = λ n low. subst (λ k. (get_or (no_shard ∷ []) k no_shard).state.claims ≡ []) (only-shard n low) refl;
+  right = λ n low. subst (λ k. IsShard shared k [] (get_or (no_shard ∷ []) k no_shard)) (sym (lt-one low)) empty-shard;
+  free = λ n low. subst (λ k. (get_or (no_shard ∷ []) k no_shard).state.claims ≡ []) (sym (lt-one low)) refl;
 }
 
 start-right : (q : Query) → Contains (poor ∷ rich ∷ []) q → IsStart shared (whole q)

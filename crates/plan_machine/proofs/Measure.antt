@@ -5,7 +5,9 @@ use Rattle.std.proofs.Math.ListN.{length-map, length-set}
 use Rattle.std.proofs.lemmas.Bool.{cases_Bool, and_parts, ltb-true}
 use Rattle.std.proofs.lemmas.List.Sums.{sum_by-set, sum_by-cons}
 use Rattle.std.proofs.lemmas.Option.{get_or_from_slice_get, slice_get_within}
-use Rattle.gate_values.specs.Gates.{decides, up_to_first}
+use Rattle.std.proofs.Math.Nat.{suc-mul}
+use Rattle.circuit_meaning.proofs.Looking.{cut-whole}
+use Rattle.gate_values.specs.Gates.{decides}
 use Rattle.valid_intervals.specs.declared.Point.{Point}
 use Rattle.circuit_meaning.specs.declared.Pin.{Pin}
 use Rattle.circuit_meaning.specs.Circuit.{Circuit, Driver, Input, Gate, Flop, driver}
@@ -33,13 +35,6 @@ filter-length test (x ∷ xs) = elim (test x) as (λ t. length (cond t (x ∷ fi
   | false ↦ let k = filter-length test xs in omega arith
 ]
 
-cut-length : {A : Type 0} (test : A → Bool) (xs : List A) → length (up_to_first test xs) ≤ length xs
-cut-length test [] = omega arith
-cut-length test (x ∷ xs) = elim (test x) as (λ t. length (x ∷ cond t [] (up_to_first test xs)) ≤ length (x ∷ xs)) [
-  | true ↦ omega arith
-  | false ↦ let k = cut-length test xs in omega arith
-]
-
 flop-length : (pin : ℕ) (o : Option ℕ) → length (flop_child pin o) ≤ 1
 flop-length pin None = omega arith
 flop-length pin (Some e) = omega arith
@@ -51,7 +46,7 @@ sources-few c t (Gate kind pins) =
     let late : Pin → Bool = λ p. nat_le p.delay t in
     let l : List Pin = looked_pins c t kind pins in
     let a = filter-length late l in
-    let e = cut-length (λ p. decides kind (seen_value (value c) t p)) pins in
+    let e = cut-whole (λ p. decides kind (seen_value (value c) t p)) pins in
     let m : length (map point (filter late l)) ≡ length (filter late l) = length-map (filter late l) point in
     omega arith
 sources-few c t (Flop f) = flop-length f.pin (shown_edge f.clock f.delay t)
@@ -96,10 +91,7 @@ claim-less : (budget charged cost : ℕ) → charged < budget → (budget - (cha
 claim-less budget charged cost h =
     let k = budget - (charged + 1) in
     let e : budget - charged ≡ suc k = omega arith in
-    rw e (suc-times k cost)
-  where
-    suc-times : (k cost : ℕ) → k * cost + cost ≡ suc k * cost
-    suc-times k cost = grind arith
+    rw e (sym (suc-mul k cost))
 
 module _ (b : Batch) (n : ℕ) where
   pub told-less : (s : Strand) (p : Point) → next s ≡ Ask p → turns_left b n (after_answer s) + 1 ≡ turns_left b n s

@@ -3,6 +3,7 @@ use Rattle.std.proofs.Common.{◌≡◌, ℕ, zero, suc, ◌+◌, ◌-◌, ◌*�
 use Rattle.std.specs.List.{sum_by, AllByRecursion}
 use Rattle.std.proofs.Math.ListN.{length-map}
 use Rattle.std.proofs.lemmas.List.Sums.{sum_by-cons}
+use Rattle.std.proofs.Math.Nat.{add-mul}
 use Rattle.valid_intervals.specs.declared.Point.{Point}
 use Rattle.circuit_meaning.specs.declared.Window.{Window}
 use Rattle.circuit_meaning.specs.Circuit.{Circuit}
@@ -81,9 +82,6 @@ module _ (b : Batch) (n : ℕ) where
       let w = sum_by-cons (λ (x : Start). x.stop - x.start) a starts in
       let m : (a.budget + sum_by (λ (x : Start). x.budget) starts) * claim_cost b n ≡ a.budget * claim_cost b n + sum_by (λ (x : Start). x.budget) starts * claim_cost b n = add-mul a.budget (sum_by (λ (x : Start). x.budget) starts) (claim_cost b n) in
       rw (u, v, w) (rw m (omega arith))
-    where
-      add-mul : (x y z : ℕ) → (x + y) * z ≡ x * z + y * z
-      add-mul x y z = grind arith
 
 pub turns-bounded : (b : Batch) (starts : List Start) (shards : List Shard) (schedule : List ℕ) → turns b (new_plan b starts shards) schedule ≤ bound b starts
 turns-bounded b starts shards schedule =

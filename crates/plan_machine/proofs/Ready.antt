@@ -1,6 +1,6 @@
 -- A sound plan isn't stuck.
 use Rattle.std.proofs.Common.{◌≡◌, ℕ, zero, suc, ◌+◌, ◌<◌, ◌⊎◌, not, Bool, true, false, List, [], ◌∷◌, slice_get, refl, ap, sym, ◌∙◌, subst, arith, inl, inr, Option, Some, None, ◌≢◌, cond, nat_lt, true≢false}
-use Rattle.std.proofs.lemmas.Bool.{cases_Bool, and_from, and_parts}
+use Rattle.std.proofs.lemmas.Bool.{cases_Bool, and_from, and_parts, not-true}
 use Rattle.valid_intervals.specs.declared.Point.{Point}
 use Rattle.circuit_meaning.proofs.Table.{at_all_times}
 use Rattle.strand_meaning.specs.declared.Next.{Next}
@@ -131,15 +131,11 @@ next-moves plan s (Fill p) h e = cc e
 next-moves plan s (Drop p) h e = cc e
 next-moves plan s Done h e = absurd (true≢false h)
 
-not-false : (b : Bool) → not b ≡ true → b ≡ false
-not-false true h = absurd (true≢false (sym h))
-not-false false h = refl
-
 strand-moves : (plan : Plan) (s : Strand) → is_ready s ≡ true → turned_by (step_at plan (Some s)) ≢ NotReady
 strand-moves plan s r =
     let k = and_parts (not s.waits) (not (is_done (next s))) r in
     let P : Bool → Type 0 = λ w. turned_by (cond w Rest (next_step plan s (next s))) ≢ NotReady in
-    subst P (sym (not-false s.waits k.0)) (next-moves plan s (next s) (not-false (is_done (next s)) k.1))
+    subst P (sym (not-true s.waits k.0)) (next-moves plan s (next s) (not-true (is_done (next s)) k.1))
 
 strand-rests : (plan : Plan) (s : Strand) → is_ready s ≡ false → turned_by (step_at plan (Some s)) ≡ NotReady
 strand-rests plan s r =

@@ -3,6 +3,7 @@ use Rattle.std.proofs.Common.{◌≡◌, ℕ, zero, suc, ◌+◌, ◌-◌, ◌&&
 use Rattle.std.specs.List.{AllByRecursion, list_any}
 use Rattle.std.proofs.lemmas.Bool.{cases_Bool, or_parts}
 use Rattle.std.proofs.lemmas.Bool.Decides.{eqb_tells}
+use Rattle.std.proofs.Math.Numerals.{lt_of_le_of_ne}
 use Rattle.valid_intervals.specs.declared.Cell.{Cell}
 use Rattle.valid_intervals.specs.declared.Point.{Point}
 use Rattle.valid_intervals.specs.declared.SignalCell.{SignalCell}
@@ -17,6 +18,7 @@ use Rattle.batch_meaning.specs.Batches.{Batch, IsNeededBy, OfQuery}
 use Rattle.journal_meaning.specs.Allowed.{IsAt, IsAllowed, IsRight}
 use Rattle.circuit_meaning.specs.Cells.{cell_at}
 use Rattle.journal_meaning.specs.Replay.{replay, IsLegal}
+use Rattle.strand_meaning.specs.Strands.{Strand, IsStrand}
 use Rattle.journal_meaning.proofs.Lists.{Stands, Here, There, each-stands, stands-any, front-snoc, snoc_cases}
 use Rattle.journal_meaning.proofs.Same.{same_stored-itself}
 use Rattle.journal_meaning.proofs.More.{replay-more, legal-more, booked-append, still-right, still-fits, right-answers}
@@ -91,6 +93,16 @@ booked-filled capacity q p cell h =
     let l = booked-room capacity (cell_for p cell) h in
     omega (arith, k, l)
 
+-- a strand has at most as many claims as the budget of a query of the batch with its number
+pub claims-within : (b : Batch) (s : Strand) → IsStrand b s → OfQuery b s.query.number (λ y. length s.stack ≤ y.budget)
+claims-within b s is = elim is.known [
+  | inl k ↦ (s.query, k.1, refl, within)
+  | inr k ↦ (k.of, k.known, sym k.number, let e : s.query.budget ≡ k.of.budget = k.budget in omega (arith, within, e))
+]
+  where
+    within : length s.stack ≤ s.query.budget
+    within = omega (arith, is.charge, is.claims, is.budget)
+
 module _ (b : Batch) (n : ℕ) (opening : List SignalCell) where
   -- a shard, perhaps with a place just made
   record Keeps (h : Shard) : Type 0 where
@@ -129,9 +141,9 @@ module _ (b : Batch) (n : ℕ) (opening : List SignalCell) where
     claimed-shard wanted none free =
         whole (shard_with_entry (Claimed q p) h) (recorded-keeps h (Claimed q p) (keeps h is) (is.made, not-found (covers p) h.state.cells none, free) (here, wanted)) is.made
 
-    pub spent-shard : (held : ℕ) → OfQuery b q (λ y. IsNeededBy b y p) → stored_at h.state.cells p ≡ None → holder h.state.claims p ≡ None → IsShard b n opening (shard_with_entry (Spent q p held) h)
-    spent-shard held wanted none free =
-        whole (shard_with_entry (Spent q p held) h) (recorded-keeps h (Spent q p held) (keeps h is) (is.made, not-found (covers p) h.state.cells none, free) (here, wanted)) is.made
+    pub spent-shard : (held : ℕ) → OfQuery b q (λ y. IsNeededBy b y p) → OfQuery b q (λ y. held ≤ y.budget) → stored_at h.state.cells p ≡ None → holder h.state.claims p ≡ None → IsShard b n opening (shard_with_entry (Spent q p held) h)
+    spent-shard held wanted within none free =
+        whole (shard_with_entry (Spent q p held) h) (recorded-keeps h (Spent q p held) (keeps h is) (is.made, not-found (covers p) h.state.cells none, free) (here, wanted, within)) is.made
 
     pub dropped-shard : OfQuery b q (λ y. Unit {0}) → holder h.state.claims p ≡ Some q → IsShard b n opening (shard_with_entry (Dropped q p) h)
     dropped-shard known claim = whole (shard_with_entry (Dropped q p) h) (recorded-keeps h (Dropped q p) (keeps h is) (is.made, claim) (here, known)) is.made
@@ -158,12 +170,9 @@ module _ (b : Batch) (n : ℕ) (opening : List SignalCell) where
       | inl t ↦ rw t (record { keeps = keeps h is; claims = refl; fresh = λ e. absurd (true≢false (sym e ∙ is.made)); room = λ e. absurd (true≢false (sym t ∙ e)) })
       | inr f ↦ elim (eqb_tells (length h.state.cells) b.capacity) [
         | inl e ↦ rw (f, e.0) (evicted-place (last_cell h.state.cells) refl e.1 f)
-        | inr e ↦ rw (f, e.0) (record { keeps = keeps h is; claims = refl; fresh = λ _. f; room = λ _. let l = is.fits in let ne = e.1 in below l ne })
+        | inr e ↦ rw (f, e.0) (record { keeps = keeps h is; claims = refl; fresh = λ _. f; room = λ _. let l = is.fits in let ne = e.1 in lt_of_le_of_ne l ne })
       ]
     ]
-      where
-        below : {m k : ℕ} → m ≤ k → (m ≡ k → ⊥) → m < k
-        below l ne = omega (arith, l, ne)
 
   module _ (some : 1 ≤ b.capacity) (h : Shard) (is : IsShard b n opening h) (q : ℕ) (p : Point) (here : IsAt b n p) (claim : holder h.state.claims p ≡ Some q) where
     abbrev x : SignalCell

@@ -1,15 +1,13 @@
 -- What a line that asks for a dump writes.
-use Rattle.std.proofs.Common.{◌≡◌, ℕ, ◌<◌, Bool, true, false, cond, nat_lt, List, [], ◌∷◌, ◌++◌, length, Option, Some, None, refl, sym, ap, ◌∙◌, append_assoc, append-nil, length-append, arith, inl, inr}
+use Rattle.std.proofs.Common.{◌≡◌, ℕ, ◌<◌, Bool, true, false, cond, nat_lt, List, [], ◌∷◌, ◌++◌, length, Option, Some, None, refl, sym, ap, append-nil, length-append, arith}
 use Rattle.std.specs.Prelude.{codes}
 use Rattle.std.specs.Fmt.{decimal}
 use Rattle.owned_text.specs.Made.{Made}
-use Rattle.query_lines.specs.declared.unit.Unit.{Unit as ScriptUnit}
-use Rattle.query_lines.specs.declared.unit.Unit.TheVariants.{Vcd}
 use Rattle.reply_lines.specs.declared.reply.VcdReply.{VcdReply}
 use Rattle.reply_lines.specs.declared.reply.VcdReply.TheVariants as dumps
 use Rattle.reply_lines.specs.Replies.{text_line, vcd_line}
 use Rattle.vcd_answers.specs.Wires.{Wire}
-use Rattle.session_meaning.specs.Session.{Setup, Course, Session, is_taken, with_reply, with_dump, with_last, with_vcd}
+use Rattle.session_meaning.specs.Session.{Setup, Course, is_taken, with_reply, with_dump, with_last, with_vcd}
 use Rattle.session_meaning.specs.Broken.{IsPrefix, journal_of, AreBegun}
 use Rattle.session_meaning.specs.Written.{journal_text}
 

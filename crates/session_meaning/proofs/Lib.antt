@@ -8,4 +8,7 @@ pub mod Shown
 pub mod Spread
 pub mod Again
 pub mod Accepted
+pub mod Narrow
+pub mod Numbered
+pub mod OneJournal
 pub mod Whole

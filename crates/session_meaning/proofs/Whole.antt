@@ -7,6 +7,7 @@ use Rattle.session_meaning.proofs.Enough.{session-ample}
 use Rattle.session_meaning.proofs.Shown.{own-waves}
 use Rattle.session_meaning.proofs.Again.{sessions-frugal}
 use Rattle.session_meaning.proofs.Accepted.{explanations-accepted}
+use Rattle.session_meaning.proofs.OneJournal.{one-journal}
 
 pub sessions-keep : SessionsKeepPromises
 sessions-keep setup design units fit course session = record {
@@ -20,4 +21,5 @@ pub sessions-whole : ScriptUnitsAreFit → SessionsAreWhole
 sessions-whole fit setup design script out journal dumps is = record {
   session = is;
   keeps = sessions-keep setup design (script_units setup.design.circuit.horizon script) (fit setup.design.circuit.horizon script design.limits.horizon) is.course is.served;
+  one = λ memo short. one-journal fit setup design memo script out journal dumps short is;
 }

@@ -1,5 +1,5 @@
 -- Laws of sessions.
-use Rattle.std.specs.Prelude.{◌≡◌, ℕ, ◌<◌, ◌≤◌, List, [], All}
+use Rattle.std.specs.Prelude.{ℕ, ◌<◌, ◌≤◌, List, [], length, All}
 use Rattle.owned_text.specs.Made.{Made}
 use Rattle.circuit_meaning.specs.Circuit.{IsCircuit}
 use Rattle.design.specs.Joined.{IsDesign}
@@ -12,6 +12,7 @@ use Rattle.session_meaning.specs.Ample.{IsAmpleBatch, IsAmpleSession}
 use Rattle.session_meaning.specs.Shown.{ShowsOwnWaves}
 use Rattle.session_meaning.specs.Again.{AreFrugal}
 use Rattle.session_meaning.specs.Accepted.{AreAccepted}
+use Rattle.session_meaning.specs.OneJournal.{HasMemo, HasOneJournal}
 use Rattle.session_meaning.specs.Whole.{KeepsPromises, IsWhole}
 
 -- each shard's lists are legal, each from the cells that the earlier lists leave, so the laws of journals hold of sessions
@@ -56,6 +57,12 @@ SessionsKeepPromises = (setup : Setup) → IsDesign setup.design
     → (units : List ScriptUnit) → All (IsFit setup.design.circuit.horizon) units
     → (course : Course) (session : Session setup units course)
     → KeepsPromises setup units course session
+
+-- The journal of every session is the text of its sections alone. A script has at most 16 MiB.
+abbrev pub SessionsHaveOneJournal : Type 0
+SessionsHaveOneJournal = (setup : Setup) → IsDesign setup.design → HasMemo setup
+    → (script out journal : List ℕ) (dumps : List Made) → length script ≤ 16777216
+    → (is : IsSessionOf setup script out journal dumps) → HasOneJournal setup is.course
 
 -- Every session of a script is whole.
 abbrev pub SessionsAreWhole : Type 0

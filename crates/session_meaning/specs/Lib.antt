@@ -12,6 +12,7 @@ pub mod Ample
 pub mod Shown
 pub mod Again
 pub mod Accepted
+pub mod OneJournal
 pub mod Whole
 pub mod Laws
 pub mod inner

@@ -1,5 +1,5 @@
 -- The session of a whole script.
-use Rattle.std.specs.Prelude.{ℕ, List}
+use Rattle.std.specs.Prelude.{ℕ, ◌≤◌, List, length}
 use Rattle.owned_text.specs.Made.{Made}
 use Rattle.query_lines.specs.declared.unit.Unit.{Unit as ScriptUnit}
 use Rattle.query_lines.specs.Reading.{script_units}
@@ -8,6 +8,7 @@ use Rattle.session_meaning.specs.Ample.{IsAmple}
 use Rattle.session_meaning.specs.Shown.{ShowsOwnWaves}
 use Rattle.session_meaning.specs.Again.{AreFrugal}
 use Rattle.session_meaning.specs.Accepted.{AreAccepted}
+use Rattle.session_meaning.specs.OneJournal.{HasMemo, HasOneJournal}
 
 -- The promises of a session: a query whose budget is ample has its wave; each dump shows, and is
 -- read as, the waves of the last batch before its line; a point is evaluated again only after the
@@ -20,8 +21,9 @@ pub record KeepsPromises (setup : Setup) (all : List ScriptUnit) (course : Cours
   pub accepted : AreAccepted setup all course session
 
 -- The session of the whole script has these replies, this journal and these dumps, and keeps its
--- promises.
+-- promises. Its journal is the text of its sections alone, where the script has at most 16 MiB.
 pub record IsWhole (setup : Setup) (script out journal : List ℕ) (dumps : List Made) : Type 0 where
   pub session : IsSessionOf setup script out journal dumps
   pub keeps : KeepsPromises setup (script_units setup.design.circuit.horizon script)
       session.course session.served
+  pub one : HasMemo setup → length script ≤ 16777216 → HasOneJournal setup session.course

@@ -15,6 +15,7 @@
 //!   or three dumps were made.
 //! - `specs/Broken` is a session that stopped early: some units are whole, and of the next one a beginning was written. A section begins
 //!   only after all replies of its unit. Only the last dump may be incomplete, and a session may break off in a dump, before the reply.
+//! - `specs/OneJournal`: the journal is the text of the session's sections, and of no others.
 //! - `specs/Whole` is the session of a whole script, with the four promises. `specs/Ample`: every query whose budget is at least its need
 //!   has its wave. `specs/Shown`: each dump shows the waves of the last batch before its line, and reading it gives exactly these.
 //!   `specs/Again`: a point is evaluated again only after the eviction of its cell. `specs/Accepted`: each explanation is a proof that the
@@ -26,7 +27,7 @@
 #![tactic(auto)]
 
 ghost use Rattle.session_meaning.specs.Laws.{SessionsAreLegal, EnoughBudgetIsServed, EnoughBudgetsAreServed};
-ghost use Rattle.session_meaning.specs.Laws.{DumpsShowOwnWaves, SessionsAreFrugal, ExplanationsAreAccepted, SessionsKeepPromises, SessionsAreWhole};
+ghost use Rattle.session_meaning.specs.Laws.{DumpsShowOwnWaves, SessionsAreFrugal, ExplanationsAreAccepted, SessionsKeepPromises, SessionsHaveOneJournal, SessionsAreWhole};
 
 use batch_meaning::Query;
 use query_lines::{script_units_are_fit, units_have_own_lines};
@@ -81,6 +82,14 @@ pub fn explanations_are_accepted()
 pub fn sessions_keep_promises()
     ensures { SessionsKeepPromises }
 {}
+
+/// The journal of every session is the text of its sections alone: all its numbers are within the limits of a text, and by
+/// `journal_text::one_journal` no other list of sections has it.
+pub fn sessions_have_one_journal()
+    ensures { SessionsHaveOneJournal }
+{
+    script_units_are_fit();
+}
 
 /// Every session of a script is whole. It keeps its promises, since the units of a script are fit.
 pub fn sessions_are_whole()

@@ -1,4 +1,4 @@
-use Rattle.std.proofs.Common.{◌≡◌, sym, subst, rules}
+use Rattle.std.proofs.Common.{◌≡◌, sym, subst}
 use Rattle.std.proofs.lemmas.Bool.{false≢true}
 use Rattle.strand_meaning.specs.declared.Next.TheVariants.{Fill}
 use Rattle.strand_meaning.specs.Strands.{next}
@@ -13,7 +13,7 @@ finish-requires-clause-room g c =
     let s = c.self.inside.parts in
     let p = c.requires.fills.0 in
     let fills : next (strand_of b.circuit s) ≡ Fill p = subst (λ (v : Demand). next v.strand ≡ Fill p) (sym c.self.view_is) c.requires.fills.1 in
-    fill-room b s c.self.invariant.0 p fills (search rules)
+    fill-room b s c.self.invariant.0 p fills
 
 pub invariant_of-self : goal.invariant_of-self
 invariant_of-self g c =

@@ -49,5 +49,5 @@ returns g c =
     let items : c.push_reserved.new.self.items ≡ es ++ entry.Dropped q p ∷ [] = c.push_reserved.ensures.items ∙ ap (λ (x : Query). es ++ entry.Dropped x.number p ∷ []) c.query-q.ensures in (
       refl,
       subst (λ (v : KeptShard). DropsIt v (record { number = s.number; shard = shard_at o c.push_reserved.new.self.items; waiting = waits_in c.take-woken.new.self }) p w c.drop_top.new.self c.take-woken.result.items) c.self.view_is
-          (dropped-shown b o s.number s.store s.claims es a q p held c.facts.ensures w c.drop_top.new.self refl c.drop_top.ensures.steps c.take-woken.result.items c.take-woken.ensures.waiters c.take-woken.new.self c.take-woken.ensures.rest c.facts-2.ensures c.push_reserved.new.self.items items),
+          (dropped-shown b o s.number s.store s.claims es a q p held c.facts.ensures w c.drop_top.new.self refl c.drop_top.ensures.steps c.take-woken.result.items c.take-woken.ensures.waiters c.take-woken.new.self c.take-woken.ensures.rest c.push_reserved.new.self.items items),
     )

@@ -95,5 +95,5 @@ returns g c =
     (c.in_ok-record_fill.ensures.items ∙ ap (λ (x : Query). after_eviction (cond (pushes_out (cell_for p c.top_cell-cell.result) s.store) (last_key s.store.cells) None) es ++ entry.Filled x.number p c.top_cell-cell.result ∷ []) c.query-q.ensures)) in (
       refl,
       subst (λ (v : KeptShard). FillsIt b v (record { number = s.number; shard = shard_at o c.record_fill.new.journal.items; waiting = waits_in c.take-woken.new.self }) p w c.finish_with.new.self c.hear_all.new.list.items) c.self.view_is
-          (filled-shown b o s.number s.store s.claims es a q p held c.facts.ensures w c.finish_with.new.self refl c.finish_with.ensures c.take-woken.result.items c.hear_all.new.list.items c.take-woken.ensures.waiters c.hear_all.ensures c.take-woken.new.self c.take-woken.ensures.rest c.facts-2.ensures c.record_fill.new.journal.items items),
+          (filled-shown b o s.number s.store s.claims es a q p held c.facts.ensures w c.finish_with.new.self refl c.finish_with.ensures c.take-woken.result.items c.hear_all.new.list.items c.take-woken.ensures.waiters c.hear_all.ensures c.take-woken.new.self c.take-woken.ensures.rest c.record_fill.new.journal.items items),
     )

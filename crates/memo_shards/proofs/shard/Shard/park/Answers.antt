@@ -17,7 +17,7 @@ invariant_of-self g c =
     let b = g.B.BatchName.batch in
     let s = c.self.inside in
     let P = λ (cs : Claims Demand). IsMemo b (g.B.BatchName.opening s.number) (record s { claims = cs }) in
-    by_case c.wait-parked.result _ _ _ c.wait-parked.ensures.ok c.wait-parked.ensures.err
+    by_case c.wait.result _ _ _ c.wait.ensures.ok c.wait.ensures.err
     (λ e. subst P (sym e) (record {
       agrees = waited-agrees b (g.B.BatchName.opening s.number) s.number s.store s.claims s.journal.items c.self.invariant.agrees c.args.strand c.args.p c.requires.asks;
       room = subst (λ k. vec_len s.journal + 2 * k ≤ vec_capacity s.journal) (sym (length-waited (is_at (point_cmp c.args.p)) s.claims c.args.strand)) c.self.invariant.room;
@@ -33,5 +33,5 @@ returns g c =
     let p = c.args.p in
     let missed : stored_at (shard_at o es).state.cells p ≡ None = subst (λ (v : KeptShard). stored_at v.shard.state.cells p ≡ None) (sym c.self.view_is) c.requires.missed in
     let held : IsSome (holder (shard_at o es).state.claims p) = subst (λ (v : KeptShard). IsSome (holder v.shard.state.claims p)) (sym c.self.view_is) c.requires.claimed in
-    subst (λ (v : KeptShard). OfPark v (record { number = s.number; shard = shard_at o es; waiting = waits_in c.wait-parked.new.self }) p c.args.strand c.wait-parked.result) c.self.view_is
-    (parked b o s.number s.store s.claims es c.self.invariant.agrees c.args.strand p c.requires.asks missed held c.facts.ensures c.wait-parked.result c.wait-parked.new.self c.facts-2.ensures c.wait-parked.ensures.ok c.wait-parked.ensures.err c.wait-parked.ensures.back)
+    subst (λ (v : KeptShard). OfPark v (record { number = s.number; shard = shard_at o es; waiting = waits_in c.wait.new.self }) p c.args.strand c.wait.result) c.self.view_is
+    (parked b o s.number s.store s.claims es c.self.invariant.agrees c.args.strand p c.requires.asks missed held c.facts.ensures c.wait.result c.wait.new.self c.wait.ensures.ok c.wait.ensures.err c.wait.ensures.back)

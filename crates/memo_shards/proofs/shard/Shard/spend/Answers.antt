@@ -28,7 +28,7 @@ invariant_of-self-2 g c =
     c.push_reserved.ensures.items ∙ ap (λ (l : List Entry). l ++ entry.Spent c.query-q.result.number p c.claims-claims.result ∷ []) c.make_room.ensures.items
     ∙ ap₂ (λ (x : Query) (n : ℕ). es ++ entry.Spent x.number p n ∷ []) c.query-q.ensures c.claims-claims.ensures in
     record {
-      agrees = subst (λ (l : List Entry). Agrees b o s.number s.store s.claims l) (sym items) (spent-agrees b o s.number s.store s.claims es a w c.facts.ensures p c.requires.refused here un.missed un.unclaimed k);
+      agrees = subst (λ (l : List Entry). Agrees b o s.number s.store s.claims l) (sym items) (spent-agrees b o s.number s.store s.claims es a w c.facts.ensures p c.requires.refused here un.missed un.unclaimed);
       room = omega (arith, c.push_reserved.ensures.len, c.push_reserved.ensures.capacity, c.in_ok-make_room.ensures.room, c.len.ensures);
     }
 
@@ -49,5 +49,5 @@ returns-clause-ok g c =
     c.push_reserved.ensures.items ∙ ap (λ (l : List Entry). l ++ entry.Spent c.query-q.result.number p c.claims-claims.result ∷ []) c.make_room.ensures.items
     ∙ ap₂ (λ (x : Query) (n : ℕ). es ++ entry.Spent x.number p n ∷ []) c.query-q.ensures c.claims-claims.ensures in
     ap (λ (l : List Entry). record { number = s.number; shard = shard_at o l; waiting = waits_in s.claims }) items
-    ∙ spent-shown b o s.number s.store s.claims es a w c.facts.ensures p c.requires.refused here un.missed un.unclaimed k
+    ∙ spent-shown b o s.number s.store s.claims es a w c.facts.ensures p c.requires.refused here un.missed un.unclaimed
     ∙ ap (λ (v : KeptShard). with_shard v (shard_with_entry (entry.Spent q p k) v.shard)) c.self.view_is
