@@ -1,10 +1,10 @@
 //! What a session keeps from one unit to the next.
 
 use cell_store::CellStore;
-use design::Design;
 use owned_text::Text;
 use query_lines::ItemList;
 use reply_lines::Reply;
+use stuck_faults::LastSite;
 
 /// How many sections were written, and how many of them are of batches; how many points were filled, and how many cells evicted.
 #[derive(Clone, Copy, Debug, PartialEq, Eq)]
@@ -38,6 +38,6 @@ pub struct Desk {
     pub stores: Vec<CellStore>,
     pub counts: Counts,
     pub dumps: Dumps,
-    /// The design with the links that a stuck signal needs, once one was asked for.
-    pub linked: Option<Design>,
+    /// What the last stuck signal reaches, once that was asked for.
+    pub last_site: Option<LastSite>,
 }

@@ -6,7 +6,8 @@ ghost use Rattle.batch_meaning.specs.Batches.{Batch as BatchRecord};
 ghost use Rattle.query_lines.specs.declared.unit.Unit.{Unit as UnitRecord};
 ghost use Rattle.query_lines.specs.declared.unit.Unit.TheVariants as kinds;
 ghost use Rattle.session_meaning.specs.Session.{Setup};
-ghost use Rattle.unit_answers.specs.Stores.{setup_of};
+ghost use Rattle.unit_answers.specs.Done.{IsQuestionDone};
+ghost use Rattle.unit_answers.specs.Stores.{setup_of, AreStores};
 ghost use Rattle.session_loop.specs.declared.desk.Desk.{Desk as DeskRecord};
 ghost use Rattle.session_loop.specs.Serving.{session_of};
 ghost use Rattle.session_loop.specs.inner.Desks.{IsDesk, IsHeldCounted};
@@ -22,47 +23,45 @@ use crate::setting::Setting;
 use crate::stop::Stop;
 use backsim_io::{Files, Sink};
 use cell_store::CellStore;
-use design::Design;
 use journal_text::{EntryList, SectionKind};
 use owned_text::OutOfMemory;
-use query_lines::{Asks, Question};
+use query_lines::Question;
 use reply_lines::question_text;
 use std::alloc::Global;
-use unit_answers::answer_question;
+use stuck_faults::{AskedDesign, LastSite};
+use unit_answers::{QuestionDone, answer_question};
 use worker_gate::Crew;
 
 /// The text of the reply to a question, the journal of each shard, that of a memo of its own if it had one, the stores that are left, and
-/// the design with its links, if they were made.
+/// what is kept of the last stuck signal.
 #[derive(Drop)]
 struct Answered {
     text: Vec<u8>,
     lists: Vec<EntryList>,
     own_lists: Vec<EntryList>,
     stores: Vec<CellStore>,
-    linked: Option<Design>,
+    last_site: Option<LastSite>,
 }
 
-/// The design with its links, if they were made before or the question needs them.
-fn linked_for(
+/// Asks a question over the stores, with what is kept of the last stuck signal.
+fn ask(
     setting: &Setting<'_>,
     question: &Question,
-    linked: Option<Design>,
-) -> Result<Option<Design>, OutOfMemory>
-    requires { IfSome linked (λ design. design ≡ setting.now.design.now) }
-    ensures { IfOk result (λ linked. IfSome linked (λ design. design ≡ setting.now.design.now)) }
+    stores: Vec<CellStore>,
+    last_site: Option<LastSite>,
+) -> Result<(QuestionDone, Option<LastSite>), OutOfMemory>
+    requires shards { (0 < setting.now.sizes.shards) × (setting.now.sizes.shards ≤ 64) }
+    requires stores { AreStores (setup_of setting.now.design.now setting.now.sizes) stores.items }
+    requires site { IfSome last_site (λ last. last ≡ setting.now.design.now) }
+    ensures done { let setup = setup_of setting.now.design.now setting.now.sizes in
+        IfOk result (λ asked. IsQuestionDone setup question.now.line question.now.asks stores.items
+        asked.0.reply asked.0.lists.items asked.0.own_lists.items asked.0.stores.items) }
+    ensures site { IfOk result (λ asked.
+        IfSome asked.1 (λ last. last ≡ setting.now.design.now)) }
 {
-    match (&question.asks, linked) {
-        (Asks::Stuck(_), None) => Ok(Some(setting.design.with_readers(setting.alloc)?)),
-        (_, linked) => Ok(linked),
-    }
-}
-
-/// The design that a question is asked of: that with its links, if they were made.
-fn asked_design<'a>(linked: &'a Option<Design>, design: &'a Design) -> &'a Design
-    requires { IfSome linked.now (λ linked. linked ≡ design.now) }
-    ensures { result.now ≡ design.now }
-{
-    linked.as_ref().unwrap_or(design)
+    let mut design = AskedDesign::new(setting.design, last_site);
+    let done = answer_question(setting.alloc, &mut design, question, setting.sizes, stores)?;
+    Ok((done, design.into_last()))
 }
 
 /// Writes the section of a memo of its own, if a question had one.
@@ -116,7 +115,7 @@ fn write_answered<C: Crew, F: Files, S: Sink>(
     requires unfinished { Contains (F.state files.old).unfinished 0 }
     ensures stores { IfOk result (λ later. later.stores.items ≡ answered.stores.items) }
     ensures kept { IfOk result (λ later. later.dumps ≡ dumps) }
-    ensures linked { IfOk result (λ later. later.linked ≡ answered.linked) }
+    ensures site { IfOk result (λ later. later.last_site ≡ answered.last_site) }
     ensures served { (setup : Setup) (desk : DeskRecord)
         (unit : UnitRecord) (batch own : BatchRecord)
         → desk.counts ≡ counts → desk.dumps ≡ dumps
@@ -154,7 +153,7 @@ fn write_answered<C: Crew, F: Files, S: Sink>(
         stores: answered.stores,
         counts,
         dumps,
-        linked: answered.linked,
+        last_site: answered.last_site,
     })
 }
 
@@ -191,22 +190,19 @@ pub fn serve_question<C: Crew, F: Files, S: Sink>(
         result }
 {
     let alloc = setting.alloc;
-    let sizes = setting.sizes;
     let Desk {
         stores,
         counts,
         dumps,
-        linked,
+        last_site,
     } = desk;
-    let linked = linked_for(setting, question, linked)?;
-    let design = asked_design(&linked, setting.design);
-    let done = answer_question(alloc, design, question, sizes, stores)?;
+    let (done, last_site) = ask(setting, question, stores, last_site)?;
     let answered = Answered {
         text: question_text(alloc, &question.asks, &done.reply)?,
         lists: done.lists,
         own_lists: done.own_lists,
         stores: done.stores,
-        linked,
+        last_site,
     };
     write_answered(crew, alloc, answered, counts, dumps, files, out)
 }

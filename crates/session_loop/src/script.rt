@@ -185,7 +185,7 @@ pub fn serve_script<C: Crew, F: Files, Q: Source, S: Sink>(
             own: names,
             made: Vec::new(alloc),
         },
-        linked: None,
+        last_site: None,
     };
     let mut block = [0u8; BLOCK];
     loop {

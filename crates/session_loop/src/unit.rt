@@ -67,7 +67,7 @@ pub fn serve_batch<C: Crew, F: Files, S: Sink>(
         stores,
         counts,
         mut dumps,
-        linked,
+        last_site,
     } = desk;
     // The last batch is given up before the next one is answered.
     dumps.last = None;
@@ -93,7 +93,7 @@ pub fn serve_batch<C: Crew, F: Files, S: Sink>(
         stores: done.stores,
         counts,
         dumps,
-        linked,
+        last_site,
     })
 }
 
@@ -136,7 +136,7 @@ pub fn serve_trim<C: Crew, F: Files, S: Sink>(
         stores,
         counts,
         dumps,
-        linked,
+        last_site,
     } = desk;
     let done = trim_stores(alloc, design, most, sizes, stores)?;
     let (Some(counts), Some(removed)) = (
@@ -160,7 +160,7 @@ pub fn serve_trim<C: Crew, F: Files, S: Sink>(
         stores: done.stores,
         counts,
         dumps,
-        linked,
+        last_site,
     })
 }
 

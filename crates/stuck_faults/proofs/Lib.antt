@@ -6,3 +6,4 @@ mod Asking
 mod Turns
 mod Resting
 mod Walks
+mod Sites

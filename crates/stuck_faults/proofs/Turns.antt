@@ -72,7 +72,7 @@ of-drop b old new p w s (Ok (came.Filled woken)) f = absurd (cc f.0)
 of-drop b old new p w s (Ok (came.Dropped woken)) f = (woken.items, f.1)
 of-drop b old new p w s (Err e) f = absurd (f.0 refl)
 
-module _ (b h : Batch) (opening : ℕ → List SignalCell) (question : Question) (cd dd : Circuit) (flags : List Bool) (asked : IsAsked b h question cd dd flags)
+module _ (b h : Batch) (opening : ℕ → List SignalCell) (question : Question) (cd dd : Circuit) (asked : IsAsked b h question cd dd)
     (time : ℕ) (ms : List KeptShard) (m : KeptShard) (s : Demand) (asks : Asks b opening question time ms m s) (knows : IsKnownStrand h s) where
   abbrev q : Query
   q = question.query
@@ -266,8 +266,8 @@ gives-same b question time ms m s t who f gives = record {
 }
 
 -- what is known of a strand, over the batch of its definition
-pub chain-of : (b h : Batch) (question : Question) (cd dd : Circuit) (flags : List Bool) → IsAsked b h question cd dd flags → (s t : Demand) (time : ℕ) → s.to ≡ time + 1 → IsKnownStrand h s → TakesStep itself s t
+pub chain-of : (b h : Batch) (question : Question) (cd dd : Circuit) → IsAsked b h question cd dd → (s t : Demand) (time : ℕ) → s.to ≡ time + 1 → IsKnownStrand h s → TakesStep itself s t
     → IsChain (circuit_of b question) t.strand.roots t.strand.stack
-chain-of b h question cd dd flags asked s t time to knows f =
+chain-of b h question cd dd asked s t time to knows f =
     let is : IsStrand (held_batch b.circuit (site_in question) question.query) s.strand = subst (λ z. IsStrand z s.strand) asked.own_is (knows.strand (omega (arith, to))) in
     subst (λ (z : Strand). IsChain (circuit_of b question) z.roots z.stack) (sym f.strand) is.chain

@@ -3,7 +3,6 @@
 use asked_cells::Memo;
 use batch_meaning::Query;
 use demand_points::BatchName;
-use design::{Design, FlagList};
 use gate_values::Value;
 use memo_shards::Shard;
 
@@ -13,13 +12,6 @@ pub struct Question {
     pub query: Query,
     pub site: u32,
     pub value: Value,
-}
-
-/// The design in which the site is stuck, and the flags of the signals that are not free of it.
-#[derive(Drop)]
-pub struct Held {
-    pub design: Design,
-    pub reached: FlagList,
 }
 
 /// The session's memo, and the memo of its own.

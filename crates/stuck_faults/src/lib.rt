@@ -10,14 +10,19 @@
 //! query filled so far in the strand's memo (`specs/Asks`).
 //!
 //! The design in which the site is stuck has all but that in common with the session's (`Design::hold`), so no line copies the circuit. A
-//! question takes a flag for each signal, looks once at each pin that reads what the site reaches (`Design::reached`), and makes the store
-//! of its own memo. Where the design has no links from signals to their readers (`Design::with_readers`), it makes one for each pin. Each
-//! point that it evaluates costs what it costs elsewhere: O(log n) steps with n stored cells and entries.
+//! question is asked of an [`AskedDesign`], which works out what its site reaches, and so what is free of it, when it asks for the first
+//! point that needs an evaluation: a question with an empty window, or one for which base answers suffice, as for the site itself, does
+//! without. That takes a flag for each signal, and looks once at each pin that reads what the site reaches (`Design::reached`). It is kept
+//! ([`LastSite`]), so further questions about the same site only look their points up. The first time the links from signals to their
+//! readers are made, one for each pin (`Design::with_readers`), and these are kept for all sites. Beside that a question makes the store
+//! of its own memo, and each point that it evaluates costs what it costs elsewhere: O(log n) steps with n stored cells and entries.
 #![tactic(auto)]
 
+mod asked;
 mod both;
 mod root;
 mod turn;
 mod wave;
 
+pub use asked::{AskedDesign, LastSite};
 pub use wave::{StuckWave, stuck_wave};

@@ -11,7 +11,8 @@ ghost use Rattle.asked_cells.specs.Memos.{IsChargedMemo, at_time, entries_of, is
 ghost use Rattle.stuck_faults.specs.Asks.{RefusedBy, HearsRoot};
 ghost use Rattle.stuck_faults.specs.inner.Both.{IsAsked, Rests, GivesUp, LeavesOwn, IsRefused, AreKept, Extends, circuit_of, site_in};
 
-use crate::both::{Held, Memos, Question};
+use crate::asked::AskedDesign;
+use crate::both::{Memos, Question};
 use crate::turn::{Turn, take_turn};
 use demand_points::{BatchName, Strand};
 use design::Design;
@@ -26,12 +27,11 @@ fn drop_all<B: BatchName, H: BatchName>(
     memos: &mut Memos<B, H>,
     strand: &mut Strand<H>,
     design: &Design,
-    held: &Held,
+    held: &Design,
     question: Question,
     time: u32,
 )
-    requires asked { IsAsked B.batch H.batch question design.now.circuit held.now.design.circuit
-        held.now.reached }
+    requires asked { IsAsked B.batch H.batch question design.now.circuit held.now.circuit }
     requires gives_up { (who : RefusedBy) ×
         GivesUp B.batch question time memos.old.session memos.old.own strand.old who }
     ensures refused { IsRefused B.batch question memos.new.session memos.new.own }
@@ -45,9 +45,9 @@ fn drop_all<B: BatchName, H: BatchName>(
 {
     'claims: loop {
         strand.facts();
-        match strand.next_step(&held.design) {
+        match strand.next_step(held) {
             Next::Drop(p) => {
-                let came = memos.own.step(strand, &held.design, Next::Drop(p));
+                let came = memos.own.step(strand, held, Next::Drop(p));
                 let Ok(Step::Dropped(_)) = came else {
                     unreachable!();
                 };
@@ -63,13 +63,12 @@ fn drop_all<B: BatchName, H: BatchName>(
 pub fn hear_root<B: BatchName, H: BatchName>(
     alloc: Global,
     memos: &mut Memos<B, H>,
-    design: &Design,
-    held: &Held,
+    design: &mut AskedDesign<'_>,
+    held: &Design,
     question: Question,
     time: u32,
 ) -> Result<Option<Cell>, OutOfMemory>
-    requires asked { IsAsked B.batch H.batch question design.now.circuit held.now.design.circuit
-        held.now.reached }
+    requires asked { IsAsked B.batch H.batch question design.old.circuit held.now.circuit }
     requires session { IsChargedMemo B.batch B.opening memos.old.session question.query
         memos.old.charge }
     requires rests { Rests B.batch B.opening question memos.old.session memos.old.own
@@ -95,9 +94,10 @@ pub fn hear_root<B: BatchName, H: BatchName>(
         IfOk result (λ r. HearsRoot B.batch B.opening (site_in question)
         (root_start q time (charge_of was q)) (shards_in memos.old.session) was
         (shards_in memos.new.session) memos.new.own.shard.journal (is_missing r)) }
+    ensures design { design.new ≡ design.old }
 {
     let query = question.query;
-    if let Some(cell) = held.design.base(query.signal, time) {
+    if let Some(cell) = held.base(query.signal, time) {
         return Ok(Some(cell));
     }
     let mut strand = Strand::<H>::start(
@@ -110,7 +110,7 @@ pub fn hear_root<B: BatchName, H: BatchName>(
         memos.filled,
     );
     'turns: loop {
-        match take_turn(memos, &mut strand, design, held, question, time)? {
+        match take_turn(alloc, memos, &mut strand, design, held, question, time)? {
             Turn::GoesOn => {}
             Turn::Ended => {
                 strand.facts();
@@ -121,7 +121,7 @@ pub fn hear_root<B: BatchName, H: BatchName>(
                 return Ok(Some(cell));
             }
             Turn::Refused => {
-                drop_all(memos, &mut strand, design, held, question, time);
+                drop_all(memos, &mut strand, design.design(), held, question, time);
                 return Ok(None);
             }
         }

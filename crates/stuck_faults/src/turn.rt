@@ -8,13 +8,15 @@ ghost use Rattle.circuit_meaning.specs.Forced.{IsFree};
 ghost use Rattle.stuck_faults.specs.inner.Both.{IsAsked, Asks, AreKept, Extends};
 ghost use Rattle.stuck_faults.specs.inner.Turns.{OfTurn, IsOwnStep};
 
-use crate::both::{Held, Memos, Question};
+use crate::asked::AskedDesign;
+use crate::both::{Memos, Question};
 use asked_cells::reach;
 use batch_meaning::Query;
 use demand_points::{BatchName, Strand};
 use design::Design;
 use memo_shards::{Step, step_point};
 use owned_text::OutOfMemory;
+use std::alloc::Global;
 use strand_meaning::Next;
 use valid_intervals::Point;
 
@@ -34,13 +36,12 @@ fn step_own<B: BatchName, H: BatchName>(
     memos: &mut Memos<B, H>,
     strand: &mut Strand<H>,
     design: &Design,
-    held: &Held,
+    held: &Design,
     question: Question,
     time: u32,
     next: Next,
 ) -> Result<Turn, OutOfMemory>
-    requires asked { IsAsked B.batch H.batch question design.now.circuit held.now.design.circuit
-        held.now.reached }
+    requires asked { IsAsked B.batch H.batch question design.now.circuit held.now.circuit }
     requires asks { Asks B.batch B.opening question time memos.old.session memos.old.own strand.old }
     requires next { next_of strand.old.strand ≡ next }
     requires own { IsOwnStep B.batch question next }
@@ -53,7 +54,7 @@ fn step_own<B: BatchName, H: BatchName>(
 {
     strand.facts();
     memos.own.facts();
-    match memos.own.step(strand, &held.design, next)? {
+    match memos.own.step(strand, held, next)? {
         Step::Heard => Ok(Turn::GoesOn),
         Step::Holds => Ok(Turn::GoesOn),
         Step::Filled(_) => Ok(Turn::GoesOn),
@@ -74,13 +75,12 @@ fn ask_session<B: BatchName, H: BatchName>(
     memos: &mut Memos<B, H>,
     strand: &mut Strand<H>,
     design: &Design,
-    held: &Held,
+    held: &Design,
     question: Question,
     time: u32,
     p: Point,
 ) -> Result<Turn, OutOfMemory>
-    requires asked { IsAsked B.batch H.batch question design.now.circuit held.now.design.circuit
-        held.now.reached }
+    requires asked { IsAsked B.batch H.batch question design.now.circuit held.now.circuit }
     requires session { IsChargedMemo B.batch B.opening memos.old.session question.query
         memos.old.charge }
     requires asks { Asks B.batch B.opening question time memos.old.session memos.old.own strand.old }
@@ -105,7 +105,7 @@ fn ask_session<B: BatchName, H: BatchName>(
     };
     match reach(&mut memos.session, design, one, p.time, &mut memos.charge)? {
         Some(cell) => {
-            strand.hear(&held.design, cell);
+            strand.hear(held, cell);
             Ok(Turn::GoesOn)
         }
         None => {
@@ -117,15 +117,15 @@ fn ask_session<B: BatchName, H: BatchName>(
 
 /// One step of the strand.
 pub fn take_turn<B: BatchName, H: BatchName>(
+    alloc: Global,
     memos: &mut Memos<B, H>,
     strand: &mut Strand<H>,
-    design: &Design,
-    held: &Held,
+    design: &mut AskedDesign<'_>,
+    held: &Design,
     question: Question,
     time: u32,
 ) -> Result<Turn, OutOfMemory>
-    requires asked { IsAsked B.batch H.batch question design.now.circuit held.now.design.circuit
-        held.now.reached }
+    requires asked { IsAsked B.batch H.batch question design.old.circuit held.now.circuit }
     requires session { IsChargedMemo B.batch B.opening memos.old.session question.query
         memos.old.charge }
     requires asks { Asks B.batch B.opening question time memos.old.session memos.old.own strand.old }
@@ -137,16 +137,19 @@ pub fn take_turn<B: BatchName, H: BatchName>(
         (entries_of memos.new.session)) }
     ensures extends { OnOk result (Extends memos.old.own.shard.journal
         memos.new.own.shard.journal) }
+    ensures design { design.new ≡ design.old }
 {
-    match strand.next_step(&held.design) {
+    let plain = design.design();
+    match strand.next_step(held) {
         Next::Done => Ok(Turn::Ended),
-        Next::Fill(p) => step_own(memos, strand, design, held, question, time, Next::Fill(p)),
+        Next::Fill(p) => step_own(memos, strand, plain, held, question, time, Next::Fill(p)),
         Next::Ask(p) => {
             strand.facts();
-            if held.reached.get(p.signal) {
-                step_own(memos, strand, design, held, question, time, Next::Ask(p))
+            let is_reached = design.is_reached(alloc, question.site, p.signal)?;
+            if is_reached {
+                step_own(memos, strand, plain, held, question, time, Next::Ask(p))
             } else {
-                ask_session(memos, strand, design, held, question, time, p)
+                ask_session(memos, strand, plain, held, question, time, p)
             }
         }
         Next::Drop(_) => unreachable!(),

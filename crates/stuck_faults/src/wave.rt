@@ -11,7 +11,8 @@ ghost use Rattle.asked_cells.specs.Memos.{AreFreeShards, IsChargedMemo, entries_
 ghost use Rattle.stuck_faults.specs.Asks.{AsksRoots, AsksBoth, is_budget};
 ghost use Rattle.stuck_faults.specs.inner.Both.{IsAsked, Rests, site_in};
 
-use crate::both::{Held, Memos, Question};
+use crate::asked::AskedDesign;
+use crate::both::{Memos, Question};
 use crate::root::hear_root;
 use asked_cells::{Memo, Wanted, begin};
 use batch_meaning::Query;
@@ -42,12 +43,11 @@ pub struct StuckWave<B: BatchName> {
 fn walk<B: BatchName, H: BatchName>(
     alloc: Global,
     memos: &mut Memos<B, H>,
-    design: &Design,
-    held: &Held,
+    design: &mut AskedDesign<'_>,
+    held: &Design,
     question: Question,
 ) -> Result<StuckAnswer, OutOfMemory>
-    requires asked { IsAsked B.batch H.batch question design.now.circuit held.now.design.circuit
-        held.now.reached }
+    requires asked { IsAsked B.batch H.batch question design.old.circuit held.now.circuit }
     requires session { IsChargedMemo B.batch B.opening memos.old.session question.query
         memos.old.charge }
     requires rests { Rests B.batch B.opening question memos.old.session memos.old.own
@@ -63,6 +63,7 @@ fn walk<B: BatchName, H: BatchName>(
         IfOk result (λ answer. AsksRoots B.batch B.opening site question.query
         (shards_in memos.old.session) memos.old.own.shard.journal
         (shards_in memos.new.session) memos.new.own.shard.journal (is_budget answer)) }
+    ensures design { design.new ≡ design.old }
 {
     let query = question.query;
     let mut walk = WindowWalk::new(alloc, query.from, query.to);
@@ -80,13 +81,12 @@ fn walk<B: BatchName, H: BatchName>(
 /// Answers the question, with a memo of its own for the batch that H names.
 fn answer<B: BatchName, H: BatchName>(
     alloc: Global,
-    design: &Design,
-    held: &Held,
+    design: &mut AskedDesign<'_>,
+    held: &Design,
     question: Question,
     session: Memo<B>,
 ) -> Result<StuckWave<B>, OutOfMemory>
-    requires asked { IsAsked B.batch H.batch question design.now.circuit held.now.design.circuit
-        held.now.reached }
+    requires asked { IsAsked B.batch H.batch question design.old.circuit held.now.circuit }
     requires opening { H.opening 0 ≡ [] }
     requires session { AreFreeShards B.batch B.opening session }
     requires unused { entries_of session ≡ [] }
@@ -99,6 +99,7 @@ fn answer<B: BatchName, H: BatchName>(
     ensures asks { let site = site_in question in
         IfOk result (λ done. AsksRoots B.batch B.opening site question.query (shards_in session) []
         (shards_in done.shards.items) done.held.items (is_budget done.answer)) }
+    ensures design { design.new ≡ design.old }
 {
     let store = CellStore::new(alloc, OWN_CELLS, 1, 0)?;
     let mut memos = Memos::<B, H> {
@@ -122,14 +123,14 @@ fn answer<B: BatchName, H: BatchName>(
 /// up the shards.
 pub fn stuck_wave<B: BatchName>(
     alloc: Global,
-    design: &Design,
+    design: &mut AskedDesign<'_>,
     shards: Vec<Shard<B>>,
     query: Query,
     site: u32,
     value: Value,
 ) -> Result<StuckWave<B>, OutOfMemory>
     requires lawful { IsLawful B.batch }
-    requires design { design.now.circuit ≡ B.batch.circuit }
+    requires design { design.old.circuit ≡ B.batch.circuit }
     requires site { B.batch.site ≡ Some (record { signal = site; value = value }) }
     requires signal { site < length B.batch.circuit.drivers }
     requires queries { B.batch.queries ≡ query ∷ [] }
@@ -146,11 +147,9 @@ pub fn stuck_wave<B: BatchName>(
     ensures asks { IfOk result (λ done. AsksBoth B.batch B.opening
         (record { signal = site; value = value }) query (shards_in shards.items)
         (shards_in done.shards.items) done.held.items (is_budget done.answer)) }
+    ensures design { design.new ≡ design.old }
 {
-    let held = Held {
-        design: design.hold(alloc, site, value)?,
-        reached: design.reached(alloc, site)?,
-    };
+    let held = design.design().hold(alloc, site, value)?;
     let question = Question { query, site, value };
     let session = begin(alloc, shards, &Wanted::all())?;
     answer::<B, Brand>(alloc, design, &held, question, session)

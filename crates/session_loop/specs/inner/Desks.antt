@@ -82,11 +82,11 @@ abbrev pub IsShowable : Joined → Option LastBatch → Type 0
 IsShowable d None = ⊤
 IsShowable d (Some last) = AreReplied d last.items last.replies.items
 
--- what the next unit can be served over: stores for the shards, a last batch that can be shown, and the design again, if it was linked
+-- what the next unit can be served over: stores for the shards, a last batch that can be shown, and a last site of the design, if there is one
 pub record IsDesk (setup : Setup) (desk : Desk) : Type 0 where
   pub stores : AreStores setup desk.stores.items
   pub shown : IsShowable setup.design desk.dumps.last
-  pub linked : IfSome desk.linked (λ design. design ≡ setup.design)
+  pub site : IfSome desk.last_site (λ last. last ≡ setup.design)
 
 -- what is kept is what the session has come to
 pub record Keeps (setup : Setup) (desk : Desk) (now : Course) : Type 0 where

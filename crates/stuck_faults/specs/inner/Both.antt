@@ -1,12 +1,12 @@
 -- A question asked of two memos: what is the same throughout it, and what stands between two of its times.
-use Rattle.std.specs.Prelude.{◌≡◌, ◌⊎◌, ◌↔◌, ℕ, ◌+◌, ◌≤◌, ◌<◌, Bool, true, false, IsTrue, List, [], ◌∷◌, ◌++◌, length, All, Contains, Some}
-use Rattle.std.specs.List.{AllByRecursion, slice_index_or}
+use Rattle.std.specs.Prelude.{◌≡◌, ◌⊎◌, ℕ, ◌+◌, ◌≤◌, ◌<◌, true, List, [], ◌∷◌, ◌++◌, length, All, Contains, Some}
+use Rattle.std.specs.List.{AllByRecursion}
 use Rattle.valid_intervals.specs.declared.Cell.{Cell}
 use Rattle.valid_intervals.specs.declared.Point.{Point}
 use Rattle.valid_intervals.specs.declared.SignalCell.{SignalCell}
 use Rattle.circuit_meaning.specs.Circuit.{Circuit}
 use Rattle.circuit_meaning.specs.Forced.{IsFree}
-use Rattle.circuit_meaning.specs.Need.{children, IsInCone}
+use Rattle.circuit_meaning.specs.Need.{children}
 use Rattle.batch_meaning.specs.declared.Query.{Query}
 use Rattle.batch_meaning.specs.Batches.{Batch, Site}
 use Rattle.batch_meaning.specs.Lawful.{IsLawful}
@@ -35,9 +35,8 @@ site_in question = record { signal = question.site; value = question.value }
 abbrev pub circuit_of : Batch → Question → Circuit
 circuit_of b question = stuck_circuit b.circuit (site_in question)
 
--- The batch of the session's memo and that of the memo of its own, the circuit and the one in which the site is stuck, and the flags of
--- the signals that are not free.
-pub record IsAsked (b own : Batch) (question : Question) (c d : Circuit) (reached : List Bool) : Type 0 where
+-- The batch of the session's memo and that of the memo of its own, the circuit and the one in which the site is stuck.
+pub record IsAsked (b own : Batch) (question : Question) (c d : Circuit) : Type 0 where
   pub lawful : IsLawful b
   pub circuit : c ≡ b.circuit
   pub stuck : d ≡ circuit_of b question
@@ -45,8 +44,6 @@ pub record IsAsked (b own : Batch) (question : Question) (c d : Circuit) (reache
   pub signal : question.site < length b.circuit.drivers
   pub queries : b.queries ≡ question.query ∷ []
   pub own_is : own ≡ held_batch b.circuit (site_in question) question.query
-  pub flags : length reached ≡ length b.circuit.drivers
-  pub reads : (x : ℕ) → x < length b.circuit.drivers → IsTrue (slice_index_or reached x false) ↔ IsInCone b.circuit x question.site
 
 -- an entry that stands for a cell heard from the session's memo, at this one time
 abbrev pub IsHeardThere : Circuit → Site → List Entry → Entry → Type 0

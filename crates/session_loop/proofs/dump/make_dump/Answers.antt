@@ -85,7 +85,7 @@ returns-clause-served g c names =
     (g.S.Sink.written c.args.out.now) (g.S.Sink.written c.write_reply.new.out) (g.F.Files.made c.args.files.now) (g.F.Files.made c.write_dump.new.files)
     c.deref-3.result.now line
     (subst (λ name. Adds (g.F.Files.made c.args.files.now) (g.F.Files.made c.write_dump.new.files) count (record { name = name; bytes = c.deref-2.result.now } ∷ [])) same c.in_ok-write_dump.ensures.written)
-    (record { stores = c.args.desk.stores; counts = c.args.desk.counts; dumps = record { last = c.args.desk.dumps.last; own = c.args.desk.dumps.own; made = c.push_copy.new.names }; linked = c.args.desk.linked })
+    (record { stores = c.args.desk.stores; counts = c.args.desk.counts; dumps = record { last = c.args.desk.dumps.last; own = c.args.desk.dumps.own; made = c.push_copy.new.names }; last_site = c.args.desk.last_site })
     refl refl refl refl c.in_ok-push_copy.ensures c.in_ok-write_reply.ensures.written
 
 -- What it changes of the outside.

@@ -1,9 +1,7 @@
 use Rattle.std.proofs.Common.{refl, sym, subst, List, ℕ, arith}
 use Rattle.query_lines.specs.declared.unit.Unit.TheVariants.{Question}
 use Rattle.session_meaning.specs.Session.{question_batch}
-use Rattle.design.specs.Joined.{Joined}
-use Rattle.unit_answers.specs.Done.{IsQuestionDone}
-use Rattle.unit_answers.specs.Stores.{setup_of, AreStores}
+use Rattle.unit_answers.specs.Stores.{setup_of}
 use Rattle.session_loop.specs.Serving.{session_of}
 use Rattle.session_loop.specs.inner.Serving.{IsAnswered}
 use Rattle.session_loop.specs.declared.stop.Stop.TheVariants.{OutOfMemory}
@@ -16,30 +14,21 @@ use Rattle.session_loop.proofs.Questions.{own-batch, held-few, question-answered
 use Rattle.session_loop.proofs.Served.{stops-none}
 use Rattle.session_loop.proofs.question.serve_question.Goals as goal
 
--- the design that is asked is the session's
-pub answer_question-requires-clause-stores : goal.answer_question-requires-clause-stores
-answer_question-requires-clause-stores g c =
-    subst (λ (design : Joined). AreStores (setup_of design c.args.setting.now.sizes) c.args.desk.stores.items) (sym c.asked_design-design.ensures) c.requires.desk.stores
-
 -- there is a list for each shard
 pub write_answered-requires-clause-few : goal.write_answered-requires-clause-few
-write_answered-requires-clause-few g c = let count = c.in_ok-done.ensures.count in let most = c.requires.shards.1 in omega (arith, count, most)
+write_answered-requires-clause-few g c = let count = c.in_ok-done.ensures.done.count in let most = c.requires.shards.1 in omega (arith, count, most)
 
 -- and one of the memo of its own at most
 pub write_answered-requires-clause-few_own : goal.write_answered-requires-clause-few_own
 write_answered-requires-clause-few_own g c =
     let question = c.args.question.now in
-    let few = held-few c.asked_design-design.result.now question.line question.asks c.in_ok-done.done.own_lists.items c.in_ok-done.ensures.memo in
+    let few = held-few c.args.setting.now.design.now question.line question.asks c.in_ok-done.done.own_lists.items c.in_ok-done.ensures.done.memo in
     omega (arith, few)
 
 -- no journals were made
-pub returns-in_err-linked-clause-stopped : goal.returns-in_err-linked-clause-stopped
-returns-in_err-linked-clause-stopped g c names =
-    err-is _ _ c.from_residual.result c.from_residual.ensures.1 (stops-none (session_of c.args.setting.now.design.now c.args.setting.now.sizes names) c.args.desk _ _ _ _ c.requires.files)
-
 pub returns-in_err-done-clause-stopped : goal.returns-in_err-done-clause-stopped
 returns-in_err-done-clause-stopped g c names =
-    err-is _ _ c.from_residual-in_err-done.result c.from_residual-in_err-done.ensures.1 (stops-none (session_of c.args.setting.now.design.now c.args.setting.now.sizes names) c.args.desk _ _ _ _ c.requires.files)
+    err-is _ _ c.from_residual.result c.from_residual.ensures.1 (stops-none (session_of c.args.setting.now.design.now c.args.setting.now.sizes names) c.args.desk _ _ _ _ c.requires.files)
 
 pub returns-in_err-question_text-clause-stopped : goal.returns-in_err-question_text-clause-stopped
 returns-in_err-question_text-clause-stopped g c names =
@@ -56,8 +45,7 @@ returns-clause-served g c names =
     (subst (λ (text : List ℕ). IsAnswered setup c.args.desk (Question question) batch own text done.lists.items done.own_lists.items done.stores.items) (sym c.in_ok-question_text.ensures)
     (question-answered setup question c.args.desk done.reply done.lists.items done.own_lists.items done.stores.items
     (question-named (setup_of c.args.setting.now.design.now c.args.setting.now.sizes) names question.line question.asks c.args.desk.stores.items done.reply done.lists.items done.own_lists.items done.stores.items
-    (subst (λ (design : Joined). IsQuestionDone (setup_of design c.args.setting.now.sizes) question.line question.asks c.args.desk.stores.items done.reply done.lists.items done.own_lists.items done.stores.items)
-    c.asked_design-design.ensures c.in_ok-done.ensures))))
+    c.in_ok-done.ensures.done)))
 
 pub returns-clause-stopped : goal.returns-clause-stopped
 returns-clause-stopped g c names =
@@ -70,19 +58,13 @@ returns-clause-stopped g c names =
     (subst (λ (text : List ℕ). IsAnswered setup c.args.desk (Question question) batch own text done.lists.items done.own_lists.items done.stores.items) (sym c.in_ok-question_text.ensures)
     (question-answered setup question c.args.desk done.reply done.lists.items done.own_lists.items done.stores.items
     (question-named (setup_of c.args.setting.now.design.now c.args.setting.now.sizes) names question.line question.asks c.args.desk.stores.items done.reply done.lists.items done.own_lists.items done.stores.items
-    (subst (λ (design : Joined). IsQuestionDone (setup_of design c.args.setting.now.sizes) question.line question.asks c.args.desk.stores.items done.reply done.lists.items done.own_lists.items done.stores.items)
-    c.asked_design-design.ensures c.in_ok-done.ensures))))
+    c.in_ok-done.ensures.done)))
 
 -- nothing was written
-pub returns-in_err-linked-clause-state : goal.returns-in_err-linked-clause-state
-returns-in_err-linked-clause-state g c =
-    let old : Outputs = record { files = g.F.Files.state c.args.files.now; replies = g.S.Sink.faults c.args.out.now } in
-    handed-on (UnitChanges old old) OutOfMemory c.from_residual.result c.from_residual.ensures.1 refl
-
 pub returns-in_err-done-clause-state : goal.returns-in_err-done-clause-state
 returns-in_err-done-clause-state g c =
     let old : Outputs = record { files = g.F.Files.state c.args.files.now; replies = g.S.Sink.faults c.args.out.now } in
-    handed-on (UnitChanges old old) OutOfMemory c.from_residual-in_err-done.result c.from_residual-in_err-done.ensures.1 refl
+    handed-on (UnitChanges old old) OutOfMemory c.from_residual.result c.from_residual.ensures.1 refl
 
 pub returns-in_err-question_text-clause-state : goal.returns-in_err-question_text-clause-state
 returns-in_err-question_text-clause-state g c =

@@ -83,7 +83,7 @@ returns-clause-served g c setup desk unit b own same dumps done =
     question-served setup unit b own desk answered.text.items lists answered.own_lists.items answered.stores.items done
     c.in-Some.counts (subst (λ k. IsCounted k Batch lists c.in-Some.counts) (sym same) (subst (λ l. IsCounted c.args.counts Batch l c.in-Some.counts) c.deref.ensures.value c.in-Some.ensures))
     (W c.args.out.now) (W c.write_reply.new.out) (M c.args.files.now) (M c.write_held.new.files)
-    (record { stores = answered.stores; counts = c.in_ok-counts.counts; dumps = c.args.dumps; linked = answered.linked })
+    (record { stores = answered.stores; counts = c.in_ok-counts.counts; dumps = c.args.dumps; last_site = answered.last_site })
     (subst (λ l. IsHeldCounted c.in-Some.counts l c.in_ok-counts.counts) c.deref-4.ensures.value c.in_ok-counts.ensures.counted) refl (sym dumps)
     (subst (Grows (W c.args.out.now) (W c.write_reply.new.out)) c.deref-2.ensures.value c.in_ok-write_reply.ensures.written)
     (file-more (M c.args.files.now) (M c.write_section.new.files) (M c.write_held.new.files) 0 (section_lines (record { kind = Batch; number = number; shards = lists })) (held_text (number + 1) answered.own_lists.items)

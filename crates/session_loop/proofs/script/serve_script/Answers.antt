@@ -13,12 +13,12 @@ use Rattle.session_loop.proofs.script.serve_script.Goals as goal
 pub loop-n-init : goal.loop-n-init
 loop-n-init g c =
     let setup = session_of c.args.setting.now.design.now c.args.setting.now.sizes c.args.names.items in
-    let desk : Desk = record { stores = c.args.stores; counts = no_counts; dumps = record { last = None; own = c.args.names; made = c.new-2.result }; linked = None } in
+    let desk : Desk = record { stores = c.args.stores; counts = no_counts; dumps = record { last = None; own = c.args.names; made = c.new-2.result }; last_site = None } in
     record {
       block = refl;
       most = omega arith;
       read = ([], [], at-horizon, refl);
-      desk = record { stores = c.requires.stores; shown = tt; linked = tt };
+      desk = record { stores = c.requires.stores; shown = tt; site = tt };
       count = subst (λ n. (g.F.Files.state c.args.files.now).created ≡ n + 1) (sym (ap length c.new-2.ensures.items)) c.requires.files;
       state = served-none (record { outputs = record { files = g.F.Files.state c.args.files.now; replies = g.S.Sink.faults c.args.out.now }; script = g.Q.Source.state c.args.queries.now });
       served = has-none setup desk (fresh-desk setup desk c.requires.empty refl refl refl c.new-2.ensures.items) (g.Q.Source.state c.args.queries.now).left c.new.result (g.S.Sink.written c.args.out.now) (g.F.Files.made c.args.files.now) at-horizon;
@@ -31,7 +31,7 @@ loop-n-init g c =
 pub loop-n-preserved : goal.loop-n-preserved
 loop-n-preserved g c =
     let setup = session_of c.args.setting.now.design.now c.args.setting.now.sizes c.args.names.items in
-    let desk : Desk = record { stores = c.args.stores; counts = no_counts; dumps = record { last = None; own = c.args.names; made = c.new-2.result }; linked = None } in
+    let desk : Desk = record { stores = c.args.stores; counts = no_counts; dumps = record { last = None; own = c.args.names; made = c.new-2.result }; last_site = None } in
     let W = g.S.Sink.written in
     let M = g.F.Files.made in
     let F = g.F.Files.state in
@@ -60,7 +60,7 @@ loop-n-preserved g c =
 pub returns-in_default-clause-stopped : goal.returns-in_default-clause-stopped
 returns-in_default-clause-stopped g c script is =
     let setup = session_of c.args.setting.now.design.now c.args.setting.now.sizes c.args.names.items in
-    let desk : Desk = record { stores = c.args.stores; counts = no_counts; dumps = record { last = None; own = c.args.names; made = c.new-2.result }; linked = None } in
+    let desk : Desk = record { stores = c.args.stores; counts = no_counts; dumps = record { last = None; own = c.args.names; made = c.new-2.result }; last_site = None } in
     unread setup desk (fresh-desk setup desk c.requires.empty refl refl refl c.new-2.ensures.items) script (g.Q.Source.state c.args.queries.now).left is c.loop-n.script.taken (g.Q.Source.state c.loop-n.queries).left (g.Q.Source.state c.read.new.self).left c.loop-n.script.reader c.loop-n.desk
     (g.S.Sink.written c.args.out.now) (g.S.Sink.written c.loop-n.out) (g.F.Files.made c.args.files.now) (g.F.Files.made c.loop-n.files) _ small c.loop-n.invariant.served c.loop-n.invariant.count (ap (λ s. s.left) c.in_default.ensures.failed.same)
   where
@@ -71,7 +71,7 @@ returns-in_default-clause-stopped g c script is =
 pub returns-in_err-last-clause-stopped : goal.returns-in_err-last-clause-stopped
 returns-in_err-last-clause-stopped g c script is =
     let setup = session_of c.args.setting.now.design.now c.args.setting.now.sizes c.args.names.items in
-    let desk : Desk = record { stores = c.args.stores; counts = no_counts; dumps = record { last = None; own = c.args.names; made = c.new-2.result }; linked = None } in
+    let desk : Desk = record { stores = c.args.stores; counts = no_counts; dumps = record { last = None; own = c.args.names; made = c.new-2.result }; last_site = None } in
     let W = g.S.Sink.written in
     let M = g.F.Files.made in
     let read = c.in-Ok.ensures in
@@ -89,7 +89,7 @@ returns-in_err-last-clause-stopped g c script is =
 pub returns-then-n-eq0-clause-served : goal.returns-then-n-eq0-clause-served
 returns-then-n-eq0-clause-served g c script is =
     let setup = session_of c.args.setting.now.design.now c.args.setting.now.sizes c.args.names.items in
-    let desk : Desk = record { stores = c.args.stores; counts = no_counts; dumps = record { last = None; own = c.args.names; made = c.new-2.result }; linked = None } in
+    let desk : Desk = record { stores = c.args.stores; counts = no_counts; dumps = record { last = None; own = c.args.names; made = c.new-2.result }; last_site = None } in
     let W = g.S.Sink.written in
     let M = g.F.Files.made in
     let read = c.in-Ok.ensures in
@@ -100,7 +100,7 @@ returns-then-n-eq0-clause-served g c script is =
 pub returns-then-n-eq0-clause-short : goal.returns-then-n-eq0-clause-short
 returns-then-n-eq0-clause-short g c script is =
     let setup = session_of c.args.setting.now.design.now c.args.setting.now.sizes c.args.names.items in
-    let desk : Desk = record { stores = c.args.stores; counts = no_counts; dumps = record { last = None; own = c.args.names; made = c.new-2.result }; linked = None } in
+    let desk : Desk = record { stores = c.args.stores; counts = no_counts; dumps = record { last = None; own = c.args.names; made = c.new-2.result }; last_site = None } in
     let read = c.in-Ok.ensures in
     all-short setup desk (fresh-desk setup desk c.requires.empty refl refl refl c.new-2.ensures.items) script (g.Q.Source.state c.args.queries.now).left is c.loop-n.script.taken (g.Q.Source.state c.loop-n.queries).left (g.Q.Source.state c.read.new.self).left c.in-Ok.n c.read.new.into c.loop-n.script.reader c.loop-n.desk
     (g.S.Sink.written c.args.out.now) (g.S.Sink.written c.loop-n.out) (g.F.Files.made c.args.files.now) (g.F.Files.made c.loop-n.files)
@@ -109,7 +109,7 @@ returns-then-n-eq0-clause-short g c script is =
 pub returns-then-n-eq0-clause-at_most : goal.returns-then-n-eq0-clause-at_most
 returns-then-n-eq0-clause-at_most g c script is =
     let setup = session_of c.args.setting.now.design.now c.args.setting.now.sizes c.args.names.items in
-    let desk : Desk = record { stores = c.args.stores; counts = no_counts; dumps = record { last = None; own = c.args.names; made = c.new-2.result }; linked = None } in
+    let desk : Desk = record { stores = c.args.stores; counts = no_counts; dumps = record { last = None; own = c.args.names; made = c.new-2.result }; last_site = None } in
     let read = c.in-Ok.ensures in
     read-some setup desk (fresh-desk setup desk c.requires.empty refl refl refl c.new-2.ensures.items) script (g.Q.Source.state c.args.queries.now).left is c.loop-n.script.taken 16777217 (g.Q.Source.state c.loop-n.queries).left (g.Q.Source.state c.read.new.self).left c.loop-n.script.reader c.loop-n.desk (take c.in-Ok.n c.read.new.into)
     (g.S.Sink.written c.args.out.now) (g.S.Sink.written c.loop-n.out) (g.F.Files.made c.args.files.now) (g.F.Files.made c.loop-n.files) c.loop-n.invariant.served read.bytes.1
@@ -119,7 +119,7 @@ returns-then-n-eq0-clause-at_most g c script is =
 pub returns-in_err-desk-clause-stopped : goal.returns-in_err-desk-clause-stopped
 returns-in_err-desk-clause-stopped g c script is =
     let setup = session_of c.args.setting.now.design.now c.args.setting.now.sizes c.args.names.items in
-    let desk : Desk = record { stores = c.args.stores; counts = no_counts; dumps = record { last = None; own = c.args.names; made = c.new-2.result }; linked = None } in
+    let desk : Desk = record { stores = c.args.stores; counts = no_counts; dumps = record { last = None; own = c.args.names; made = c.new-2.result }; last_site = None } in
     let W = g.S.Sink.written in
     let M = g.F.Files.made in
     let read = c.in-Ok.ensures in
@@ -136,7 +136,7 @@ returns-in_err-desk-clause-stopped g c script is =
 pub returns-in_err-desk-clause-at_most : goal.returns-in_err-desk-clause-at_most
 returns-in_err-desk-clause-at_most g c script is =
     let setup = session_of c.args.setting.now.design.now c.args.setting.now.sizes c.args.names.items in
-    let desk : Desk = record { stores = c.args.stores; counts = no_counts; dumps = record { last = None; own = c.args.names; made = c.new-2.result }; linked = None } in
+    let desk : Desk = record { stores = c.args.stores; counts = no_counts; dumps = record { last = None; own = c.args.names; made = c.new-2.result }; last_site = None } in
     let read = c.in-Ok.ensures in
     read-some setup desk (fresh-desk setup desk c.requires.empty refl refl refl c.new-2.ensures.items) script (g.Q.Source.state c.args.queries.now).left is c.loop-n.script.taken 16777217 (g.Q.Source.state c.loop-n.queries).left (g.Q.Source.state c.read.new.self).left c.loop-n.script.reader c.loop-n.desk (take c.in-Ok.n c.read.new.into)
     (g.S.Sink.written c.args.out.now) (g.S.Sink.written c.loop-n.out) (g.F.Files.made c.args.files.now) (g.F.Files.made c.loop-n.files) c.loop-n.invariant.served read.bytes.1
@@ -146,7 +146,7 @@ returns-in_err-desk-clause-at_most g c script is =
 pub returns-then-n-left-clause-stopped : goal.returns-then-n-left-clause-stopped
 returns-then-n-left-clause-stopped g c script is =
     let setup = session_of c.args.setting.now.design.now c.args.setting.now.sizes c.args.names.items in
-    let desk : Desk = record { stores = c.args.stores; counts = no_counts; dumps = record { last = None; own = c.args.names; made = c.new-2.result }; linked = None } in
+    let desk : Desk = record { stores = c.args.stores; counts = no_counts; dumps = record { last = None; own = c.args.names; made = c.new-2.result }; last_site = None } in
     let W = g.S.Sink.written in
     let M = g.F.Files.made in
     let read = c.in-Ok.ensures in
@@ -160,7 +160,7 @@ returns-then-n-left-clause-stopped g c script is =
 pub returns-then-n-left-clause-at_most : goal.returns-then-n-left-clause-at_most
 returns-then-n-left-clause-at_most g c script is =
     let setup = session_of c.args.setting.now.design.now c.args.setting.now.sizes c.args.names.items in
-    let desk : Desk = record { stores = c.args.stores; counts = no_counts; dumps = record { last = None; own = c.args.names; made = c.new-2.result }; linked = None } in
+    let desk : Desk = record { stores = c.args.stores; counts = no_counts; dumps = record { last = None; own = c.args.names; made = c.new-2.result }; last_site = None } in
     let read = c.in-Ok.ensures in
     read-some setup desk (fresh-desk setup desk c.requires.empty refl refl refl c.new-2.ensures.items) script (g.Q.Source.state c.args.queries.now).left is c.loop-n.script.taken 16777217 (g.Q.Source.state c.loop-n.queries).left (g.Q.Source.state c.read.new.self).left c.loop-n.script.reader c.loop-n.desk (take c.in-Ok.n c.read.new.into)
     (g.S.Sink.written c.args.out.now) (g.S.Sink.written c.loop-n.out) (g.F.Files.made c.args.files.now) (g.F.Files.made c.loop-n.files) c.loop-n.invariant.served read.bytes.1

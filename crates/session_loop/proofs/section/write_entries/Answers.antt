@@ -1,4 +1,4 @@
-use Rattle.std.proofs.Common.{◌+◌, ◌++◌, refl, sym, subst, ◌∙◌, take, drop}
+use Rattle.std.proofs.Common.{◌+◌, refl, sym, subst, ◌∙◌, take, drop}
 use Rattle.std.specs.Prelude.{[], flat_map}
 use Rattle.backsim_io.specs.FilesInMemory.{FileGrows}
 use Rattle.journal_text.specs.Spelling.{entry_line}

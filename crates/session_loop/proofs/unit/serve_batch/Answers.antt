@@ -67,7 +67,7 @@ returns-clause-desk g c =
     record {
       stores = c.in_ok-done.ensures.done.stores;
       shown = batch-shown (setup_of c.args.setting.now.design.now c.args.setting.now.sizes) c.args.items c.as_slice.result.now c.args.desk.stores.items done.replies.items done.lists.items done.stores.items c.as_slice.ensures c.in_ok-done.ensures.done c.requires.within c.requires.named;
-      linked = c.requires.desk.linked;
+      site = c.requires.desk.site;
     }
 
 pub returns-clause-served : goal.returns-clause-served
@@ -82,7 +82,7 @@ returns-clause-served g c names =
     (batch-named (setup_of c.args.setting.now.design.now c.args.setting.now.sizes) names items c.as_slice.result.now c.args.desk.stores.items done.replies.items done.lists.items done.stores.items c.as_slice.ensures c.in_ok-done.ensures.done)
     c.in-Some.counts (subst (λ l. IsCounted c.args.desk.counts Batch l c.in-Some.counts) c.deref.ensures.value c.in-Some.ensures)
     (W c.args.out.now) (W c.write_replies.new.out) (M c.args.files.now) (M c.write_section.new.files)
-    (record { stores = done.stores; counts = c.in-Some.counts; dumps = dumps; linked = c.args.desk.linked }) last refl refl refl refl refl
+    (record { stores = done.stores; counts = c.in-Some.counts; dumps = dumps; last_site = c.args.desk.last_site }) last refl refl refl refl refl
     (subst (Grows (W c.args.out.now) (W c.write_replies.new.out)) (ap (λ l. replies_text l c.deref-2.result.now) c.as_slice-2.ensures ∙ ap (replies_text items) c.deref-2.ensures.value) c.in_ok-write_replies.ensures.written)
     (subst (λ l. FileGrows (M c.args.files.now) (M c.write_section.new.files) 0 (section_lines (record { kind = Batch; number = c.in-Some.counts.sections; shards = l }))) c.deref-3.ensures.value c.in_ok-write_section.ensures.written)
 

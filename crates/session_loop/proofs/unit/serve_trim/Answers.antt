@@ -72,7 +72,7 @@ returns-clause-served g c names =
     (trim-named (setup_of c.args.setting.now.design.now c.args.setting.now.sizes) names c.args.most c.args.desk.stores.items done.lists.items done.stores.items c.in_ok-done.ensures)
     some.counts (subst (λ l. IsCounted c.args.desk.counts Trim l some.counts) c.deref.ensures.value some.ensures)
     (W c.args.out.now) (W c.write_reply.new.out) (M c.args.files.now) (M c.write_section.new.files)
-    (record { stores = done.stores; counts = some.counts; dumps = c.args.desk.dumps; linked = c.args.desk.linked }) refl refl refl
+    (record { stores = done.stores; counts = some.counts; dumps = c.args.desk.dumps; last_site = c.args.desk.last_site }) refl refl refl
     (subst (Grows (W c.args.out.now) (W c.write_reply.new.out)) (c.deref-3.ensures.value ∙ c.in_ok-text.ensures ∙ ap trimmed_line (some.ensures' ∙ ap (sum_by length) c.deref-2.ensures.value)) c.in_ok-write_reply.ensures.written)
     (subst (λ l. FileGrows (M c.args.files.now) (M c.write_section.new.files) 0 (section_lines (record { kind = Trim; number = some.counts.sections; shards = l }))) c.deref-4.ensures.value c.in_ok-write_section.ensures.written)
 

@@ -32,7 +32,7 @@ claims-preserved g c =
     λ who gives.
     drops-on b g.B.BatchName.opening question c.args.time c.claims.memos.session old next who
     (gives-same b question c.args.time c.claims.memos.session old c.claims.strand next who c.next_step.ensures.steps gives) (held-lawful b asked.lawful question.query asked.queries (site_in question)).circuit
-    (chain-of b g.H.BatchName.batch question c.args.design.now.circuit c.args.held.now.design.circuit c.args.held.now.reached asked c.claims.strand next c.args.time gives.to c.facts.ensures c.next_step.ensures.steps)
+    (chain-of b g.H.BatchName.batch question c.args.design.now.circuit c.args.held.now.circuit asked c.claims.strand next c.args.time gives.to c.facts.ensures c.next_step.ensures.steps)
     new c.step-came.new.strand f.0 c.in-Drop.p (sym c.next_step.ensures.next ∙ c.in-Drop.is) f.1 in
     record {
       gives_up = (c.claims.invariant.gives_up.0, on c.claims.invariant.gives_up.0 c.claims.invariant.gives_up.1);
@@ -56,7 +56,7 @@ claims-preserved-in-Ok-Dropped-2 g c =
     λ who gives.
     drops-on b g.B.BatchName.opening question c.args.time c.claims.memos.session old next who
     (gives-same b question c.args.time c.claims.memos.session old c.claims.strand next who c.next_step.ensures.steps gives) (held-lawful b asked.lawful question.query asked.queries (site_in question)).circuit
-    (chain-of b g.H.BatchName.batch question c.args.design.now.circuit c.args.held.now.design.circuit c.args.held.now.reached asked c.claims.strand next c.args.time gives.to c.facts.ensures c.next_step.ensures.steps)
+    (chain-of b g.H.BatchName.batch question c.args.design.now.circuit c.args.held.now.circuit asked c.claims.strand next c.args.time gives.to c.facts.ensures c.next_step.ensures.steps)
     new c.step-came.new.strand f.0 c.in-Drop.p (sym c.next_step.ensures.next ∙ c.in-Drop.is) f.1 in
     record {
       gives_up = (c.claims.invariant.gives_up.0, on c.claims.invariant.gives_up.0 c.claims.invariant.gives_up.1);

@@ -8,7 +8,8 @@ use Rattle.asked_cells.specs.Asked.{AsksOn, Nothing}
 use Rattle.asked_cells.proofs.Alone.{none-of}
 use Rattle.asked_cells.proofs.Asking.{asks-then}
 use Rattle.stuck_faults.specs.Asks.{Neither, is_session}
-use Rattle.stuck_faults.specs.inner.Both.{Rests}
+use Rattle.design.specs.Joined.{Joined}
+use Rattle.stuck_faults.specs.inner.Both.{IsAsked, Rests}
 use Rattle.strand_meaning.specs.Strands.{started_strand}
 use Rattle.stuck_faults.specs.inner.Turns.{OfTurn}
 use Rattle.stuck_faults.proofs.Resting.{asks-begin, ends-rest, ends-covered, ends-heard, leaves-heard, hears, gives-flag}
@@ -22,7 +23,7 @@ returns-in-Some-clause-asks g c =
     let ms = c.args.memos.now.session in
     let m = c.args.memos.now.own in
     let never = subst (λ (z : Circuit). IsEvaluable z question.query.signal c.args.time → ⊥) c.requires.asked.stuck
-    (subst (λ o. OnSome o (IsEvaluable c.args.held.now.design.circuit question.query.signal c.args.time → ⊥)) c.in-Some.is c.base.ensures.some) in
+    (subst (λ o. OnSome o (IsEvaluable c.args.held.now.circuit question.query.signal c.args.time → ⊥)) c.in-Some.is c.base.ensures.some) in
     hears b g.B.BatchName.opening question c.args.time ms m c.args.memos.now.filled c.requires.rests ms m Neither Nothing (extends-none m.shard.journal)
     (leaves-heard b g.B.BatchName.opening question c.args.time ms m c.args.memos.now.filled c.requires.rests (inl (inl never))) false refl
 
@@ -35,6 +36,7 @@ turns-init g c = record {
   kept_session = λ e h. h;
   extends = extends-none c.args.memos.now.own.shard.journal;
   session_asks = Nothing;
+  design = refl;
 }
 
 pub turns-preserved : goal.turns-preserved
@@ -48,13 +50,24 @@ turns-preserved g c =
       kept_session = λ e h. c.in_ok-take_turn.ensures.kept_session e (k.kept_session e h);
       extends = extends-then c.args.memos.now.own.shard.journal c.turns.memos.own.shard.journal c.take_turn.new.memos.own.shard.journal k.extends c.in_ok-take_turn.ensures.extends;
       session_asks = asks-then b g.B.BatchName.opening c.args.question.query (shards_in c.args.memos.now.session) false (shards_in c.turns.memos.session) (shards_in c.take_turn.new.memos.session) false k.session_asks turn.0;
+      design = c.take_turn.ensures.design ∙ k.design;
     }
+
+-- the design is the same
+pub take_turn-requires-clause-asked : goal.take_turn-requires-clause-asked
+take_turn-requires-clause-asked g c =
+    subst (λ (d : Joined). IsAsked g.B.BatchName.batch g.H.BatchName.batch c.args.question d.circuit c.args.held.now.circuit) (sym c.turns.invariant.design) c.requires.asked
+
+pub drop_all-requires-clause-asked : goal.drop_all-requires-clause-asked
+drop_all-requires-clause-asked g c =
+    subst (λ (d : Joined). IsAsked g.B.BatchName.batch g.H.BatchName.batch c.args.question d.circuit c.args.held.now.circuit)
+    (sym (c.design.ensures ∙ c.take_turn.ensures.design ∙ c.turns.invariant.design)) c.requires.asked
 
 pub unreachable-requires : goal.unreachable-requires
 unreachable-requires g c =
     let b = g.B.BatchName.batch in
     let asked = c.requires.asked in
-    let e = subst (λ (z : Circuit). IsEvaluable z c.args.question.query.signal c.args.time) asked.stuck (none-of c.base.result (IsEvaluable c.args.held.now.design.circuit c.args.question.query.signal c.args.time) c.base.ensures.none c.in_default.is) in
+    let e = subst (λ (z : Circuit). IsEvaluable z c.args.question.query.signal c.args.time) asked.stuck (none-of c.base.result (IsEvaluable c.args.held.now.circuit c.args.question.query.signal c.args.time) c.base.ensures.none c.in_default.is) in
     let ended = (subst (OfTurn b g.B.BatchName.opening g.H.BatchName.batch c.args.question c.args.time c.turns.memos.session c.take_turn.new.memos.session c.take_turn.new.memos.own c.turns.strand c.take_turn.new.strand) c.in-Ended.is c.in_ok-take_turn.ensures.turn).1 in
     ends-heard b g.B.BatchName.opening c.args.question c.args.time c.take_turn.new.memos.session c.take_turn.new.memos.own c.take_turn.new.strand ended.asks c.facts.ensures.charge ended.done e
     g.H.BatchName.batch (ap (λ (z : Batch). z.circuit) asked.own_is) c.facts.ensures (sym c.last.ensures.last ∙ c.in_default-last.is)

@@ -1,4 +1,4 @@
-use Rattle.std.proofs.Common.{false}
+use Rattle.std.proofs.Common.{◌≡◌, false}
 use Rattle.plan_machine.specs.Bounds.{turns_left}
 use Rattle.plan_core.specs.Parts.{shards_in}
 use Rattle.asked_cells.specs.Asked.{AsksOn}
@@ -13,6 +13,7 @@ invariant-turns g l = record {
   kept_session : AreKept (entries_of l.initial.memos.session) (entries_of l.memos.session);
   extends : Extends l.initial.memos.own.shard.journal l.memos.own.shard.journal;
   session_asks : AsksOn g.B.BatchName.batch g.B.BatchName.opening l.question.query (shards_in l.initial.memos.session) false (shards_in l.memos.session) false;
+  design : l.design ≡ l.initial.design;
 }
 
 abbrev pub decreases-turns : goal.decreases-turns

@@ -1,4 +1,4 @@
-use Rattle.std.proofs.Common.{◌≡◌, ◌+◌, ◌<◌, ◌≤◌, OnSome, sym, ap, subst, ◌∙◌, arith}
+use Rattle.std.proofs.Common.{◌≡◌, ◌+◌, ◌<◌, ◌≤◌, OnSome, refl, sym, ap, subst, ◌∙◌, arith}
 use Rattle.valid_intervals.specs.declared.Cell.{Cell}
 use Rattle.circuit_meaning.specs.Cells.{cell_at, span}
 use Rattle.circuit_meaning.specs.Forward.{wave}
@@ -12,7 +12,8 @@ use Rattle.plan_core.specs.Parts.{shards_in}
 use Rattle.asked_cells.specs.Memos.{at_time, entries_of, is_missing}
 use Rattle.asked_cells.proofs.Alone.{some-of}
 use Rattle.stuck_faults.specs.Asks.{HearsRoot, Nothing, Root}
-use Rattle.stuck_faults.specs.inner.Both.{Rests, site_in}
+use Rattle.design.specs.Joined.{Joined}
+use Rattle.stuck_faults.specs.inner.Both.{IsAsked, Rests, site_in}
 use Rattle.stuck_faults.proofs.Held.{window-within}
 use Rattle.stuck_faults.proofs.Resting.{rests-fed}
 use Rattle.stuck_faults.proofs.Turns.{extends-kept}
@@ -30,7 +31,13 @@ cells-init g c =
       walking = begins-walking b.circuit lawful.circuit question (window-within b lawful question.query c.requires.asked.queries) (entries_of c.args.memos.now.session) c.args.memos.now.own.shard.journal c.new-walk.result
           c.new-walk.ensures.start c.new-walk.ensures.stop c.new-walk.ensures.time (c.new-walk.ensures.walked (stuck_circuit b.circuit (site_in question)) question.query.signal);
       asks = Nothing;
+      design = refl;
     }
+
+-- the design is the same
+pub hear_root-requires-clause-asked : goal.hear_root-requires-clause-asked
+hear_root-requires-clause-asked g c =
+    subst (λ (d : Joined). IsAsked g.B.BatchName.batch g.H.BatchName.batch c.args.question d.circuit c.args.held.now.circuit) (sym c.cells.invariant.design) c.requires.asked
 
 pub cells-smaller : goal.cells-smaller
 cells-smaller g c =
@@ -74,6 +81,7 @@ cells-preserved g c =
           c.in_ok-push.ensures.start c.in_ok-push.ensures.stop (c.in_ok-push.ensures.time ∙ ap (λ (x : Cell). x.span.stop) right) (c.in_ok-push.ensures.walked d q.signal c.cells.invariant.walking.walked right);
       asks = Root c.cells.invariant.asks c.in-Some.time (subst (IsRoot d (window_of q)) (sym here) (c.cells.invariant.walking.root before))
           (subst (λ o. HearsRoot b g.B.BatchName.opening site (root_start q c.in-Some.time (charge_of was q)) (shards_in c.cells.memos.session) was (shards_in c.hear_root.new.memos.session) own (is_missing o)) c.in-Some-2.is c.in_ok-cell.ensures.asks);
+      design = c.hear_root.ensures.design ∙ c.cells.invariant.design;
     }
 
 pub returns-clause-answer : goal.returns-clause-answer

@@ -1,4 +1,4 @@
-use Rattle.std.proofs.Common.{◌-◌, false}
+use Rattle.std.proofs.Common.{◌≡◌, ◌-◌, false}
 use Rattle.plan_core.specs.Parts.{shards_in}
 use Rattle.asked_cells.specs.Memos.{IsChargedMemo, entries_of}
 use Rattle.stuck_faults.specs.Asks.{AsksRoots}
@@ -12,6 +12,7 @@ invariant-cells g l = record {
   rests : Rests g.B.BatchName.batch g.B.BatchName.opening l.question l.memos.session l.memos.own l.memos.filled;
   walking : IsWalking g.B.BatchName.batch.circuit l.question (entries_of l.memos.session) l.memos.own.shard.journal l.walk;
   asks : AsksRoots g.B.BatchName.batch g.B.BatchName.opening (site_in l.question) l.question.query (shards_in l.initial.memos.session) l.initial.memos.own.shard.journal (shards_in l.memos.session) l.memos.own.shard.journal false;
+  design : l.design ≡ l.initial.design;
 }
 
 abbrev pub decreases-cells : goal.decreases-cells
