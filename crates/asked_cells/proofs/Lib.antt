@@ -12,3 +12,4 @@ pub mod Pairs
 pub mod Asking
 pub mod Pins
 pub mod Known
+pub mod Counted

@@ -1,4 +1,5 @@
 pub mod Asked
+pub mod FillCounts
 pub mod Heard
 pub mod Memos
 pub mod Shards

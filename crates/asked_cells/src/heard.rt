@@ -1,6 +1,6 @@
 //! Whether what was evaluated has heard its children, by a look at what entries say.
 
-ghost use Rattle.std.specs.Prelude.{◌≡◌, ◌<◌, true, length, vec_len, All, Contains, IfOk, IfSome, OnSome};
+ghost use Rattle.std.specs.Prelude.{◌≡◌, ◌<◌, true, length, All, Contains, IfSome, OnSome};
 ghost use Rattle.batch_meaning.specs.Lawful.{IsLawful};
 ghost use Rattle.circuit_meaning.specs.Cells.{cell_at};
 ghost use Rattle.circuit_meaning.specs.Need.{IsEvaluable, children};
@@ -12,26 +12,13 @@ ghost use Rattle.asked_cells.specs.Memos.{entries_of};
 ghost use Rattle.asked_cells.specs.inner.Sources.{IsSourceCovered};
 
 use crate::places::Places;
-use crate::reading::{places_in, said_for};
-use crate::wanted::Wanted;
+use crate::reading::said_for;
 use demand_points::BatchName;
 use design::Design;
 use journal_meaning::Entry;
 use memo_shards::Shard;
-use owned_text::OutOfMemory;
 use pin_walks::PinWalk;
-use std::alloc::Global;
 use valid_intervals::{Cell, Point};
-
-/// Where the entries of some shards stand, shard by shard, by the points for which they were recorded.
-pub fn said_places<B: BatchName>(
-    alloc: Global,
-    shards: &[Shard<B>],
-) -> Result<Vec<Places>, OutOfMemory>
-    ensures { IfOk result (λ places. vec_len places ≡ length shards.now) }
-{
-    places_in(alloc, shards, &Wanted::all())
-}
 
 /// The cell of a point: as a base answer, or as an entry says that was recorded for it.
 fn said_cell<B: BatchName>(

@@ -1,7 +1,7 @@
 //! The cells of a batch, asked of the memo one time at a time by a strand alone.
 //!
 //! A [`Memo`] is the shards of a batch as its owner goes on alone, once no worker runs: no point is claimed. [`begin`] makes it of
-//! shards that workers left, or of new ones. [`reach`] answers the cell of a query at one time: as a base answer, as what an entry of
+//! shards that workers left, or of new ones, and [`begin_with`] of shards of which others have noted where their entries stand. [`reach`] answers the cell of a query at one time: as a base answer, as what an entry of
 //! the batch says, or by a strand that runs alone for this one time (`plan_core`) and fills what is missing. Where that would take more
 //! evaluations than the query's budget, the query is refused.
 //!
@@ -22,9 +22,15 @@
 //! - the first other point takes O(n log n) steps, once, and from then on each other look-up and each entry that is added O(log n);
 //! - a call that finds nothing starts a strand, and takes a step for each shard besides.
 //!
+//! [`Said::read`] notes of shards where their entries stand, for every point, and counts how many points each query filled. Threads may
+//! read several shards side by side: [`Said::append`] joins what they noted, and [`filled_by`] adds up the counts of all parts. The
+//! counts are promised (`HaveCounted`). Of the places nothing is believed, since the entry itself says what it was recorded for. Claims
+//! that are freed are no fills, so the counts hold of the memo that `begin_with` makes too. An entry takes a few steps; a fill after one
+//! for another query takes O(log q) steps for q queries.
+//!
 //! [`has_heard`] says of a shard whether all that it evaluated has heard its children, as far as entries say that were recorded for
-//! these very points. It changes nothing, so threads may look at several shards side by side, by the places ([`said_places`]) of all.
-//! With p pins in all, of the fills of the shard, it takes O(p) steps.
+//! these very points. It changes nothing, so threads may look at several shards side by side, by the places of all ([`Said`]). With p
+//! pins in all, of the fills of the shard, it takes O(p) steps.
 //!
 //! A call that is refused memory may give up the shards: the memo is empty from then on.
 //!
@@ -40,13 +46,17 @@
 #![tactic(auto)]
 
 mod cells;
+mod fill_counts;
 mod heard;
 mod memo;
 mod places;
 mod reading;
+mod said;
 mod wanted;
 
-pub use heard::{has_heard, said_places};
-pub use memo::{Memo, begin, reach};
+pub use fill_counts::{FillCounts, count_fills, filled_by};
+pub use heard::has_heard;
+pub use memo::{Memo, begin, begin_with, reach};
 pub use places::Places;
+pub use said::Said;
 pub use wanted::Wanted;

@@ -43,7 +43,7 @@ use valid_intervals::{Cell, Point};
 pub struct Memo<B: BatchName> {
     alloc: Global,
     shards: Vec<Shard<B>>,
-    /// Where the entries for wanted points stand that there were at the beginning.
+    /// Where entries stand that there were at the beginning, at least those for wanted points.
     places: Vec<Places>,
     /// The index of all cells, once a point was asked for which no entry was noted.
     cells: Option<SaidCells>,
@@ -119,7 +119,31 @@ impl<B: BatchName> Memo<B> {
     }
 }
 
-/// Frees the claims that are left, and notes where the entries for wanted points stand.
+/// Frees the claims that are left, over shards of which it was noted where entries stand.
+pub fn begin_with<B: BatchName>(
+    alloc: Global,
+    shards: Vec<Shard<B>>,
+    places: Vec<Places>,
+) -> Memo<B>
+    requires lawful { IsLawful B.batch }
+    requires count { length shards.items ≡ B.batch.shards }
+    requires numbers { AreNumbered shards.items }
+    ensures shards { AreShards B.batch B.opening (shards_in shards.items) }
+    ensures freed { AreFreed (shards_in shards.items) (shards_in result) }
+    ensures kept { AreFreeShards B.batch B.opening result }
+{
+    know_all(&shards);
+    let mut freed = shards;
+    free_all(&mut freed);
+    Memo {
+        alloc,
+        shards: freed,
+        places,
+        cells: None,
+    }
+}
+
+/// Notes where the entries for wanted points stand, and frees the claims that are left.
 pub fn begin<B: BatchName>(
     alloc: Global,
     shards: Vec<Shard<B>>,
@@ -133,15 +157,8 @@ pub fn begin<B: BatchName>(
     ensures kept { IfOk result (AreFreeShards B.batch B.opening) }
 {
     know_all(&shards);
-    let mut freed = shards;
-    free_all(&mut freed);
-    let places = places_in(alloc, &freed, wanted)?;
-    Ok(Memo {
-        alloc,
-        shards: freed,
-        places,
-        cells: None,
-    })
+    let places = places_in(alloc, &shards, wanted)?;
+    Ok(begin_with(alloc, shards, places))
 }
 
 /// Whether the entry is a fill for the query with this number.

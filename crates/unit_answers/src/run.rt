@@ -29,7 +29,7 @@ pub struct BatchRun {
     pub stores: Vec<CellStore>,
 }
 
-/// What holds of the stores: each has room for a cell.
+/// For the proof that a batch over these stores is lawful: each has room for a cell, as `capacity` says.
 pub fn have_room(design: &Design, sizes: Sizes, stores: &[CellStore])
     requires stores { AreStores (setup_of design.now sizes) stores.now }
     requires some { 0 < sizes.shards }
@@ -100,8 +100,9 @@ pub fn run_batch<B: BatchName + Send + Sync, C: Crew>(
     let strands = strands_of::<B>(alloc, queries)?;
     let ran = crew.run(alloc, design, begun, strands)?;
     let heard = ran.heard;
+    let said = ran.said;
     let handed = ran.shards.into_vec();
-    let Settled { replies, shards } = settle(alloc, design, handed, queries, heard)?;
+    let Settled { replies, shards } = settle(alloc, design, handed, queries, heard, said)?;
     let (lists, stores) = end_all(alloc, shards)?;
     Ok(BatchRun {
         replies,

@@ -15,14 +15,13 @@ use crate::sizes::Sizes;
 use batch_meaning::Query;
 use cell_store::CellStore;
 use demand_points::BatchName;
-use design::Design;
 use journal_text::EntryList;
 use owned_text::OutOfMemory;
 use query_lines::Stuck;
 use reply_lines::{QuestionReply, StuckReply};
 use std::alloc::Global;
 use std::marker::Brand;
-use stuck_faults::stuck_wave;
+use stuck_faults::{AskedDesign, stuck_wave};
 use window_answers::{Verdict, stuck_site_of, stuck_verdict_of};
 
 /// The stuck signal, and the query.
@@ -35,28 +34,29 @@ struct StuckQuery {
 /// Asks both memos, in the batch that B names.
 fn run_stuck<B: BatchName>(
     alloc: Global,
-    design: &Design,
+    design: &mut AskedDesign<'_>,
     line: u32,
     stuck: &Stuck,
     asked: StuckQuery,
     sizes: Sizes,
     stores: Vec<CellStore>,
 ) -> Result<QuestionDone, OutOfMemory>
-    requires batch { B.batch ≡ question_batch (setup_of design.now sizes) line
+    requires batch { B.batch ≡ question_batch (setup_of design.old sizes) line
         (kinds.Stuck stuck.now) }
     requires opening { B.opening ≡ cells_of stores.items }
-    requires lawful { IsLawful (question_batch (setup_of design.now sizes) line
+    requires lawful { IsLawful (question_batch (setup_of design.old sizes) line
         (kinds.Stuck stuck.now)) }
-    requires site { site_of design.now stuck.now ≡ Some
+    requires site { site_of design.old stuck.now ≡ Some
         (record { signal = asked.site; value = stuck.now.value }) }
-    requires asks { stuck_verdict design.now line stuck.now ≡ Ask asked.query }
-    requires stores { AreStores (setup_of design.now sizes) stores.items }
+    requires asks { stuck_verdict design.old line stuck.now ≡ Ask asked.query }
+    requires stores { AreStores (setup_of design.old sizes) stores.items }
     requires most { sizes.shards ≤ 64 }
-    ensures { IfOk result (λ done. IsQuestionDone (setup_of design.now sizes) line
+    ensures done { IfOk result (λ done. IsQuestionDone (setup_of design.old sizes) line
         (kinds.Stuck stuck.now) stores.items
         done.reply done.lists.items done.own_lists.items done.stores.items) }
+    ensures design { design.new ≡ design.old }
 {
-    design.facts();
+    design.design().facts();
     let begun = begin_all::<B>(alloc, stores)?;
     let found = stuck_wave(alloc, design, begun, asked.query, asked.site, stuck.value)?;
     let (lists, stores) = end_all(alloc, found.shards)?;
@@ -74,24 +74,26 @@ fn run_stuck<B: BatchName>(
 /// second memo for all else.
 pub fn answer_stuck(
     alloc: Global,
-    design: &Design,
+    design: &mut AskedDesign<'_>,
     line: u32,
     stuck: &Stuck,
     sizes: Sizes,
     stores: Vec<CellStore>,
 ) -> Result<QuestionDone, OutOfMemory>
-    requires stores { AreStores (setup_of design.now sizes) stores.items }
+    requires stores { AreStores (setup_of design.old sizes) stores.items }
     requires shards { (0 < sizes.shards) × (sizes.shards ≤ 64) }
-    ensures { IfOk result (λ done. IsQuestionDone (setup_of design.now sizes) line
+    ensures done { IfOk result (λ done. IsQuestionDone (setup_of design.old sizes) line
         (kinds.Stuck stuck.now) stores.items
         done.reply done.lists.items done.own_lists.items done.stores.items) }
+    ensures design { design.new ≡ design.old }
 {
-    design.facts();
-    have_room(design, sizes, &stores);
-    let Some(site) = stuck_site_of(design, stuck) else {
+    let plain = design.design();
+    plain.facts();
+    have_room(plain, sizes, &stores);
+    let Some(site) = stuck_site_of(plain, stuck) else {
         return reply_unasked(alloc, QuestionReply::Stuck(StuckReply::UnknownSite), stores);
     };
-    match stuck_verdict_of(design, line, stuck) {
+    match stuck_verdict_of(plain, line, stuck) {
         Verdict::Ask(query) => {
             let asked = StuckQuery { site, query };
             run_stuck::<Brand>(alloc, design, line, stuck, asked, sizes, stores)

@@ -1,5 +1,4 @@
 pub mod Filled
-pub mod Counted
 pub mod Heard
 pub mod Pins
 pub mod Phases

@@ -1,4 +1,3 @@
-pub mod FillCounts
 pub mod Fills
 pub mod Phases
 pub mod Starts

@@ -1,6 +1,7 @@
 //! The queries of a batch, one after another.
 
 ghost use Rattle.std.specs.Prelude.{◌≡◌, ℕ, true, false, min, List, [], All, Contains, None, length, IfOk, OnOk};
+ghost use Rattle.std.specs.Option.{ForSome};
 ghost use Rattle.journal_meaning.specs.declared.Entry.{Entry as EntryRecord};
 ghost use Rattle.journal_meaning.specs.Answers.{fill_count};
 ghost use Rattle.batch_meaning.specs.Batches.{IsNeededBy};
@@ -12,19 +13,20 @@ ghost use Rattle.plan_machine.specs.Settling.{fills_of};
 ghost use Rattle.plan_core.specs.Parts.{shards_in};
 ghost use Rattle.plan_core.specs.InTurn.{AllChildrenCovered};
 ghost use Rattle.asked_cells.specs.Asked.{AsksOn};
+ghost use Rattle.asked_cells.specs.FillCounts.{HaveCounted};
 ghost use Rattle.asked_cells.specs.Memos.{AreFreeShards, entries_of};
 ghost use Rattle.asked_cells.specs.inner.Standings.{standing};
 ghost use Rattle.window_answers.specs.inner.Phases.{IsFedWith, FeedsQuery, IsFeeding, IsWalking, refused_in};
 ghost use Rattle.window_answers.specs.Phases.{IsReplyTo, is_budget, refused_of};
 ghost use Rattle.window_answers.specs.Settlement.{AskInTurn, none_refused};
 
-use crate::fill_counts::FillCounts;
 use crate::fills::FilledPoints;
 use crate::visits::{settle_fills, settle_window};
-use asked_cells::Memo;
+use asked_cells::{FillCounts, Memo, count_fills, filled_by};
 use batch_meaning::Query;
 use demand_points::BatchName;
 use design::Design;
+use memo_shards::Shard;
 use owned_text::OutOfMemory;
 use reply_lines::Reply;
 use std::alloc::Global;
@@ -112,26 +114,43 @@ fn visit_all<B: BatchName>(
     Ok(fed)
 }
 
+/// The counts of fills, which are made where they are not known.
+fn counts_or_new<B: BatchName>(
+    alloc: Global,
+    fills: Option<Vec<FillCounts>>,
+    shards: &[Shard<B>],
+) -> Result<Vec<FillCounts>, OutOfMemory>
+    requires { ForSome fills (λ fills. HaveCounted (entries_of shards.now) fills.items) }
+    ensures { IfOk result (λ fills. HaveCounted (entries_of shards.now) fills.items) }
+{
+    match fills {
+        Some(fills) => Ok(fills),
+        None => count_fills(alloc, shards),
+    }
+}
+
 /// Counts what each query filled, where the children of all that was filled are covered already, so that no visit finds one missing.
 fn count_all<B: BatchName>(
     alloc: Global,
     memo: &Memo<B>,
     queries: &[Query],
+    fills: Option<Vec<FillCounts>>,
 ) -> Result<Vec<Fed>, OutOfMemory>
     requires lawful { IsLawful B.batch }
     requires queries { queries.now ≡ B.batch.queries }
     requires kept { AreFreeShards B.batch B.opening memo.now }
     requires heard { AllChildrenCovered B.batch.circuit (entries_of memo.now) }
+    requires fills { ForSome fills (λ fills. HaveCounted (entries_of memo.now) fills.items) }
     ensures fed { IfOk result (λ fed. IsFeeding B.batch (entries_of memo.now) (shards_in memo.now)
         (shards_in memo.now) B.batch.queries fed.items []) }
     ensures asks { let qs = queries.now in
         IfOk result (λ fed. AskInTurn B.batch B.opening qs (shards_in memo.now) (none_refused qs)
         (shards_in memo.now) (refused_in fed.items)) }
 {
-    let counts = FillCounts::gather(alloc, memo.shards())?;
+    let fills = counts_or_new(alloc, fills, memo.shards())?;
     let mut fed = Vec::new(alloc);
     for &q in queries {
-        let charge = charge_counted(counts.of(q.number), q.budget);
+        let charge = charge_counted(filled_by(&fills, q.number), q.budget);
         fed.push(Fed {
             charge,
             refused: false,
@@ -140,14 +159,15 @@ fn count_all<B: BatchName>(
     Ok(fed)
 }
 
-/// Visits what each query filled, or only counts it: if `heard` is true, the children of all that was filled are covered already, and no
-/// point is visited.
+/// Visits what each query filled, or only counts it, by these counts if there are any: if `heard` is true, the children of all that was
+/// filled are covered already, and no point is visited.
 pub fn feed_all<B: BatchName>(
     alloc: Global,
     memo: &mut Memo<B>,
     design: &Design,
     queries: &[Query],
     heard: bool,
+    fills: Option<Vec<FillCounts>>,
 ) -> Result<Vec<Fed>, OutOfMemory>
     requires lawful { IsLawful B.batch }
     requires site { B.batch.site ≡ None }
@@ -155,6 +175,7 @@ pub fn feed_all<B: BatchName>(
     requires queries { queries.now ≡ B.batch.queries }
     requires kept { AreFreeShards B.batch B.opening memo.old }
     requires heard { heard ≡ true → AllChildrenCovered B.batch.circuit (entries_of memo.old) }
+    requires fills { ForSome fills (λ fills. HaveCounted (entries_of memo.old) fills.items) }
     ensures kept { OnOk result (AreFreeShards B.batch B.opening memo.new) }
     ensures fed { IfOk result (λ fed. IsFeeding B.batch (entries_of memo.old) (shards_in memo.old)
         (shards_in memo.new) B.batch.queries fed.items []) }
@@ -163,7 +184,7 @@ pub fn feed_all<B: BatchName>(
         (shards_in memo.new) (refused_in fed.items)) }
 {
     if heard {
-        count_all(alloc, memo, queries)
+        count_all(alloc, memo, queries, fills)
     } else {
         visit_all(alloc, memo, design, queries)
     }

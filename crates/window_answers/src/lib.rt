@@ -9,6 +9,7 @@
 //!   pin among the base answers and the cells that entries of the batch say, or asks for it by a strand that runs alone.
 //!   If `heard` is true, the visits are left out, and the points are only counted: the caller knows that each evaluated point has heard
 //!   its children.
+//!   Where the caller hands over what was noted of the entries (`Said` of `asked_cells`), it is not noted and counted again.
 //! - For each query in order it walks the window from cell to cell in the same way, and gathers its runs.
 //!
 //! The reply to a query that is refused meanwhile is its budget, and that to any other its waveform (`specs/Settlement`). The charge of a
@@ -17,13 +18,14 @@
 //!
 //! The cost of settlement grows with what the batch recorded, and not with the number of its queries. Let n be the final number of entries
 //! in the journals:
-//! - Settlement reads the journals twice as it begins: once to note the places of the entries, and once for the points that each query
-//!   filled. After that it reads only the entries that a strand added, once the strand has run.
+//! - Settlement reads the journals twice as it begins: once to note the places of the entries, unless these are handed over, and once
+//!   for the points that each query filled, unless these are only counted and the counts are handed over. After that it reads only the
+//!   entries that a strand added, once the strand has run.
 //! - It looks up one cell for each looked pin of each visited point, and one for each cell of each window. A strand that came to its end
 //!   left an entry for each of these points, and such an entry is found by hashing. If all strands came to their ends, a look-up therefore
 //!   takes a few steps, whatever n.
-//! - If `heard` is true, no point is visited, and pins are not looked up. So the first scan notes only entries for points in the windows,
-//!   with few others (`Wanted::windows` of `asked_cells`), and the second only counts the fills of each query.
+//! - If `heard` is true, no point is visited, and pins are not looked up. So the first scan, if there is one, notes only entries for
+//!   points in the windows, with few others (`Wanted::windows` of `asked_cells`), and the second only counts the fills of each query.
 //! - The first look-up of a point without a noted entry makes an index of all cells, in O(n log n) steps. From then on such a look-up
 //!   takes O(log n) steps, and so does each added entry.
 //! - A look-up that finds nothing starts a strand. The strand adds at least one entry, and takes a step for each shard.
@@ -38,12 +40,11 @@
 //! ```
 //! let strands = strands_of::<B>(alloc, queries)?;
 //! let shards = crew.run(alloc, design, shards, strands)?;
-//! let Settled { replies, shards } = settle(alloc, design, shards, queries, false)?;
+//! let Settled { replies, shards } = settle(alloc, design, shards, queries, false, None)?;
 //! ```
 #![tactic(auto)]
 
 mod answers;
-mod fill_counts;
 mod fills;
 mod settlement;
 mod strands;

@@ -1,10 +1,11 @@
 //! The trait of crews.
 
-ghost use Rattle.std.specs.Prelude.{◌≡◌, ◌<◌, ◌≤◌, Bool, true, [], length, map, sum, sum_by, All, IfOk, flat_map, vec_len};
+ghost use Rattle.std.specs.Prelude.{◌≡◌, ◌<◌, ◌≤◌, Bool, true, [], length, map, sum, sum_by, All, IfOk, IfSome, flat_map, vec_len};
 ghost use Rattle.journal_text.specs.Spelling.{entry_line};
 ghost use Rattle.plan_core.specs.InTurn.{AllChildrenCovered, AreStarted};
 ghost use Rattle.plan_core.specs.Parts.{shards_in, strands_in};
 ghost use Rattle.plan_machine.specs.Settle.{entries_in};
+ghost use Rattle.asked_cells.specs.FillCounts.{HaveCounted};
 ghost use Rattle.worker_gate.specs.Ends.{AreInOrder, AreNew, task_of, booked_in, AreEnds, AreFilled};
 
 use crate::begun::{Begun, tasks_of};
@@ -73,6 +74,8 @@ pub trait Crew {
         ensures heard { AreStarted B.batch.circuit (strands_in strands.items) → IfOk result
             (λ ran. ran.heard ≡ true → AllChildrenCovered B.batch.circuit
             (entries_in (shards_in ran.shards))) }
+        ensures said { IfOk result (λ ran. IfSome ran.said
+            (λ said. HaveCounted (entries_in (shards_in ran.shards)) said.fills.items)) }
     {
         let tasks = tasks_of(alloc, strands.as_slice())?;
         let are_known = have_windows(strands.as_slice());

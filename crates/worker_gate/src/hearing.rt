@@ -1,4 +1,5 @@
-//! Whether what several workers evaluated has heard its children: a look at all journals, by as many threads.
+//! A look at all journals after several workers, by as many threads: where entries stand, how many points each query filled, and whether
+//! what was evaluated has heard its children.
 
 ghost use Rattle.std.specs.Prelude.{◌≡◌, ◌↔◌, ◌<◌, ℕ, Bool, true, IsTrue, length, slice_index_or, vec_len, All, IfOk};
 ghost use Rattle.batch_meaning.specs.Lawful.{IsLawful};
@@ -6,9 +7,12 @@ ghost use Rattle.memo_shards.specs.KeptShards.{IsKnownShard};
 ghost use Rattle.plan_core.specs.InTurn.{AllChildrenCovered};
 ghost use Rattle.plan_core.specs.Parts.{shards_in};
 ghost use Rattle.plan_machine.specs.Settle.{entries_in};
+ghost use Rattle.asked_cells.specs.FillCounts.{HaveCounted};
+ghost use Rattle.asked_cells.specs.Memos.{entries_of};
 ghost use Rattle.worker_gate.specs.Heard.{HaveHeard};
+ghost use Rattle.worker_gate.specs.Said.{AreJoined};
 
-use asked_cells::{Places, has_heard, said_places};
+use asked_cells::{Places, Said, has_heard};
 use demand_points::BatchName;
 use design::Design;
 use memo_shards::{Shard, know_all};
@@ -36,14 +40,26 @@ fn threads_for<B: BatchName>(shards: &[Shard<B>], workers: usize) -> usize
     }
 }
 
-/// Where the entries of all shards stand, in the order of the shards. Each thread reads those of some shards that stand together.
-fn read_places<B: BatchName + Send + Sync, R: Threads + Sync>(
+/// What was noted of the parts, one after another, if all were read.
+fn joined(alloc: Global, parts: Vec<Result<Said, OutOfMemory>>) -> Result<Said, OutOfMemory>
+    ensures { IfOk result (λ said. AreJoined parts.items said.fills.items) }
+{
+    let mut said = Said::new(alloc);
+    for part in parts {
+        said.append(part?)?;
+    }
+    Ok(said)
+}
+
+/// Reads the entries of all shards. Each thread reads those of some shards that stand together.
+fn read_all<B: BatchName + Send + Sync, R: Threads + Sync>(
     rt: &R,
     alloc: Global,
     shards: &[Shard<B>],
     threads: usize,
-) -> Result<Vec<Places>, OutOfMemory>
+) -> Result<Said, OutOfMemory>
     requires { 0 < threads }
+    ensures { IfOk result (λ said. HaveCounted (entries_of shards.now) said.fills.items) }
 {
     let size = shards.len().div_ceil(threads).max(1);
     let parts = thread::map_chunks(
@@ -51,17 +67,11 @@ fn read_places<B: BatchName + Send + Sync, R: Threads + Sync>(
         alloc,
         shards,
         size,
-        &|_start: usize, part: &[Shard<B>]| -> Result<Vec<Places>, OutOfMemory> {
-            said_places(alloc, part)
+        &|_start: usize, part: &[Shard<B>]| -> Result<Said, OutOfMemory> {
+            Said::read(alloc, part)
         },
     )?;
-    let mut places = Vec::with_capacity(alloc, shards.len())?;
-    for part in parts {
-        for one in part? {
-            places.push(one)?;
-        }
-    }
-    Ok(places)
+    joined(alloc, parts)
 }
 
 /// Whether what was evaluated has heard its children, in each shard whose number leaves this remainder.
@@ -123,24 +133,35 @@ fn are_all(found: &[bool]) -> bool
     found.iter().all(|one| *one)
 }
 
-/// Whether each point that was evaluated has heard its children, as the entries of all shards say. As many threads as there are workers
-/// look, where there is much to look at.
-pub fn have_all_heard<B: BatchName + Send + Sync, R: Threads + Sync>(
+/// What a look at all journals finds.
+#[derive(Drop)]
+pub struct Look {
+    /// What is noted of the entries.
+    pub said: Said,
+    /// Whether each point that was evaluated has heard its children, as the entries say.
+    pub heard: bool,
+}
+
+/// Looks at all journals, by as many threads as there are workers, where there is much to look at.
+pub fn look_at_all<B: BatchName + Send + Sync, R: Threads + Sync>(
     rt: &R,
     alloc: Global,
     design: &Design,
     shards: &[Shard<B>],
     workers: usize,
-) -> Result<bool, OutOfMemory>
+) -> Result<Look, OutOfMemory>
     requires design { design.now.circuit ≡ B.batch.circuit }
     requires shards { 0 < length shards.now }
     requires workers { 0 < workers }
-    ensures { IfOk result (λ heard. heard ≡ true → AllChildrenCovered B.batch.circuit
+    ensures said { IfOk result (λ look. HaveCounted (entries_in (shards_in shards.now))
+        look.said.fills.items) }
+    ensures heard { IfOk result (λ look. look.heard ≡ true → AllChildrenCovered B.batch.circuit
         (entries_in (shards_in shards.now))) }
 {
     know_all(shards);
     let threads = threads_for(shards, workers);
-    let places = read_places(rt, alloc, shards, threads)?;
-    let found = looks(rt, alloc, design, shards, places.as_slice(), threads)?;
-    Ok(are_all(found.as_slice()))
+    let said = read_all(rt, alloc, shards, threads)?;
+    let found = looks(rt, alloc, design, shards, said.places.as_slice(), threads)?;
+    let heard = are_all(found.as_slice());
+    Ok(Look { said, heard })
 }

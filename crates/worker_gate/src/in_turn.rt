@@ -1,6 +1,6 @@
 //! One worker alone: it runs the strands one after another, without locks.
 
-ghost use Rattle.std.specs.Prelude.{◌≡◌, ◌↔◌, ◌<◌, IsTrue, true, Some, [], length, sum, sum_by, vec_len, All, IfOk};
+ghost use Rattle.std.specs.Prelude.{◌≡◌, ◌↔◌, ◌<◌, IsTrue, true, Some, None, [], length, sum, sum_by, vec_len, All, IfOk};
 ghost use Rattle.demand_points.specs.Demands.{IsKnownStrand};
 ghost use Rattle.memo_shards.specs.KeptShards.{IsKnownShard};
 ghost use Rattle.plan_core.specs.InTurn.{AllChildrenCovered, AreStarted, IsUnbegun};
@@ -29,7 +29,7 @@ pub fn have_windows<B: BatchName>(strands: &[Strand<B>]) -> bool
     strands.iter().all(|s| s.task().to > 0)
 }
 
-// What is known of each strand.
+// The law of each strand, for the proof that a plan of them is sound.
 fn know_strands<B: BatchName>(strands: &[Strand<B>])
     ensures { All (IsKnownStrand B.batch) strands.now }
 {
@@ -159,6 +159,7 @@ pub fn end_in_turn<B: BatchName, R: Wait>(
     ensures counts { IfOk result (λ r. length r.counts ≡ vec_len begun.tasks) }
     ensures shards { IfOk result (λ r. r.shards ≡ begun.shards.items) }
     ensures heard { IfOk result (λ r. r.heard ≡ unrefused) }
+    ensures said { IfOk result (λ r. r.said ≡ None) }
 {
     let Begun {
         shards,
@@ -174,5 +175,6 @@ pub fn end_in_turn<B: BatchName, R: Wait>(
         strands: EndedList::new(places),
         counts: CountList::new(counts),
         heard: unrefused,
+        said: None,
     })
 }

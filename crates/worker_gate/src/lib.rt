@@ -12,8 +12,10 @@
 //! lines of its own: a claim or a fill takes no other lock. A strand that has ended goes to its place on the board, which is one lock more.
 //! No worker holds two locks, and each tries a lock for some microseconds before it sleeps for it. One that finds no strand ready sleeps at
 //! the board, and a push wakes one of those that sleep. Such workers do not know what points have heard. So, once they are joined, as many
-//! threads look at the journals side by side, each for the fills of some shards: [`Ran::heard`] is true where entries say the cell of each
-//! child of each point that was evaluated, as they do where no worker left. Where the journals are short, one thread looks.
+//! threads look at the journals side by side. First each reads those of some shards: it notes where the entries stand, and counts how many
+//! points each query filled. Then each looks for the fills of some shards: [`Ran::heard`] is true where entries say the cell of each child
+//! of each point that was evaluated, as they do where no worker left. What was noted is handed on ([`Ran::said`]), so that settlement need
+//! not walk over all entries on one thread. Where the journals are short, one thread looks.
 //!
 //! What a caller may rely on, under every schedule of the threads:
 //!
@@ -25,6 +27,7 @@
 //! - Where the gate is open, every strand comes back.
 //! - Where [`Ran::heard`] is true, and each strand was handed in as it was started, the children of each point that was evaluated are
 //!   covered by the entries of all journals. Settlement need not visit them then.
+//! - Where [`Ran::said`] is there, its counts are those of the fills in all journals, query by query.
 //!
 //! What is under one lock is not known under another, so a worker tests it: that the shard is there with its number, that it has the
 //! claim, that the place on the board is empty. No worker makes one of these tests false; where one is, the worker takes the lock again.

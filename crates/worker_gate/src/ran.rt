@@ -2,6 +2,7 @@
 
 ghost use Rattle.std.specs.Prelude.{◌≡◌, ◌<◌, Some, None, length, slice_get, slice_index, MatchOption};
 
+use asked_cells::Said;
 use demand_points::{BatchName, Strand};
 use memo_shards::Shard;
 use std::marker::Model;
@@ -109,4 +110,6 @@ pub struct Ran<B: BatchName> {
     pub counts: CountList,
     /// True only where each point that was evaluated is known to have heard its children.
     pub heard: bool,
+    /// What was noted of the entries, where several workers left them.
+    pub said: Option<Said>,
 }

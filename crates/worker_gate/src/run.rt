@@ -5,13 +5,14 @@ ghost use Rattle.plan_core.specs.InTurn.{AllChildrenCovered};
 ghost use Rattle.plan_core.specs.Parts.{shards_in};
 ghost use Rattle.plan_machine.specs.Settle.{entries_in};
 ghost use Rattle.ready_queue.specs.Queue.{IsPassOf, IsFreshPassOf};
+ghost use Rattle.asked_cells.specs.FillCounts.{HaveCounted};
 ghost use Rattle.worker_gate.specs.Ends.{AreEnds, AreFilled, AreInOrder, booked_in};
 
 use crate::begun::Begun;
 use crate::board::Board;
 use crate::counts::{booked_by, match_counts};
 use crate::gate::Gate;
-use crate::hearing::have_all_heard;
+use crate::hearing::{Look, look_at_all};
 use crate::ran::{CountList, EndedList, Ran, ShardList};
 use crate::slot::{CountedShard, Slot};
 use crate::worker::{LockedShard, Shared, Worker};
@@ -224,6 +225,8 @@ pub fn run_workers<B: BatchName + Send + Sync, G: Gate, R: Threads + Wait + Sync
     ensures order { IfOk result (λ r. AreInOrder r.shards) }
     ensures heard { IfOk result (λ r. r.heard ≡ true → AllChildrenCovered B.batch.circuit
         (entries_in (shards_in r.shards))) }
+    ensures said { IfOk result (λ r. IfSome r.said
+        (λ said. HaveCounted (entries_in (shards_in r.shards)) said.fills.items)) }
 {
     let Begun {
         shards,
@@ -256,11 +259,12 @@ pub fn run_workers<B: BatchName + Send + Sync, G: Gate, R: Threads + Wait + Sync
     let Board { places, .. } = board;
     let (shards, total) = take_all(rt, alloc, slots.as_slice())?;
     let counts = match_counts(rt, alloc, places.as_slice(), total)?;
-    let heard = have_all_heard(rt, alloc, design, shards.as_slice(), workers as usize)?;
+    let Look { said, heard } = look_at_all(rt, alloc, design, shards.as_slice(), workers as usize)?;
     Ok(Ran {
         shards: ShardList::new(shards),
         strands: EndedList::new(places),
         counts: CountList::new(counts),
         heard,
+        said: Some(said),
     })
 }

@@ -10,6 +10,8 @@ use Rattle.plan_machine.specs.Settle.{entries_in}
 use Rattle.memo_shards.specs.KeptShards.{KeptShard}
 use Rattle.plan_core.specs.InTurn.{AllChildrenCovered}
 use Rattle.plan_core.specs.Parts.{shards_in, strands_in}
+use Rattle.asked_cells.specs.FillCounts.{HaveCounted}
+use Rattle.asked_cells.proofs.Alone.{some-of}
 use Rattle.unit_answers.proofs.Running.{opened-by, strands-new, strands-started, order-numbers, settled-free, has-run}
 use Rattle.unit_answers.proofs.run.run_batch.Goals as goal
 
@@ -31,6 +33,11 @@ settle-requires-clause-heard g c told =
     let c0 = g.B.BatchName.batch.circuit in
     let started = strands-started c0 (flat_map pieces c.args.queries.now) (strands_in c.in_ok-strands.strands.items) c.in_ok-strands.ensures.strands in
     subst (λ (ms : List KeptShard). AllChildrenCovered c0 (entries_in (shards_in ms))) (sym c.into_vec-handed.ensures) (c.in_ok-ran.ensures.heard started told)
+
+pub settle-requires-clause-said : goal.settle-requires-clause-said
+settle-requires-clause-said g c = λ said is.
+    let counted : HaveCounted (entries_in (shards_in c.in_ok-ran.ran.shards)) said.fills.items = some-of (λ s. HaveCounted (entries_in (shards_in c.in_ok-ran.ran.shards)) s.fills.items) c.in_ok-ran.ran.said said c.in_ok-ran.ensures.said is in
+    subst (λ (ms : List KeptShard). HaveCounted (entries_in (shards_in ms)) said.fills.items) (sym c.into_vec-handed.ensures) counted
 
 pub end_all-requires : goal.end_all-requires
 end_all-requires g c = settled-free g.B.BatchName.batch g.B.BatchName.opening c.into_vec-handed.result.items c.in_ok-replies.field-0.shards.items c.in_ok-replies.field-0.replies.items c.in_ok-replies.ensures

@@ -5,6 +5,7 @@ use Rattle.journal_meaning.specs.Sections.{of_batch}
 use Rattle.batch_meaning.specs.Batches.{Batch, Site}
 use Rattle.plan_machine.specs.Settle.{entries_in}
 use Rattle.plan_core.specs.Parts.{shards_in}
+use Rattle.design.specs.Joined.{IsDesign}
 use Rattle.query_lines.specs.declared.unit.Asks.TheVariants as kinds
 use Rattle.session_meaning.specs.StuckSignals.{IsStuckAnswer}
 use Rattle.session_meaning.specs.Session.{question_batch}
@@ -33,7 +34,7 @@ stuck_wave-requires-clause-signal g c =
     let setup = setup_of c.args.design.now c.args.sizes in
     let stuck = c.args.stuck.now in
     let site : Site = record { signal = c.args.asked.site; value = stuck.value } in
-    subst (λ (x : Batch). c.args.asked.site < length x.circuit.drivers) (sym c.requires.batch) (site-below setup c.args.line stuck site c.requires.site c.facts.ensures)
+    subst (λ (x : Batch). c.args.asked.site < length x.circuit.drivers) (sym c.requires.batch) (site-below setup c.args.line stuck site c.requires.site (subst IsDesign c.design.ensures c.facts.ensures))
 
 pub stuck_wave-requires-clause-queries : goal.stuck_wave-requires-clause-queries
 stuck_wave-requires-clause-queries g c =
@@ -51,8 +52,8 @@ stuck_wave-requires-clause-unused g c = c.in_ok-begun.ensures.empty
 pub end_all-requires : goal.end_all-requires
 end_all-requires g c = fresh-free g.B.BatchName.batch g.B.BatchName.opening c.in_ok-found.found.shards.items c.in_ok-found.ensures.fresh
 
-pub returns : goal.returns
-returns g c =
+pub returns-clause-done : goal.returns-clause-done
+returns-clause-done g c =
     let setup = setup_of c.args.design.now c.args.sizes in
     let line = c.args.line in
     let stuck = c.args.stuck.now in

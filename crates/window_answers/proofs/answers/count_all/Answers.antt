@@ -1,9 +1,13 @@
-use Rattle.std.proofs.Common.{◌≡◌, ◌+◌, [], List, false, min, get_or, take, drop, refl, sym, ap, subst, ◌∙◌, arith}
+use Rattle.std.proofs.Common.{◌≡◌, ◌+◌, [], List, false, min, get_or, take, drop, refl, sym, subst, ◌∙◌, arith}
+use Rattle.std.specs.Option.{ForSome}
 use Rattle.batch_meaning.specs.declared.Query.{Query}
 use Rattle.journal_meaning.specs.Answers.{fill_count}
 use Rattle.plan_machine.specs.Settle.{charge_of}
 use Rattle.plan_core.specs.Parts.{shards_in}
 use Rattle.asked_cells.specs.Asked.{Nothing}
+use Rattle.memo_shards.specs.KeptShards.{KeptShard}
+use Rattle.asked_cells.specs.declared.fill_counts.FillCounts.{FillCounts}
+use Rattle.asked_cells.specs.FillCounts.{HaveCounted}
 use Rattle.asked_cells.specs.Memos.{entries_of}
 use Rattle.window_answers.specs.declared.answers.Fed.{Fed}
 use Rattle.window_answers.specs.inner.Phases.{IsFeeding}
@@ -20,6 +24,9 @@ loop-q-init g c =
       asks = subst (λ (fs : List Fed). VisitsTo b g.B.BatchName.opening c.args.queries.now (shards_in ms) (shards_in ms) 0 fs) (sym c.new-fed.ensures.items) refl;
     }
 
+pub counts_or_new-requires : goal.counts_or_new-requires
+counts_or_new-requires g c = subst (λ (ms : List KeptShard). ForSome c.args.fills (λ fills. HaveCounted (entries_of ms) fills.items)) (sym c.shards.ensures) c.requires.fills
+
 abbrev no_query : Query
 no_query = record { number = 0; signal = 0; from = 0; to = 0; budget = 0 }
 
@@ -34,7 +41,8 @@ loop-q-preserved g c =
     let low = c.loop-q-test.true in
     let q = get_or qs i no_query in
     let f : Fed = record { charge = c.charge_counted-charge.result; refused = false } in
-    let fills : c.of.result ≡ min (fill_count (entries_of ms) q.number) 4294967295 = c.of.ensures ∙ c.in_ok-counts.ensures q.number ∙ ap (λ es. min (fill_count (entries_of es) q.number) 4294967295) c.shards.ensures in
+    let known : HaveCounted (entries_of ms) c.deref.result.now = subst (λ (parts : List FillCounts). HaveCounted (entries_of ms) parts) (sym c.deref.ensures.value) (subst (λ (l : List KeptShard). HaveCounted (entries_of l) c.in_ok-fills.fills.items) c.shards.ensures c.in_ok-fills.ensures) in
+    let fills : c.filled_by.result ≡ min (fill_count (entries_of ms) q.number) 4294967295 = c.filled_by.ensures ∙ known q.number in
     let counts : f.charge ≡ charge_of (entries_of ms) q = c.charge_counted-charge.ensures (fill_count (entries_of ms) q.number) fills in
     let o = fed-open b c.requires.lawful (entries_of ms) ss qs c.requires.queries i low no_query ss c.loop-q.fed.items c.loop-q.invariant.fed in
     let k = feeds-heard b c.requires.lawful opening q (fed-known b c.requires.lawful (entries_of ms) ss qs c.requires.queries i low no_query) ms f c.requires.kept.fresh c.requires.heard refl counts o in

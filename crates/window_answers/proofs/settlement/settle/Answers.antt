@@ -3,7 +3,10 @@ use Rattle.batch_meaning.specs.declared.Query.{Query}
 use Rattle.memo_shards.specs.KeptShards.{KeptShard}
 use Rattle.plan_core.specs.Parts.{shards_in}
 use Rattle.window_answers.specs.declared.answers.Fed.{Fed}
+use Rattle.asked_cells.specs.FillCounts.{HaveCounted}
 use Rattle.asked_cells.specs.Memos.{entries_of}
+use Rattle.asked_cells.proofs.Alone.{some-of}
+use Rattle.asked_cells.proofs.Counted.{freed-counted}
 use Rattle.window_answers.specs.inner.Phases.{IsWalking, refused_in}
 use Rattle.window_answers.specs.Phases.{refused_of}
 use Rattle.window_answers.specs.Settlement.{AskInTurn, none_refused, HasSettled}
@@ -15,19 +18,26 @@ use Rattle.window_answers.proofs.settlement.settle.Goals as goal
 pub feed_all-requires-clause-heard : goal.feed_all-requires-clause-heard
 feed_all-requires-clause-heard g c = λ heard.
     let begun = c.in_ok-memo.ensures in
-    freed-heard g.B.BatchName.batch c.requires.lawful g.B.BatchName.opening c.args.shards.items c.in_ok-memo.memo begun.shards begun.freed (c.requires.heard heard)
+    freed-heard g.B.BatchName.batch c.requires.lawful g.B.BatchName.opening c.args.shards.items c.in_ok-memo.field-0.memo begun.shards begun.freed (c.requires.heard heard)
+
+pub feed_all-requires-clause-fills : goal.feed_all-requires-clause-fills
+feed_all-requires-clause-fills g c = λ fills is.
+    let begun = c.in_ok-memo.ensures in
+    let handed = c.args.shards.items in
+    let known : HaveCounted (entries_of handed) fills.items = some-of (λ f. HaveCounted (entries_of handed) f.items) c.in_ok-memo.field-0.fills fills begun.fills is in
+    freed-counted g.B.BatchName.batch c.requires.lawful g.B.BatchName.opening handed c.in_ok-memo.field-0.memo begun.shards begun.freed fills.items known
 
 pub answer_all-requires-clause-count : goal.answer_all-requires-clause-count
 answer_all-requires-clause-count g c =
     let b = g.B.BatchName.batch in
-    let begun = entries_of c.in_ok-memo.memo in
+    let begun = entries_of c.in_ok-memo.field-0.memo in
     let now = entries_of c.feed_all.new.memo in
     ap length c.deref.ensures.value ∙ all-fed-count b.circuit begun now b.queries c.in_ok-fed.fed.items c.in_ok-fed.ensures.fed.all ∙ sym (ap length c.requires.queries)
 
 pub answer_all-requires-clause-fed : goal.answer_all-requires-clause-fed
 answer_all-requires-clause-fed g c =
     let b = g.B.BatchName.batch in
-    let begun = c.in_ok-memo.memo in
+    let begun = c.in_ok-memo.field-0.memo in
     let now = shards_in c.feed_all.new.memo in
     let w = fed-walks b (entries_of begun) (shards_in begun) now c.in_ok-fed.fed.items c.in_ok-fed.ensures.fed in (
       entries_of begun,
@@ -41,7 +51,7 @@ answer_all-requires-clause-fed g c =
 pub returns : goal.returns
 returns g c =
     let b = g.B.BatchName.batch in
-    let begun = c.in_ok-memo.memo in
+    let begun = c.in_ok-memo.field-0.memo in
     let now = shards_in c.feed_all.new.memo in
     let new = c.answer_all.new.memo in
     let w = fed-walks b (entries_of begun) (shards_in begun) now c.in_ok-fed.fed.items c.in_ok-fed.ensures.fed in

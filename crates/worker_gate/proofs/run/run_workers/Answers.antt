@@ -4,6 +4,7 @@ use Rattle.demand_points.specs.Demands.{Demand}
 use Rattle.worker_gate.specs.Ends.{AreCounted, AreEnds, AreInOrder}
 use Rattle.memo_shards.specs.KeptShards.{KeptShard}
 use Rattle.plan_core.specs.InTurn.{AllChildrenCovered}
+use Rattle.asked_cells.specs.FillCounts.{HaveCounted}
 use Rattle.asked_cells.specs.Memos.{entries_of}
 use Rattle.worker_gate.proofs.Places.{ended_counted}
 use Rattle.worker_gate.proofs.run.run_workers.Goals as goal
@@ -26,4 +27,9 @@ returns-clause-order g c = subst AreInOrder (sym c.new-4.ensures) c.in_ok-shards
 pub returns-clause-heard : goal.returns-clause-heard
 returns-clause-heard g c = λ heard.
     let P : List KeptShard → Type 0 = λ ms. AllChildrenCovered g.B.BatchName.batch.circuit (entries_of ms) in
-    subst P (sym c.new-4.ensures) (subst P c.as_slice-5.ensures.value (c.in_ok-heard.ensures heard))
+    subst P (sym c.new-4.ensures) (subst P c.as_slice-5.ensures.value (c.in_ok-said.ensures.heard heard))
+
+pub returns-clause-said : goal.returns-clause-said
+returns-clause-said g c =
+    let P : List KeptShard → Type 0 = λ ms. HaveCounted (entries_of ms) c.in_ok-said.field-0.said.fills.items in
+    subst P (sym c.new-4.ensures) (subst P c.as_slice-5.ensures.value c.in_ok-said.ensures.said)

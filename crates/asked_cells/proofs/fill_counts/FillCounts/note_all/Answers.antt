@@ -1,8 +1,8 @@
 use Rattle.std.proofs.Common.{◌++◌, ◌∷◌, [], List, take, sym, ap, subst, ◌∙◌, arith, append_assoc, append-nil}
 use Rattle.journal_meaning.specs.declared.Entry.{Entry}
-use Rattle.window_answers.specs.inner.FillCounts.{HasCounted}
+use Rattle.asked_cells.specs.FillCounts.{HasCounted}
 use Rattle.asked_cells.proofs.Lists.{take-item, take-all}
-use Rattle.window_answers.proofs.fill_counts.FillCounts.note_all.Goals as goal
+use Rattle.asked_cells.proofs.fill_counts.FillCounts.note_all.Goals as goal
 
 pub loop-entry-init : goal.loop-entry-init
 loop-entry-init c = λ es h. subst (λ (l : List Entry). HasCounted l c.args.self.now) (sym (append-nil es)) h

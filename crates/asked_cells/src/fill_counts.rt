@@ -1,8 +1,10 @@
 //! How many points each query of a batch filled.
 
 ghost use Rattle.std.specs.Prelude.{◌≡◌, ◌++◌, ◌∷◌, [], ℕ, ◌+◌, min, List, IfOk, OnOk};
+ghost use Rattle.std.specs.BTreeMap.{get};
+ghost use Rattle.std.specs.Ordering.{nat_cmp};
 ghost use Rattle.journal_meaning.specs.declared.Entry.{Entry as EntryRecord};
-ghost use Rattle.window_answers.specs.inner.FillCounts.{fills_in, one_more_for, HasCounted};
+ghost use Rattle.asked_cells.specs.FillCounts.{count_in, fills_in, fills_in_all, one_more_for, HasCounted, HaveCounted};
 ghost use Rattle.asked_cells.specs.Memos.{entries_of};
 
 use demand_points::BatchName;
@@ -13,13 +15,13 @@ use std::alloc::Global;
 use std::collections::BTreeMap;
 
 /// How many points queries filled, by the numbers of the queries; at most 4,294,967,295 of each. Entries for one query mostly stand
-/// together, so the count of the last query is kept apart, and the map is read and written only where the query changes.
+/// together, so what the last query fills is counted apart, and the map is searched once where the query changes.
 #[derive(Drop)]
 pub struct FillCounts {
     by_query: BTreeMap<u32, u32>,
     /// The last query.
     number: u32,
-    /// How many points it filled.
+    /// How many points it filled that the map does not count.
     count: u32,
 }
 
@@ -35,17 +37,39 @@ impl FillCounts {
         }
     }
 
-    /// How many points the query with this number filled.
-    pub fn of(&self, number: u32) -> u32
-        ensures { result ≡ fills_in self.now number }
+    /// How many points the query with this number filled, as the map counts them.
+    fn kept(&self, number: u32) -> u32
+        ensures { result ≡ count_in (get nat_cmp self.now.by_query number) }
     {
-        if number == self.number {
-            return self.count;
-        }
         match self.by_query.get(&number) {
             Some(count) => *count,
             None => 0,
         }
+    }
+
+    /// How many points the query with this number filled.
+    fn of(&self, number: u32) -> u32
+        ensures { result ≡ fills_in self.now number }
+    {
+        let kept = self.kept(number);
+        if number == self.number {
+            kept.saturating_add(self.count)
+        } else {
+            kept
+        }
+    }
+
+    /// Adds to the map what is counted apart.
+    fn keep_last(&mut self) -> Result<(), OutOfMemory>
+        ensures { OnOk result ((n : ℕ) → count_in (get nat_cmp self.new.by_query n) ≡ fills_in
+            self.old n) }
+    {
+        if let Some(count) = self.by_query.get_mut(&self.number) {
+            *count = count.saturating_add(self.count);
+            return Ok(());
+        }
+        self.by_query.insert(self.number, self.count)?;
+        Ok(())
     }
 
     /// Counts a point that the query with this number filled.
@@ -54,10 +78,9 @@ impl FillCounts {
             → fills_in self.new n ≡ min (k + one_more_for number n) 4294967295) }
     {
         if number != self.number {
-            let count = self.of(number);
-            self.by_query.insert(self.number, self.count)?;
+            self.keep_last()?;
             self.number = number;
-            self.count = count;
+            self.count = 0;
         }
         self.count = self.count.saturating_add(1);
         Ok(())
@@ -90,10 +113,7 @@ impl FillCounts {
     }
 
     /// Counts the fills in one scan of the journals.
-    pub fn gather<B: BatchName>(
-        alloc: Global,
-        shards: &[Shard<B>],
-    ) -> Result<FillCounts, OutOfMemory>
+    fn gather<B: BatchName>(alloc: Global, shards: &[Shard<B>]) -> Result<FillCounts, OutOfMemory>
         ensures { IfOk result (HasCounted (entries_of shards.now)) }
     {
         let mut counts = FillCounts::new(alloc);
@@ -102,4 +122,27 @@ impl FillCounts {
         }
         Ok(counts)
     }
+}
+
+/// Counts the fills in one scan of the journals, in one part.
+pub fn count_fills<B: BatchName>(
+    alloc: Global,
+    shards: &[Shard<B>],
+) -> Result<Vec<FillCounts>, OutOfMemory>
+    ensures { IfOk result (λ parts. HaveCounted (entries_of shards.now) parts.items) }
+{
+    let mut parts = Vec::new(alloc);
+    parts.push(FillCounts::gather(alloc, shards)?)?;
+    Ok(parts)
+}
+
+/// How many points the query with this number filled, as they were counted in parts; at most 4,294,967,295.
+pub fn filled_by(parts: &[FillCounts], number: u32) -> u32
+    ensures { result ≡ fills_in_all parts.now number }
+{
+    let mut count = 0u32;
+    for part in parts {
+        count = count.saturating_add(part.of(number));
+    }
+    count
 }

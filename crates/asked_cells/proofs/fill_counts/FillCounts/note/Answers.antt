@@ -1,8 +1,8 @@
 use Rattle.std.proofs.Common.{◌≡◌, ◌+◌, ◌++◌, ◌∷◌, [], ℕ, min, sym, subst}
-use Rattle.window_answers.specs.inner.FillCounts.{fills_in, one_more_for, HasCounted}
+use Rattle.asked_cells.specs.FillCounts.{fills_in, one_more_for, HasCounted}
 use Rattle.asked_cells.proofs.Lists.{on-ok}
-use Rattle.window_answers.proofs.Counted.{counted-filled}
-use Rattle.window_answers.proofs.fill_counts.FillCounts.note.Goals as goal
+use Rattle.asked_cells.proofs.Counted.{counted-filled}
+use Rattle.asked_cells.proofs.fill_counts.FillCounts.note.Goals as goal
 
 pub returns-in-Filled : goal.returns-in-Filled
 returns-in-Filled c = λ es h.

@@ -4,8 +4,8 @@ use Rattle.memo_shards.specs.KeptShards.{KeptShard}
 use Rattle.asked_cells.specs.Memos.{entries_of}
 use Rattle.asked_cells.proofs.Lists.{take-all}
 use Rattle.asked_cells.proofs.Entries.{entries-item}
-use Rattle.window_answers.specs.inner.FillCounts.{HasCounted}
-use Rattle.window_answers.proofs.fill_counts.FillCounts.gather.Goals as goal
+use Rattle.asked_cells.specs.FillCounts.{HasCounted}
+use Rattle.asked_cells.proofs.fill_counts.FillCounts.gather.Goals as goal
 
 pub loop-shard-preserved : goal.loop-shard-preserved
 loop-shard-preserved g c =
