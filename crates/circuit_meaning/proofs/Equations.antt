@@ -1,8 +1,9 @@
 -- Each value and each interval is what the driver gives from the earlier ones.
-use Rattle.std.proofs.Common.{◌≡◌, ℕ, ◌+◌, ◌-◌, ◌<◌, ◌≤◌, Bool, true, false, if◌then◌else◌, cond, nat_lt, List, [], ◌∷◌, length, get_or, map, Option, Some, None, refl, ap, ◌∙◌, arith, ltb-false, ◌⊎◌, inl, inr}
+use Rattle.std.proofs.Common.{◌≡◌, ℕ, ◌+◌, ◌-◌, ◌<◌, ◌≤◌, Bool, true, false, if◌then◌else◌, cond, nat_lt, List, [], ◌∷◌, length, get_or, map, Option, Some, None, refl, ap, ◌∙◌, arith, ltb-false, inl, inr}
 use Rattle.std.specs.List.{AllByRecursion}
 use Rattle.std.proofs.lemmas.List.Elements.{recursion_from_All, All-nil}
 use Rattle.std.proofs.Math.ListN.{get_or-map, get_or-eq_default}
+use Rattle.std.proofs.lemmas.Bool.{cases_lt}
 use Rattle.gate_values.specs.declared.Value.{Value}
 use Rattle.gate_values.specs.declared.Value.TheVariants.{X}
 use Rattle.gate_values.specs.declared.Kind.TheVariants.{Dff}
@@ -23,12 +24,9 @@ pub all_imply : {A : Type 0} (P Q : A → Type 0) → ((a : A) → P a → Q a) 
 all_imply P Q f [] h = tt
 all_imply P Q f (x ∷ xs) h = (f x h.0, all_imply P Q f xs h.1)
 
-pub either : (a b : ℕ) → (a < b) ⊎ (b ≤ a)
-either a b = grind arith
-
 -- every number has a driver that fits the circuit
 pub driver_fits : (c : Circuit) → IsCircuit c → (s : ℕ) → IsDriver (length c.drivers) c.horizon (driver c s)
-driver_fits c ok s = elim (either s (length c.drivers)) [
+driver_fits c ok s = elim (cases_lt s (length c.drivers)) [
   | inl h ↦ ok s (Input []) h
   | inr h ↦ rw (get_or-eq_default c.drivers (Input []) h) (record { within = All-nil _; different = λ i j d _ h. absurd (omega arith) })
 ]

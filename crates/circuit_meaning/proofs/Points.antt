@@ -11,7 +11,7 @@ use Rattle.flip_flops.specs.Edges.{shown_edge}
 use Rattle.circuit_meaning.specs.Cells.{looked_pins}
 use Rattle.circuit_meaning.specs.Need.{Window, flop_child, children_from, children, IsNeeded, Root, Child, IsInCone, Itself, Reads}
 use Rattle.valid_intervals.specs.declared.Point.{Point}
-use Rattle.circuit_meaning.proofs.Equations.{driver_fits, all_cut}
+use Rattle.circuit_meaning.proofs.Equations.{driver_fits, all_cut, all_imply}
 use Rattle.flip_flops.proofs.EdgeLemmas.{shown_edge-le}
 
 -- the points of the pins that read no time before 0
@@ -31,10 +31,6 @@ module _ (t : ℕ) (P : Point → Type 0) where
       go true e k = (h.0 (leb-true p.delay t e), k)
       go false e k = k
 
-imply : {A : Type 0} (P Q : A → Type 0) → ((a : A) → P a → Q a) → (xs : List A) → AllByRecursion P xs → AllByRecursion Q xs
-imply P Q f [] h = tt
-imply P Q f (x ∷ xs) h = (f x h.0, imply P Q f xs h.1)
-
 -- the children of a gate
 gate_points : (c : Circuit) (t : ℕ) (kind : Kind) (pins : List Pin) (P : Point → Type 0) → AllByRecursion (λ p. p.delay ≤ t → P (record { signal = p.signal; time = t - p.delay })) pins → AllByRecursion P (children_from c t (Gate kind pins))
 gate_points c t kind pins P h = all_points t P (looked_pins c t kind pins) (all_cut (λ p. p.delay ≤ t → P (record { signal = p.signal; time = t - p.delay })) (λ p. decides kind (seen_value (value c) t p)) pins h)
@@ -46,7 +42,7 @@ flop_points f t P h (Some x) e = (h x e, tt)
 sources-earlier : (c : Circuit) (n h t : ℕ) (d : Driver) → IsDriver n h d → AllByRecursion (λ p. p.time < t) (children_from c t d)
 sources-earlier c n h t (Input settings) ok = tt
 sources-earlier c n h t (Gate kind pins) ok = gate_points c t kind pins (λ p. p.time < t)
-    (imply (λ p. 1 ≤ p.delay) (λ p. p.delay ≤ t → t - p.delay < t) (λ p pos le. omega arith) pins (recursion_from_All (λ p. 1 ≤ p.delay) pins ok.delay))
+    (all_imply (λ p. 1 ≤ p.delay) (λ p. p.delay ≤ t → t - p.delay < t) (λ p pos le. omega arith) pins (recursion_from_All (λ p. 1 ≤ p.delay) pins ok.delay))
 sources-earlier c n h t (Flop f) ok = flop_points f t (λ p. p.time < t) (λ e k. let le : e + f.delay ≤ t = shown_edge-le f.clock f.delay t e k in let pos = ok.delay in omega arith) (shown_edge f.clock f.delay t) refl
 
 pub children-earlier : (c : Circuit) → IsCircuit c → (s t : ℕ) → All (λ p. p.time < t) (children c s t)
@@ -62,7 +58,7 @@ sources-read c t (Input settings) = tt
 sources-read c t (Gate kind pins) =
     let P : Point → Type 0 = λ p. Contains (map (λ p. p.signal) pins) p.signal in
     let Q : Pin → Type 0 = λ p. Contains (map (λ p. p.signal) pins) p.signal in
-    gate_points c t kind pins P (imply Q (λ p. p.delay ≤ t → Q p) (λ p h _. h) pins
+    gate_points c t kind pins P (all_imply Q (λ p. p.delay ≤ t → Q p) (λ p h _. h) pins
     (recursion_from_All Q pins (unmapped (Contains (map (λ p. p.signal) pins)) (λ p. p.signal) pins (All-contains_itself (map (λ p. p.signal) pins)))))
 sources-read c t (Flop f) = flop_points f t (λ p. Contains (f.pin ∷ []) p.signal) (λ e k. (0, omega arith, refl)) (shown_edge f.clock f.delay t) refl
 

@@ -1,6 +1,7 @@
 -- An entry that is read is spelled so, and what is spelled so is read.
 use Rattle.std.proofs.Common.{◌≡◌, ℕ, ◌+◌, List, ◌++◌, Option, Some, None, refl, sym, ap, subst, ◌∙◌, append_assoc, ◌⊎◌, inl, inr}
 use Rattle.std.specs.Prelude.{codes}
+use Rattle.std.proofs.lemmas.Option.{same_Some}
 use Rattle.journal_meaning.specs.declared.Entry.{Entry}
 use Rattle.journal_meaning.specs.declared.Entry.TheVariants.{Told, Claimed, Filled, Evicted, Dropped, Spent}
 use Rattle.text_fields.specs.Spelling.{field}
@@ -8,7 +9,7 @@ use Rattle.journal_text.specs.Spelling.{point, cell, line_feed, entry_line}
 use Rattle.journal_text.specs.Written.{IsEntry}
 use Rattle.text_fields.specs.Reading.{◌>>=◌, after_word, field_at}
 use Rattle.journal_text.specs.inner.Reading.{behind, point_at, cell_at, told_at, claimed_at, filled_at, evicted_at, dropped_at, spent_at, entry_at}
-use Rattle.text_fields.proofs.Fields.{bind_some, some_is, after_takes, field_takes}
+use Rattle.text_fields.proofs.Fields.{bind_some, after_takes, field_takes}
 use Rattle.journal_text.proofs.Fields.{point_takes, cell_takes}
 
 -- a word, or what else there may be
@@ -38,7 +39,7 @@ told_takes text e rest is =
     let b = point_takes q.1 p.0 p.1 two in
     let d = cell_takes p.1 c.0 c.1 three in
     let f = after_takes line_feed c.1 r four in
-    subst (Line (codes "told") text) (some_is _ _ last) (ap (λ (l : List ℕ). codes "told" ++ l) (joined4 text (field q.0) (point p.0) (cell c.0) line_feed q.1 p.1 c.1 r a.0 b.0 d.0 f), (a.1, b.1, d.1))
+    subst (Line (codes "told") text) (same_Some _ _ last) (ap (λ (l : List ℕ). codes "told" ++ l) (joined4 text (field q.0) (point p.0) (cell c.0) line_feed q.1 p.1 c.1 r a.0 b.0 d.0 f), (a.1, b.1, d.1))
 
 filled_takes : (text : List ℕ) (e : Entry) (rest : List ℕ) → filled_at text ≡ Some (e, rest) → Line (codes "fill") text (e, rest)
 unfolding filled_at
@@ -51,7 +52,7 @@ filled_takes text e rest is =
     let b = point_takes q.1 p.0 p.1 two in
     let d = cell_takes p.1 c.0 c.1 three in
     let f = after_takes line_feed c.1 r four in
-    subst (Line (codes "fill") text) (some_is _ _ last) (ap (λ (l : List ℕ). codes "fill" ++ l) (joined4 text (field q.0) (point p.0) (cell c.0) line_feed q.1 p.1 c.1 r a.0 b.0 d.0 f), (a.1, b.1, d.1))
+    subst (Line (codes "fill") text) (same_Some _ _ last) (ap (λ (l : List ℕ). codes "fill" ++ l) (joined4 text (field q.0) (point p.0) (cell c.0) line_feed q.1 p.1 c.1 r a.0 b.0 d.0 f), (a.1, b.1, d.1))
 
 claimed_takes : (text : List ℕ) (e : Entry) (rest : List ℕ) → claimed_at text ≡ Some (e, rest) → Line (codes "claim") text (e, rest)
 unfolding claimed_at
@@ -62,7 +63,7 @@ claimed_takes text e rest is =
     let a = field_takes text q.0 q.1 one in
     let b = point_takes q.1 p.0 p.1 two in
     let f = after_takes line_feed p.1 r three in
-    subst (Line (codes "claim") text) (some_is _ _ last) (ap (λ (l : List ℕ). codes "claim" ++ l) (joined text (field q.0) (point p.0) line_feed q.1 p.1 r a.0 b.0 f), (a.1, b.1))
+    subst (Line (codes "claim") text) (same_Some _ _ last) (ap (λ (l : List ℕ). codes "claim" ++ l) (joined text (field q.0) (point p.0) line_feed q.1 p.1 r a.0 b.0 f), (a.1, b.1))
 
 dropped_takes : (text : List ℕ) (e : Entry) (rest : List ℕ) → dropped_at text ≡ Some (e, rest) → Line (codes "drop") text (e, rest)
 unfolding dropped_at
@@ -73,7 +74,7 @@ dropped_takes text e rest is =
     let a = field_takes text q.0 q.1 one in
     let b = point_takes q.1 p.0 p.1 two in
     let f = after_takes line_feed p.1 r three in
-    subst (Line (codes "drop") text) (some_is _ _ last) (ap (λ (l : List ℕ). codes "drop" ++ l) (joined text (field q.0) (point p.0) line_feed q.1 p.1 r a.0 b.0 f), (a.1, b.1))
+    subst (Line (codes "drop") text) (same_Some _ _ last) (ap (λ (l : List ℕ). codes "drop" ++ l) (joined text (field q.0) (point p.0) line_feed q.1 p.1 r a.0 b.0 f), (a.1, b.1))
 
 evicted_takes : (text : List ℕ) (e : Entry) (rest : List ℕ) → evicted_at text ≡ Some (e, rest) → Line (codes "evict") text (e, rest)
 unfolding evicted_at
@@ -84,7 +85,7 @@ evicted_takes text e rest is =
     let a = field_takes text s.0 s.1 one in
     let b = field_takes s.1 t.0 t.1 two in
     let f = after_takes line_feed t.1 r three in
-    subst (Line (codes "evict") text) (some_is _ _ last) (ap (λ (l : List ℕ). codes "evict" ++ l) (joined text (field s.0) (field t.0) line_feed s.1 t.1 r a.0 b.0 f), (a.1, b.1))
+    subst (Line (codes "evict") text) (same_Some _ _ last) (ap (λ (l : List ℕ). codes "evict" ++ l) (joined text (field s.0) (field t.0) line_feed s.1 t.1 r a.0 b.0 f), (a.1, b.1))
 
 spent_takes : (text : List ℕ) (e : Entry) (rest : List ℕ) → spent_at text ≡ Some (e, rest) → Line (codes "spent") text (e, rest)
 unfolding spent_at
@@ -97,7 +98,7 @@ spent_takes text e rest is =
     let b = point_takes q.1 p.0 p.1 two in
     let d = field_takes p.1 h.0 h.1 three in
     let f = after_takes line_feed h.1 r four in
-    subst (Line (codes "spent") text) (some_is _ _ last) (ap (λ (l : List ℕ). codes "spent" ++ l) (joined4 text (field q.0) (point p.0) (field h.0) line_feed q.1 p.1 h.1 r a.0 b.0 d.0 f), (a.1, b.1, d.1))
+    subst (Line (codes "spent") text) (same_Some _ _ last) (ap (λ (l : List ℕ). codes "spent" ++ l) (joined4 text (field q.0) (point p.0) (field h.0) line_feed q.1 p.1 h.1 r a.0 b.0 d.0 f), (a.1, b.1, d.1))
 
 abbrev Taken : List ℕ → Entry → List ℕ → Type 0
 Taken text e rest = (text ≡ entry_line e ++ rest) × IsEntry e

@@ -1,7 +1,7 @@
 -- A point or cell that is read is spelled so, and what is spelled so is read.
 use Rattle.std.proofs.Common.{◌≡◌, ℕ, ◌&&◌, true, cond, ltb, leb, List, [], ◌∷◌, ◌++◌, Option, Some, None, refl, sym, ap, subst, ◌∙◌, append_assoc, arith, lt-ltb, ltb-true}
-use Rattle.std.proofs.lemmas.Bool.{le-leb, leb-true}
-use Rattle.std.proofs.lemmas.Option.{cond_some}
+use Rattle.std.proofs.lemmas.Bool.{le-leb, leb-true, and_parts}
+use Rattle.std.proofs.lemmas.Option.{cond_some, same_Some}
 use Rattle.gate_values.specs.Spelling.{byte_of_value}
 use Rattle.gate_values.specs.declared.Value.{Value}
 use Rattle.valid_intervals.specs.declared.Cell.{Cell}
@@ -9,8 +9,8 @@ use Rattle.valid_intervals.specs.declared.Point.{Point}
 use Rattle.valid_intervals.specs.Spans.{IsSpan, from_to}
 use Rattle.text_fields.specs.Spelling.{field}
 use Rattle.text_fields.specs.Reading.{◌>>=◌, after_word, field_at, value_at}
-use Rattle.text_fields.proofs.Numbers.{EndsNumber, and_both}
-use Rattle.text_fields.proofs.Fields.{bind_some, some_is, after_takes, field_takes, field_again, value_takes, value_again}
+use Rattle.text_fields.proofs.Numbers.{EndsNumber}
+use Rattle.text_fields.proofs.Fields.{bind_some, after_takes, field_takes, field_again, value_takes, value_again}
 use Rattle.journal_text.specs.Spelling.{point, cell}
 use Rattle.journal_text.specs.Written.{IsPoint, IsCell}
 use Rattle.journal_text.specs.inner.Reading.{point_at, cell_at}
@@ -25,7 +25,7 @@ point_takes text p rest e =
     let one = field_takes text signal.0 signal.1 first in
     let two = field_takes signal.1 time.0 time.1 second in
     let parts : text ≡ (field signal.0 ++ field time.0) ++ time.1 = one.0 ∙ ap (λ (l : List ℕ). field signal.0 ++ l) two.0 ∙ sym (append_assoc (field signal.0) (field time.0) time.1) in
-    subst (λ (r : Point × List ℕ). (text ≡ point r.0 ++ r.1) × IsPoint r.0) (some_is _ _ is) (parts, (one.1, two.1))
+    subst (λ (r : Point × List ℕ). (text ≡ point r.0 ++ r.1) × IsPoint r.0) (same_Some _ _ is) (parts, (one.1, two.1))
 
 pub point_again : (p : Point) (text : List ℕ) → IsPoint p → EndsNumber text → point_at (point p ++ text) ≡ Some (p, text)
 unfolding point_at
@@ -52,7 +52,7 @@ cell_takes text c rest e =
     let three : stop.1 ≡ 32 ∷ blank = after_takes (32 ∷ []) stop.1 blank third in
     let four = value_takes blank value.0 value.1 fourth in
     let tests = cond_some (ltb start.0 stop.0 && leb stop.0 2000002) (made start.0 stop.0 value) (c, rest) is in
-    let both = and_both _ _ tests.0 in
+    let both = and_parts _ _ tests.0 in
     let span : IsSpan (from_to start.0 stop.0) = record { some = ltb-true _ _ both.0; within = leb-true _ _ both.1 } in
     let letter : List ℕ = 32 ∷ byte_of_value value.0 ∷ [] in
     let parts : text ≡ (field start.0 ++ (field stop.0 ++ letter)) ++ value.1 =

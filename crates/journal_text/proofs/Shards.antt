@@ -1,7 +1,7 @@
 -- The shards of a section are read as they are spelled.
 use Rattle.std.proofs.Common.{◌≡◌, ℕ, zero, suc, ◌+◌, ◌<◌, ◌≤◌, ◌^◌, true, cond, eqb, eq-eqb, List, [], ◌∷◌, ◌++◌, length, Option, Some, None, refl, sym, ap, subst, ◌∙◌, append_assoc, append-nil, arith, inl, inr}
 use Rattle.std.proofs.lemmas.Bool.{eqb-true}
-use Rattle.std.proofs.lemmas.Option.{cond_some}
+use Rattle.std.proofs.lemmas.Option.{cond_some, same_Some}
 use Rattle.std.specs.Prelude.{flat_map, codes}
 use Rattle.std.specs.List.{AllByRecursion}
 use Rattle.journal_meaning.specs.declared.Entry.{Entry}
@@ -10,7 +10,7 @@ use Rattle.journal_text.specs.Spelling.{line_feed, entry_line, shard_lines}
 use Rattle.journal_text.specs.Written.{IsEntry}
 use Rattle.text_fields.specs.Reading.{◌>>=◌, after_word, field_at}
 use Rattle.journal_text.specs.inner.Reading.{behind, entry_at, entries_at, shard_at, shards_at}
-use Rattle.text_fields.proofs.Fields.{bind_some, some_is, after_takes, field_takes, field_again}
+use Rattle.text_fields.proofs.Fields.{bind_some, after_takes, field_takes, field_again}
 use Rattle.journal_text.proofs.Entries.{behind_some}
 use Rattle.text_fields.proofs.Items.{AreRead, items_take, items_again}
 use Rattle.journal_text.proofs.Lines.{spelling}
@@ -52,15 +52,15 @@ shard_first i es others text r r2 rest word line more =
     word ∙ ap (λ (l : List ℕ). codes "shard" ++ l) (line ∙ numbered)
 
 pub shards_takes : (most i : ℕ) (text : List ℕ) (shards : List (List Entry)) (rest : List ℕ) → shards_at most i text ≡ Some (shards, rest) → Shards most i text shards rest
-shards_takes zero i text shards rest e = subst (λ (read : List (List Entry) × List ℕ). Shards 0 i text read.0 read.1) (some_is ([], text) (shards, rest) e) (record { parts = refl; are = tt; few = omega arith })
+shards_takes zero i text shards rest e = subst (λ (read : List (List Entry) × List ℕ). Shards 0 i text read.0 read.1) (same_Some ([], text) (shards, rest) e) (record { parts = refl; are = tt; few = omega arith })
 shards_takes (suc most) i text shards rest e = elim (behind_some (after_word (codes "shard") text) (λ r. shard_at i r >>= (λ shard. shards_at most (i + 1) shard.1 >>= (λ more. Some (shard.0 ∷ more.0, more.1)))) (Some ([], text)) (shards, rest) e) [
-  | inr none ↦ subst (λ (read : List (List Entry) × List ℕ). Shards (suc most) i text read.0 read.1) (some_is ([], text) (shards, rest) none) (record { parts = refl; are = tt; few = omega arith })
+  | inr none ↦ subst (λ (read : List (List Entry) × List ℕ). Shards (suc most) i text read.0 read.1) (same_Some ([], text) (shards, rest) none) (record { parts = refl; are = tt; few = omega arith })
   | inl (r, word, read) ↦
       let (shard, one, more) = bind_some (shard_at i r) (λ shard. shards_at most (i + 1) shard.1 >>= (λ more. Some (shard.0 ∷ more.0, more.1))) (shards, rest) read in
       let (others, two, last) = bind_some (shards_at most (i + 1) shard.1) (λ more. Some (shard.0 ∷ more.0, more.1)) (shards, rest) more in
       let a = shard_takes i r shard.0 shard.1 one in
       let b = shards_takes most (i + 1) shard.1 others.0 others.1 two in
-      subst (λ (read : List (List Entry) × List ℕ). Shards (suc most) i text read.0 read.1) (some_is (shard.0 ∷ others.0, others.1) (shards, rest) last)
+      subst (λ (read : List (List Entry) × List ℕ). Shards (suc most) i text read.0 read.1) (same_Some (shard.0 ∷ others.0, others.1) (shards, rest) last)
       (record { parts = shard_first i shard.0 others.0 text r shard.1 others.1 (after_takes (codes "shard") text r word) a.0 b.parts; are = (a.1, b.are); few = omega (arith, b.few) })
 ]
 

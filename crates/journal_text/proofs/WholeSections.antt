@@ -1,9 +1,10 @@
 -- A section that is read is spelled so, and what is spelled so is read.
 use Rattle.std.proofs.Common.{◌≡◌, ℕ, ◌+◌, ◌-◌, ◌<◌, ◌≤◌, true, cond, ◌&&◌, ltb, lt-ltb, ltb-true, List, [], ◌∷◌, ◌++◌, length, drop, Option, Some, None, refl, sym, ap, subst, ◌∙◌, append_assoc, length-append, arith, inl, inr}
-use Rattle.std.proofs.lemmas.Option.{cond_some}
+use Rattle.std.proofs.lemmas.Option.{cond_some, same_Some}
 use Rattle.std.proofs.lemmas.List.{drop_at}
 use Rattle.std.specs.Prelude.{flat_map, codes}
 use Rattle.std.specs.List.{AllByRecursion}
+use Rattle.std.proofs.lemmas.Bool.{and_parts}
 use Rattle.journal_meaning.specs.declared.Entry.{Entry}
 use Rattle.journal_text.specs.declared.sections.SectionKind.{SectionKind}
 use Rattle.journal_text.specs.declared.sections.SectionKind.TheVariants.{Batch, Trim, Held}
@@ -13,8 +14,7 @@ use Rattle.journal_text.specs.Spelling.{line_feed, shard_lines, kind_word, secti
 use Rattle.journal_text.specs.Written.{IsNumbered, IsSection, most_shards}
 use Rattle.text_fields.specs.Reading.{◌>>=◌, after_word, field_at}
 use Rattle.journal_text.specs.inner.Reading.{entry_at, shards_at, kind_at, section_at}
-use Rattle.text_fields.proofs.Numbers.{and_both}
-use Rattle.text_fields.proofs.Fields.{bind_some, some_is, after_takes, field_takes, field_again}
+use Rattle.text_fields.proofs.Fields.{bind_some, after_takes, field_takes, field_again}
 use Rattle.journal_text.proofs.Entries.{behind_some}
 use Rattle.journal_text.proofs.Shards.{shards_takes, shards_again}
 
@@ -24,7 +24,7 @@ abbrev kind_read : SectionKind → List ℕ → Option (SectionKind × List ℕ)
 kind_read kind rest = Some (kind, rest)
 
 kind_is : (word text r : List ℕ) (k kind : SectionKind) (rest : List ℕ) → after_word word text ≡ Some r → word ≡ kind_word k → kind_read k r ≡ kind_read kind rest → text ≡ kind_word kind ++ rest
-kind_is word text r k kind rest found is e = subst (λ (read : SectionKind × List ℕ). text ≡ kind_word read.0 ++ read.1) (some_is (k, r) (kind, rest) e) (after_takes word text r found ∙ ap (λ (l : List ℕ). l ++ r) is)
+kind_is word text r k kind rest found is e = subst (λ (read : SectionKind × List ℕ). text ≡ kind_word read.0 ++ read.1) (same_Some (k, r) (kind, rest) e) (after_takes word text r found ∙ ap (λ (l : List ℕ). l ++ r) is)
 
 kind_takes : (text : List ℕ) (kind : SectionKind) (rest : List ℕ) → kind_at text ≡ Some (kind, rest) → text ≡ kind_word kind ++ rest
 unfolding kind_at
@@ -77,7 +77,7 @@ section_takes text section rest e =
     let (shards, four, more4) = bind_some (shards_at (most_shards kind.0) 0 first) (λ s. after_word (codes "end\n") s.1 >>= ended kind.0 number.0 s.0) (section, rest) more3 in
     let (r, five, last) = bind_some (after_word (codes "end\n") shards.1) (ended kind.0 number.0 shards.0) (section, rest) more4 in
     let tests = cond_some (ltb 0 number.0 && ltb 0 (length shards.0)) (whole kind.0 number.0 shards.0, r) (section, rest) last in
-    let both = and_both _ _ tests.0 in
+    let both = and_parts _ _ tests.0 in
     let a = kind_takes text kind.0 kind.1 one in
     let b = field_takes kind.1 number.0 number.1 two in
     let c = after_takes line_feed number.1 first three in
@@ -114,7 +114,7 @@ section_again section rest is =
 
 pub one_section : (a b : Section) (x y : List ℕ) → IsSection a → IsSection b → section_lines a ++ x ≡ section_lines b ++ y → (a ≡ b) × (x ≡ y)
 one_section a b x y isa isb same =
-    let read : (a, x) ≡ (b, y) = some_is (a, x) (b, y) (sym (section_again a x isa) ∙ ap section_at same ∙ section_again b y isb) in
+    let read : (a, x) ≡ (b, y) = same_Some (a, x) (b, y) (sym (section_again a x isa) ∙ ap section_at same ∙ section_again b y isb) in
     (ap (λ (r : Read). r.0) read, ap (λ (r : Read). r.1) read)
 
 section_some : (s : Section) → 0 < length (section_lines s)
@@ -145,7 +145,7 @@ head_apart shards cells rest =
 
 same_field : (m n : ℕ) (x y : List ℕ) → IsNumber m → IsNumber n → field_at (field m ++ x) ≡ Some (m, x) → field_at (field n ++ y) ≡ Some (n, y) → field m ++ x ≡ field n ++ y → (m ≡ n) × (x ≡ y)
 same_field m n x y ms ns one two same =
-    let read : (m, x) ≡ (n, y) = some_is (m, x) (n, y) (sym one ∙ ap field_at same ∙ two) in
+    let read : (m, x) ≡ (n, y) = same_Some (m, x) (n, y) (sym one ∙ ap field_at same ∙ two) in
     (ap (λ (r : ℕ × List ℕ). r.0) read, ap (λ (r : ℕ × List ℕ). r.1) read)
 
 pub one_journal : (shards cells shards' cells' : ℕ) (a b : List Section) → IsNumber shards → IsNumber cells → IsNumber shards' → IsNumber cells' → AllByRecursion IsSection a → AllByRecursion IsSection b → journal_lines shards cells a ≡ journal_lines shards' cells' b → (shards ≡ shards') × (cells ≡ cells') × (a ≡ b)
@@ -183,6 +183,6 @@ read_found text section rest read =
 
 pub read_only : (text : List ℕ) (found : Section) (left : List ℕ) (section : Section) (rest : List ℕ) → section_at text ≡ section_read found left → IsSection section → text ≡ section_lines section ++ rest → answer found (length text - length left) ≡ answer section (length (section_lines section))
 read_only text found left section rest read is same =
-    let both : (found, left) ≡ (section, rest) = some_is (found, left) (section, rest) (sym read ∙ ap section_at same ∙ section_again section rest is) in
+    let both : (found, left) ≡ (section, rest) = same_Some (found, left) (section, rest) (sym read ∙ ap section_at same ∙ section_again section rest is) in
     let len : length text - length left ≡ length (section_lines section) = ap (λ (r : Read). length text - length r.1) both ∙ read_len text section rest same in
     ap (λ (r : Read). answer r.0 (length text - length left)) both ∙ ap (answer section) len

@@ -3,7 +3,8 @@ use Rattle.std.proofs.Common.{◌≡◌, ◌≢◌, ℕ, ◌+◌, ◌<◌, ◌�
 use Rattle.std.specs.Prelude.{IfOk, All}
 use Rattle.std.specs.List.{enumerate_from}
 use Rattle.std.proofs.lemmas.List.{append-nil, length-append}
-use Rattle.std.proofs.lemmas.List.Elements.{All-nil, All-cons, All-head, All-tail, All-same}
+use Rattle.std.proofs.lemmas.List.Elements.{All-tail, All-same}
+use Rattle.query_lines.proofs.OwnLines.{first-part}
 use Rattle.text_rules.specs.Text.{lines}
 use Rattle.text_rules.proofs.Stream.{is_plain, line_front, line_last, no_line, plain_push, not_feed}
 use Rattle.query_lines.specs.declared.cutter.Cut.{Cut}
@@ -125,13 +126,9 @@ pub all_given : {E : Type 0} (whole given units last : List ScriptUnit) (result 
 all_given whole given units last (Ok all) is are = is ∙ ap (λ (l : List ScriptUnit). given ++ l) (sym are)
 all_given whole given units last (Err e) is are = are
 
-All-take-front : {X : Type 0} (P : X → Type 0) (part back : List X) → All P (part ++ back) → All P part
-All-take-front P [] back all = All-nil P
-All-take-front P (x ∷ part) back all = All-cons P x part (All-head P x (part ++ back) all) (All-take-front P part back (All-tail P x (part ++ back) all))
-
 -- what was given for a script is within the limits
 part_fits : {X : Type 0} (P : X → Type 0) (front part back : List X) → All P ((front ++ part) ++ back) → All P part
-part_fits P [] part back all = All-take-front P part back all
+part_fits P [] part back all = first-part P part back all
 part_fits P (x ∷ front) part back all = part_fits P front part back (All-tail P x ((front ++ part) ++ back) all)
 
 pub given_fits : {E : Type 0} (horizon : ℕ) (script : List ℕ) (given : List ScriptUnit) (new : Reader) (result : Result (List ScriptUnit) E) → horizon ≤ 1000000

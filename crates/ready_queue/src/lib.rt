@@ -1,15 +1,41 @@
 //! The queue of strands that are ready to take a turn: bounded, and shared by all workers.
 //!
-//! A [`ReadyQueue`] is made with a [`QueuePass`] for each thread that will use it. The thread pushes and pops with its pass. A pass takes
-//! no room at run time: in proofs it is two lists, the items pushed and the items popped through it, in order.
+//! A [`ReadyQueue`] is made with a [`QueuePass`] for each thread that will use it. The queue is shared by reference; a pass belongs to one
+//! thread at a time, which pushes and pops with it. A pass takes no room at run time: in proofs it is two lists, the items pushed and the
+//! items popped through it, in order. All passes are made with the queue, so nobody else can push or pop, and the caller's proof refuses a
+//! pass of another queue.
 //!
-//! The queue's rule holds under every schedule of the threads: at every moment the items in the queue, together with those popped through
-//! all its passes, are up to order those pushed through all its passes. No item is lost, made up or handed out twice. A refused push hands
-//! the item back. For a thread that holds the only pass, its own pushes and pops determine when a push is refused and when a pop returns
-//! `None`. With several passes no clause says this.
+//! # The rule
 //!
-//! The rule does not say in which order items of different threads come out, or which thread gets an item. Nor does it say that a push or a
-//! pop returns if another thread is in the middle of its step. `docs/maintain/READY_QUEUE.md` says more.
+//! At every moment, under every schedule of the threads, the items in the queue, together with the items popped through all its passes, are,
+//! up to order, the items pushed through all its passes. No item is lost, made up or handed out twice. Of one call:
+//!
+//! - [`ReadyQueue::push`] that answers `Ok` appends the item to the list of its pass (`pushed`), and changes nothing else of it. `Err` hands
+//!   the same item back (`handed_back`) and leaves both lists (`refused`).
+//! - [`ReadyQueue::pop`] that answers an item appends it to the list of its pass (`popped`). `None` leaves both lists (`none`).
+//! - A queue with one pass says more. After a refusal as many items as the capacity were pushed and not popped through this pass
+//!   (`full_of_own`). After `None` everything that was pushed through it was popped through it (`all_own_popped`).
+//!
+//! # What `full` and `empty` do not say
+//!
+//! The clause `full` of `push` says of a refusal: there are items, as many as the capacity, and a list of histories, one of them that of
+//! this pass, of which the rule holds. `empty` of `pop` says the same of `None` with no items. Neither says that the queue was full, or
+//! empty, at a moment of the call: of a pass beside others both always hold. If this pass has pushed P and popped Q, another may have
+//! pushed Q and any n items, and popped P: the rule holds of those n. A `push` that always refuses and a `pop` that never finds an item
+//! (the edits `always_refuses` and `never_finds_an_item`) meet both; `full_of_own` and `all_own_popped` refuse them.
+//!
+//! Nothing rests on them: a worker that is told `None` sleeps until the count of moves changes, and settlement does what workers leave.
+//!
+//! # What the rule does not say
+//!
+//! - The order in which items come out. A thread alone gets them first in, first out; nothing rests on it.
+//! - Which thread gets an item, or how many it gets.
+//! - That a call returns. `push` and `pop` try again while another thread stands in the middle of its step at the same slot, so both carry
+//!   the bound `Wait`. There is no lock.
+//! - That a refused push succeeds later.
+//! - That items left in the queue are handed to anybody: they are dropped with it.
+//!
+//! # Costs
 //!
 //! A push and a pop do not allocate. Each takes a few atomic steps, however many items the queue holds, and tries again while threads meet
 //! at one slot. `new` allocates room for `capacity` items.

@@ -2,6 +2,7 @@
 use Rattle.std.proofs.Common.{◌≡◌, ℕ, ◌+◌, Bool, true, false, cond, ◌&&◌, eqb, List, [], ◌∷◌, ◌++◌, length, Option, Some, None, refl, sym, ap, subst, ◌∙◌, take, drop, Bor, nat_eq, MatchOption}
 use Rattle.std.specs.Cmp.Lexicographic.{pointwise}
 use Rattle.std.proofs.lemmas.Bool.{eqb-true}
+use Rattle.std.proofs.lemmas.Option.{same_Some}
 use Rattle.gate_values.specs.Spelling.{byte_of_value}
 use Rattle.gate_values.specs.declared.Value.{Value}
 use Rattle.gate_values.specs.declared.Value.TheVariants.{Zero, One, X, Z}
@@ -14,9 +15,6 @@ pub bind_some : {A B : Type 0} (o : Option A) (f : A → Option B) (y : B) → (
 bind_some (Some x) f y e = (x, refl, e)
 bind_some None f y e = absurd cc
 
-pub some_is : {A : Type 0} (x y : A) → Some x ≡ Some y → x ≡ y
-some_is x y e = cc
-
 -- ---- words
 
 word_byte : (b c : ℕ) (same : Bool) (word text rest : List ℕ) → eqb c b ≡ same → ((r : List ℕ) → after_word word text ≡ Some r → text ≡ word ++ r) → cond same (after_word word text) None ≡ Some rest → c ∷ text ≡ b ∷ (word ++ rest)
@@ -24,7 +22,7 @@ word_byte b c true word text rest is more e = ap (λ (d : ℕ). d ∷ text) (eqb
 word_byte b c false word text rest is more e = absurd cc
 
 pub after_takes : (word text rest : List ℕ) → after_word word text ≡ Some rest → text ≡ word ++ rest
-after_takes [] text rest e = some_is text rest e
+after_takes [] text rest e = same_Some text rest e
 after_takes (b ∷ word) [] rest e = absurd cc
 after_takes (b ∷ word) (c ∷ text) rest e = word_byte b c (eqb c b) word text rest refl (λ r. after_takes word text r) e
 
@@ -47,19 +45,19 @@ value_byte : (b : ℕ) (text : List ℕ) (v : Value) (rest : List ℕ) → value
 value_byte b text v rest e = by_zero (eqb b 48) refl e
   where
     by_z : (z : Bool) → eqb b 122 ≡ z → cond {A = Option (Value × List ℕ)} z (Some (Z, text)) None ≡ Some (v, rest) → (b ≡ byte_of_value v) × (text ≡ rest)
-    by_z true is e = subst (λ (r : Value × List ℕ). (b ≡ byte_of_value r.0) × (text ≡ r.1)) (some_is (Z, text) (v, rest) e) (eqb-true b 122 is, refl)
+    by_z true is e = subst (λ (r : Value × List ℕ). (b ≡ byte_of_value r.0) × (text ≡ r.1)) (same_Some (Z, text) (v, rest) e) (eqb-true b 122 is, refl)
     by_z false is e = absurd cc
 
     by_x : (x : Bool) → eqb b 120 ≡ x → cond {A = Option (Value × List ℕ)} x (Some (X, text)) (cond (eqb b 122) (Some (Z, text)) None) ≡ Some (v, rest) → (b ≡ byte_of_value v) × (text ≡ rest)
-    by_x true is e = subst (λ (r : Value × List ℕ). (b ≡ byte_of_value r.0) × (text ≡ r.1)) (some_is (X, text) (v, rest) e) (eqb-true b 120 is, refl)
+    by_x true is e = subst (λ (r : Value × List ℕ). (b ≡ byte_of_value r.0) × (text ≡ r.1)) (same_Some (X, text) (v, rest) e) (eqb-true b 120 is, refl)
     by_x false is e = by_z (eqb b 122) refl e
 
     by_one : (o : Bool) → eqb b 49 ≡ o → cond {A = Option (Value × List ℕ)} o (Some (One, text)) (cond (eqb b 120) (Some (X, text)) (cond (eqb b 122) (Some (Z, text)) None)) ≡ Some (v, rest) → (b ≡ byte_of_value v) × (text ≡ rest)
-    by_one true is e = subst (λ (r : Value × List ℕ). (b ≡ byte_of_value r.0) × (text ≡ r.1)) (some_is (One, text) (v, rest) e) (eqb-true b 49 is, refl)
+    by_one true is e = subst (λ (r : Value × List ℕ). (b ≡ byte_of_value r.0) × (text ≡ r.1)) (same_Some (One, text) (v, rest) e) (eqb-true b 49 is, refl)
     by_one false is e = by_x (eqb b 120) refl e
 
     by_zero : (z : Bool) → eqb b 48 ≡ z → cond {A = Option (Value × List ℕ)} z (Some (Zero, text)) (cond (eqb b 49) (Some (One, text)) (cond (eqb b 120) (Some (X, text)) (cond (eqb b 122) (Some (Z, text)) None))) ≡ Some (v, rest) → (b ≡ byte_of_value v) × (text ≡ rest)
-    by_zero true is e = subst (λ (r : Value × List ℕ). (b ≡ byte_of_value r.0) × (text ≡ r.1)) (some_is (Zero, text) (v, rest) e) (eqb-true b 48 is, refl)
+    by_zero true is e = subst (λ (r : Value × List ℕ). (b ≡ byte_of_value r.0) × (text ≡ r.1)) (same_Some (Zero, text) (v, rest) e) (eqb-true b 48 is, refl)
     by_zero false is e = by_one (eqb b 49) refl e
 
 pub value_takes : (text : List ℕ) (v : Value) (rest : List ℕ) → value_at text ≡ Some (v, rest) → text ≡ byte_of_value v ∷ rest

@@ -1,7 +1,7 @@
 -- A number that is read is spelled so, and what is spelled so is read.
-use Rattle.std.proofs.Common.{rules, ◌≡◌, ℕ, zero, suc, ◌+◌, ◌-◌, ◌*◌, ◌^◌, ◌<◌, ◌≤◌, Bool, true, false, cond, not, ◌&&◌, ◌||◌, ltb, leb, eqb, List, [], ◌∷◌, ◌++◌, length, get_or, Option, Some, None, refl, sym, ap, subst, ◌∙◌, length-append, arith, lt-ltb, ltb-true}
+use Rattle.std.proofs.Common.{rules, ◌≡◌, ℕ, zero, suc, ◌+◌, ◌-◌, ◌*◌, ◌^◌, ◌<◌, ◌≤◌, Bool, true, false, cond, not, ◌||◌, ltb, leb, eqb, List, [], ◌∷◌, ◌++◌, length, get_or, Option, Some, None, refl, sym, ap, subst, ◌∙◌, length-append, arith, lt-ltb, ltb-true}
 use Rattle.std.proofs.lemmas.Grind.{common_steps}
-use Rattle.std.proofs.lemmas.Bool.{eqb-true, le-leb, leb-true, le-ltb, lt-leb}
+use Rattle.std.proofs.lemmas.Bool.{eqb-true, le-leb, leb-true, le-ltb, lt-leb, and_parts}
 use Rattle.std.proofs.lemmas.Option.{cond_some}
 use Rattle.std.proofs.lemmas.Str.Parse.{IsNumeralModel, numerals_by_fold}
 use Rattle.std.proofs.lemmas.Fmt.{digits_decimal, digits_value-decimal, decimal-digits_value, decimal_nonempty, first_decimal, decimal_digit, length-decimal-le}
@@ -23,11 +23,6 @@ own = numerals_by_fold _ (search rules) value_after (search rules)
 abbrev pub EndsNumber : List ℕ → Type 0
 EndsNumber [] = Unit {0}
 EndsNumber (b ∷ rest) = is_ascii_digit b ≡ false
-
-pub and_both : (a b : Bool) → (a && b) ≡ true → (a ≡ true) × (b ≡ true)
-and_both true true e = (refl, refl)
-and_both true false e = absurd cc
-and_both false b e = absurd cc
 
 -- ---- digits
 
@@ -52,7 +47,7 @@ digits_end n (b ∷ text) ends = rw ends refl
 digits_again : (n : ℕ) (ds text : List ℕ) → all_ascii_digits ds ≡ true → EndsNumber text → digits_at n (ds ++ text) ≡ (value_after n ds, text)
 digits_again n [] text all ends = digits_end n text ends
 digits_again n (c ∷ ds) text all ends =
-    let both = and_both (is_ascii_digit c) (all_ascii_digits ds) all in
+    let both = and_parts (is_ascii_digit c) (all_ascii_digits ds) all in
     rw both.0 (digits_again (10 * n + (c - 48)) ds text both.1 ends)
 
 -- digits only raise the value of what stands before them
@@ -79,8 +74,8 @@ unfolding number_at
 number_takes text n rest e =
     let read = digits_at 0 text in
     let is = cond_some (is_number_at text read) read (n, rest) e in
-    let one = and_both _ _ is.0 in
-    let two = and_both _ _ one.0 in
+    let one = and_parts _ _ is.0 in
+    let two = and_parts _ _ one.0 in
     let (ds, all, parts, value) = digits_takes 0 text in
     let longer : length read.1 < length text = ltb-true _ _ two.0 in
     let some : 0 < length ds = omega (arith, length-append ds read.1, ap length parts, longer) in

@@ -1,16 +1,12 @@
 -- Lines and words, one at a time.
 use Rattle.std.proofs.Common.{◌≡◌, ℕ, suc, ◌+◌, ◌<◌, Bool, true, false, not, cond, ltb, List, [], ◌∷◌, length, take, drop, get_or, Some, None, refl, subst, add-zero, ap, ◌∙◌, arith}
 use Rattle.std.specs.List.{slice_split, onto_first, position, position_or_len, before_first, after_first, filter}
-use Rattle.std.proofs.lemmas.Bool.{ltb-true, ltb-false}
+use Rattle.std.proofs.lemmas.Bool.{ltb-true, ltb-false, not-true}
 use Rattle.std.proofs.lemmas.List.Sums.{prefix_len-le-length, passes_at_first}
 use Rattle.std.proofs.lemmas.List.{get_or-drop}
 use Rattle.std.proofs.Math.Seq.{drop-length}
 use Rattle.std.proofs.lemmas.List.Splits.{slice_split_first, length-slice_split}
 use Rattle.text_rules.specs.Text.{is_feed, is_blank, is_filled, lines, words, less_empty_last}
-
-not_true : (b : Bool) → not b ≡ true → b ≡ false
-not_true true e = absurd cc
-not_true false e = refl
 
 pub found : {X : Type 0} (p : X → Bool) (xs : List X) (i : ℕ) → position p xs ≡ Some i → (position_or_len p xs ≡ i) × (i < length xs)
 found p xs i h = cases (ltb (position_or_len p xs) (length xs)) refl h
@@ -96,7 +92,7 @@ pub starts_filled : (bytes : List ℕ) (i : ℕ) → position (λ b. not (is_bla
 starts_filled bytes i h =
     let at = found (λ b. not (is_blank b)) bytes i h in
     let passes : not (is_blank (get_or bytes i 0)) ≡ true = subst (λ (n : ℕ). not (is_blank (get_or bytes n 0)) ≡ true) at.0 (passes_at_first (λ b. not (is_blank b)) bytes 0 (omega (arith, at.0, at.1))) in
-    rw get_or-drop (rw add-zero (not_true (is_blank (get_or bytes i 0)) passes))
+    rw get_or-drop (rw add-zero (not-true (is_blank (get_or bytes i 0)) passes))
 
 pub skipped : (bytes : List ℕ) (i : ℕ) → position (λ b. not (is_blank b)) bytes ≡ Some i → words bytes ≡ words (drop i bytes)
 skipped bytes i h = words_skip bytes ∙ ap (λ (n : ℕ). words (drop n bytes)) (found (λ b. not (is_blank b)) bytes i h).0

@@ -1,7 +1,7 @@
 -- The tokens of a line, one at a time.
 use Rattle.std.proofs.Common.{◌≡◌, ℕ, suc, ◌+◌, ◌<◌, ◌≤◌, ◌||◌, ◌&&◌, Bool, true, false, not, cond, eqb, List, [], ◌∷◌, ◌++◌, length, take, drop, get_or, Some, None, refl, sym, ap, subst, ◌∙◌, arith, inl, inr, length-take, length-drop, add-zero}
 use Rattle.std.specs.List.{slice_split, onto_first, position, position_or_len, filter, flat_map, list_all}
-use Rattle.std.proofs.lemmas.Bool.{cases_lt, ne_eqb, true≢false}
+use Rattle.std.proofs.lemmas.Bool.{cases_lt, ne_eqb, true≢false, and_parts, not-true}
 use Rattle.std.proofs.lemmas.Bool.Decides.{nat_tests}
 use Rattle.std.proofs.lemmas.List.{append-nil, take-append-drop, get_or-drop}
 use Rattle.std.proofs.lemmas.List.Concat.{flat_map-cons}
@@ -146,21 +146,17 @@ onto_all-cons : (run p : List ℕ) (ps : List (List ℕ)) → onto_all run (p �
 onto_all-cons [] p ps = refl
 onto_all-cons (b ∷ run) p ps = ap (onto_first b) (onto_all-cons run p ps)
 
-both : (a b : Bool) → (a && b) ≡ true → (a ≡ true) × (b ≡ true)
-both true b h = (refl, h)
-both false b h = absurd cc
-
 abbrev AreNameBytes : List ℕ → Type 0
 AreNameBytes run = list_all is_name_byte run ≡ true
 
 -- the bytes of a name
 name_content : (run line : List ℕ) → AreNameBytes run → content (run ++ line) ≡ run ++ content line
 name_content [] line h = refl
-name_content (b ∷ run) line h = let two = both (is_name_byte b) (list_all is_name_byte run) h in content_more b (run ++ line) (name_no_hash b two.0) ∙ ap (λ (l : List ℕ). b ∷ l) (name_content run line two.1)
+name_content (b ∷ run) line h = let two = and_parts (is_name_byte b) (list_all is_name_byte run) h in content_more b (run ++ line) (name_no_hash b two.0) ∙ ap (λ (l : List ℕ). b ∷ l) (name_content run line two.1)
 
 name_parts : (run bytes : List ℕ) → AreNameBytes run → parts (run ++ bytes) ≡ onto_all run (parts bytes)
 name_parts [] bytes h = refl
-name_parts (b ∷ run) bytes h = let two = both (is_name_byte b) (list_all is_name_byte run) h in plain_parts b (run ++ bytes) (name_no_blank b two.0) (name_no_mark b two.0) ∙ ap (onto_first b) (name_parts run bytes two.1)
+name_parts (b ∷ run) bytes h = let two = and_parts (is_name_byte b) (list_all is_name_byte run) h in plain_parts b (run ++ bytes) (name_no_blank b two.0) (name_no_mark b two.0) ∙ ap (onto_first b) (name_parts run bytes two.1)
 
 abbrev pub ends : ℕ → Bool
 ends b = not (is_name_byte b)
@@ -246,11 +242,7 @@ no_name_within : (bytes : List ℕ) (n : ℕ) → n ≡ position_or_len ends byt
 no_name_within bytes n is lt s =
     let names : AreNameBytes (take n bytes) = subst (λ (k : ℕ). AreNameBytes (take k bytes)) (sym is) (all_names bytes) in
     let passes : ends (get_or bytes n 0) ≡ true = subst (λ (k : ℕ). ends (get_or bytes k 0) ≡ true) (sym is) (passes_at_first ends bytes 0 (omega (arith, is, lt))) in
-    subst (λ (l : List ℕ). starts_with_name (line_tokens l) ≡ false) (sym (split_at bytes n 0 lt)) (no_name_first (take n bytes) (drop (suc n) bytes) (get_or bytes n 0) names (no_true (is_name_byte (get_or bytes n 0)) passes) s)
-  where
-    no_true : (b : Bool) → not b ≡ true → b ≡ false
-    no_true true e = absurd cc
-    no_true false e = refl
+    subst (λ (l : List ℕ). starts_with_name (line_tokens l) ≡ false) (sym (split_at bytes n 0 lt)) (no_name_first (take n bytes) (drop (suc n) bytes) (get_or bytes n 0) names (not-true (is_name_byte (get_or bytes n 0)) passes) s)
 
 pub no_name_at : (bytes : List ℕ) (n : ℕ) (over : Bool) → n ≡ position_or_len ends bytes → (length bytes ≤ n → over ≡ true) → (n < length bytes → over ≡ ends_token (get_or bytes n 0)) → over ≡ false → starts_with_name (line_tokens bytes) ≡ false
 no_name_at bytes n over is end before still = elim (cases_lt n (length bytes)) [ inl lt ↦ no_name_within bytes n is lt (sym (before lt) ∙ still) | inr le ↦ absurd (true≢false (sym (end le) ∙ still)) ]

@@ -7,12 +7,9 @@ use Rattle.std.specs.List.{range_with_len, All}
 use Rattle.std.specs.List.Sorted.{IsNonDecreasingBy, IsStableByKey, ties}
 use Rattle.std.specs.Ordering.{nat_cmp, is_lt}
 use Rattle.std.specs.declared.cmp.Ordering.TheVariants.{Less, Equal, Greater}
+use Rattle.std.proofs.lemmas.List.Elements.{filter_agree}
 
 -- ---- lists alike
-
-pub filter_same : {A : Type 0} (p q : A → Bool) (xs : List A) → ((x : A) → p x ≡ q x) → filter p xs ≡ filter q xs
-filter_same p q [] same = refl
-filter_same {A} p q (x ∷ xs) same = ap (λ (b : Bool). cond b (x ∷ filter p xs) (filter p xs)) (same x) ∙ ap (λ (l : List A). cond (q x) (x ∷ l) l) (filter_same p q xs same)
 
 pub flat_same : {A : Type 0} (f g : ℕ → List A) (ts : List ℕ) → ((t : ℕ) → f t ≡ g t) → flat_map f ts ≡ flat_map g ts
 flat_same f g [] same = refl
@@ -91,6 +88,6 @@ module _ {A : Type 0} (key : A → ℕ) where
 
   pub stays : (x : A) (xs ys : List A) → IsStableByKey key nat_cmp xs ys → of ys (key x) ≡ of xs (key x)
   stays x xs ys stable =
-      sym (filter_same (ties (λ u v. is_lt (nat_cmp (key u) (key v))) x) (λ y. eqb (key y) (key x)) ys (tie x))
+      sym (filter_agree (ties (λ u v. is_lt (nat_cmp (key u) (key v))) x) (λ y. eqb (key y) (key x)) (tie x) ys)
       ∙ stable x
-      ∙ filter_same (ties (λ u v. is_lt (nat_cmp (key u) (key v))) x) (λ y. eqb (key y) (key x)) xs (tie x)
+      ∙ filter_agree (ties (λ u v. is_lt (nat_cmp (key u) (key v))) x) (λ y. eqb (key y) (key x)) (tie x) xs

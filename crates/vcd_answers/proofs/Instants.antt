@@ -1,6 +1,6 @@
 -- Changes of all wires in the order of time, and their lines.
-use Rattle.std.proofs.Common.{◌≡◌, ℕ, zero, suc, ◌+◌, ◌<◌, Bool, true, false, cond, ◌&&◌, ◌||◌, eqb, List, [], ◌∷◌, ◌++◌, length, refl, sym, ap, subst, ◌∙◌, append_assoc, arith, eq-eqb, drop, drop-cons, get_or}
-use Rattle.std.proofs.lemmas.Bool.{ne_eqb, eqb-true, leb-true, ltb-true}
+use Rattle.std.proofs.Common.{◌≡◌, ℕ, zero, suc, ◌+◌, ◌<◌, Bool, true, false, cond, ◌||◌, eqb, List, [], ◌∷◌, ◌++◌, length, refl, sym, ap, subst, ◌∙◌, append_assoc, arith, eq-eqb, drop, drop-cons, get_or}
+use Rattle.std.proofs.lemmas.Bool.{ne_eqb, eqb-true, leb-true, ltb-true, and_parts}
 use Rattle.std.proofs.lemmas.Grind.{flat_map-append}
 use Rattle.std.proofs.lemmas.List.{map-append}
 use Rattle.std.proofs.lemmas.List.Elements.{filter-append}
@@ -19,11 +19,6 @@ use Rattle.vcd_answers.specs.Dumps.{first_code, is_at, change_line, time_line, c
 use Rattle.vcd_answers.specs.inner.Events.{event, run_of, by_wire, events_at, by_time, event_text}
 use Rattle.vcd_answers.proofs.Grouped.{flat_same, of, Rises, Below, rises-from, below-from, grouped, stays}
 
-pub and_both : (a b : Bool) → (a && b) ≡ true → (a ≡ true) × (b ≡ true)
-and_both true true e = (refl, refl)
-and_both true false e = absurd cc
-and_both false b e = absurd cc
-
 -- ---- the changes of a wire are in the order of time
 
 abbrev pub time : Run → ℕ
@@ -32,14 +27,14 @@ time run = run.time
 pub rising : (run : Run) (runs : List Run) → goes_on run runs ≡ true → Rises time run.time runs × Below time (last_time + 1) (run ∷ runs)
 rising run [] h = (tt, (omega (arith, leb-true run.time last_time h), tt))
 rising run (next ∷ runs) h =
-    let parts = and_both _ _ h in
+    let parts = and_parts _ _ h in
     let more = rising next runs parts.1 in
-    let less : run.time < next.time = ltb-true run.time next.time (and_both _ _ parts.0).0 in
+    let less : run.time < next.time = ltb-true run.time next.time (and_parts _ _ parts.0).0 in
     ((omega (arith, less), more.0), (omega (arith, less, more.1.0), more.1))
 
 pub changes_rise : (runs : List Run) → are_changes runs ≡ true → Rises time 0 runs × Below time (last_time + 1) runs
 changes_rise [] h = absurd cc
-changes_rise (run ∷ runs) h = let up = rising run runs (and_both _ _ h).1 in ((omega arith, up.0), up.1)
+changes_rise (run ∷ runs) h = let up = rising run runs (and_parts _ _ h).1 in ((omega arith, up.0), up.1)
 
 -- the changes at each time, one time after another
 pub changes_whole : (runs : List Run) → are_changes runs ≡ true → flat_map (λ t. filter (is_at t) runs) (range_with_len 0 (last_time + 1)) ≡ runs
@@ -80,8 +75,8 @@ below_wire b code (run ∷ runs) one = (one.0, below_wire b code runs one.1)
 
 pub each_of : (wire : Wire) (wires : List Wire) → list_all is_wire (wire ∷ wires) ≡ true → (is_name wire.name ≡ true) × (are_changes wire.changes ≡ true) × (list_all is_wire wires ≡ true)
 each_of wire wires h =
-    let both = and_both _ _ h in
-    let own = and_both _ _ both.0 in
+    let both = and_parts _ _ h in
+    let own = and_parts _ _ both.0 in
     (own.0, own.1, both.1)
 
 below_wires : (code : ℕ) (wires : List Wire) → list_all is_wire wires ≡ true → Below when (last_time + 1) (by_wire code wires)

@@ -1,15 +1,11 @@
 -- A change that is put to a wire; the runs behind the last; no line.
-use Rattle.std.proofs.Common.{◌≡◌, ℕ, zero, suc, ◌<◌, ◌≤◌, leb, List, [], ◌∷◌, ◌++◌, length, get_or, set, drop, Result, Ok, Err, OnOk, sym, ap, ◌∙◌, arith}
+use Rattle.std.proofs.Common.{◌≡◌, ℕ, zero, suc, ◌<◌, ◌≤◌, leb, List, [], ◌∷◌, ◌++◌, length, get_or, set, drop, sym, ap, ◌∙◌, arith}
 use Rattle.circuit_meaning.specs.declared.Run.{Run}
 use Rattle.text_rules.specs.Text.{lines}
 use Rattle.text_rules.proofs.Stream.{no_line}
 use Rattle.vcd_answers.specs.Wires.{Wire, goes_on}
 use Rattle.vcd_answers.specs.inner.Reading.{put_at}
 use Rattle.vcd_answers.proofs.Sound.{last_is}
-
-pub on_ok : {A E P Q : Type 0} (r : Result A E) → (P → Q) → OnOk r P → OnOk r Q
-on_ok (Ok x) f p = f p
-on_ok (Err e) f p = tt
 
 abbrev pub with_run : Wire → Run → Wire
 with_run wire run = record wire { changes = wire.changes ++ run ∷ [] }

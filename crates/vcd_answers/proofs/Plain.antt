@@ -1,6 +1,6 @@
 -- The lines of a dump have no line feed, and its numbers are read again.
-use Rattle.std.proofs.Common.{rules, ◌≡◌, ℕ, zero, suc, ◌+◌, ◌-◌, ◌*◌, ◌^◌, ◌<◌, ◌≤◌, Bool, true, false, cond, not, ◌&&◌, eqb, leb, List, [], ◌∷◌, ◌++◌, refl, ap, ◌∙◌, append_assoc, arith}
-use Rattle.std.proofs.lemmas.Bool.{ne_eqb, le-leb, leb-true}
+use Rattle.std.proofs.Common.{rules, ◌≡◌, ℕ, zero, suc, ◌+◌, ◌-◌, ◌*◌, ◌^◌, ◌<◌, ◌≤◌, Bool, true, false, cond, not, eqb, leb, List, [], ◌∷◌, ◌++◌, refl, ap, ◌∙◌, append_assoc, arith}
+use Rattle.std.proofs.lemmas.Bool.{ne_eqb, le-leb, leb-true, and_parts, and_from}
 use Rattle.std.proofs.lemmas.List.Folds.{list_all-append}
 use Rattle.std.proofs.lemmas.Str.Parse.{IsNumeralModel, numerals_by_fold}
 use Rattle.std.proofs.lemmas.Fmt.{digits_decimal, digits_value-decimal, decimal_nonempty}
@@ -20,7 +20,7 @@ use Rattle.text_rules.proofs.Digits.{with_digit, number_is}
 use Rattle.vcd_answers.specs.Wires.{Wire, last_time, is_wire}
 use Rattle.vcd_answers.specs.Dumps.{first_code, is_at, change_line, time_line, change_lines, is_instant, instant_lines, body_lines, var_line, var_lines, vcd_lines, with_line_feed, vcd_of}
 use Rattle.vcd_answers.proofs.Sound.{last_is}
-use Rattle.vcd_answers.proofs.Instants.{and_both, each_of}
+use Rattle.vcd_answers.proofs.Instants.{each_of}
 
 -- ---- numbers
 
@@ -40,7 +40,7 @@ value_fold n (c ∷ cs) =
 
 all_digits : (ds : List ℕ) → all_ascii_digits ds ≡ true → list_all is_digit ds ≡ true
 all_digits [] h = refl
-all_digits (d ∷ ds) h = let both = and_both (is_ascii_digit d) (all_ascii_digits ds) h in rw (both.0, all_digits ds both.1) refl
+all_digits (d ∷ ds) h = let both = and_parts (is_ascii_digit d) (all_ascii_digits ds) h in rw (both.0, all_digits ds both.1) refl
 
 pub amount_is : (t : ℕ) → t ≤ 1000001 → amount 1000001 (decimal t) ≡ Within t
 amount_is t within =
@@ -51,30 +51,27 @@ amount_is t within =
 
 -- ---- no line feed
 
-both_true : (a b : Bool) → a ≡ true → b ≡ true → (a && b) ≡ true
-both_true a b h k = rw (h, k) refl
-
 not_feed : (b : ℕ) → 11 ≤ b → not (eqb b 10) ≡ true
 not_feed b h = ap not (ne_eqb b 10 (λ e. omega (arith, e, h)))
 
 plain_append : (xs ys : List ℕ) → is_plain xs ≡ true → is_plain ys ≡ true → is_plain (xs ++ ys) ≡ true
-plain_append xs ys h k = list_all-append (λ b. not (eqb b 10)) xs ys ∙ both_true (is_plain xs) (is_plain ys) h k
+plain_append xs ys h k = list_all-append (λ b. not (eqb b 10)) xs ys ∙ and_from (is_plain xs) (is_plain ys) h k
 
 plain_digits : (ds : List ℕ) → all_ascii_digits ds ≡ true → is_plain ds ≡ true
 plain_digits [] h = refl
 plain_digits (d ∷ ds) h =
-    let both = and_both (is_ascii_digit d) (all_ascii_digits ds) h in
-    rw (not_feed d (omega (arith, leb-true 48 d (and_both (leb 48 d) (leb d 57) both.0).0)), plain_digits ds both.1) refl
+    let both = and_parts (is_ascii_digit d) (all_ascii_digits ds) h in
+    rw (not_feed d (omega (arith, leb-true 48 d (and_parts (leb 48 d) (leb d 57) both.0).0)), plain_digits ds both.1) refl
 
 plain_bytes : (name : List ℕ) → list_all is_name_byte name ≡ true → is_plain name ≡ true
 plain_bytes [] h = refl
 plain_bytes (b ∷ name) h =
-    let both = and_both (is_name_byte b) (list_all is_name_byte name) h in
-    let visible = and_both _ _ (and_both _ _ (and_both _ _ both.0).0).0 in
+    let both = and_parts (is_name_byte b) (list_all is_name_byte name) h in
+    let visible = and_parts _ _ (and_parts _ _ (and_parts _ _ both.0).0).0 in
     rw (not_feed b (omega (arith, leb-true 33 b visible.0)), plain_bytes name both.1) refl
 
 plain_name : (name : List ℕ) → is_name name ≡ true → is_plain name ≡ true
-plain_name name h = plain_bytes name (and_both (is_filled name) (list_all is_name_byte name) h).1
+plain_name name h = plain_bytes name (and_parts (is_filled name) (list_all is_name_byte name) h).1
 
 plain_var : (code : ℕ) (name : List ℕ) → 33 ≤ code → is_name name ≡ true → is_plain (var_line code name) ≡ true
 plain_var code name from h =
@@ -98,20 +95,20 @@ abbrev plain_lines : List (List ℕ) → Bool
 plain_lines ls = list_all is_plain ls
 
 lines_append : (xs ys : List (List ℕ)) → plain_lines xs ≡ true → plain_lines ys ≡ true → plain_lines (xs ++ ys) ≡ true
-lines_append xs ys h k = list_all-append is_plain xs ys ∙ both_true (plain_lines xs) (plain_lines ys) h k
+lines_append xs ys h k = list_all-append is_plain xs ys ∙ and_from (plain_lines xs) (plain_lines ys) h k
 
 plain_vars : (code : ℕ) (wires : List Wire) → 33 ≤ code → list_all is_wire wires ≡ true → plain_lines (var_lines code wires) ≡ true
 plain_vars code [] from each = refl
 plain_vars code (wire ∷ wires) from each =
     let parts = each_of wire wires each in
-    both_true _ _ (plain_var code wire.name from parts.0) (plain_vars (code + 1) wires (omega arith) parts.2)
+    and_from _ _ (plain_var code wire.name from parts.0) (plain_vars (code + 1) wires (omega arith) parts.2)
 
 plain_runs : (code t : ℕ) (runs : List Run) → 33 ≤ code → plain_lines (map (change_line code) (filter (is_at t) runs)) ≡ true
 plain_runs code t [] from = refl
 plain_runs code t (run ∷ runs) from = cases (eqb run.time t) (plain_change code run from) (plain_runs code t runs from)
   where
     cases : (b : Bool) → is_plain (change_line code run) ≡ true → plain_lines (map (change_line code) (filter (is_at t) runs)) ≡ true → plain_lines (map (change_line code) (cond b (run ∷ filter (is_at t) runs) (filter (is_at t) runs))) ≡ true
-    cases true one more = both_true _ _ one more
+    cases true one more = and_from _ _ one more
     cases false one more = more
 
 plain_changes : (t code : ℕ) (wires : List Wire) → 33 ≤ code → plain_lines (change_lines t code wires) ≡ true
@@ -124,7 +121,7 @@ plain_instants wires a (suc n) within = cases (is_instant wires a) (plain_time a
   where
     cases : (b : Bool) → is_plain (time_line a) ≡ true → plain_lines (flat_map (instant_lines wires) (filter (is_instant wires) (range_with_len (a + 1) n))) ≡ true
         → plain_lines (flat_map (instant_lines wires) (cond b (a ∷ filter (is_instant wires) (range_with_len (a + 1) n)) (filter (is_instant wires) (range_with_len (a + 1) n)))) ≡ true
-    cases true one more = both_true _ _ one (lines_append (change_lines a first_code wires) (flat_map (instant_lines wires) (filter (is_instant wires) (range_with_len (a + 1) n))) (plain_changes a first_code wires (omega arith)) more)
+    cases true one more = and_from _ _ one (lines_append (change_lines a first_code wires) (flat_map (instant_lines wires) (filter (is_instant wires) (range_with_len (a + 1) n))) (plain_changes a first_code wires (omega arith)) more)
     cases false one more = more
 
 plain_all : (wires : List Wire) → list_all is_wire wires ≡ true → plain_lines (vcd_lines wires) ≡ true
@@ -135,7 +132,7 @@ plain_all wires each =
 lines_ended : (ls : List (List ℕ)) → plain_lines ls ≡ true → lines (flat_map with_line_feed ls) ≡ ls
 lines_ended [] h = no_line
 lines_ended (l ∷ ls) h =
-    let both = and_both _ _ h in
+    let both = and_parts _ _ h in
     ap lines (append_assoc l (10 ∷ []) (flat_map with_line_feed ls)) ∙ line_front l (flat_map with_line_feed ls) both.0 ∙ ap (λ (m : List (List ℕ)). l ∷ m) (lines_ended ls both.1)
 
 pub lines_of_dump : (wires : List Wire) → list_all is_wire wires ≡ true → lines (vcd_of wires) ≡ vcd_lines wires

@@ -1,6 +1,6 @@
 -- What is written is read again.
-use Rattle.std.proofs.Common.{◌≡◌, ℕ, zero, suc, ◌+◌, ◌-◌, ◌≤◌, Bool, true, false, cond, ◌||◌, eqb, ltb, List, [], ◌∷◌, ◌++◌, length, take, drop, Option, Some, None, refl, sym, ap, ◌∙◌, append_assoc, append-nil, length-append, arith, lt-ltb}
-use Rattle.std.proofs.lemmas.Bool.{le-leb}
+use Rattle.std.proofs.Common.{◌≡◌, ℕ, zero, suc, ◌+◌, ◌-◌, ◌≤◌, Bool, true, false, cond, eqb, ltb, List, [], ◌∷◌, ◌++◌, length, take, drop, Option, Some, None, refl, sym, ap, ◌∙◌, append_assoc, append-nil, length-append, arith, lt-ltb}
+use Rattle.std.proofs.lemmas.Bool.{le-leb, or_parts}
 use Rattle.std.proofs.Math.Seq.{take-append_seam}
 use Rattle.std.specs.Prelude.{map, filter, flat_map, codes}
 use Rattle.std.specs.List.{range_with_len, list_all, list_any}
@@ -69,10 +69,6 @@ changes_again t wires (e ∷ es) rest all are =
     ∙ rw inside (ap (λ (u : ℕ). with_changes (put_at place (at_run u e.value) wires) t (map line_of es ++ rest)) (sym all.0)
     ∙ changes_again t next es rest all.1 codes_next)
 
-or_false : (a b : Bool) → (a || b) ≡ false → b ≡ false
-or_false true b h = absurd cc
-or_false false b h = h
-
 abbrev instants : List Wire → ℕ → ℕ → List (List ℕ)
 instants wires a n = flat_map (instant_lines wires) (filter (is_instant wires) (range_with_len a n))
 
@@ -94,7 +90,7 @@ instants_again all a (suc n) t wires within same = cases (is_instant all a) refl
         ∙ more a (put_events wires es) (length-put_events wires es ∙ same)
         ∙ ap Some (sym (put_append wires es (events all (a + 1) n)))
     cases false h more =
-        let none : events_at first_code all a ≡ [] = empty_is (events_at first_code all a) (some_at a first_code all ∙ or_false (eqb a 0) (list_any (changes_at a) all) h) in
+        let none : events_at first_code all a ≡ [] = empty_is (events_at first_code all a) (some_at a first_code all ∙ (or_parts (eqb a 0) (list_any (changes_at a) all) h).1) in
         more t wires same ∙ ap (λ (l : List Event). Some (put_events wires (l ++ events all (a + 1) n))) (sym none)
 
 -- ---- the whole text

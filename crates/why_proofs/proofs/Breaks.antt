@@ -2,13 +2,14 @@
 use Rattle.std.proofs.Common.{◌≡◌, ℕ, suc, ◌+◌, ◌<◌, ◌≤◌, List, [], ◌∷◌, ◌++◌, length, get_or, Option, Some, None, option_map, refl, sym, ap, subst, ◌∙◌, append_assoc, append-nil, length-append, arith}
 use Rattle.std.specs.Prelude.{flat_map, codes}
 use Rattle.std.specs.List.{AllByRecursion}
+use Rattle.std.proofs.lemmas.Option.{same_Some}
 use Rattle.gate_values.specs.declared.Value.TheVariants.{X}
 use Rattle.valid_intervals.specs.declared.SignalCell.{SignalCell}
 use Rattle.why_proofs.specs.Spelling.{claim_line, cell_line, Proof, text_of, IsLine, IsProof}
 use Rattle.why_proofs.specs.Broken.{first_lines, GoesOn, IsBroken}
 use Rattle.text_fields.specs.Reading.{after_word}
 use Rattle.why_proofs.specs.inner.Reading.{Claim, claim_at, cell_at, cells_at}
-use Rattle.text_fields.proofs.Fields.{some_is, after_takes}
+use Rattle.text_fields.proofs.Fields.{after_takes}
 use Rattle.text_fields.proofs.Items.{items_again}
 use Rattle.why_proofs.proofs.Lines.{claim_again, cell_again, cell_none_end, spelling}
 use Rattle.why_proofs.proofs.Feeds.{IsWholeLine, claim-whole, cell-whole, end-whole, line-same, first-line, first-none, first-shape, first-fewer}
@@ -39,7 +40,7 @@ proof-is p q e f = let at : Claim → List SignalCell → Proof = λ c xs. recor
 
 same-tail : (p q : Proof) (x y : List ℕ) → IsProof p → IsProof q → claim_line p.name p.time p.value ++ x ≡ claim_line q.name q.time q.value ++ y → (claim-of p ≡ claim-of q) × (x ≡ y)
 same-tail p q x y hp hq e =
-    let both : (claim-of p, x) ≡ (claim-of q, y) = some_is (claim-of p, x) (claim-of q, y) (sym (claim-read p x hp) ∙ ap claim_at e ∙ claim-read q y hq) in
+    let both : (claim-of p, x) ≡ (claim-of q, y) = same_Some (claim-of p, x) (claim-of q, y) (sym (claim-read p x hp) ∙ ap claim_at e ∙ claim-read q y hq) in
     (ap (λ (r : Claim × List ℕ). r.0) both, ap (λ (r : Claim × List ℕ). r.1) both)
 
 tail-read : (p : Proof) → IsProof p → cells_at (length (tail-of p)) (tail-of p) ≡ (p.cells, end)
@@ -131,7 +132,7 @@ module _ (q : Proof) (is : IsProof q) where
     -- a proof of this text has these lines, and ends behind them
     end-behind : (p : Proof) → IsProof p → text ≡ text_of p → r2 ≡ end
     end-behind p hp e =
-        let one : (claim-of q, r1) ≡ (claim-of p, tail-of p) = some_is (claim-of q, r1) (claim-of p, tail-of p) (sym claim-found ∙ ap claim_at e ∙ claim-read p (tail-of p) hp) in
+        let one : (claim-of q, r1) ≡ (claim-of p, tail-of p) = same_Some (claim-of q, r1) (claim-of p, tail-of p) (sym claim-found ∙ ap claim_at e ∙ claim-read p (tail-of p) hp) in
         let rest : r1 ≡ tail-of p = ap (λ (r : Claim × List ℕ). r.1) one in
         let two : (q.cells, r2) ≡ (p.cells, end) = sym cells-found ∙ ap (λ (l : List ℕ). cells_at (length l) l) rest ∙ tail-read p hp in
         ap (λ (r : List SignalCell × List ℕ). r.1) two
@@ -141,7 +142,7 @@ module _ (q : Proof) (is : IsProof q) where
 
     map-some : (o : Option (List ℕ)) (l : List ℕ) → option_map (λ r. head ++ r) o ≡ Some l → (r : List ℕ) × (o ≡ Some r) × (head ++ r ≡ l)
     map-some None l e = absurd (cc e)
-    map-some (Some r) l e = (r, refl, some_is (head ++ r) l e)
+    map-some (Some r) l e = (r, refl, same_Some (head ++ r) l e)
 
     -- neither a cell line nor `end` stands behind the cells
     pub no-end : cell_at r2 ≡ None → after_word end r2 ≡ None → IsBroken text (length q.cells + 2)
@@ -198,7 +199,7 @@ module _ (q : Proof) (is : IsProof q) where
 
         after-end : (o : Option (List ℕ)) (l : List ℕ) → option_map (λ r. end ++ r) o ≡ Some l → (r : List ℕ) × (o ≡ Some r) × (end ++ r ≡ l)
         after-end None l e = absurd (cc e)
-        after-end (Some r) l e = (r, refl, some_is (end ++ r) l e)
+        after-end (Some r) l e = (r, refl, same_Some (end ++ r) l e)
 
         line-long : (l : List ℕ) → IsWholeLine l → 0 < length l
         line-long l w = omega (arith, ap length w.line, length-append w.content (10 ∷ []))

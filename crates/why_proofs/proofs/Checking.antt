@@ -1,6 +1,7 @@
 -- What was read of a text, and what follows of the answer.
-use Rattle.std.proofs.Common.{◌≡◌, ℕ, ◌+◌, ◌<◌, ◌≤◌, List, [], ◌∷◌, ◌++◌, length, Option, Some, None, Result, Ok, Err, IfOk, refl, sym, ap, subst, ◌∙◌, append_assoc, length-append, arith}
+use Rattle.std.proofs.Common.{◌≡◌, ℕ, ◌+◌, ◌<◌, ◌≤◌, List, [], ◌∷◌, ◌++◌, length, Option, Some, None, Result, IfOk, refl, sym, ap, subst, ◌∙◌, append_assoc, length-append, arith}
 use Rattle.std.specs.Prelude.{flat_map, codes}
+use Rattle.std.proofs.lemmas.Result.{IfOk-weaker}
 use Rattle.valid_intervals.specs.declared.SignalCell.{SignalCell}
 use Rattle.circuit_meaning.specs.Circuit.{IsCircuit}
 use Rattle.circuit_meaning.specs.Forward.{value}
@@ -91,19 +92,15 @@ true-yes d ok p (Yes s t v) h = ap (λ u. value d.circuit s u) h.1 ∙ claim-tru
 true-yes d ok p (No line) h = tt
 true-yes d ok p (Bad line) h = tt
 
-ok-imply : {A E : Type 0} (P Q : A → Type 0) → ((a : A) → P a → Q a) → (r : Result A E) → IfOk r P → IfOk r Q
-ok-imply P Q f (Ok a) h = f a h
-ok-imply P Q f (Err e) h = h
-
 module _ {E : Type 0} (d : Joined) (result : Result Checked E) (claim : Claim) (cells given : List SignalCell) (same : given ≡ cells) (judged : IfOk result (IsJudged d (proof-with claim given))) where
   judged-here : IfOk result (IsJudged d (proof-with claim cells))
   judged-here = subst (λ xs. IfOk result (IsJudged d (proof-with claim xs))) same judged
 
   pub yes-answer : (text : List ℕ) → IsTextOf text (proof-with claim cells) → IfOk result (RightYes d text)
-  yes-answer text is = ok-imply (IsJudged d (proof-with claim cells)) (RightYes d text) (right-yes d text (proof-with claim cells) is) result judged-here
+  yes-answer text is = IfOk-weaker result (IsJudged d (proof-with claim cells)) (RightYes d text) (right-yes d text (proof-with claim cells) is) judged-here
 
   pub no-answer : (text : List ℕ) → IsTextOf text (proof-with claim cells) → IfOk result (RightNo d text)
-  no-answer text is = ok-imply (IsJudged d (proof-with claim cells)) (RightNo d text) (right-no d text (proof-with claim cells) is) result judged-here
+  no-answer text is = IfOk-weaker result (IsJudged d (proof-with claim cells)) (RightNo d text) (right-no d text (proof-with claim cells) is) judged-here
 
   pub true-answer : IsCircuit d.circuit → IfOk result (IsTrueYes d)
-  true-answer ok = ok-imply (IsJudged d (proof-with claim cells)) (IsTrueYes d) (true-yes d ok (proof-with claim cells)) result judged-here
+  true-answer ok = IfOk-weaker result (IsJudged d (proof-with claim cells)) (IsTrueYes d) (true-yes d ok (proof-with claim cells)) judged-here

@@ -5,6 +5,8 @@ use Rattle.std.specs.List.{AllByRecursion, list_all}
 use Rattle.std.specs.Char.{is_ascii_digit}
 use Rattle.std.specs.Str.{all_ascii_digits}
 use Rattle.std.proofs.lemmas.Fmt.{digits_decimal}
+use Rattle.std.proofs.lemmas.Option.{same_Some}
+use Rattle.std.proofs.lemmas.Bool.{and_parts}
 use Rattle.gate_values.specs.declared.Value.{Value}
 use Rattle.gate_values.specs.declared.Value.TheVariants.{Zero, One, X, Z}
 use Rattle.gate_values.specs.Spelling.{byte_of_value}
@@ -13,8 +15,7 @@ use Rattle.valid_intervals.specs.declared.SignalCell.{SignalCell}
 use Rattle.text_fields.specs.Spelling.{field, IsNumber}
 use Rattle.why_proofs.specs.Spelling.{last_field, claim_line, cell_line, IsLine}
 use Rattle.why_proofs.specs.Broken.{first_lines}
-use Rattle.text_fields.proofs.Numbers.{own, and_both}
-use Rattle.text_fields.proofs.Fields.{some_is}
+use Rattle.text_fields.proofs.Numbers.{own}
 
 -- no line feed is among the bytes
 abbrev pub HasNoFeed : List ℕ → Type 0
@@ -40,11 +41,11 @@ free-byte test feed b h = go (eqb b 10) refl
 
 free-digits : (ds : List ℕ) → all_ascii_digits ds ≡ true → HasNoFeed ds
 free-digits [] h = tt
-free-digits (d ∷ ds) h = let both = and_both (is_ascii_digit d) (all_ascii_digits ds) h in (free-byte is_ascii_digit refl d both.0, free-digits ds both.1)
+free-digits (d ∷ ds) h = let both = and_parts (is_ascii_digit d) (all_ascii_digits ds) h in (free-byte is_ascii_digit refl d both.0, free-digits ds both.1)
 
 free-name : (name : List ℕ) → list_all is_name_byte name ≡ true → HasNoFeed name
 free-name [] h = tt
-free-name (b ∷ name) h = let both = and_both (is_name_byte b) (list_all is_name_byte name) h in (free-byte is_name_byte refl b both.0, free-name name both.1)
+free-name (b ∷ name) h = let both = and_parts (is_name_byte b) (list_all is_name_byte name) h in (free-byte is_name_byte refl b both.0, free-name name both.1)
 
 free-field : (n : ℕ) → IsNumber n → HasNoFeed (field n)
 free-field n small = (refl, free-digits (decimal n) (digits_decimal own n (omega (arith, small))))
@@ -71,7 +72,7 @@ ends a v = sym (append_assoc a (32 ∷ byte_of_value v ∷ []) (10 ∷ []))
 pub claim-whole : (name : List ℕ) (time : ℕ) (v : Value) → is_name name ≡ true → IsNumber time → IsWholeLine (claim_line name time v)
 claim-whole name time v is small =
     let front = codes "why " ++ (name ++ field time) in
-    let both = and_both (is_filled name) (list_all is_name_byte name) is in
+    let both = and_parts (is_filled name) (list_all is_name_byte name) is in
     record {
       content = front ++ 32 ∷ byte_of_value v ∷ [];
       line = ap (λ (l : List ℕ). codes "why " ++ l) (sym (append_assoc name (field time) (last_field v))) ∙ ends front v;
@@ -143,7 +144,7 @@ pub record IsFirstLine (text l : List ℕ) : Type 0 where
 
 mapped : (b : ℕ) (o : Option (List ℕ)) (l : List ℕ) → option_map (λ r. b ∷ r) o ≡ Some l → (r : List ℕ) × (o ≡ Some r) × (b ∷ r ≡ l)
 mapped b None l e = absurd (cc e)
-mapped b (Some r) l e = (r, refl, some_is (b ∷ r) l e)
+mapped b (Some r) l e = (r, refl, same_Some (b ∷ r) l e)
 
 pub first-shape : (text l : List ℕ) → first_lines 1 text ≡ Some l → IsFirstLine text l
 unfolding first_lines
@@ -153,7 +154,7 @@ first-shape (b ∷ text) l e = go (eqb b 10) refl (first-shape text) e
     go : (s : Bool) → eqb b 10 ≡ s → ((r : List ℕ) → first_lines 1 text ≡ Some r → IsFirstLine text r) → option_map (λ r. b ∷ r) (cond s (first_lines 0 text) (first_lines 1 text)) ≡ Some l → IsFirstLine (b ∷ text) l
     go true is more e =
         let feed : b ≡ 10 = eqb-true b 10 is in
-        let one : b ∷ [] ≡ l = some_is (b ∷ []) l e in
+        let one : b ∷ [] ≡ l = same_Some (b ∷ []) l e in
         let line : l ≡ 10 ∷ [] = sym one ∙ ap (λ c. c ∷ []) feed in
         record { whole = record { content = []; line = line; free = tt }; rest = text; parts = ap (λ (r : List ℕ). r ++ text) one }
     go false is more e =

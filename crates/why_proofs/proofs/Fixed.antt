@@ -1,6 +1,7 @@
 -- For each text just one answer is right.
 use Rattle.std.proofs.Common.{◌≡◌, ℕ, ◌+◌, ◌<◌, List, sym, ap, subst, ◌∙◌, arith, inl, inr}
 use Rattle.std.proofs.lemmas.Bool.{cases_lt}
+use Rattle.std.proofs.lemmas.Option.{same_Some}
 use Rattle.gate_values.specs.declared.Value.{Value}
 use Rattle.design.specs.Joined.{Joined}
 use Rattle.why_proofs.specs.Spelling.{Proof}
@@ -9,7 +10,6 @@ use Rattle.why_proofs.specs.Justified.{IsClaimed, IsJustifiedProof}
 use Rattle.why_proofs.specs.Verdicts.{IsTextOf, IsFirstUnjustified, IsUnjustified, IsVerdict}
 use Rattle.why_proofs.specs.declared.checker.Checked.{Checked}
 use Rattle.why_proofs.specs.declared.checker.Checked.TheVariants.{Yes, No, Bad}
-use Rattle.text_fields.proofs.Fields.{some_is}
 use Rattle.why_proofs.proofs.Breaks.{one-proof}
 
 same-proof : (text : List ℕ) (p q : Proof) → IsTextOf text p → IsTextOf text q → p ≡ q
@@ -23,7 +23,7 @@ apart m n a b = elim (cases_lt m n) [
 ]
 
 same-signal : (d : Joined) (p : Proof) (s u : ℕ) → IsClaimed d p s → IsClaimed d p u → s ≡ u
-same-signal d p s u a b = some_is s u (sym a.name ∙ b.name)
+same-signal d p s u a b = same_Some s u (sym a.name ∙ b.name)
 
 first-same : (d : Joined) (p : Proof) (k j : ℕ) → IsFirstUnjustified d p k → IsFirstUnjustified d p j → k ≡ j
 first-same d p k j a b = apart k j (λ l. a.not (b.above k l)) (λ l. b.not (a.above j l))

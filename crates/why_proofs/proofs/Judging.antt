@@ -1,7 +1,6 @@
 -- A line is justified by the accepted lines exactly where the rules give its cell; a proof, where each of its lines and its claim is.
 use Rattle.std.proofs.Common.{◌≡◌, ℕ, zero, suc, ◌+◌, ◌<◌, ◌≤◌, Bool, true, false, List, [], ◌∷◌, ◌++◌, length, take, get_or, Option, Some, IfSome, slice_get, sym, ap, ap₂, subst, ◌∙◌, arith, inl, inr}
 use Rattle.std.proofs.lemmas.Bool.{cases_lt}
-use Rattle.std.proofs.lemmas.List.{take_all}
 use Rattle.valid_intervals.specs.declared.Cell.{Cell}
 use Rattle.valid_intervals.specs.declared.Point.{Point}
 use Rattle.valid_intervals.specs.declared.SignalCell.{SignalCell}
@@ -49,9 +48,6 @@ module _ (c : Circuit) (lines : List SignalCell) (n : ℕ) (x : SignalCell) (her
 
   pub take-more : take (n + 1) lines ≡ take n lines ++ x ∷ []
   take-more = let one : n + 1 ≡ suc n = omega arith in ap (λ k. take k lines) one ∙ take-grown lines n ∙ ap (grown (take n lines)) here
-
-pub take-whole : {A : Type 0} (xs : List A) (n : ℕ) → length xs ≤ n → take n xs ≡ xs
-take-whole xs n h = take_all n xs h
 
 pub all-justified : (c : Circuit) (lines : List SignalCell) (n : ℕ) → length lines ≤ n → AreJustified c lines n → AreJustified c lines (length lines)
 all-justified c lines n h j k l = j k (omega arith)

@@ -2,7 +2,8 @@
 use Rattle.std.proofs.Common.{◌≡◌, ℕ, zero, suc, ◌<◌, Bool, true, false, cond, eqb, nat_lt, List, [], ◌∷◌, ◌++◌, length, take, drop, position, Some, None, refl, sym, ap, ap₂, subst, ◌∙◌, append_assoc, length-append, arith, lt-ltb, eqb-true}
 use Rattle.std.specs.Prelude.{codes, decimal}
 use Rattle.std.specs.List.{position_or_len, list_all}
-use Rattle.std.proofs.lemmas.Option.{cond_some}
+use Rattle.std.proofs.lemmas.Option.{cond_some, same_Some}
+use Rattle.std.proofs.lemmas.Bool.{and_parts}
 use Rattle.gate_values.specs.Spelling.{byte_of_value}
 use Rattle.gate_values.specs.declared.Value.{Value}
 use Rattle.gate_values.specs.declared.Value.TheVariants.{Zero, One, X, Z}
@@ -12,9 +13,8 @@ use Rattle.text_fields.specs.Spelling.{field, IsNumber}
 use Rattle.why_proofs.specs.Spelling.{last_field, claim_line, cell_line, IsLine}
 use Rattle.text_fields.specs.Reading.{◌>>=◌, after_word, field_at, value_at}
 use Rattle.why_proofs.specs.inner.Reading.{last_field_at, is_space, name_before, name_at, Claim, claim_at, cell_at, line_of}
-use Rattle.text_fields.proofs.Numbers.{and_both}
 use Rattle.text_fields.proofs.Items.{AreSpelled}
-use Rattle.text_fields.proofs.Fields.{bind_some, some_is, after_takes, field_takes, field_again, value_takes}
+use Rattle.text_fields.proofs.Fields.{bind_some, after_takes, field_takes, field_again, value_takes}
 
 -- ---- the end of a line
 
@@ -26,7 +26,7 @@ last_takes text v rest e =
     let (behind, three, is) = bind_some (after_word (10 ∷ []) value.1) (λ r. Some (value.0, r)) (v, rest) more2 in
     let parts : text ≡ last_field value.0 ++ behind =
     after_takes (32 ∷ []) text blank one ∙ ap (λ (l : List ℕ). 32 ∷ l) (value_takes blank value.0 value.1 two ∙ ap (λ (l : List ℕ). byte_of_value value.0 ∷ l) (after_takes (10 ∷ []) value.1 behind three)) in
-    subst (λ (r : Value × List ℕ). text ≡ last_field r.0 ++ r.1) (some_is _ _ is) parts
+    subst (λ (r : Value × List ℕ). text ≡ last_field r.0 ++ r.1) (same_Some _ _ is) parts
 
 pub last_again : (v : Value) (text : List ℕ) → last_field_at (last_field v ++ text) ≡ Some (v, text)
 unfolding last_field_at
@@ -70,7 +70,7 @@ no-space b h = go (eqb b 32) refl
 space-behind : (name text : List ℕ) → list_all is_name_byte name ≡ true → position_or_len is_space (name ++ 32 ∷ text) ≡ length name
 space-behind [] text h = refl
 space-behind (b ∷ name) text h =
-    let both = and_both (is_name_byte b) (list_all is_name_byte name) h in
+    let both = and_parts (is_name_byte b) (list_all is_name_byte name) h in
     let more = space-behind name text both.1 in
     rw (no-space b both.0) (omega (arith, more))
 
@@ -78,7 +78,7 @@ pub name_again : (name text : List ℕ) → is_name name ≡ true → name_at (n
 unfolding name_at
 name_again name text h =
     let whole = name ++ 32 ∷ text in
-    let both = and_both (is_filled name) (list_all is_name_byte name) h in
+    let both = and_parts (is_filled name) (list_all is_name_byte name) h in
     let place : position_or_len is_space whole ≡ length name = space-behind name text both.1 in
     let short : nat_lt (length name) (length whole) ≡ true = lt-ltb _ _ (omega (arith, length-append name (32 ∷ text))) in
     let found : position is_space whole ≡ Some (length name) = ap (λ n. cond (nat_lt n (length whole)) (Some n) None) place ∙ ap (λ b. cond b (Some (length name)) None) short in
@@ -112,7 +112,7 @@ claim_takes text claim rest e =
     ∙ ap (λ (l : List ℕ). codes "why " ++ l) (n.0 ∙ ap (λ (l : List ℕ). name.0 ++ l) (t.0 ∙ ap (λ (l : List ℕ). field time.0 ++ l) v))
     ∙ claim-joined name.0 time.0 value.0 value.1 in
     let whole : IsClaimLine text (name.0, time.0, value.0) value.1 = record { spelled = parts; name = n.1; time = t.1 } in
-    subst (λ (r : Claim × List ℕ). IsClaimLine text r.0 r.1) (some_is _ _ is) whole
+    subst (λ (r : Claim × List ℕ). IsClaimLine text r.0 r.1) (same_Some _ _ is) whole
 
 pub claim_again : (name : List ℕ) (time : ℕ) (v : Value) (rest : List ℕ) → is_name name ≡ true → IsNumber time → claim_at (claim_line name time v ++ rest) ≡ Some ((name, time, v), rest)
 unfolding claim_at
@@ -149,7 +149,7 @@ cell_takes text x rest e =
     ∙ ap (λ (l : List ℕ). codes "cell" ++ l) (ss.0 ∙ ap (λ (l : List ℕ). field s.0 ++ l) (aa.0 ∙ ap (λ (l : List ℕ). field a.0 ++ l) (bb.0 ∙ ap (λ (l : List ℕ). field b.0 ++ l) vv)))
     ∙ cell-joined s.0 a.0 b.0 v.0 v.1 in
     let whole : IsCellLine text (line_of s.0 a.0 b.0 v.0) v.1 = record { spelled = parts; line = record { signal = ss.1; start = aa.1; stop = bb.1 } } in
-    subst (λ (r : SignalCell × List ℕ). IsCellLine text r.0 r.1) (some_is _ _ is) whole
+    subst (λ (r : SignalCell × List ℕ). IsCellLine text r.0 r.1) (same_Some _ _ is) whole
 
 pub cell_again : (x : SignalCell) (rest : List ℕ) → IsLine x → cell_at (cell_line x ++ rest) ≡ Some (x, rest)
 unfolding cell_at

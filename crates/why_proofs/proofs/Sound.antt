@@ -6,6 +6,7 @@ use Rattle.std.specs.List.{AllByRecursion}
 use Rattle.std.proofs.lemmas.Bool.{and_parts, cases_lt, ltb-true}
 use Rattle.std.proofs.lemmas.List.{take_all}
 use Rattle.std.proofs.lemmas.List.Elements.{recursion_from_All}
+use Rattle.std.proofs.lemmas.Option.{same_Some, none-some, IfSome_then}
 use Rattle.gate_values.specs.declared.Value.{Value}
 use Rattle.gate_values.specs.declared.Value.TheVariants.{X}
 use Rattle.gate_values.specs.declared.Kind.{Kind}
@@ -33,12 +34,6 @@ use Rattle.why_proofs.specs.Laws.{IsTrueLine}
 
 abbrev made : Span → Value → Cell
 made x v = record { span = x; value = v }
-
-some-is : {A : Type 0} (x y : A) → Some x ≡ Some y → x ≡ y
-some-is x y e = cc
-
-no-some : {A : Type 0} (x : A) → None ≡ Some x → ⊥
-no-some x e = cc
 
 -- a line that covers the point
 pub record Covers (x : SignalCell) (s t : ℕ) : Type 0 where
@@ -68,18 +63,18 @@ module _ (c : Circuit) (ok : IsCircuit c) where
       steady y.cell y.signal y.cell.span.start t h k.inside ∙ ap (λ u. cell_at c (point_at u t)) k.signal
 
   pub line-right : (lines : List SignalCell) → AllByRecursion (IsTrueLine c) lines → AreRight (line_at lines)
-  line-right [] h s t x e = absurd (no-some x e)
+  line-right [] h s t x e = absurd (none-some x e)
   line-right (y ∷ rest) h s t x e = go (covers (point_at s t) y) refl (line-right rest h.1 s t x) e
     where
       go : (b : Bool) → covers (point_at s t) y ≡ b → (line_at rest s t ≡ Some x → x ≡ cell_at c (point_at s t)) → option_map (λ x. x.cell) (cond b (Some y) (find (covers (point_at s t)) rest)) ≡ Some x → x ≡ cell_at c (point_at s t)
-      go true k more e = sym (some-is y.cell x e) ∙ line-says y s t h.0 (covers-from y s t k)
+      go true k more e = sym (same_Some y.cell x e) ∙ line-says y s t h.0 (covers-from y s t k)
       go false k more e = more e
 
   pub answer-right : (lines : List SignalCell) → AllByRecursion (IsTrueLine c) lines → AreRight (answer c lines)
   answer-right lines h s t x e = go (base_answer c s t) (base-answers c ok s t) e
     where
       go : (o : Option Cell) → MatchOption o (IsEvaluable c s t) (λ x. (x ≡ cell_at c (point_at s t)) × (IsEvaluable c s t → ⊥)) → base_or o (line_at lines s t) ≡ Some x → x ≡ cell_at c (point_at s t)
-      go (Some y) m e = sym (some-is y x e) ∙ m.0
+      go (Some y) m e = sym (same_Some y x e) ∙ m.0
       go None m e = line-right lines h s t x e
 
   module _ (a : Answers) (right : AreRight a) where
@@ -182,21 +177,17 @@ all-grown : {A : Type 0} (P : A → Type 0) (xs : List A) (o : Option A) → All
 all-grown P xs None h k = h
 all-grown P xs (Some y) h k = all-push P xs y h k
 
-some-imply : {A : Type 0} (P Q : A → Type 0) (o : Option A) → ((x : A) → P x → Q x) → IfSome o P → IfSome o Q
-some-imply P Q None f h = h
-some-imply P Q (Some x) f h = f x h
-
 module _ (c : Circuit) (ok : IsCircuit c) (lines : List SignalCell) where
   pub all-true : (n : ℕ) → AreJustified c lines n → AllByRecursion (IsTrueLine c) (take n lines)
   all-true zero j = subst (AllByRecursion (IsTrueLine c)) (sym (take-none lines)) tt
   all-true (suc n) j =
       let above = all-true n (λ k l. j k (omega arith)) in
       subst (AllByRecursion (IsTrueLine c)) (sym (take-grown lines n))
-      (all-grown (IsTrueLine c) (take n lines) (slice_get lines n) above (some-imply (IsJustified c (take n lines)) (IsTrueLine c) (slice_get lines n) (justified-true c ok (take n lines) above) (j n (omega arith))))
+      (all-grown (IsTrueLine c) (take n lines) (slice_get lines n) above (IfSome_then (slice_get lines n) (j n (omega arith)) (justified-true c ok (take n lines) above)))
 
   pub each-true : (n : ℕ) → AreJustified c lines n → (k : ℕ) → k < n → IfSome (slice_get lines k) (IsTrueLine c)
   each-true n j k l =
-      some-imply (IsJustified c (take k lines)) (IsTrueLine c) (slice_get lines k) (justified-true c ok (take k lines) (all-true k (λ i m. j i (omega arith)))) (j k l)
+      IfSome_then (slice_get lines k) (j k l) (justified-true c ok (take k lines) (all-true k (λ i m. j i (omega arith))))
 
 -- what is claimed is the value
 pub claim-true : (d : Joined) → IsCircuit d.circuit → (p : Proof) (s : ℕ) → IsJustifiedProof d p s → value d.circuit s p.time ≡ p.value
@@ -206,5 +197,5 @@ claim-true d ok p s j =
     go (answer d.circuit p.cells s p.time) (answer-right d.circuit ok p.cells all s p.time) j.claim.value
   where
     go : (o : Option Cell) → ((x : Cell) → o ≡ Some x → x ≡ cell_at d.circuit (point_at s p.time)) → option_map (λ x. x.value) o ≡ Some p.value → value d.circuit s p.time ≡ p.value
-    go (Some x) right e = sym (ap (λ (x : Cell). x.value) (right x refl)) ∙ some-is x.value p.value e
-    go None right e = absurd (no-some p.value e)
+    go (Some x) right e = sym (ap (λ (x : Cell). x.value) (right x refl)) ∙ same_Some x.value p.value e
+    go None right e = absurd (none-some p.value e)

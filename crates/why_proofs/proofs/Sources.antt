@@ -1,8 +1,9 @@
 -- The children of a point are answered exactly where the sources are that forward simulation looks at.
-use Rattle.std.proofs.Common.{◌≡◌, ℕ, zero, suc, ◌-◌, ◌<◌, nat_lt, Bool, true, false, cond, List, [], ◌∷◌, length, map, get_or, Option, Some, None, IsSome, IfSome, refl, sym, ap, subst, ◌∙◌, arith, inl, inr, lt-ltb, le-ltb}
+use Rattle.std.proofs.Common.{◌≡◌, ℕ, ◌-◌, ◌<◌, nat_lt, Bool, true, false, cond, List, [], ◌∷◌, length, map, get_or, Option, Some, None, IsSome, IfSome, refl, sym, ap, subst, ◌∙◌, arith, inl, inr, lt-ltb, le-ltb}
 use Rattle.std.specs.List.{AllByRecursion}
 use Rattle.std.proofs.lemmas.Bool.{cases_lt}
 use Rattle.std.proofs.lemmas.List.Elements.{recursion_from_All, All-from_recursion}
+use Rattle.std.proofs.lemmas.List.{get_or_default}
 use Rattle.gate_values.specs.declared.Value.TheVariants.{X}
 use Rattle.gate_values.specs.declared.Kind.{Kind}
 use Rattle.gate_values.specs.declared.Kind.TheVariants.{Dff}
@@ -97,12 +98,7 @@ module _ (c : Circuit) (ok : IsCircuit c) (a : Answers) (right : AreRight c ok a
     known-all n e known = known-to p.time (driver c p.signal) (recursion_from_All (IsKnown a) (looked_at c p) (λ k d l. same k d l (known k (omega arith))))
       where
         same : (k : ℕ) (d : Option Point) → k < length (looked_at c p) → IsKnown a (get_or (looked_at c p) k None) → IsKnown a (get_or (looked_at c p) k d)
-        same k d l h = subst (IsKnown a) (get-any (looked_at c p) k None d l) h
-          where
-            get-any : {A : Type 0} (xs : List A) (k : ℕ) (d e : A) → k < length xs → get_or xs k d ≡ get_or xs k e
-            get-any [] k d e l = absurd (omega arith)
-            get-any (x ∷ xs) zero d e l = refl
-            get-any (x ∷ xs) (suc k) d e l = get-any xs k d e (omega arith)
+        same k d l h = subst (IsKnown a) (get_or_default (looked_at c p) k None d l) h
 
   -- a walk to its end
   pub ruled : (w : PinWalk) (p : Point) (cell : Cell) → w.point ≡ p → w.looked ≡ length (looked_at c w.point) → AreKnown c a p w.looked → cell ≡ cell_at c w.point → IsRuled c a p cell

@@ -1,4 +1,5 @@
-use Rattle.std.proofs.Common.{◌≡◌, Bool, true, false, [], subst, sym, ◌∙◌}
+use Rattle.std.proofs.Common.{◌≡◌, [], subst, sym, ◌∙◌}
+use Rattle.std.proofs.lemmas.Bool.{both_ways}
 use Rattle.query_lines.specs.Readers.{Reader}
 use Rattle.query_lines.proofs.Feeding.{last_none, last_line}
 use Rattle.query_lines.proofs.script.ScriptReader.read_last.Goals as goal
@@ -10,7 +11,4 @@ returns-then-is_empty c horizon script given read =
 pub returns : goal.returns
 returns c horizon script given read =
     last_line horizon script given c.args.self.now c.read_under_way.new.self c.read_under_way.result read
-    (λ none. differ c.is_empty.result (c.is_empty.ensures.1 (subst (λ (r : Reader). r.cutter.kept ≡ []) (sym c.self.view_is) none)) c.if-is_empty.false) c.read_under_way.ensures.read
-  where
-    differ : (b : Bool) → b ≡ true → b ≡ false → ⊥
-    differ b is isn_t = cc
+    (λ none. both_ways c.is_empty.result c.if-is_empty.false (c.is_empty.ensures.1 (subst (λ (r : Reader). r.cutter.kept ≡ []) (sym c.self.view_is) none))) c.read_under_way.ensures.read
