@@ -2,13 +2,13 @@
 # stands on, since the gate takes no source outside crates/.
 top=$(cd "$(dirname "${BASH_SOURCE[0]}")/.." && pwd)
 
-# copy_crates FOLDER CRATE..: a repository in FOLDER that has these crates, without what was built of them.
+# copy_crates FOLDER CRATE..: a repository in FOLDER that has these crates and all below them, without what was built of them.
 copy_crates() {
     local folder=$1 crate
     shift
     mkdir -p "$folder/crates"
     cp "$top/HANDLES" "$folder/"
-    for crate in "$@"; do
+    for crate in $(cd "$top/tools" && python3 -c 'import sys, crates; print(*crates.with_all_below(sys.argv[1:], crates.libraries()))' "$@"); do
         (cd "$top/crates" && tar cf - --exclude="$crate/out" "$crate") | (cd "$folder/crates" && tar xf -)
         grep -E "^$crate( [^:]*)?:" "$top/crates.txt" >>"$folder/crates.txt"
     done

@@ -26,6 +26,7 @@ NEEDS = (
     Need("yosys", "yosys", False, "netlists from Verilog"),
     Need("chromium", "chromium", False, "pages in a browser"),
     Need("parallel", "parallel", False, "plans for GNU parallel"),
+    Need("mypy", "mypy", False, "types"),
     Need("groff-base", "groff", False, "manual pages"),
     Need("mandoc", "mandoc", False, "the form of manual pages"),
 )

@@ -35,7 +35,7 @@ def whole(lines: list[str], crlf: str | None, cut: str | None) -> str:
 
 def sessions_in(path: str) -> list[tuple[str, dict[str, str]]]:
     """The name and the texts of each session of a file. A line that is not of the form ends the process with a message."""
-    found: list = []
+    found: list[tuple[str, dict[str, tuple[list[str], str | None, str | None]]]] = []
     lines: list[str] | None = None
     with open(path, encoding="ascii") as file:
         for number, line in enumerate(file, 1):
@@ -57,7 +57,8 @@ def sessions_in(path: str) -> list[tuple[str, dict[str, str]]]:
 
 def all_sessions(top: str) -> list[tuple[str, dict[str, str]]]:
     """The sessions of all files of the repository, in order. A name that stands twice ends the process with a message."""
-    found, first = [], {}
+    found: list[tuple[str, dict[str, str]]] = []
+    first: dict[str, str] = {}
     for path in sorted(glob.glob(os.path.join(top, "tests", "sessions", "*.txt"))):
         for name, texts in sessions_in(path):
             if name in first:

@@ -21,7 +21,7 @@ from typing import NamedTuple
 
 TOP = Path(__file__).resolve().parents[2]
 sys.path[:0] = [str(TOP / "bench" / "icarus"), str(TOP / "python")]
-from backsim.program import LARGE_PAGES  # noqa: E402
+from backsim.session.program import LARGE_PAGES  # noqa: E402
 from generate import main as generate  # noqa: E402
 
 ROOM = ("--shards", "64", "--cells", "65536")

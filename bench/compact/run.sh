@@ -1,5 +1,5 @@
 #!/usr/bin/env bash
-# The batch *apart* (bench/workers: 545,038 evaluations) by the program of this repository, and by one in plain Rust that takes the same
+# The batch *apart* (bench/workers: 536,257 evaluations) by the program of this repository, and by one in plain Rust that takes the same
 # steps over compact data (plain.rs). Both must write the same replies and, with one worker, the same journal. From 16 shards on both
 # have room for all cells; with fewer the program evicts some, and the journals are not compared.
 #

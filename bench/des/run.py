@@ -14,6 +14,8 @@ this program's are, and one with gate primitives, which are faster (a run in bra
 program's whole session, the reading of its files included, with one worker and with four, which is the default; and how many times as
 long as the latter the faster model takes, by its run alone and with its compilation. Times are the shortest of three, of a compilation
 and of a run of more than a minute the only one."""
+from __future__ import annotations
+
 import subprocess
 import sys
 import tempfile
@@ -21,7 +23,7 @@ from pathlib import Path
 
 HERE = Path(__file__).resolve().parent
 sys.path.insert(0, str(HERE.parent / "icarus"))
-from run import Circuit  # noqa: E402
+from circuit import Circuit  # noqa: E402
 from standard import encrypted, is_right  # noqa: E402
 
 

@@ -6,24 +6,27 @@
 Each wire is an input that changes once in so many instants, asked in a window of 62,500 instants; the windows of the 64 wires
 lie over the whole time, so that they add up to what a batch may have. Each session is run with its `vcd` line and without it, and
 the time and the memory of both are told, best of three; the difference is what the dump takes."""
+from __future__ import annotations
+
 import itertools
 import os
 import subprocess
 import sys
 import tempfile
 import time
+from collections.abc import Iterable, Iterator
 
 TOP = os.path.dirname(os.path.dirname(os.path.dirname(os.path.abspath(__file__))))
 PROGRAM = subprocess.run([os.path.join(TOP, "tools", "program"), "backsim"], check=True, stdout=subprocess.PIPE, text=True).stdout.strip()
 WIRES, LENGTH, STEP, HORIZON = 64, 62500, 14880, 1000000
 
 
-def write(folder, name, lines):
+def write(folder: str, name: str, lines: Iterable[str]) -> None:
     with open(os.path.join(folder, name), "w") as file:
         file.writelines(line + "\n" for line in lines)
 
 
-def settings(period):
+def settings(period: int) -> Iterator[str]:
     """A line for each change of each wire in its window."""
     for wire in range(WIRES):
         start = STEP * wire
@@ -31,9 +34,9 @@ def settings(period):
             yield f"set w{wire} {instant} {turn % 2}"
 
 
-def session(folder, script):
+def session(folder: str, script: str) -> tuple[float, float]:
     """The seconds and the greatest memory, in MB, of the best of three runs."""
-    best = None
+    found: list[tuple[float, float]] = []
     for _ in range(3):
         begun = time.monotonic()
         with open(os.path.join(folder, script)) as source, open(os.path.join(folder, "replies"), "w") as target:
@@ -41,12 +44,11 @@ def session(folder, script):
             _, status, usage = os.wait4(child.pid, 0)
         if status:
             sys.exit(f"the session ended with {status}")
-        found = (time.monotonic() - begun, usage.ru_maxrss / 1000)
-        best = min(best, found) if best else found
-    return best
+        found.append((time.monotonic() - begun, usage.ru_maxrss / 1000))
+    return min(found)
 
 
-def main():
+def main() -> None:
     print("changes  dump MB  seconds without, with  MB without, with")
     for period in (1, 4, 16, 64, 256, 1024):
         with tempfile.TemporaryDirectory() as folder:

@@ -17,6 +17,7 @@ import sys
 import tempfile
 import threading
 import time
+from collections.abc import Callable
 from pathlib import Path
 
 sys.path.insert(0, str(Path(__file__).parent))
@@ -24,7 +25,7 @@ from circuits import PERIOD, SEED, drawn, filter_of, multiplier, write  # noqa: 
 
 TOP = Path(__file__).resolve().parents[2]
 # for each circuit its lines, the patterns, and the time from one to the next
-CASES = {
+CASES: dict[str, tuple[Callable[[], list[str]], int, int]] = {
     "multiplier": (lambda: multiplier(16), 1000, 100),
     "combinational": (lambda: drawn(3500, 200, 94, 0), 1000, 60),
     "large": (lambda: drawn(20000, 300, 200, 0), 256, 300),
@@ -72,7 +73,7 @@ def measure(name: str, folder: Path) -> str:
     inputs = sum(line.startswith("INPUT") for line in lines)
     draw = random.Random(SEED)
     (folder / "patterns").write_text("".join("".join(draw.choice("01") for _ in range(inputs)) + "\n" for _ in range(patterns)))
-    words = [TOP / "backsim-tools", "faults", *(folder / file for file in ("netlist.bench", "timing", "patterns")), "--period", str(period)]
+    words: list[str | Path] = [TOP / "backsim-tools", "faults", *(folder / file for file in ("netlist.bench", "timing", "patterns")), "--period", str(period)]
     before, begun = os.times(), time.monotonic()
     with subprocess.Popen(words, stdout=subprocess.PIPE, text=True) as running:
         memory = Memory(running.pid)

@@ -8,28 +8,31 @@ FOLDER gets workload.bench, .timing and .stim, and these scripts:
 - sixteen.script: sixteen questions near the horizon, every fourth a wave of 20 instants, the others a value;
 - outputs.script: each signal of the last layer, at one time near the horizon;
 - everything.script: each signal from 0 to the horizon, from the first layer to the last."""
+from __future__ import annotations
+
 import os
 import sys
+from collections.abc import Iterable, Iterator
 
 KINDS = ("AND", "NAND", "OR", "NOR", "XOR", "XNOR")
 LAYERS = 100
 
 
-def draws(seed):
+def draws(seed: int) -> Iterator[int]:
     while True:
         seed = (1103515245 * seed + 12345) % 2147483648
         yield seed // 65536
 
 
-def main(folder, width, horizon, seed):
+def main(folder: str, width: int, horizon: int, seed: int) -> None:
     draw = draws(seed)
     os.makedirs(folder, exist_ok=True)
 
-    def lines(name, made):
+    def lines(name: str, made: Iterable[str]) -> None:
         with open(os.path.join(folder, name), "w", encoding="ascii") as file:
             file.writelines(f"{line}\n" for line in made)
 
-    def netlist():
+    def netlist() -> Iterator[str]:
         for place in range(16):
             yield f"INPUT(i{place})"
         for layer in range(LAYERS):
@@ -40,13 +43,13 @@ def main(folder, width, horizon, seed):
         for place in range(width):
             yield f"OUTPUT(g{LAYERS - 1}_{place})"
 
-    def stimulus():
+    def stimulus() -> Iterator[str]:
         yield f"horizon {horizon}"
         for time in range(0, horizon + 1, 10):
             for place in range(16):
                 yield f"set i{place} {time} {next(draw) % 2}"
 
-    def sixteen():
+    def sixteen() -> Iterator[str]:
         for line in range(16):
             signal = f"g{LAYERS - 1}_{next(draw) % width}"
             time = horizon * 9 // 10 + next(draw) % (horizon // 10 - horizon // 1000)

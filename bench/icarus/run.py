@@ -18,137 +18,20 @@ Of Icarus Verilog two models are run: with transport delays, as this program's a
 answer the same here, where all delays are 1; a time in brackets is one whose replies differ. The compilation is that of the first
 model. A ratio is the time of the faster run whose replies are the same, without compilation, to this program's whole session, the
 reading of its files included; above 1 this program is ahead."""
+from __future__ import annotations
+
 import os
 import subprocess
 import sys
 import tempfile
-import time
 
+from circuit import TOP, Circuit, timed
 from generate import main as generate
 
-HERE = os.path.dirname(os.path.abspath(__file__))
-TOP = os.path.dirname(os.path.dirname(HERE))
-PROGRAM = subprocess.run([os.path.join(TOP, "tools", "program"), "backsim"], check=True, stdout=subprocess.PIPE, text=True).stdout.strip()
 EXAMPLE = os.path.join(TOP, "examples/from_verilog")
-LONG = 60  # seconds; what takes longer is run once, and else three times
 
 
-def tool(*words):
-    return subprocess.run([os.path.join(TOP, "backsim-tools"), *words], check=True, stdout=subprocess.PIPE).stdout
-
-
-def timed(words, runs=3, **places):
-    """The standard output of a command, and the shortest of its wall times."""
-    best = None
-    for _ in range(runs):
-        start = time.monotonic()
-        output = subprocess.run(words, check=True, stdout=subprocess.PIPE, **places).stdout
-        took = time.monotonic() - start
-        best = took if best is None else min(best, took)
-        if took > LONG:
-            break
-    return output, best
-
-
-def in_order(output):
-    """The replies of a Verilog run in the order of the script."""
-    lines = sorted((line.split(b" ", 1) for line in output.splitlines()), key=lambda line: int(line[0]))
-    return b"".join(text + b"\n" for _, text in lines)
-
-
-class Circuit:
-    """The files of one circuit, and the table's rows that come of it."""
-
-    def __init__(self, work, stem, name, horizon):
-        self.work, self.stem, self.name, self.horizon = work, stem, name, horizon
-
-    def files(self):
-        return [f"{self.stem}.{kind}" for kind in ("bench", "timing", "stim")]
-
-    def path(self, name):
-        return os.path.join(self.work, name)
-
-    def backsim(self, script, *options):
-        with open(self.path("asked.script"), "wb") as file:
-            file.write(script)
-
-        def session():
-            with open(self.path("asked.script"), "rb") as asked:
-                return timed([PROGRAM, *self.files(), self.path("journal"), *options], runs=1, stdin=asked)
-
-        runs = [session()]
-        while len(runs) < 3 and runs[0][1] < LONG:
-            runs.append(session())
-        return runs[0][0], min(took for _, took in runs)
-
-    def compiled(self, model, *asked):
-        """A compiled model, and how long the compilation took."""
-        verilog, binary = self.path("model.v"), self.path(f"model{len(os.listdir(self.work))}")
-        with open(verilog, "wb") as file:
-            file.write(tool("to-verilog", *(["--primitives"] if model == "primitives" else []), *self.files(), *asked))
-        return binary, timed(["iverilog", "-g2005", "-s", "circuit", "-o", binary, verilog], runs=1)[1]
-
-    def models(self, *asked):
-        return {model: self.compiled(model, *asked) for model in ("transport", "primitives")}
-
-    def row(self, session, compiling, running, own):
-        best = min(time for time, same in running.values() if same)
-        cells = [self.name, f"{self.horizon:,}", session, f"{compiling:.2f}" if compiling else ""]
-        cells += [f"{took:.2f}" if same else f"({took:.2f})" for took, same in running.values()]
-        print("|", " | ".join([*cells, f"{own:.2f}", f"{best / own:.2g}"]), "|", flush=True)
-
-    def compare(self, session, expected, models):
-        """Runs the models, and says of each how long it took and whether its replies are this program's."""
-        running = {}
-        for model, (binary, _) in models.items():
-            output, took = timed(["vvp", "-n", binary])
-            running[model] = took, in_order(output) == expected
-        if not running["transport"][1]:
-            sys.exit(f"{self.name}, {session}: the replies differ")
-        return running
-
-    def questions(self, session, script_path, *options):
-        with open(script_path, "rb") as file:
-            script = file.read()
-        models = self.models(script_path)
-        replies, own = self.backsim(script, *options)
-        running = self.compare(session, replies, models)
-        self.row(session, models["transport"][1], running, own)
-        return models, script, running
-
-    def one_by_one(self, models, script, whole):
-        """The rows of single questions, of as many of the script as the time of a whole run allows."""
-        lines = script.splitlines(keepends=True)
-        count = 1 if whole > 5 * LONG else 2 if whole > LONG / 4 else len(lines)
-        own, running = 0, {model: (0, True) for model in models}
-        for number, line in enumerate(lines[:count], 1):
-            replies, took = self.backsim(line)
-            own += took / count
-            for model, (binary, _) in models.items():
-                output, took = timed(["vvp", "-n", binary, f"+line={number}"], runs=1)
-                total, same = running[model]
-                running[model] = total + took / count, same and in_order(output) == replies
-        if not running["transport"][1]:
-            sys.exit(f"{self.name}, one: the replies differ")
-        self.row("one", None, running, own)
-        waiting = self.backsim(b"go\n".join([*lines, b""]))[1] - self.backsim(b"")[1]
-        self.row("next", None, running, waiting / len(lines))
-
-    def everything(self, script_path):
-        with open(script_path, "rb") as file:
-            script = file.read()
-        replies, own = self.backsim(script, "--shards", "64", "--cells", "65536")
-        running, models = {}, self.models("--dump", self.path("all.vcd"))
-        for model, (binary, _) in models.items():
-            _, took = timed(["vvp", "-n", binary], stderr=subprocess.DEVNULL)
-            words = [self.files()[0], self.path("all.vcd"), "circuit", "--ticks", "10", "--script", script_path]
-            running[model] = took, tool("from-vcd", *words) == replies
-        if not running["transport"][1]:
-            sys.exit(f"{self.name}, everything: the replies differ")
-        self.row("everything", models["transport"][1], running, own)
-
-
-def workload(work, width, horizon):
+def workload(work: str, width: int, horizon: int) -> None:
     generate(work, width, horizon, 7)
     circuit = Circuit(work, os.path.join(work, "workload"), f"{100 * width:,} gates", horizon)
     if horizon == 200:
@@ -160,7 +43,7 @@ def workload(work, width, horizon):
         circuit.questions("outputs", os.path.join(work, "outputs.script"))
 
 
-def example(work):
+def example(work: str) -> None:
     stem = os.path.join(EXAMPLE, "from_verilog")
     circuit = Circuit(work, stem, "from_verilog", 14_200)
     circuit.questions("its script", f"{stem}.script")
@@ -175,7 +58,7 @@ def example(work):
     print(f"\nThe Verilog source of from_verilog with its test bench, which dumps all: compilation {compiling:.2f} s, run {running:.2f} s.")
 
 
-def main(widths):
+def main(widths: list[int]) -> None:
     print("Wall times in seconds; the shortest of three, of what takes more than a minute one.\n")
     print("| circuit | horizon | asked | compilation | transport | primitives | BACKSIM | ratio |")
     print("|---|---|---|---|---|---|---|---|", flush=True)

@@ -4,7 +4,7 @@ set -euo pipefail
 here=$(cd "$(dirname "$0")" && pwd)
 . "$here/../common.sh"
 begin "$here"
-copy_crates "$copy/repository" owned_text gate_values valid_intervals flip_flops circuit_meaning batch_meaning journal_meaning text_fields journal_text
+copy_crates "$copy/repository" journal_text
 echo "journal_text_time: owned_text gate_values valid_intervals circuit_meaning batch_meaning journal_meaning text_fields journal_text" >>"$copy/repository/crates.txt"
 program=$copy/repository/crates/journal_text_time
 mkdir -p "$program/src"

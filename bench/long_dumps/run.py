@@ -7,6 +7,8 @@ The dump, of 20 MB where nothing is said, is drawn anew: a clock with a period o
 eighth of them of a byte. The netlist has the clock, an input and a flip-flop. Of each case the shortest of two runs is told: the seconds that
 the process had of a processor, in all and for a megabyte of the dump, what 100 MB would take by that, and the greatest memory. What is behind
 a window is not read, so of the window near the beginning the seconds are those of any dump."""
+from __future__ import annotations
+
 import os
 import random
 import subprocess
@@ -18,7 +20,7 @@ SIGNALS, TIMES, CHANGES, HALF = 400, 20, 6, 5000
 HEAD = "$timescale 1ps $end\n$scope module test $end\n$var wire 1 ! clk $end\n$var wire 1 \" a $end\n$var wire 1 # q $end\n"
 
 
-def code(place):
+def code(place: int) -> str:
     text = ""
     while True:
         text = chr(33 + place % 94) + text
@@ -27,7 +29,7 @@ def code(place):
         place = place // 94 - 1
 
 
-def write(path, megabytes):
+def write(path: str, megabytes: int) -> int:
     """Writes the dump; gives its last time in ticks."""
     draw = random.Random(1)
     with open(path, "w") as file:
@@ -56,7 +58,7 @@ def write(path, megabytes):
     return tick + HALF
 
 
-def run(words):
+def run(words: list[str]) -> tuple[float, float]:
     """The seconds of a processor and the megabytes of memory of one run."""
     environment = os.environ | {"PYTHONPATH": os.path.join(TOP, "python")}
     child = subprocess.Popen([sys.executable, "-m", "backsim", "from-vcd", *words], env=environment, stderr=subprocess.DEVNULL)
@@ -66,7 +68,7 @@ def run(words):
     return usage.ru_utime + usage.ru_stime, usage.ru_maxrss / 1024
 
 
-def main():
+def main() -> None:
     megabytes = int(sys.argv[1]) if len(sys.argv) > 1 else 20
     with tempfile.TemporaryDirectory() as folder:
         files = {name: os.path.join(folder, name) for name in ("vcd", "bench", "timing", "window", "stim")}

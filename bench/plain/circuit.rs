@@ -69,6 +69,12 @@ impl Circuit {
         for line in fs::read_to_string(stimulus)?.lines() {
             circuit.take_setting(line);
         }
+        for driver in &mut circuit.drivers {
+            if let Driver::Input(settings) = driver {
+                // a setting that repeats a value is none; no generated input is set to x
+                settings.dedup_by_key(|setting| setting.1);
+            }
+        }
         Ok(circuit)
     }
 

@@ -24,8 +24,8 @@ from pathlib import Path
 
 TOP = Path(__file__).resolve().parents[2]
 sys.path[:0] = [str(TOP / "python"), str(TOP / "bench" / "icarus")]
-from backsim import Session, Wave  # noqa: E402
-from backsim.formats.script import AtLine, parse_script  # noqa: E402
+from backsim import Answer, At, Session, Wave  # noqa: E402
+from backsim.formats.script import AtLine, WaveLine, parse_script  # noqa: E402
 from generate import main as generate  # noqa: E402
 
 PROGRAM = subprocess.run([TOP / "tools" / "program", "backsim"], check=True, stdout=subprocess.PIPE, text=True).stdout.strip()
@@ -57,16 +57,22 @@ def questions(names: list[str], first: int, last: int) -> str:
     return "".join(lines)
 
 
-def text_of(answers: list) -> bytes:
+def text_of(answers: list[Answer]) -> bytes:
     """The replies that the answers are."""
-    return "".join(f"wave {one.name} {one.start} {one.stop}\n" + "".join(f"{time} {value}\n" for time, value in one.changes) + "end\n"
-                   if isinstance(one, Wave) else f"at {one.name} {one.time} {one.value}\n" for one in answers).encode()
+    found: list[str] = []
+    for one in answers:
+        if isinstance(one, Wave):
+            found += [f"wave {one.name} {one.start} {one.stop}\n", *(f"{time} {value}\n" for time, value in one.changes), "end\n"]
+        else:
+            assert isinstance(one, At)
+            found.append(f"at {one.name} {one.time} {one.value}\n")
+    return "".join(found).encode()
 
 
 def session(what: str, files: tuple[str, ...], script: str, folder: Path) -> None:
     (folder / "script").write_text(script)
     lines = list(parse_script(script.encode()))
-    answers: list = []
+    answers: list[Answer] = []
 
     def by_program() -> None:
         with open(folder / "script", "rb") as source, open(folder / "replies", "wb") as replies:
@@ -75,9 +81,9 @@ def session(what: str, files: tuple[str, ...], script: str, folder: Path) -> Non
     def by_batch() -> None:
         with Session(*files, program=PROGRAM, journal=folder / "journal") as asked, asked.batch() as batch:
             for line in lines:
-                if type(line) is AtLine:
+                if isinstance(line, AtLine):
                     batch.at(line.name, line.time)
-                else:
+                elif isinstance(line, WaveLine):
                     batch.wave(line.name, line.start, line.stop)
         answers[:] = batch.results
 
@@ -98,13 +104,13 @@ def sessions(folder: Path) -> None:
     stimulus = folder / "c17.stim"
     stimulus.write_text(Path(C17[2]).read_text().replace("horizon 10", "horizon 100"))
     session("c17", (*C17[:2], str(stimulus)), questions("1 2 3 6 7 10 11 16 19 22 23".split(), 0, 100), folder)
-    generate(folder, 20, 1000, 1)
+    generate(str(folder), 20, 1000, 1)
     names = [f"g{layer}_{place}" for layer in range(100) for place in range(20)]
     session("2,000 gates", tuple(str(folder / f"workload.{kind}") for kind in ("bench", "timing", "stim")), questions(names, 500, 600), folder)
 
 
 def jobs(folder: Path) -> None:
-    generate(folder, 200, 1000, 1)
+    generate(str(folder), 200, 1000, 1)
     files = [str(folder / f"workload.{kind}") for kind in ("bench", "timing", "stim")]
     times = range(150, 950, 50)
     by_output = [f"at g99_{place} {at} 15000\n" for place in range(200) for at in times]
@@ -135,8 +141,11 @@ def jobs(folder: Path) -> None:
         return sum(path.read_bytes().count(b"\nfill ") for path in paths)
 
     (folder / "empty.script").write_text("")
-    empty, start = shortest(by_program(folder / "empty.script", "--workers", "1"),
-                            lambda: subprocess.run([sys.executable, "-c", ""], check=True) and None, runs=9)
+
+    def python_alone() -> None:
+        subprocess.run([sys.executable, "-c", ""], check=True)
+
+    empty, start = shortest(by_program(folder / "empty.script", "--workers", "1"), python_alone, runs=9)
     print(f"jobs: an empty script {empty:.3f}, Python alone {start:.3f}", flush=True)
     for name in ("outputs", "by output", "by time", "longer"):
         script = folder / f"{name}.script"

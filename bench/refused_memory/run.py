@@ -33,7 +33,7 @@ TOP = os.path.dirname(os.path.dirname(os.path.dirname(os.path.abspath(__file__))
 sys.path[:0] = [os.path.join(TOP, "tools"), os.path.join(TOP, "python")]
 from backsim.errors import FormatError  # noqa: E402
 from backsim.formats.journal import collect, events_of  # noqa: E402
-from backsim.legality import judge  # noqa: E402
+from backsim.journal.legality import judge  # noqa: E402
 from session_rows import FILES, all_sessions, dumps_of  # noqa: E402
 
 SESSIONS = (

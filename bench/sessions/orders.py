@@ -25,7 +25,7 @@ from collections.abc import Iterable
 from pathlib import Path
 from typing import NamedTuple
 
-from run import SEED, is_same, session, write
+from run import SEED, Measured, is_same, session, write
 
 TURNS = 7
 CELLS, EACH, SHARDS = 65_536, 64, 64
@@ -117,7 +117,7 @@ def entries_of(journal: bytes) -> int:
 
 def least_times(folder: Path, scripts: dict[str, Asked], cells: int) -> dict[str, Least]:
     room = ("--workers", "1", "--shards", str(SHARDS), "--cells", str(cells))
-    least = {}
+    least: dict[str, Least] = {}
     for _ in range(TURNS):
         for order, (script, replies) in scripts.items():
             (folder / "j").unlink(missing_ok=True)
@@ -198,7 +198,7 @@ def time_million(folder: Path) -> bool:
     write(folder, "s", ["horizon 100", "set i 0 0"])
     last = f"g{MILLION - 2}"
     for shards in (8, 64):
-        least = {}
+        least: dict[str, Measured] = {}
         for _ in range(TURNS):
             for name, script in (("no question", b""), ("one question", f"at {last} 20\n".encode())):
                 ran = session(folder, script, "--shards", str(shards), runs=1)

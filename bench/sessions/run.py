@@ -2,9 +2,9 @@
 """Times sessions that have no counterpart elsewhere: a long stimulus, outputs that share their cones, an explanation, and batches at the
 limits.
 
-    bench/sessions/run.py [stimulus] [multiplier] [why] [limits]
+    bench/sessions/run.py [stimulus] [multiplier] [why] [stuck] [limits] [chosen]
 
-Runs all four where none is named. Each prints a table. Times are wall times of whole sessions, the reading of their files included, and
+Runs all where none is named. Each prints a table. Times are wall times of whole sessions, the reading of their files included, and
 memory is the most that the process had. The replies must be those that integers give; else the script ends with status 1.
 
 - stimulus: 960,000 settings of 64 inputs, in three orders, and no question.
@@ -14,6 +14,10 @@ memory is the most that the process had. The replies must be those that integers
 - why: a ring of 63 inverters, of which one is set at time 0 and free from then on, asked for an explanation a million instants later, with
   one worker. Its two values before, of which each takes nearly the greatest budget, are asked first. Then `backsim_check` is given the
   explanation, and the same with its cells again and again, up to the longest text that it takes.
+- stuck: 100 layers of 10,000 XOR gates with two pins each, by one worker. A signal of the first layer reaches nearly all of the million,
+  and what is asked are gates of the sixth layer, each at one instant. A session has lines of another site each with empty windows, lines
+  of one site, with both values, or lines of another site each; the time of a line is that of the session less that of its first line
+  alone.
 - limits: 12 layers of 2,000 XOR gates with four pins each, of 64 inputs that are set at each of 10,001 instants. A batch asks 64 gates of
   the last layer, each at an instant of its own and with the 64th part of the greatest budget. One session has one batch, and one has as
   many as fill 64 shards of 65,536 cells, with four workers."""
@@ -57,16 +61,15 @@ print(os.waitstatus_to_exitcode(status), time.monotonic() - start, usage.ru_maxr
 def measured(folder: Path, words: list[str], script: bytes = b"", runs: int = 3) -> Measured:
     """The output of the program with these words, and the shortest of its times."""
     (folder / "script").write_bytes(script)
-    best = None
+    found: list[Measured] = []
     for _ in range(runs):
         with open(folder / "script", "rb") as source, open(folder / "output", "wb") as target:
             ran = subprocess.run([sys.executable, "-c", RUNNER, *words], cwd=folder, stdin=source, stdout=target, stderr=subprocess.PIPE)
         *said, status, seconds, megabytes = ran.stderr.decode().split()
         if said or status != "0":
             sys.exit(f"bench/sessions: {words[0]} ended with status {status}: {' '.join(said)}")
-        if best is None or float(seconds) < best.seconds:
-            best = Measured((folder / "output").read_bytes(), float(seconds), float(megabytes))
-    return best
+        found.append(Measured((folder / "output").read_bytes(), float(seconds), float(megabytes)))
+    return min(found, key=lambda one: one.seconds)
 
 
 def session(folder: Path, script: bytes, *options: str, runs: int = 3) -> Measured:
@@ -132,25 +135,29 @@ def multiplier() -> Netlist:
     netlist.lines += [f"INPUT({side}{bit})" for side in "ab" for bit in range(BITS)]
     netlist.lines += [f"OUTPUT(parity{bit})" for bit in range(BITS)]
     a, b = ([netlist.gate("DFF", f"{side}{bit}") for bit in range(BITS)] for side in "ab")
-    product, row = [], [netlist.gate("AND", bit, b[0]) for bit in a]
-    top = None  # the bit above the row, which the first row has not
+    product: list[str] = []
+    row = [netlist.gate("AND", bit, b[0]) for bit in a]
+    top: str | None = None  # the bit above the row, which the first row has not
     for factor in b[1:]:
         product.append(row[0])
         others = [*row[1:], *([top] if top else [])]
-        sums, carry = [], None
+        sums: list[str] = []
+        carry: str | None = None
         for place, bit in enumerate(a):
             term = netlist.gate("AND", bit, factor)
             if place < len(others):
                 total, carry = netlist.added(others[place], term, carry)
             else:
+                assert carry is not None
                 total, carry = netlist.added(term, carry, None)
             sums.append(total)
         row, top = sums, carry
+    assert top is not None
     product += [*row, top]
     parity = netlist.gate("DFF", product[-1])
-    for bit in reversed(range(2 * BITS - 1)):
-        name = f"parity{bit}" if bit < BITS else None
-        parity = netlist.gate("XOR", netlist.gate("DFF", product[bit]), parity, name=name)
+    for place in reversed(range(2 * BITS - 1)):
+        name = f"parity{place}" if place < BITS else None
+        parity = netlist.gate("XOR", netlist.gate("DFF", product[place]), parity, name=name)
     return netlist
 
 
@@ -200,8 +207,8 @@ def time_why(folder: Path) -> None:
     print(f"| the values before | {without.seconds:.2f} | {without.megabytes:.0f} |")
     print(f"| these and the explanation, {text.count(10):,} lines, {len(text) / 1e6:.1f} MB | {why.seconds:.2f} | {why.megabytes:.0f} |",
           flush=True)
-    head, *cells, end = text.splitlines(keepends=True)
-    cells = b"".join(cells)
+    head, *lines, end = text.splitlines(keepends=True)
+    cells = b"".join(lines)
     for name, turns in (("checked", 1), ("checked, with its cells as often as a proof may have them", LONGEST // len(cells))):
         (folder / "proof").write_bytes(head + turns * cells + end)
         checked = measured(folder, [program("backsim_check"), "n", "t", "s", "proof"])
@@ -209,21 +216,88 @@ def time_why(folder: Path) -> None:
         print(f"| {name} | {checked.seconds:.2f} | {checked.megabytes:.0f} |", flush=True)
 
 
+# Layers of gates.
+
+INPUTS = 64
+
+
+def name(layer: int, place: int) -> str:
+    return f"g{layer}_{place}" if layer else f"i{place}"
+
+
+def write_layers(folder: Path, draw: random.Random, layers: int, width: int, pins: int) -> list[list[list[int]]]:
+    """Writes a netlist of layers of XOR gates over INPUTS inputs, with delays of 1, and returns the places of each gate's pins."""
+    drawn = [[draw.choices(range(width if layer else INPUTS), k=pins) for _ in range(width)] for layer in range(layers)]
+    gates = (f"{name(layer + 1, place)} = XOR({', '.join(name(layer, pin) for pin in row_pins)})"
+             for layer, row in enumerate(drawn) for place, row_pins in enumerate(row))
+    write(folder, "n", [*(f"INPUT({name(0, place)})" for place in range(INPUTS)), *gates])
+    write(folder, "t", ["default 1"])
+    return drawn
+
+
+# Stuck signals.
+
+DEPTH, BREADTH, ASKED_LAYER, INSTANT = 100, 10_000, 6, 150
+
+
+class StuckLine(NamedTuple):
+    site: int  # in the first layer
+    held: int
+    asked: int  # in the layer that is asked
+    instants: int
+
+
+def time_stuck(folder: Path) -> None:
+    draw = random.Random(SEED)
+    layers = write_layers(folder, draw, DEPTH, BREADTH, 2)
+    bits = draw.getrandbits(INPUTS)
+    write(folder, "s", [f"horizon {INSTANT}", *(f"set {name(0, place)} 0 {bits >> place & 1}" for place in range(INPUTS))])
+
+    def value(layer: int, place: int, line: StuckLine) -> int:
+        if (layer, place) == (1, line.site):
+            return line.held
+        return reduce(xor, (value(layer - 1, pin, line) for pin in layers[layer - 1][place])) if layer else bits >> place & 1
+
+    def reached(site: int) -> list[int]:
+        """The places of the gates of the asked layer that read the site."""
+        places = {site}
+        for row in layers[1:ASKED_LAYER]:
+            places = {place for place, pins in enumerate(row) if places & set(pins)}
+        return sorted(places)
+
+    def read_by(asked: int) -> int:
+        """A place of the first layer that the gate reads."""
+        return reduce(lambda place, row: row[place][0], layers[1:ASKED_LAYER][::-1], asked)
+
+    def session_of(lines: list[StuckLine]) -> Measured:
+        heads = [f"stuck {name(1, line.site)} {line.held} {name(ASKED_LAYER, line.asked)} {INSTANT} {INSTANT + line.instants}"
+                 for line in lines]
+        runs = (f"{INSTANT} {value(ASKED_LAYER, line.asked, line)}\n" if line.instants else "" for line in lines)
+        ran = session(folder, "".join(head + "\n" for head in heads).encode(), "--workers", "1")
+        is_same(ran.output, "".join(f"{head}\n{run}end\n" for head, run in zip(heads, runs)))
+        return ran
+
+    places = draw.sample(range(BREADTH), 1_000)
+    others = reached(places[0])
+    for title, lines in (
+            ("empty windows, each line of another site", [StuckLine(place, 1, 0, 0) for place in places]),
+            ("one site", [StuckLine(places[0], turn % 2, others[turn // 2 % len(others)], 1) for turn in range(1_000)]),
+            ("each line of another site", [StuckLine(read_by(place), 1, place, 1) for place in places[:100]])):
+        first, whole = session_of(lines[:1]), session_of(lines)
+        each = 1000 * (whole.seconds - first.seconds) / (len(lines) - 1)
+        print(f"| {title} | {len(lines):,} | {each:.2f} | {first.seconds:.2f} | {whole.megabytes:.0f} |", flush=True)
+
+
 # The limits.
 
-LAYERS, WIDTH, INPUTS, LAST, ASKS = 12, 2_000, 64, 10_000, 64
+LAYERS, WIDTH, LAST, ASKS = 12, 2_000, 10_000, 64
 
 
 def time_limits(folder: Path) -> None:
     draw = random.Random(SEED)
-    layers = [[draw.choices(range(WIDTH if layer else INPUTS), k=4) for _ in range(WIDTH)] for layer in range(LAYERS)]
+    layers = write_layers(folder, draw, LAYERS, WIDTH, 4)
     bits = [draw.getrandbits(INPUTS) for _ in range(LAST + 1)]
-    name: Callable[[int, int], str] = lambda layer, place: f"g{layer}_{place}" if layer else f"i{place}"
-    gates = (f"{name(layer + 1, place)} = XOR({', '.join(name(layer, pin) for pin in pins)})"
-             for layer, row in enumerate(layers) for place, pins in enumerate(row))
-    write(folder, "n", [*(f"INPUT(i{place})" for place in range(INPUTS)), *gates])
-    write(folder, "t", ["default 1"])
-    write(folder, "s", [f"horizon {LAST}", *(f"set i{place} {instant} {bits[instant] >> place & 1}"
+    write(folder, "s", [f"horizon {LAST}", *(f"set {name(0, place)} {instant} {bits[instant] >> place & 1}"
                                               for instant in range(LAST + 1) for place in range(INPUTS))])
 
     def value(asked: int, place: int) -> int:
@@ -244,11 +318,87 @@ def time_limits(folder: Path) -> None:
         print(f"| {batches} | {evaluations(folder):,} | {ran.seconds:.1f} | {ran.megabytes:.0f} |", flush=True)
 
 
+# Names and pairs that are chosen.
+
+WORD = 2 ** 64 - 1
+MIXER = 11_400_714_819_323_198_485  # of the hash of names in `bench_reader`
+UNMIXER = pow(MIXER, -1, 2 ** 64)
+LETTERS = b"0123456789ABCDEFGHIJKLMNOPQRSTUVWXYZ_abcdefghijklmnopqrstuvwxyz"
+# of each ten times the first byte and the second are 602
+ENDINGS = ("0z", "1p", "2f", "3\\", "4R", "5H", "6>", "74")
+FEWER, MORE = 20_000, 70_000
+
+
+def stems(draw: random.Random, count: int) -> list[str]:
+    """Stems of 16 letters whose hash is below 2 to the 40, so that names have the bucket that their last two bytes say."""
+    found: list[str] = []
+    while len(found) < count:
+        first = bytes(draw.choices(LETTERS, k=8))
+        mixed = int.from_bytes(first, "little") * MIXER & WORD
+        for _ in range(1_000):
+            wanted = 0
+            for shift in range(0, 40, 8):
+                byte = draw.choice(LETTERS) ^ mixed >> shift & 255
+                wanted += ((byte - (wanted * UNMIXER >> shift)) * MIXER & 255) << shift
+            last = (mixed ^ wanted * UNMIXER & WORD).to_bytes(8, "little")
+            if all(byte in LETTERS for byte in last):
+                found.append((first + last).decode())
+    return found[:count]
+
+
+def kit_hash(*numbers: int) -> int:
+    """The hash of numbers of 32 bits by which a hash map of the kit begins to look for a key."""
+    state = 0x243F_6A88_85A3_08D3
+    for number in numbers:
+        product = (state ^ (number | number << 32)) * (0x9E37_79B9_7F4A_7C15 ^ 8)
+        state = product & WORD ^ product >> 64
+    return (state ^ state >> 32) & 2 ** 32 - 1
+
+
+def time_chosen(folder: Path) -> None:
+    draw = random.Random(SEED)
+    plain: dict[str, list[str]] = {"n": ["INPUT(i0)"], "t": [], "s": ["horizon 999999"]}
+
+    def usual(name: str) -> None:
+        write(folder, name, plain[name])
+
+    def compare(row: str, name: str, drawn: list[str], chosen: list[str]) -> None:
+        times = []
+        for lines in (drawn, chosen):
+            write(folder, name, lines)
+            times.append(session(folder, b"").seconds)
+        print(f"| {row} | {len(chosen):,} | {times[0]:.3f} | {times[1]:.3f} | {times[1] / times[0]:.1f} |", flush=True)
+        usual(name)
+
+    for name in "nts":
+        usual(name)
+    chosen = [stem + ending for stem in stems(draw, FEWER // len(ENDINGS)) for ending in ENDINGS]
+    drawn = ["".join(map(chr, draw.choices(LETTERS, k=18))) for _ in chosen]
+    compare("names of a netlist", "n", [f"INPUT({name})" for name in drawn], [f"INPUT({name})" for name in chosen])
+    write(folder, "n", [f"{name} = NOT({name})" for name in drawn + chosen])
+    compare("names of delays", "t", [f"delay {name} 2" for name in drawn], [f"delay {name} 2" for name in chosen])
+
+    numbers = sorted(range(1_000_000), key=lambda number: kit_hash(number) & 8_191)[:MORE]  # a table for so many has 8,192 groups
+    write(folder, "n", (f"n{number} = NOT(n0)" for number in range(1_000_000)))
+    compare("numbers of delays", "t", [f"delay n{number} 2" for number in draw.sample(range(1_000_000), MORE)],
+            [f"delay n{number} 2" for number in numbers])
+    usual("n")
+
+    pairs = sorted(((0, time) for time in range(1_000_000)), key=lambda pair: kit_hash(*pair) & 8_191)[:MORE]
+    draw.shuffle(pairs)
+    others = [(0, time) for time in draw.sample(range(1_000_000), MORE)]
+    first = "horizon 999999"
+    compare("times of a stimulus", "s", [first, *(f"set i{place} {time} 0" for place, time in others)],
+            [first, *(f"set i{place} {time} 0" for place, time in pairs)])
+
+
 TABLES = {
     "stimulus": (time_stimulus, "| 960,000 settings | seconds | MB |"),
     "multiplier": (time_multiplier, "| asked of the multiplier | evaluations | seconds |"),
     "why": (time_why, "| ring of 63 inverters | seconds | MB |"),
+    "stuck": (time_stuck, "| stuck lines, a million gates | lines | ms a line | with the first alone, seconds | MB |"),
     "limits": (time_limits, "| batches at the limits | evaluations | seconds | MB |"),
+    "chosen": (time_chosen, "| chosen | lines | seconds, drawn | seconds, chosen | ratio |"),
 }
 
 

@@ -9,6 +9,8 @@ The circuits are those of bench/icarus/generate.py, 100 layers of WIDTH gates (2
 each of 100 sites stuck, spread over all layers; the replies must be those of the sessions over the rewritten netlists, of which the
 first ten are run. The times are the best of three, by one worker; a line of the table has the gates, milliseconds for one `stuck`
 line, milliseconds for one session over a rewritten netlist, and the ratio."""
+from __future__ import annotations
+
 import io
 import os
 import re
@@ -19,7 +21,7 @@ import time
 
 TOP = os.path.dirname(os.path.dirname(os.path.dirname(os.path.abspath(__file__))))
 sys.path[:0] = [os.path.join(TOP, "bench", "icarus"), os.path.join(TOP, "python")]
-from backsim import Stuck  # noqa: E402
+from backsim import Answer, Stuck, Wave  # noqa: E402
 from backsim.formats.replies import read_replies  # noqa: E402
 from generate import main as generate  # noqa: E402
 
@@ -27,35 +29,35 @@ PROGRAM = subprocess.run([os.path.join(TOP, "tools", "program"), "backsim"], che
 LAYERS, SITES, PLAIN, START, STOP = 100, 100, 10, 970, 991
 
 
-def read(path):
+def read(path: str) -> str:
     with open(path) as file:
         return file.read()
 
 
-def write(path, text):
+def write(path: str, text: str) -> None:
     with open(path, "w") as file:
         file.write(text)
 
 
-def session(folder, netlist, stimulus, script):
+def session(folder: str, netlist: str, stimulus: str, script: str) -> tuple[str, float]:
     """The replies, and the best of three times."""
-    best = None
+    replies, best = "", float("inf")
     for _ in range(3):
         begun = time.monotonic()
         run = subprocess.run([PROGRAM, netlist, "t", stimulus, "j", "--workers", "1"], cwd=folder, input=script, capture_output=True, text=True)
         took = time.monotonic() - begun
         if run.returncode:
             sys.exit(f"status {run.returncode}: {run.stdout}{run.stderr}")
-        best = took if best is None else min(best, took)
-    return run.stdout, best
+        replies, best = run.stdout, min(best, took)
+    return replies, best
 
 
-def waves(replies):
+def waves(replies: str) -> list[Answer | Wave]:
     answers = [reply.answer for reply in read_replies(io.BytesIO(replies.encode()))]
     return [answer.wave if isinstance(answer, Stuck) else answer for answer in answers]
 
 
-def main(widths):
+def main(widths: list[int]) -> None:
     print("gates  ms for a stuck line  ms for a session  ratio")
     for width in widths:
         with tempfile.TemporaryDirectory() as folder:

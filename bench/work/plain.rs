@@ -68,6 +68,8 @@ struct Claim {
 struct Work {
     gates: Vec<Gate>,
     settings: Vec<[Value; INPUTS as usize]>,
+    /// Of each input the times at which its value changes. At 0 all are set.
+    changes: [Vec<u32>; INPUTS as usize],
     queries: Vec<Query>,
 }
 
@@ -102,15 +104,25 @@ impl Work {
             let to = if i % 4 == 0 { from + 20 } else { from + 1 };
             queries.push(Query { line: i + 1, signal, from, to });
         }
-        Work { gates, settings, queries }
+        Work::of(gates, settings, queries)
+    }
+
+    fn of(gates: Vec<Gate>, settings: Vec<[Value; INPUTS as usize]>, queries: Vec<Query>) -> Work {
+        let changes = std::array::from_fn(|input| {
+            let is_new = |turn: &usize| *turn == 0 || settings[*turn][input] != settings[*turn - 1][input];
+            (0..settings.len()).filter(is_new).map(|turn| 10 * turn as u32).collect()
+        });
+        Work { gates, settings, changes, queries }
     }
 
     /// The cell of a point that needs no evaluation.
     fn base(&self, signal: u32, time: u32) -> Option<Cell> {
         if signal < INPUTS {
-            let setting = time / 10;
-            let end = (10 * (setting + 1)).min(HORIZON + 1);
-            Some(Cell { start: 10 * setting, end, value: self.settings[setting as usize][signal as usize] })
+            let changes = &self.changes[signal as usize];
+            let after = changes.partition_point(|change| *change <= time);
+            let start = changes[after - 1];
+            let end = changes.get(after).copied().unwrap_or(HORIZON + 1);
+            Some(Cell { start, end, value: self.settings[time as usize / 10][signal as usize] })
         } else if time == 0 {
             Some(Cell { start: 0, end: 1, value: Value::Unknown })
         } else {

@@ -135,5 +135,5 @@ pub fn read_back(number: u64) -> Option<Work> {
     let settings = stimulus_in(&stimulus, &names)?;
     let queries = script_in(&script, &names)?;
     let gates = gates.into_iter().skip(INPUTS as usize).collect::<Option<Vec<Gate>>>()?;
-    Some(Work { gates, settings, queries })
+    Some(Work::of(gates, settings, queries))
 }

@@ -13,29 +13,37 @@ from importlib import import_module
 from typing import TYPE_CHECKING, Any
 
 if TYPE_CHECKING:
-    from .batch import Batch, Pending
-    from .buses import number_of
-    from .errors import BacksimError, FormatError, MissingExtra, NoValue, UsageError
-    from .explanations import Cause, CauseKind, Explanation, Step
-    from .formats.netlist import Gate, Kind, Netlist, parse_netlist, read_netlist, write_netlist
-    from .formats.stimulus import Stimulus, read_stimulus, write_stimulus
-    from .formats.timing import Clock, Timing, read_timing, write_timing
-    from .outcomes import Fault, Refused, SessionError
-    from .program import Options, find_program
-    from .session import Session
-    from .values import (Answer, At, BadLine, Budget, Dump, First, Past, Proof, ProofCell, Refusal, Stats, Stuck, Trimmed, Unknown, Wave)
+    # `as` says to a type checker that the package has the name
+    from .circuit.buses import number_of as number_of
+    from .circuit.kinds import Kind as Kind
+    from .errors import (
+        BacksimError as BacksimError, FormatError as FormatError, MissingExtra as MissingExtra, NoValue as NoValue,
+        UsageError as UsageError)
+    from .explanations import Cause as Cause, CauseKind as CauseKind, Explanation as Explanation, Step as Step
+    from .formats.netlist import (
+        Gate as Gate, Netlist as Netlist, parse_netlist as parse_netlist, read_netlist as read_netlist, write_netlist as write_netlist)
+    from .formats.stimulus import Stimulus as Stimulus, read_stimulus as read_stimulus, write_stimulus as write_stimulus
+    from .formats.timing import Clock as Clock, Timing as Timing, read_timing as read_timing, write_timing as write_timing
+    from .session.batch import Batch as Batch, Pending as Pending
+    from .session.outcomes import Fault as Fault, Refused as Refused, SessionError as SessionError
+    from .session.program import Options as Options, find_program as find_program
+    from .session.session import Session as Session
+    from .values import (
+        Answer as Answer, At as At, BadLine as BadLine, Budget as Budget, Dump as Dump, First as First, Past as Past, Proof as Proof,
+        ProofCell as ProofCell, Refusal as Refusal, Stats as Stats, Stuck as Stuck, Trimmed as Trimmed, Unknown as Unknown, Wave as Wave)
 
 _NAMES = {
-    "batch": ("Batch", "Pending"),
-    "buses": ("number_of",),
+    "circuit.buses": ("number_of",),
+    "circuit.kinds": ("Kind",),
     "errors": ("BacksimError", "FormatError", "MissingExtra", "NoValue", "UsageError"),
     "explanations": ("Cause", "CauseKind", "Explanation", "Step"),
-    "formats.netlist": ("Gate", "Kind", "Netlist", "parse_netlist", "read_netlist", "write_netlist"),
+    "formats.netlist": ("Gate", "Netlist", "parse_netlist", "read_netlist", "write_netlist"),
     "formats.stimulus": ("Stimulus", "read_stimulus", "write_stimulus"),
     "formats.timing": ("Clock", "Timing", "read_timing", "write_timing"),
-    "outcomes": ("Fault", "Refused", "SessionError"),
-    "program": ("Options", "find_program"),
-    "session": ("Session",),
+    "session.batch": ("Batch", "Pending"),
+    "session.outcomes": ("Fault", "Refused", "SessionError"),
+    "session.program": ("Options", "find_program"),
+    "session.session": ("Session",),
     "values": ("Answer", "At", "BadLine", "Budget", "Dump", "First", "Past", "Proof", "ProofCell", "Refusal", "Stats", "Stuck", "Trimmed",
                "Unknown", "Wave"),
 }

@@ -11,11 +11,11 @@ import importlib
 import signal
 import sys
 from collections.abc import Callable, Sequence
-from typing import TYPE_CHECKING, Any, NoReturn
+from typing import IO, TYPE_CHECKING, NoReturn, Protocol, cast
 
 from . import commands
+from .command_line.streams import leave_output, prepare
 from .errors import BacksimError, WordsError, printable, reason_of
-from .streams import leave_output, prepare
 
 if TYPE_CHECKING:
     from types import FrameType
@@ -28,13 +28,23 @@ READER_GONE = 141
 ENDINGS = (signal.SIGINT, signal.SIGTERM, signal.SIGHUP)
 
 
+class Command(Protocol):
+    """The module of a command."""
+
+    HELP: str
+
+    def add_arguments(self, parser: argparse.ArgumentParser) -> None: ...
+
+    def run(self, arguments: argparse.Namespace) -> int: ...
+
+
 class Parser(argparse.ArgumentParser):
     """A parser that says what is wrong in one line, with status 2."""
 
     def error(self, message: str) -> NoReturn:
         self.exit(2, f"{self.prog}: {printable(message)}; see {self.prog} --help\n")
 
-    def _print_message(self, message: str, file: Any = None) -> None:
+    def _print_message(self, message: str, file: IO[str] | None = None) -> None:
         """Also where it can't be written, which argparse passes over."""
         if message:
             (file or sys.stderr).write(message)
@@ -50,9 +60,9 @@ def usage() -> str:
                       "backsim-tools --version tells the versions of package and program."])
 
 
-def load(name: str) -> Any:
+def load(name: str) -> Command:
     """The module of a command."""
-    return importlib.import_module(f"{commands.__name__}.{name.replace('-', '_')}")
+    return cast(Command, importlib.import_module(f"{commands.__name__}.{name.replace('-', '_')}"))
 
 
 def parser_of(name: str) -> Parser:
@@ -96,8 +106,7 @@ def _served(words: Sequence[str]) -> int:
         what = f"there is no command {printable(words[0])}" if words else "a command is missing"
         print(f"backsim-tools: {what}; see backsim-tools --help", file=sys.stderr)
         return 2
-    status: int = load(words[0]).run(parser_of(words[0]).parse_args(words[1:]))
-    return status
+    return load(words[0]).run(parser_of(words[0]).parse_args(words[1:]))
 
 
 def _written(serve: Callable[[], int]) -> int:

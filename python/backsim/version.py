@@ -9,7 +9,7 @@ from collections.abc import Iterator
 from glob import glob
 
 from .errors import BacksimError
-from .program import TOP, find_program, looked_up
+from .session.program import TOP, find_program, looked_up
 
 VERSION = "1.0.0"
 _ROW = re.compile(r"^(\w+) sources ([0-9a-f]{64}) program ([0-9a-f]{64})$", re.M)

@@ -76,7 +76,8 @@ class Browser:
             if answer.get("id") == self._number:
                 if "error" in answer:
                     raise RuntimeError(f"{method}: {answer['error']}")
-                return answer["result"]
+                result: dict[str, Any] = answer["result"]
+                return result
             self._note(answer)
 
     def _next(self, deadline: float) -> dict[str, Any]:
@@ -87,7 +88,8 @@ class Browser:
                 raise TimeoutError("the browser does not answer")
             self._rest += data
         text, _, self._rest = self._rest.partition(b"\0")
-        return json.loads(text)
+        message: dict[str, Any] = json.loads(text)
+        return message
 
     def _note(self, event: dict[str, Any]) -> None:
         if event.get("method") == "Network.requestWillBeSent":

@@ -90,8 +90,9 @@ class Circuit:
     def interval(self, name: str, time: int) -> tuple[int, int]:
         end = self.horizon + 1
         if name in self.inputs:
-            times = [at for at, _ in self.settings[name]]
-            return max([at for at in times if at <= time], default=0), min([at for at in times if at > time], default=end)
+            # as long as it keeps its value, however often that is set
+            others = [at for at in range(end) if self.value(name, at) != self.value(name, time)]
+            return max([at + 1 for at in others if at < time], default=0), min([at for at in others if at > time], default=end)
         kind, pins, delays = self.gates[name]
         if kind == "DFF":
             edge = self.edge(name, time)

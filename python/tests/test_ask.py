@@ -113,6 +113,6 @@ def test_a_signal_is_answered_before_the_netlist_is_read(example, program, monke
     with Session(*example("from_verilog"), program=program) as session:
         answers = Answers(session, "n", "s")
         with monkeypatch.context() as patched:
-            patched.setattr("backsim.session.read_netlist", lambda path: pytest.fail("the netlist is read"))
+            patched.setattr("backsim.session.session.read_netlist", lambda path: pytest.fail("the netlist is read"))
             assert list(answers.lines("valid 4")) == ["valid = 0"] and list(answers.lines("first valid 0")) == ["valid is 0 at 0 first"]
         assert list(answers.lines("registers[1] 2,050")) == ["registers[1][15:0] = 0x000a (10)"]

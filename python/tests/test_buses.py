@@ -2,7 +2,7 @@
 from __future__ import annotations
 
 import pytest
-from backsim.buses import full_name, signals_of, written_number
+from backsim.circuit.buses import full_name, signals_of, written_number
 from backsim.errors import UsageError
 from backsim.main import main
 

@@ -13,8 +13,8 @@ from backsim.explanations.names import in_short
 from backsim.formats.netlist import parse_netlist, read_netlist, with_sources, write_netlist
 from backsim.formats.proof import parse_proof
 from backsim.main import main
-from backsim.rules import read_design
-from backsim.session import Session
+from backsim.circuit.rules import read_design
+from backsim.session.session import Session
 from conftest import TOP
 from plain import Circuit
 

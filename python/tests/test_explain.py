@@ -4,12 +4,12 @@ from __future__ import annotations
 
 import pytest
 from backsim.errors import FormatError
-from backsim.formats.netlist import Kind
 from backsim.formats.proof import parse_proof, read_proof
 from backsim.explanations.cells import CellGraph, explain
-from backsim.rules import Role, decides, gate_value, read_design
+from backsim.circuit.kinds import Kind
+from backsim.circuit.rules import Cell, Role, read_design
 from backsim.pictures.words import sentence_of
-from backsim.session import Session
+from backsim.session.session import Session
 from conftest import TOP
 from plain import Circuit, table
 
@@ -68,6 +68,16 @@ def test_a_pin_before_its_delay_is_a_leaf(write) -> None:
     assert [(node.name, node.role, node.start, node.end, node.value) for node in graph.nodes] == [
         ("y", Role.GATE, 1, 5, "x"), ("a", Role.INPUT, 0, 10, "0"), ("b", Role.UNSEEN, 0, 5, "x")]
     assert edges(graph.way()) == {("y", "b", -4, True)}
+
+
+def test_cells_of_inputs_are_their_runs(write) -> None:
+    """a is x up to 5, 1 up to 12 and then 0; its settings at 0, 3, 9 and 14 repeat that. b is never set."""
+    settings = ((0, "x"), (3, "x"), (5, "1"), (9, "1"), (12, "0"), (14, "0"))
+    stimulus = "horizon 20\n" + "".join(f"set a {time} {value}\n" for time, value in settings)
+    design = read_design(write("n", "INPUT(a)\nINPUT(b)\ny = AND(a, b)\n"), write("t", ""), write("s", stimulus))
+    cells = [design.base("a", time) for time in range(21)] + [design.base("b", 7)]
+    expected = [Cell(0, 5, "x")] * 5 + [Cell(5, 12, "1")] * 7 + [Cell(12, 21, "0")] * 9 + [Cell(0, 21, "x")]
+    assert cells == [(Role.INPUT, cell) for cell in expected]
 
 
 def test_a_base_answer_explains_itself(example) -> None:
@@ -159,14 +169,14 @@ def test_gates_have_their_tables(kind: Kind) -> None:
         for second in "01xz":
             for third in "01xz":
                 values = [first, second, third]
-                assert gate_value(kind, values) == table(kind.value, values)
-                if decides(kind, first):
-                    assert {gate_value(kind, [first, *rest]) for rest in (["0", "0"], ["1", "1"], ["x", "0"], ["z", "1"])} \
+                assert kind.gate_value(values) == table(kind.value, values)
+                if kind.decides(first):
+                    assert {kind.gate_value([first, *rest]) for rest in (["0", "0"], ["1", "1"], ["x", "0"], ["z", "1"])} \
                         == {table(kind.value, [first])}
 
 
 @pytest.mark.parametrize("kind", [Kind.NOT, Kind.BUFF, Kind.DFF])
 def test_unary_gates_have_their_tables(kind: Kind) -> None:
     for value in "01xz":
-        assert gate_value(kind, [value]) == table(kind.value, [value])
-        assert not decides(kind, value)
+        assert kind.gate_value([value]) == table(kind.value, [value])
+        assert not kind.decides(value)

@@ -9,10 +9,11 @@ from pathlib import Path
 
 import pytest
 from backsim.convert.dump import Dump
-from backsim.formats.netlist import Kind, read_netlist
+from backsim.circuit.kinds import Kind
+from backsim.formats.netlist import read_netlist
 from backsim.formats.vcd import read_vcd, value_at
 from backsim.main import main
-from backsim.session import Session
+from backsim.session.session import Session
 from backsim.values import Wave
 from conftest import TOP
 from flow_reference import with_delays

@@ -6,7 +6,8 @@ import io
 import re
 
 import pytest
-from backsim import FormatError, causes
+from backsim import FormatError
+from backsim.formats import causes
 from backsim.formats.journal import collect, events_of
 from backsim.formats.netlist import parse_netlist, write_netlist
 from backsim.formats.proof import parse_proof, write_proof
@@ -15,7 +16,7 @@ from backsim.formats.script import Go, parse_script, units, write_script
 from backsim.formats.stimulus import check_stimulus, parse_stimulus, write_stimulus
 from backsim.formats.timing import check_timing, parse_timing, write_timing
 from backsim.formats.vcd import read_vcd
-from backsim.legality import judge
+from backsim.journal.legality import judge
 from sessions import sessions
 
 SESSIONS = sessions()

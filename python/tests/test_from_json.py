@@ -7,7 +7,8 @@ from pathlib import Path
 import pytest
 from backsim.convert.dump import Dump
 from backsim.convert.resets import lost_reset
-from backsim.formats.netlist import Kind, read_netlist
+from backsim.circuit.kinds import Kind
+from backsim.formats.netlist import read_netlist
 from backsim.formats.timing import Clock, read_timing
 from backsim.formats.vcd import read_vcd
 from backsim.main import main

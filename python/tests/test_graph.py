@@ -10,7 +10,7 @@ from backsim.errors import MissingExtra
 from backsim.formats.proof import parse_proof
 from backsim.explanations.cells import CellGraph, explain
 from backsim.pictures.graph import dot_text, picture_of
-from backsim.rules import read_design
+from backsim.circuit.rules import read_design
 from backsim.pictures.words import shortened
 
 X_PROOF = "why G17 4 x\ncell 13 1 2 x\ncell 15 1 2 x\ncell 16 2 3 x\ncell 8 3 4 x\ncell 4 4 5 x\nend\n"

@@ -6,7 +6,7 @@ import io
 import pytest
 from backsim import FormatError
 from backsim.formats.journal import Claim, Evict, Fill, Head, Spent, collect, events_of, read_events
-from backsim.legality import NotLegal, judge
+from backsim.journal.legality import NotLegal, judge
 from backsim.main import main
 from conftest import TOP
 
@@ -47,6 +47,7 @@ def judged(text: str) -> tuple[int, int]:
 
 def test_a_legal_journal() -> None:
     assert judged(LEGAL) == (12, 4)
+    assert judged(LEGAL.replace("spent 1 3 4 0", "spent 1 3 4 500000")) == (12, 4)
     journal = collect(events_of(io.BytesIO(LEGAL.encode()), "journal"))
     assert (journal.shards, journal.cells) == (2, 1)
     assert [(section.kind, section.number, len(section.shards)) for section in journal.sections] == [
@@ -66,6 +67,7 @@ def test_a_legal_journal() -> None:
     ("fill 1 0 3 3 4 0", "told 1 0 3 3 4 0", 9, "does not fill it"), ("evict 0 3", "claim 1 0 3", 17, "a trim only evicts"),
     ("fill 7 0 1 1 2 x", "fill 7 0 1 1 2 z", 27, "z is the value of no cell"),
     ("claim 1 2 5\n", "evict 2 5\n", 4, "the shard has room"),
+    ("spent 1 3 4 0", "spent 1 3 4 500001", 13, "500001 claims are more than any budget"),
 ])
 def test_journals_that_are_not_legal(old: str, new: str, line: int, cause: str) -> None:
     assert old in LEGAL

@@ -6,7 +6,8 @@ import json
 from pathlib import Path
 
 import pytest
-from backsim.formats.netlist import Kind, Netlist, read_netlist
+from backsim.circuit.kinds import Kind
+from backsim.formats.netlist import Netlist, read_netlist
 from backsim.formats.timing import Clock, Timing, read_timing
 from backsim.main import main
 from test_normalise import values

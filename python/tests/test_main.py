@@ -69,5 +69,5 @@ def test_every_name_of_the_package_is_found() -> None:
 def test_a_run_begins_before_what_reads_replies_is_imported() -> None:
     words = [sys.executable, "-c", "import backsim.commands.run, sys; print(*sys.modules)"]
     imported = subprocess.run(words, capture_output=True, text=True, cwd=TOP / "python").stdout.split()
-    assert "backsim.running" in imported
+    assert "backsim.scripts.running" in imported
     assert {"dataclasses", "backsim.values", "backsim.formats.script", "backsim.formats.replies"}.isdisjoint(imported)

@@ -7,8 +7,9 @@ import subprocess
 
 import pytest
 from backsim.convert.dialect import MuxOrder, parse_dialect
+from backsim.circuit.kinds import Kind
 from backsim.errors import FormatError
-from backsim.formats.netlist import Kind, Netlist, parse_netlist
+from backsim.formats.netlist import Netlist, parse_netlist
 from backsim.main import main
 from stand_in import gate_value
 from verilog_tools import icarus, in_order, need

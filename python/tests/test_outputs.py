@@ -13,7 +13,7 @@ from pathlib import Path
 
 import pytest
 from backsim import commands
-from backsim.streams import plain
+from backsim.command_line.streams import plain
 from conftest import TOP, read_all
 
 C17 = [str(TOP / "examples" / "c17" / f"c17.{kind}") for kind in ("bench", "timing", "stim")]

@@ -9,7 +9,7 @@ from backsim.formats.proof import parse_proof
 from backsim.explanations.cells import explain
 from backsim.explanations.explanation import Explanation
 from backsim.pictures.page import page_of
-from backsim.rules import read_design
+from backsim.circuit.rules import read_design
 from browser import CONTRASTS, Browser
 
 X_PROOF = b"why G17 4 x\ncell 13 1 2 x\ncell 15 1 2 x\ncell 16 2 3 x\ncell 8 3 4 x\ncell 4 4 5 x\nend\n"

@@ -4,11 +4,11 @@ from __future__ import annotations
 import pytest
 from backsim.errors import FormatError
 from backsim.formats.journal import events_of
-from backsim.needs import needs_of
-from backsim.rules import read_design
-from backsim.profile import MOST_STRETCHES, Profile, Room, Stretch, profile_of, profile_of_events
-from backsim.profile_text import profile_lines
-from backsim.session import Session
+from backsim.journal.needs import needs_of
+from backsim.circuit.rules import read_design
+from backsim.journal.profile import MOST_STRETCHES, Profile, Room, Stretch, profile_of, profile_of_events
+from backsim.journal.profile_text import profile_lines
+from backsim.session.session import Session
 from backsim.values import Wave
 from conftest import TOP
 

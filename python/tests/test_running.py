@@ -13,7 +13,7 @@ from pathlib import Path
 import pytest
 from backsim.commands import run as run_command
 from backsim.main import main
-from backsim.parts import divide, text_lines, text_of, with_every_go
+from backsim.scripts.parts import divide, text_lines, text_of, with_every_go
 from conftest import TOP, read_all
 
 STAND_IN = str(Path(__file__).with_name("stand_in.py"))

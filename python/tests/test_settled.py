@@ -40,6 +40,11 @@ def test_an_input_that_changes_at_an_edge(write, capsys) -> None:
     assert (status, out.splitlines()[0]) == (1, "inputs to clock: path 4, time 0, TOO LATE")
 
 
+def test_a_setting_that_repeats_a_value_is_no_change(write, capsys) -> None:
+    """a is 1 from 21 on, so at the edge at 30 it does not change."""
+    assert settled(write, capsys, stimulus=STIMULUS + "set a 30 1\n") == settled(write, capsys)
+
+
 def test_a_stimulus_that_sets_nothing_is_told(write, capsys) -> None:
     status, out, _ = settled(write, capsys, stimulus="horizon 100\n")
     assert status == 0

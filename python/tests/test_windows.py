@@ -14,7 +14,7 @@ from backsim.formats.timing import Clock, read_timing
 from backsim.formats.units import Unit, unit_in, unit_of, units_of
 from backsim.formats.vcd import Selection, Vcd, read_vcd
 from backsim.main import main
-from backsim.session import Session
+from backsim.session.session import Session
 from backsim.values import At
 from verilog_tools import need
 

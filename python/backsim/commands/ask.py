@@ -11,12 +11,12 @@ from contextlib import contextmanager, nullcontext
 from pathlib import Path
 from typing import Any
 
-from ..arguments import add_files, add_memo, add_program, unit_of_session
+from ..command_line.arguments import add_files, add_memo, add_program, unit_of_session
 from ..errors import BacksimError
-from ..outcomes import SessionError
 from ..prompting.answers import Answers
 from ..prompting.complete import Names, completed
-from ..session import Session
+from ..session.outcomes import SessionError
+from ..session.session import Session
 
 HELP = "a prompt: a question a line, an answer at once; names are completed by Tab"
 EXAMPLE = """\

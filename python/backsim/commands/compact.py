@@ -3,8 +3,9 @@ from __future__ import annotations
 
 import argparse
 
-from ..bars import Bar
+from ..command_line.bars import Bar
 from ..convert.output import add_output, say, whole_text
+from ..convert.tables import ones_of
 from ..errors import UsageError, WordsError
 from ..faults.compacting import by_look, cover, together
 from ..faults.finding import CombinationalFinder
@@ -39,5 +40,5 @@ def run(arguments: argparse.Namespace) -> int:
     words = [patterns.words[look] for look in kept]
     with whole_text(arguments.output) as stream:
         stream.writelines(f"{word}\n" for word in words)
-    say(f"{len(kept)} of {len(patterns.words)} patterns are left, and show the same {together(shown).bit_count()} of {len(classes)} faults")
+    say(f"{len(kept)} of {len(patterns.words)} patterns are left, and show the same {ones_of(together(shown))} of {len(classes)} faults")
     return 0

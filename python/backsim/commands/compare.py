@@ -4,8 +4,8 @@ from __future__ import annotations
 import argparse
 from pathlib import Path
 
-from ..arguments import add_program
-from ..buses import matching, signals_of
+from ..circuit.buses import matching, signals_of
+from ..command_line.arguments import add_program
 from ..convert.comparison import Changes, Comparison, Mismatch, at_edges, compare, events_of, settled_times, without_further_names
 from ..convert.dump import read_dump, stimulus_of, warning_of
 from ..convert.dump_options import add_unit, add_window, span_of
@@ -16,7 +16,7 @@ from ..formats.netlist import Netlist, read_netlist
 from ..formats.stimulus import write_stimulus
 from ..formats.timing import read_timing, write_timing
 from ..formats.units import check_units
-from ..session import Session
+from ..session.session import Session
 
 HELP = "the first mismatch of each net and bus of a netlist with a dump of its test bench, and the question that says why"
 EXAMPLE = """  backsim-tools compare chip.bench chip.timing chip.vcd chip_test.dut --stimulus chip.stim
@@ -76,10 +76,12 @@ def run(arguments: argparse.Namespace) -> int:
         raise FormatError(arguments.vcd, None, f"no signal of the netlist is dumped in the scope {arguments.scope}")
     with Session(arguments.netlist, timing, stimulus, program=arguments.program) as session:
         found = compare(session, bits, events, times)
-    for path, write, made in ((arguments.stimulus, write_stimulus, stimulus), (arguments.window, write_timing, timing)):
-        if path:
-            with whole_text(path) as stream:
-                write(made, stream)  # type: ignore[operator]
+    if arguments.stimulus:
+        with whole_text(arguments.stimulus) as stream:
+            write_stimulus(stimulus, stream)
+    if arguments.window:
+        with whole_text(arguments.window) as stream:
+            write_timing(timing, stream)
     for note in notes:
         say(note)
     _tell(found, netlist, dump.start, arguments)

@@ -4,8 +4,8 @@ from __future__ import annotations
 import argparse
 from pathlib import Path
 
-from ..arguments import add_program, count_of
-from ..bars import Bar
+from ..command_line.arguments import add_program, count_of
+from ..command_line.bars import Bar
 from ..convert.output import say
 from ..faults.asking import Crew
 from ..faults.coverage import percent
@@ -15,7 +15,7 @@ from ..faults.model import Lines
 from ..faults.plan import Plan
 from ..faults.request import add_tested, asked_files, finder_for, jobs_of, read_looks, stuck_classes_of
 from ..faults.stopping import stoppable
-from ..formats.script import MOST_BUDGET
+from ..limits import MOST_BUDGET
 
 HELP = "tells which stuck-at faults explain best the failures that a tester saw"
 EXAMPLE = """  backsim-tools diagnose chip.bench chip.timing patterns.txt failures --period 100 --by-pattern

@@ -4,7 +4,7 @@ from __future__ import annotations
 import argparse
 from pathlib import Path
 
-from ..arguments import moment, unit_of_session
+from ..command_line.arguments import moment, unit_of_session
 from ..errors import WordsError
 from ..formats.units import Unit, units_of
 from ..formats.vcd import Selection, read_vcd

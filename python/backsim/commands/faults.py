@@ -5,8 +5,8 @@ import argparse
 from collections.abc import Sequence
 from pathlib import Path
 
-from ..arguments import add_program, count_of
-from ..bars import Bar
+from ..command_line.arguments import add_program, count_of
+from ..command_line.bars import Bar
 from ..convert.output import say, whole_text
 from ..errors import UsageError, WordsError, type_of_path
 from ..faults import looks as looks_of
@@ -25,7 +25,7 @@ from ..faults.proving import Kept, prove_left
 from ..faults.request import Looks, add_tested, asked_files, classes_of, jobs_of, read_looks
 from ..faults.sequential import Detection
 from ..faults.stopping import stoppable
-from ..formats.script import MOST_BUDGET
+from ..limits import MOST_BUDGET
 from ..main import INTERRUPTED
 
 HELP = "tells which patterns show which stuck-at faults, of stems and branches, and the coverage"

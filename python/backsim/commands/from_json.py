@@ -4,7 +4,7 @@ from __future__ import annotations
 import argparse
 from pathlib import Path
 
-from ..arguments import in_units
+from ..command_line.arguments import in_units
 from ..convert.cells import Asynchronous
 from ..convert.clocks import Edge, chain_of, root_of, timing_of
 from ..convert.design import Design, design_of
@@ -16,8 +16,9 @@ from ..convert.yosys import read_module
 from ..errors import FormatError, WordsError
 from ..formats.netlist import with_sources, write_netlist
 from ..formats.text import number_of
-from ..formats.timing import MOST_TIME, Clock, write_timing
+from ..formats.timing import Clock, write_timing
 from ..formats.units import is_time
+from ..limits import MOST_TIME
 
 HELP = "writes a netlist and its timing file from what Yosys's write_json makes of a Verilog design, with the names of its nets"
 EXAMPLE = """  yosys -q -p "read_verilog chip.v; synth -flatten -noabc -top chip; write_json chip.json"

@@ -4,11 +4,12 @@ from __future__ import annotations
 import argparse
 from pathlib import Path
 
-from ..arguments import in_units, moment_of, unit_word
+from ..command_line.arguments import in_units, moment_of, unit_word
 from ..convert.output import add_output, whole_text
 from ..convert.patterns import read_patterns, stimulus_of
 from ..formats.netlist import read_netlist
-from ..formats.stimulus import MOST_TIME, write_stimulus
+from ..formats.stimulus import write_stimulus
+from ..limits import MOST_TIME
 
 HELP = "writes the stimulus that applies patterns, a line of 0, 1 and x for each, the inputs of the netlist in order"
 EXAMPLE = "  backsim-tools from-patterns c17.bench patterns.txt --period 10 -o patterns.stim"

@@ -4,7 +4,7 @@ from __future__ import annotations
 import argparse
 from pathlib import Path
 
-from ..arguments import unit_word
+from ..command_line.arguments import unit_word
 from ..convert.annotate import annotate
 from ..convert.annotate_cells import annotate_cells
 from ..convert.cells import Asynchronous

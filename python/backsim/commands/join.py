@@ -9,7 +9,7 @@ from pathlib import Path
 from ..errors import FormatError, UsageError
 from ..formats.replies import Reply, pairs, read_replies_of
 from ..formats.script import read_script
-from ..parts import told_of_budgets
+from ..scripts.parts import told_of_budgets
 from ..values import Budget, Refusal
 
 HELP = "joins the replies to the parts of a script, byte for byte those of one session"

@@ -4,9 +4,9 @@ from __future__ import annotations
 import argparse
 from pathlib import Path
 
-from .. import profile_text
 from ..formats.journal import read_events
-from ..legality import judge
+from ..journal import profile_text
+from ..journal.legality import judge
 
 HELP = "judges whether a journal is legal, or tells where its evaluations went"
 EXAMPLE = """\

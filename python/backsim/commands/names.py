@@ -5,8 +5,8 @@ import argparse
 import sys
 from collections.abc import Iterable, Iterator, Sequence
 
-from ..arguments import opened
-from ..buses import matching, signals_of
+from ..circuit.buses import matching, signals_of
+from ..command_line.arguments import opened
 from ..errors import FormatError, UsageError, WordsError, reason_of
 from ..formats.journal import ENTRY_TYPES
 from ..formats.netlist import read_netlist

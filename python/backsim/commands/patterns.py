@@ -4,8 +4,9 @@ from __future__ import annotations
 import argparse
 import random
 
-from ..arguments import count_of
-from ..bars import Bar
+from ..command_line.arguments import count_of
+from ..command_line.bars import Bar
+from ..command_line.partial import PARTIAL
 from ..convert.build import constant_value
 from ..convert.output import add_output, say, whole_text
 from ..errors import FormatError, UsageError
@@ -19,7 +20,6 @@ from ..formats.netlist import read_netlist
 from ..formats.stimulus import Stimulus
 from ..formats.timing import read_timing
 from ..main import INTERRUPTED
-from ..partial import PARTIAL
 
 HELP = "makes random patterns and keeps those that show further stuck-at faults"
 EXAMPLE = """  backsim-tools patterns chip.bench chip.timing --coverage 95 --output patterns.txt

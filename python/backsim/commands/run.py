@@ -7,14 +7,14 @@ import sys
 from collections.abc import Sequence
 from contextlib import AbstractContextManager, closing, nullcontext
 
-from ..arguments import add_files, add_memo, add_program, count_of, opened
-from ..bars import Bar
+from ..command_line.arguments import add_files, add_memo, add_program, count_of, opened
+from ..command_line.bars import Bar
 from ..errors import type_of_path
-from ..evaluations import Tail
-from ..outcomes import Refused, SessionError
-from ..parts import TextLine, check_divisible, read_lines, told_of_budgets
-from ..program import Options, find_program
-from ..running import Counts, Files, Run
+from ..journal.evaluations import Tail
+from ..scripts.parts import TextLine, check_divisible, read_lines, told_of_budgets
+from ..scripts.running import Counts, Files, Run
+from ..session.outcomes import Refused, SessionError
+from ..session.program import Options, find_program
 
 HELP = "runs a script, in one process or several, and writes its replies"
 EXAMPLE = """\
@@ -47,7 +47,7 @@ def run(arguments: argparse.Namespace) -> int:
     if is_divided:
         check_divisible(lines, arguments.script)
     if arguments.plan:
-        from .. import plans
+        from ..scripts import plans
         names = [arguments.netlist, arguments.timing, arguments.stimulus]
         plan = plans.Plan(find_program(arguments.program), names, options.words(), arguments.script, arguments.jobs, arguments.parts)
         print(getattr(plans, arguments.plan)(plan))
@@ -106,7 +106,7 @@ def _tell_repeats(journals: Sequence[type_of_path], stats: Counts) -> None:
              "journal that --journal keeps, `backsim-tools journal FILE --profile` says which memo would hold all")
         return
     # read here, since few runs need it
-    from ..profile import profile_of
+    from ..journal.profile import profile_of
     profiles = [profile_of(path) for path in journals]
     fills, again = sum(profile.fills for profile in profiles), sum(profile.again for profile in profiles)
     if 2 * again <= fills:

@@ -3,10 +3,10 @@ from __future__ import annotations
 
 import argparse
 
-from ..arguments import add_files
+from ..circuit.settling import settle
+from ..command_line.arguments import add_files
 from ..errors import FormatError
 from ..formats.circuit import read_files
-from ..settling import settle
 
 HELP = "says whether the gates have settled before each clock edge"
 EXAMPLE = "  backsim-tools settled chip.bench chip.timing chip.stim"

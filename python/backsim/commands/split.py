@@ -3,10 +3,10 @@ from __future__ import annotations
 
 import argparse
 
-from ..arguments import count_of
+from ..command_line.arguments import count_of
+from ..command_line.outputs import whole_folder
 from ..formats.text import opened
-from ..outputs import whole_folder
-from ..parts import check_divisible, divide, read_lines, text_of, with_every_go
+from ..scripts.parts import check_divisible, divide, read_lines, text_of, with_every_go
 
 HELP = "divides a script into parts that different sessions answer"
 EXAMPLE = """\

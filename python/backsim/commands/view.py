@@ -13,11 +13,12 @@ from contextlib import contextmanager
 from pathlib import Path
 from types import FrameType
 
-from ..arguments import add_memo, add_program, count_of, moment, unit_of_session
+from ..command_line.arguments import add_memo, add_program, count_of, moment, unit_of_session
 from ..errors import UsageError, WordsError, reason_of
 from ..formats.text import read_bytes
 from ..formats.units import units_of
-from ..view.asker import SHARDS, Asker, Opening
+from ..limits import MOST_SHARDS
+from ..view.asker import Asker, Opening
 from ..view.documents import Document, begun, read_document
 from ..view.index import Index
 from ..view.server import Pages
@@ -78,7 +79,7 @@ def _saved(arguments: argparse.Namespace) -> tuple[list[str], Document]:
 
 def _pages(arguments: argparse.Namespace, files: tuple[str, str, str], document: Document | None) -> Pages:
     """The server of a session over the files, which goes on while names are found."""
-    options = {"workers": arguments.workers, "shards": arguments.shards or SHARDS, "cells": arguments.cells, "program": arguments.program}
+    options = {"workers": arguments.workers, "shards": arguments.shards or MOST_SHARDS, "cells": arguments.cells, "program": arguments.program}
     asker = Asker(Opening(files, options))
     try:
         index = Index(files[0], asker.is_busy)

@@ -7,22 +7,22 @@ import sys
 from collections.abc import Sequence
 from pathlib import Path
 
-from ..arguments import count_of, moment, unit_of_session
-from ..buses import full_name, matching, signals_of
+from ..circuit.buses import full_name, matching, signals_of
+from ..circuit.rules import read_design
+from ..command_line.arguments import count_of, moment, unit_of_session
+from ..command_line.no_value import no_value_of
 from ..errors import FormatError, UsageError, WordsError
 from ..explanations.cells import explain
 from ..explanations.explanation import Explanation
 from ..explanations.names import listed
 from ..explanations.sentences import USUAL_CHAINS, summary_of, text_of
 from ..formats.replies import Reply, read_replies_of
-from ..formats.script import MOST_BUDGET
 from ..formats.units import units_of
-from ..no_value import no_value_of
+from ..limits import MOST_BUDGET
 from ..pictures.files import form_of, write_picture
 from ..pictures.graph import FORMS, picture_of, rendered, steps_text
 from ..pictures.page import page_of
-from ..rules import read_design
-from ..session import Session
+from ..session.session import Session
 from ..values import Proof
 
 HELP = "the root causes of a value and the chains to them, in sentences, as JSON, as a picture over time, and as a page"

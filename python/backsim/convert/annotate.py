@@ -8,9 +8,11 @@ from dataclasses import field, replace
 from fractions import Fraction
 from math import ceil
 
+from ..circuit.kinds import Kind
 from ..errors import FormatError
-from ..formats.netlist import Gate, Kind, Netlist
-from ..formats.timing import MOST_TIME, Timing
+from ..formats.netlist import Gate, Netlist
+from ..formats.timing import Timing
+from ..limits import MOST_TIME
 from ..records import dataclass
 from .sdf import Delays, Path, Wire
 

@@ -13,9 +13,11 @@ from dataclasses import field
 from fractions import Fraction
 from math import ceil
 
+from ..circuit.kinds import Kind
 from ..errors import FormatError
-from ..formats.netlist import Kind, Netlist
-from ..formats.timing import MOST_TIME, Clock, Timing
+from ..formats.netlist import Netlist
+from ..formats.timing import Clock, Timing
+from ..limits import MOST_TIME
 from ..records import dataclass
 from .annotate import Annotated, with_delays
 from .cells import Leaf

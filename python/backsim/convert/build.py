@@ -5,14 +5,14 @@ import re
 from collections.abc import Iterable, Sequence
 from itertools import count
 
-from ..formats.netlist import MOST_PINS_OF_A_GATE, Gate, Kind, Netlist
-from .tables import function_of, primes_of
+from ..circuit.kinds import Kind
+from ..formats.netlist import Gate, Netlist
+from ..limits import MOST_PINS_OF_A_GATE
+from .tables import function_of, ones_of, primes_of
 
 ONE, ZERO, UNSET = "vdd", "gnd", "unset"
 _CONSTANT = re.compile(r"(vdd|gnd|unset)(?:\$[0-9]+)?")
 _VALUES = {ONE: "1", ZERO: "0", UNSET: "x"}
-_NEGATED = {Kind.AND: Kind.NAND, Kind.OR: Kind.NOR, Kind.XOR: Kind.XNOR, Kind.NAND: Kind.AND, Kind.NOR: Kind.OR, Kind.XNOR: Kind.XOR}
-_POSITIVE = {Kind.NAND: Kind.AND, Kind.NOR: Kind.OR, Kind.XNOR: Kind.XOR}
 MOST_PINS_OF_A_SUM = 8
 
 
@@ -59,10 +59,9 @@ class Builder:
     def gate(self, name: str, kind: Kind, pins: Sequence[str], line: int = 0) -> str:
         """A gate of any number of pins from one on: of more than 64 it makes a tree, whose last gate has the name."""
         pins = tuple(pins)
-        inner = _POSITIVE.get(kind, kind)
         while len(pins) > MOST_PINS_OF_A_GATE:
             groups = [pins[start:start + MOST_PINS_OF_A_GATE] for start in range(0, len(pins), MOST_PINS_OF_A_GATE)]
-            pins = tuple(self.gate(self.fresh(name), inner, group, line) for group in groups)
+            pins = tuple(self.gate(self.fresh(name), kind.positive, group, line) for group in groups)
         self.gates[name] = Gate(name, kind, pins, line)
         return name
 
@@ -109,4 +108,4 @@ class Builder:
 
 def _inverted_pins(terms: Sequence[tuple[int, int]]) -> int:
     """How many pins of a sum's terms are inverted."""
-    return sum((care & ~wanted).bit_count() for care, wanted in terms)
+    return sum(ones_of(care & ~wanted) for care, wanted in terms)

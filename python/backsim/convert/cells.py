@@ -9,7 +9,8 @@ import enum
 from collections.abc import Iterable, Iterator, Mapping
 from dataclasses import field
 
-from ..formats.netlist import Gate, Kind
+from ..circuit.kinds import Kind
+from ..formats.netlist import Gate
 from ..records import dataclass
 from .build import Builder
 from .functions import MOST_SOURCES, Function, Functions, NotHad, State

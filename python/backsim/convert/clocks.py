@@ -3,7 +3,8 @@ from __future__ import annotations
 
 from collections.abc import Callable, Mapping
 
-from ..formats.netlist import Kind, Netlist
+from ..circuit.kinds import Kind
+from ..formats.netlist import Netlist
 from ..formats.timing import Clock, Timing
 from ..records import dataclass
 
@@ -33,8 +34,7 @@ def chain_of(edge: Edge, netlist: Netlist) -> list[Edge]:
         gate = netlist.gates.get(chain[-1].signal)
         if gate is None or len(gate.pins) != 1 or gate.kind is Kind.DFF:
             break
-        inverts = gate.kind in (Kind.NOT, Kind.NAND, Kind.NOR, Kind.XNOR)
-        chain.append(Edge(gate.pins[0], chain[-1].is_falling != inverts))
+        chain.append(Edge(gate.pins[0], chain[-1].is_falling != gate.kind.inverts))
     return chain
 
 

@@ -4,14 +4,15 @@ from __future__ import annotations
 import re
 from collections.abc import Iterable, Iterator, Mapping, Sequence
 
-from ..bars import Bar
-from ..formats.netlist import Kind, Netlist, in_order
-from ..formats.script import MOST_BUDGET, USUAL_BUDGET
+from ..circuit.kinds import Kind
+from ..command_line.bars import Bar
+from ..formats.netlist import Netlist, in_order
 from ..formats.stimulus import Stimulus
 from ..formats.timing import Timing
 from ..formats.vcd import value_at
+from ..limits import MOST_BUDGET, USUAL_BUDGET
 from ..records import dataclass
-from ..session import Session
+from ..session.session import Session
 from ..values import Wave
 
 _BIT = re.compile(r"(.+)\[([0-9]{1,6})\]")
@@ -57,7 +58,7 @@ def at_edges(netlist: Netlist, timing: Timing, stimulus: Stimulus) -> dict[str, 
     clocks = {own for name in timing.clocks for own in (name, name.removesuffix("_falls")) if own in inputs}
     found: dict[str, tuple[int, str]] = {}
     for name in netlist.inputs:
-        times = [time for time, _ in stimulus.settings.get(name, ()) if time > 0] if name not in clocks else []
+        times = [time for time, _ in stimulus.changes(name) if time > 0] if name not in clocks else []
         races = [(time, own) for own, clock in timing.clocks.items() if own in clocks or own.removesuffix("_falls") in clocks
                  for time in times if time >= clock.first and (time - clock.first) % clock.period == 0]
         if races:

@@ -3,8 +3,9 @@ from __future__ import annotations
 
 from dataclasses import field
 
+from ..circuit.kinds import Kind
 from ..errors import FormatError
-from ..formats.netlist import Kind, Netlist
+from ..formats.netlist import Netlist
 from ..records import dataclass
 from .build import Builder
 from .cells import Asynchronous, NeedsHow, Template, Templates

@@ -7,12 +7,15 @@ import re
 from collections.abc import Sequence
 from dataclasses import field
 
-from .. import causes
+from ..circuit.kinds import Kind, kind_of
 from ..errors import FormatError, type_of_path
-from ..formats.netlist import Kind, Netlist, kind_of
-from ..formats.text import NAME_LIMIT, content_of, is_name, lines_of, read_bytes
+from ..formats import causes
+from ..formats.netlist import Netlist
+from ..formats.text import content_of, is_name, lines_of, read_bytes
+from ..limits import NAME_LIMIT
 from ..records import dataclass
 from .build import Builder
+from .tables import ones_of
 
 MOST_PINS_OF_A_TABLE = 16
 MOST_PINS_OF_A_MAJORITY = 7
@@ -190,7 +193,7 @@ class _Rewriter:
             kind = Kind.DFF if word == "DFFRSE" else _SYNONYMS.get(word) or kind_of(word)
             if kind is None:
                 raise self.fault(line, f"the kind {statement.word} is none of {_KNOWN}")
-            if not pins or kind.is_unary and len(pins) != 1:
+            if not kind.takes(len(pins)):
                 raise self.fault(line, f"{statement.word} has {len(pins)} pins: {causes.NETLIST[3]}")
             self.builder.gate(name, kind, pins, line)
 
@@ -206,7 +209,7 @@ class _Rewriter:
         count = len(pins)
         if count % 2 == 0 or not 3 <= count <= MOST_PINS_OF_A_MAJORITY:
             raise self.fault(statement.line, f"a MAJ has 3, 5 or {MOST_PINS_OF_A_MAJORITY} pins, and this one {count}")
-        bits = sum(1 << index for index in range(1 << count) if 2 * index.bit_count() > count)
+        bits = sum(1 << index for index in range(1 << count) if 2 * ones_of(index) > count)
         self.builder.table(statement.name, bits, pins, statement.line)
 
     def make_scan(self, statement: _Statement, pins: Sequence[str]) -> None:

@@ -7,15 +7,16 @@ from __future__ import annotations
 from collections.abc import Iterable, Iterator, Sequence
 from contextlib import nullcontext
 
-from ..bars import Bar
+from ..command_line.bars import Bar
 from ..errors import FormatError, type_of_path
 from ..formats.dump_files import MEGABYTE, megabytes_of
 from ..formats.netlist import Netlist
 from ..formats.script import AtLine, FirstLine, Go, Line, WaveLine
-from ..formats.stimulus import MOST_TIME, Stimulus
+from ..formats.stimulus import Stimulus
 from ..formats.timing import Clock
 from ..formats.units import Unit, units_of
 from ..formats.vcd import Changes, Selection, Vcd, read_vcd, value_at
+from ..limits import MOST_TIME
 from ..records import dataclass
 from .build import constant_value
 

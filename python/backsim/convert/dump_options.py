@@ -3,7 +3,7 @@ from __future__ import annotations
 
 import argparse
 
-from ..arguments import count_of, unit_word
+from ..command_line.arguments import count_of, unit_word
 from ..formats.units import Unit
 from .dump import Span
 

@@ -9,8 +9,8 @@ from contextlib import contextmanager
 from pathlib import Path
 from typing import TextIO
 
+from ..command_line.outputs import write_whole
 from ..errors import FormatError, printable, reason_of
-from ..outputs import write_whole
 
 
 def add_output(parser: argparse.ArgumentParser, what: str) -> None:

@@ -3,11 +3,12 @@ from __future__ import annotations
 
 from collections.abc import Sequence
 
+from ..command_line.partial import refuse_partial
 from ..errors import FormatError, type_of_path
 from ..formats.netlist import Netlist
-from ..formats.stimulus import MOST_TIME, Stimulus
+from ..formats.stimulus import Stimulus
 from ..formats.text import content_of, lines_of, read_foreign
-from ..partial import refuse_partial
+from ..limits import MOST_TIME
 from ..records import dataclass
 from .build import constant_value
 

@@ -221,13 +221,14 @@ class _Reader:
 
     def path_of(self, instance: str, form: _Form) -> None:
         ports = form.parts[1:3]
-        has_edge = len(ports) == 2 and isinstance(ports[0], _Form)
-        source = ports[0].words()[-1:] if has_edge else ports[:1]  # type: ignore[union-attr]
-        if len(ports) != 2 or not source or not isinstance(source[0], str) or not isinstance(ports[1], str):
+        first: str | _Form = ports[0] if ports else ""
+        second: str | _Form = ports[1] if len(ports) == 2 else form
+        source = first.words() if isinstance(first, _Form) else [first]
+        if not source or not isinstance(second, str):
             raise self.fault(form.line, "expected `(IOPATH PORT PORT (DELAY) ..)`")
         numbers = self.delays_of(form, form.parts[3:])
         if numbers:
-            self.delays.paths.append(Path(form.line, instance, self.name_of(source[0]), self.name_of(ports[1]), has_edge,
+            self.delays.paths.append(Path(form.line, instance, self.name_of(source[-1]), self.name_of(second), isinstance(first, _Form),
                                           self.corner.of(numbers), len(set(numbers)) > 1))
 
     def device_of(self, instance: str, form: _Form) -> None:

@@ -3,7 +3,7 @@ from __future__ import annotations
 
 from collections.abc import Callable
 
-from ..formats.netlist import Kind
+from ..circuit.kinds import Join, Kind
 from ..records import dataclass
 
 
@@ -17,6 +17,11 @@ class Function:
     kind: Kind | None
 
 
+def ones_of(bits: int) -> int:
+    """How many bits are 1; `int.bit_count` is of Python 3.10."""
+    return bin(bits).count("1")
+
+
 def _table(count: int, value: Callable[[int], bool]) -> int:
     return sum(1 << index for index in range(1 << count) if value(index))
 
@@ -24,13 +29,12 @@ def _table(count: int, value: Callable[[int], bool]) -> int:
 def gate_table(kind: Kind, count: int) -> int:
     """The table of a gate of a kind with so many pins, over 0 and 1."""
     full = (1 << count) - 1
-    values: dict[Kind, Callable[[int], bool]] = {
-        Kind.AND: lambda index: index == full, Kind.NAND: lambda index: index != full,
-        Kind.OR: lambda index: index != 0, Kind.NOR: lambda index: index == 0,
-        Kind.XOR: lambda index: bin(index).count("1") % 2 == 1, Kind.XNOR: lambda index: bin(index).count("1") % 2 == 0,
-        Kind.BUFF: lambda index: index == 1, Kind.NOT: lambda index: index == 0,
+    plain: dict[Join, Callable[[int], bool]] = {
+        Join.ALL: lambda index: index == full, Join.ANY: lambda index: index != 0,
+        Join.ODD: lambda index: ones_of(index) % 2 == 1, Join.ONLY: lambda index: index == 1,
     }
-    return _table(count, values[kind])
+    own = plain[kind.join]
+    return _table(count, lambda index: own(index) != kind.inverts)
 
 
 def function_of(bits: int, count: int) -> Function:

@@ -8,15 +8,14 @@ from __future__ import annotations
 from collections.abc import Iterable, Iterator, Sequence
 from typing import Union
 
+from ..circuit.kinds import Kind
 from ..errors import FormatError, type_of_path
 from ..formats.circuit import Circuit
-from ..formats.netlist import Gate, Kind
+from ..formats.netlist import Gate
 from ..formats.script import AtLine, FirstLine, Go, Line, WaveLine
 from ..formats.timing import Timing
 from ..records import dataclass
 
-_JOIN = {Kind.AND: "&", Kind.OR: "|", Kind.XOR: "^", Kind.NAND: "&", Kind.NOR: "|", Kind.XNOR: "^"}
-_NEGATED = (Kind.NAND, Kind.NOR, Kind.XNOR, Kind.NOT)
 _LINE, _LAST, _TIME, _FOUND = r"\(line) ", r"\(last) ", r"\(time) ", r"\(found) "
 Question = Union[WaveLine, AtLine, FirstLine]
 
@@ -93,8 +92,8 @@ def _circuit(circuit: Source) -> Iterator[str]:
 
 def _function(kind: Kind, pins: Sequence[str]) -> str:
     """What Verilog's operators make of the pins; they take z as x, and two negations make x of z."""
-    whole = f" {_JOIN[kind]} ".join(pins) if kind in _JOIN else pins[0]
-    if kind in _NEGATED:
+    whole = f" {kind.join.value} ".join(pins)
+    if kind.inverts:
         return f"~({whole})"
     return whole if len(pins) > 1 else f"~(~{whole})"
 
@@ -116,7 +115,7 @@ def _gate(gate: Gate, circuit: Source) -> Iterator[str]:
         return
     word = identifier(f"{gate.kind.value}({len(gate.pins)})")
     if circuit.has_primitives:
-        word = gate.kind.value.lower() if len(gate.pins) > 1 else "not" if gate.kind in _NEGATED else "buf"
+        word = gate.kind.value.lower() if len(gate.pins) > 1 else "not" if gate.kind.inverts else "buf"
     yield f"{word} #({delays[0]}) {identifier(f'{gate.name}()')}({', '.join([own, *read])});"
 
 

@@ -7,12 +7,14 @@ from __future__ import annotations
 from collections.abc import Iterable
 from dataclasses import field, replace
 
+from ..circuit.kinds import Kind
+from ..circuit.settling import arrivals
 from ..errors import FormatError, type_of_path
-from ..formats.netlist import Gate, Kind, Netlist, in_order
-from ..formats.timing import MOST_TIME, Clock, Timing
+from ..formats.netlist import Gate, Netlist, in_order
+from ..formats.timing import Clock, Timing
 from ..formats.vcd import value_at
+from ..limits import MOST_TIME
 from ..records import dataclass
-from ..settling import arrivals
 from .dump import Dump
 
 _DEPTH = 3
@@ -131,6 +133,5 @@ def _value_of(name: str, netlist: Netlist, known: dict[str, str], fanout: dict[s
         if _shows(gate, name):
             value = _value_of(reader, netlist, known, fanout, depth - 1)
             if value is not None:
-                inverts = gate.kind in (Kind.NOT, Kind.NAND, Kind.NOR, Kind.XNOR)
-                return {"0": "1", "1": "0"}.get(value, value) if inverts else value
+                return {"0": "1", "1": "0"}.get(value, value) if gate.kind.inverts else value
     return None

@@ -8,7 +8,8 @@ from dataclasses import field
 from typing import Any, Union
 
 from ..errors import FormatError, reason_of, type_of_path
-from ..formats.text import NAME_LIMIT, is_name
+from ..formats.text import is_name
+from ..limits import NAME_LIMIT
 from ..records import dataclass
 
 Bit = Union[int, str]

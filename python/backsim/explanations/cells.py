@@ -10,10 +10,11 @@ from bisect import bisect_right, insort
 from collections.abc import Iterator, Sequence
 from dataclasses import field
 
+from ..circuit.kinds import Kind
+from ..circuit.rules import Cell, Design, Role
 from ..errors import FormatError, type_of_path
-from ..formats.netlist import Gate, Kind
+from ..formats.netlist import Gate
 from ..records import dataclass
-from ..rules import Cell, Design, Role, decides, gate_value
 from ..values import Proof, ProofCell
 
 
@@ -183,7 +184,7 @@ class _Builder:
             else:
                 node = self.number_of(signal, Role.UNSEEN, Cell(0, delay, "x"))
             yield node, time
-            if decides(gate.kind, self.nodes[node].value):
+            if gate.kind.decides(self.nodes[node].value):
                 return
 
     def delays_of(self, gate: Gate) -> tuple[int, ...]:
@@ -205,7 +206,7 @@ class _Builder:
     def cell_of(self, gate: Gate, start: int, found: Sequence[tuple[int, int]]) -> Cell:
         """The cell that the rules give at a time from what the pins see."""
         end = self.design.stimulus.horizon + 1
-        value = gate_value(gate.kind, [self.nodes[cause].value for cause, _ in found])
+        value = gate.kind.gate_value([self.nodes[cause].value for cause, _ in found])
         delays = self.delays_of(gate)
         if gate.kind is Kind.DFF:
             begin, clock = found[0][1] + delays[0], self.design.clock_of(gate)
@@ -254,7 +255,7 @@ class _Builder:
 
 def _matter(kind: Kind, seen: Sequence[str]) -> list[bool]:
     """For each looked pin whether the gate's value comes from it."""
-    if decides(kind, seen[-1]):
+    if kind.decides(seen[-1]):
         return [False] * (len(seen) - 1) + [True]
     unknown = [value in "xz" for value in seen]
     return unknown if any(unknown) else [True] * len(seen)

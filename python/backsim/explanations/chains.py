@@ -4,9 +4,9 @@ from __future__ import annotations
 from collections.abc import Sequence
 from dataclasses import replace
 
-from ..formats.netlist import Kind
+from ..circuit.kinds import Kind
+from ..circuit.rules import Role
 from ..records import dataclass
-from ..rules import Role, decides
 from .cells import Node
 from .way import Way, line_of, multiplexer_of
 
@@ -98,7 +98,7 @@ def _gate_text(way: Way, gates: Sequence[Node], cause: Node | None) -> str:
         return f"{len(gates)} gates, the last {_article(gate.kind)}"
     if len(gate.pins) == 1 or cause is None:
         return gate.kind.value
-    if cause.value in "01" and decides(gate.kind, cause.value):
+    if cause.value in "01" and gate.kind.decides(cause.value):
         return f"{gate.kind.value}, {cause.name} decides"
     return f"{gate.kind.value} of {len(gate.pins)} pins"
 
@@ -109,10 +109,10 @@ def _article(kind: Kind) -> str:
 
 def _leaf_text(way: Way, node: Node) -> str:
     if node.role is Role.INPUT:
-        settings = way.design.stimulus.settings.get(node.name, [])
-        if any(time == node.start for time, _ in settings):
+        changes = way.design.changes(node.name)
+        if any(time == node.start for time, _ in changes):
             return f"input, set at {node.start:,}"
-        return f"input, not set before {node.end:,}" if settings else "input, never set"
+        return f"input, not set before {node.end:,}" if changes else "input, never set"
     elif node.role is Role.INITIAL:
         return "no initial value" if node.value == "x" else "initial value"
     elif node.role is Role.EARLY:

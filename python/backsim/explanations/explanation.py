@@ -5,8 +5,8 @@ from collections.abc import Collection, Sequence
 from functools import cached_property
 from typing import TYPE_CHECKING, Any
 
+from ..circuit.rules import Design
 from ..errors import MissingExtra, UsageError
-from ..rules import Design
 from ..values import Proof
 from .cells import CellGraph, CellTable, way_of
 from .chains import Step, steps_of

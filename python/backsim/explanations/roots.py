@@ -4,9 +4,9 @@ from __future__ import annotations
 import enum
 from collections.abc import Collection
 
+from ..circuit.rules import Role
 from ..convert.build import constant_value
 from ..records import dataclass
-from ..rules import Role
 from .cells import CellTable, Node
 from .way import Way
 

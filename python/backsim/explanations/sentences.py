@@ -4,8 +4,8 @@ from __future__ import annotations
 from collections.abc import Iterator, Sequence
 from typing import TYPE_CHECKING, Any
 
-from ..buses import bits_of
-from ..rules import Role, decides
+from ..circuit.buses import bits_of
+from ..circuit.rules import Role
 from .chains import Step
 from .names import compact, in_short, listed
 from .roots import Cause, CauseKind
@@ -179,8 +179,7 @@ def _without_value(explanation: Explanation, cause: Cause) -> str:
     start, end = cause.times[0]
     inputs = f"input {names}" if count == 1 else f"{count:,} inputs"
     listed = "" if count == 1 else f": {names}"
-    settings = explanation.design.stimulus.settings.get(cause.names[0], [])
-    if any(time == start for time, _ in settings):
+    if any(time == start for time, _ in explanation.design.changes(cause.names[0])):
         return f"{inputs} {'is' if count == 1 else 'are'} set to {cause.values[0]} at {start:,}{listed}"
     if end > explanation.design.stimulus.horizon:
         return f"{inputs} {'is' if count == 1 else 'are'} never set{listed}"
@@ -215,7 +214,7 @@ def _deciding_pin(explanation: Explanation) -> str | None:
     graph = explanation.graph
     root = graph.nodes[graph.roots[0]]
     matters = [graph.nodes[edge.cause] for edge in explanation.way.causes[graph.roots[0]]]
-    if len(graph.roots) > 1 or root.kind is None or len(root.pins) < 2 or not matters or not decides(root.kind, matters[0].value):
+    if len(graph.roots) > 1 or root.kind is None or len(root.pins) < 2 or not matters or not root.kind.decides(matters[0].value):
         return None
     return matters[0].name
 

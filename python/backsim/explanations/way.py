@@ -10,8 +10,9 @@ from collections.abc import Collection, Sequence
 from functools import reduce
 from operator import and_, or_
 
-from ..formats.netlist import Gate, Kind, Netlist
-from ..rules import Design, Role
+from ..circuit.kinds import Join, Kind
+from ..circuit.rules import Design, Role
+from ..formats.netlist import Gate, Netlist
 from .cells import CellGraph, CellTable, Edge, Node
 
 # what Yosys and ABC call a net that has no name in the source
@@ -205,12 +206,12 @@ class _Evaluation:
 def _gate_rails(gate: Gate, pins: Sequence[Rails], every: int) -> Rails:
     """The rails of a gate of these pins."""
     zeros, ones = [pin[0] for pin in pins], [pin[1] for pin in pins]
-    if gate.kind in (Kind.AND, Kind.NAND):
+    if gate.kind.join is Join.ALL:
         zero, one = reduce(or_, zeros), reduce(and_, ones)
-    elif gate.kind in (Kind.OR, Kind.NOR):
+    elif gate.kind.join is Join.ANY:
         zero, one = reduce(and_, zeros), reduce(or_, ones)
     else:
         zero, one = every, 0
         for no, yes in pins:
             zero, one = zero & no | one & yes, zero & yes | one & no
-    return (one, zero) if gate.kind in (Kind.NAND, Kind.NOR, Kind.XNOR, Kind.NOT) else (zero, one)
+    return (one, zero) if gate.kind.inverts else (zero, one)

@@ -15,9 +15,9 @@ from typing import TypeVar
 from ..errors import BacksimError, type_of_path
 from ..formats.replies import first_line, fits
 from ..formats.script import Line, StatsLine
-from ..formats.text import SCRIPT_LIMIT
-from ..outcomes import SessionError
-from ..program import Conversation, Options, interrupt_held, looked_up
+from ..limits import SCRIPT_LIMIT
+from ..session.outcomes import SessionError
+from ..session.program import Conversation, Options, interrupt_held, looked_up
 from ..values import Answer, At, Budget
 from .collapse import FaultClass
 from .forecast import Forecast

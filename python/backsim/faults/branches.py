@@ -11,12 +11,13 @@ from collections.abc import Iterable
 from dataclasses import replace
 from itertools import count
 
+from ..circuit.kinds import Kind
 from ..errors import WordsError
 from ..formats.circuit import Circuit
-from ..formats.netlist import Gate, Kind, Netlist
+from ..formats.netlist import Gate, Netlist
 from ..formats.stimulus import Stimulus
-from ..formats.text import NAME_LIMIT
-from ..formats.timing import MOST_TIME, Clock, Timing
+from ..formats.timing import Clock, Timing
+from ..limits import MOST_TIME, NAME_LIMIT
 from ..records import dataclass
 from .model import Site
 

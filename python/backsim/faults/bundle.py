@@ -7,10 +7,10 @@ from __future__ import annotations
 from collections.abc import Iterable, Iterator
 from pathlib import Path
 
+from ..command_line.outputs import whole_folder
 from ..formats.replies import pairs, read_replies_of
 from ..formats.script import Line, read_script
-from ..formats.text import SCRIPT_LIMIT
-from ..outputs import whole_folder
+from ..limits import SCRIPT_LIMIT
 from ..values import Answer
 from .asking import Incomplete
 from .circuit_files import write_circuit

@@ -8,12 +8,10 @@ from __future__ import annotations
 
 from collections.abc import Iterable
 
-from ..formats.netlist import Gate, Kind
+from ..circuit.kinds import Kind
+from ..formats.netlist import Gate
 from ..records import dataclass
 from .model import Fault, Lines, Site
-
-_CONTROLLED = {Kind.AND: ("0", "0"), Kind.NAND: ("0", "1"), Kind.OR: ("1", "1"), Kind.NOR: ("1", "0")}
-_NEGATED = (Kind.NAND, Kind.NOR, Kind.XNOR, Kind.NOT)
 
 
 @dataclass(frozen=True, slots=True, eq=False)
@@ -35,8 +33,9 @@ def pin_to_output(gate: Gate) -> dict[str, str]:
     if gate.kind is Kind.DFF:
         return {}
     if len(gate.pins) == 1:
-        return {"0": "1", "1": "0"} if gate.kind in _NEGATED else {"0": "0", "1": "1"}
-    return dict((_CONTROLLED[gate.kind],)) if gate.kind in _CONTROLLED else {}
+        return {value: gate.kind.gate_value((value,)) for value in ("0", "1")}
+    control = gate.kind.controlling
+    return {} if control is None else {control: gate.kind.gate_value((control,))}
 
 
 def collapse(lines: Lines, faults: Iterable[Fault]) -> list[FaultClass]:

@@ -7,7 +7,7 @@ from typing import NamedTuple
 
 from ..errors import type_of_path
 from ..formats.script import Line, StuckLine
-from ..legality import HELD_CELLS
+from ..limits import HELD_CELLS
 from ..values import Answer, At, Stuck
 from .asking import Asker, Crew
 from .collapse import FaultClass

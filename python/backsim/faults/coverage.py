@@ -5,7 +5,7 @@ import csv
 from collections.abc import Iterator
 from typing import TextIO
 
-from ..partial import PARTIAL
+from ..command_line.partial import PARTIAL
 from ..records import dataclass
 from .collapse import FaultClass
 from .lists import text_of

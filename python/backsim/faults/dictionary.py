@@ -5,7 +5,7 @@ import csv
 from array import array
 from typing import TextIO
 
-from ..partial import PARTIAL
+from ..command_line.partial import PARTIAL
 from .coverage import Coverage
 from .sequential import Detection
 

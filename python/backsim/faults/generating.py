@@ -7,7 +7,7 @@ from dataclasses import field
 
 from ..convert.patterns import Patterns, stimulus_of
 from ..formats.circuit import Circuit
-from ..formats.stimulus import MOST_TIME
+from ..limits import MOST_TIME
 from ..records import dataclass
 from .collapse import FaultClass
 from .finding import finder_of

@@ -10,8 +10,8 @@ import time
 from collections.abc import Callable, Mapping, Sequence
 from pathlib import Path
 
+from ..circuit.forced import write_forced
 from ..errors import FormatError, reason_of, type_of_path
-from ..forced import write_forced
 from ..formats.script import AtLine
 from ..values import Answer, At
 from .asking import Asker, Crew

@@ -9,9 +9,9 @@ import re
 from collections.abc import Iterable
 from typing import TextIO
 
+from ..command_line.partial import PARTIAL, refuse_partial
 from ..errors import FormatError, type_of_path
 from ..formats.text import content_of, lines_of, read_bytes
-from ..partial import PARTIAL, refuse_partial
 from .model import OUTPUT, Fault, Lines, Site
 
 _FAULT = re.compile(r" *(\S+?) */([01]|str|stf) *")

@@ -8,11 +8,11 @@ from bisect import bisect_left, bisect_right
 from collections.abc import Callable, Iterable, Iterator, Sequence
 from dataclasses import field
 
+from ..circuit.settling import Pair, arrivals, settle
 from ..formats.circuit import Circuit
 from ..formats.netlist import in_order
 from ..formats.timing import Clock
 from ..records import dataclass
-from ..settling import Pair, arrivals, settle
 from .combinational import Block
 from .network import Network, Rails
 
@@ -111,7 +111,7 @@ def _late_looks(circuit: Circuit, times: Sequence[int]) -> Iterator[str]:
 def _sources(circuit: Circuit) -> Iterator[tuple[dict[str, int], Sequence[int]]]:
     """What starts changes, with what it takes to show them, and when: the inputs, and the flip-flops of each clock."""
     inputs = circuit.netlist.inputs
-    yield dict.fromkeys(inputs, 0), sorted({time for name in inputs for time, _ in circuit.stimulus.settings.get(name, ())})
+    yield dict.fromkeys(inputs, 0), sorted({time for name in inputs for time, _ in circuit.stimulus.changes(name)})
     flops: dict[Clock, dict[str, int]] = {}
     for flop in circuit.netlist.flops():
         clock = circuit.timing.clock_of(flop.name)

@@ -7,7 +7,8 @@ from __future__ import annotations
 
 from collections.abc import Iterable, Iterator, Sequence
 
-from ..formats.netlist import Gate, Kind, Netlist, in_order
+from ..circuit.kinds import Kind
+from ..formats.netlist import Gate, Netlist, in_order
 from ..records import dataclass
 
 OUTPUT = "(output)"

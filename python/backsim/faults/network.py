@@ -6,14 +6,12 @@ from __future__ import annotations
 
 from collections.abc import Callable, Iterator, Sequence
 
-from ..formats.netlist import Gate, Kind, Netlist, in_order
+from ..circuit.kinds import Join, Kind
+from ..formats.netlist import Gate, Netlist, in_order
 
 Rails = tuple[int, int]
 # what a gate's pins are, of all signals' ones and zeros
 Kernel = Callable[[Sequence[int], Sequence[int]], Rails]
-_CONJUNCTIONS = (Kind.AND, Kind.NAND)
-_DISJUNCTIONS = (Kind.OR, Kind.NOR)
-_NEGATED = (Kind.NAND, Kind.NOR, Kind.XNOR, Kind.NOT)
 
 
 class Network:
@@ -45,9 +43,9 @@ class Network:
         assert gate is not None
         others = [pin for other, pin in enumerate(self.pins[number]) if other != place]
         for pin in others:
-            if gate.kind in _CONJUNCTIONS:
+            if gate.kind.join is Join.ALL:
                 every &= ones[pin]
-            elif gate.kind in _DISJUNCTIONS:
+            elif gate.kind.join is Join.ANY:
                 every &= zeros[pin]
             else:
                 every &= ones[pin] | zeros[pin]
@@ -58,7 +56,7 @@ def kernel_of(kind: Kind, pins: Sequence[int]) -> Kernel:
     """What works out the value of a gate of this kind. Gates of one pin and of two, which most are, have functions of their own."""
     if len(pins) == 1:
         only, = pins
-        if kind in _NEGATED:
+        if kind.inverts:
             return lambda ones, zeros: (zeros[only], ones[only])
         return lambda ones, zeros: (ones[only], zeros[only])
     if len(pins) == 2:
@@ -67,17 +65,17 @@ def kernel_of(kind: Kind, pins: Sequence[int]) -> Kernel:
 
 
 def _of_two(kind: Kind, one: int, two: int) -> Kernel:
-    if kind is Kind.AND:
+    if kind.join is Join.ALL:
+        if kind.inverts:
+            return lambda ones, zeros: (zeros[one] | zeros[two], ones[one] & ones[two])
         return lambda ones, zeros: (ones[one] & ones[two], zeros[one] | zeros[two])
-    if kind is Kind.NAND:
-        return lambda ones, zeros: (zeros[one] | zeros[two], ones[one] & ones[two])
-    if kind is Kind.OR:
+    if kind.join is Join.ANY:
+        if kind.inverts:
+            return lambda ones, zeros: (zeros[one] & zeros[two], ones[one] | ones[two])
         return lambda ones, zeros: (ones[one] | ones[two], zeros[one] & zeros[two])
-    if kind is Kind.NOR:
-        return lambda ones, zeros: (zeros[one] & zeros[two], ones[one] | ones[two])
-    if kind is Kind.XOR:
-        return lambda ones, zeros: (ones[one] & zeros[two] | zeros[one] & ones[two], ones[one] & ones[two] | zeros[one] & zeros[two])
-    return lambda ones, zeros: (ones[one] & ones[two] | zeros[one] & zeros[two], ones[one] & zeros[two] | zeros[one] & ones[two])
+    if kind.inverts:
+        return lambda ones, zeros: (ones[one] & ones[two] | zeros[one] & zeros[two], ones[one] & zeros[two] | zeros[one] & ones[two])
+    return lambda ones, zeros: (ones[one] & zeros[two] | zeros[one] & ones[two], ones[one] & ones[two] | zeros[one] & zeros[two])
 
 
 def _of_many(kind: Kind, pins: tuple[int, ...]) -> Kernel:
@@ -96,17 +94,13 @@ def _of_many(kind: Kind, pins: tuple[int, ...]) -> Kernel:
             one, zero = one & zeros[pin] | zero & ones[pin], one & ones[pin] | zero & zeros[pin]
         return one, zero
 
-    if kind is Kind.AND:
-        return conjunction
-    if kind is Kind.NAND:
-        return lambda ones, zeros: conjunction(ones, zeros)[::-1]
-    if kind is Kind.OR:
-        return lambda ones, zeros: conjunction(zeros, ones)[::-1]
-    if kind is Kind.NOR:
-        return lambda ones, zeros: conjunction(zeros, ones)
-    if kind is Kind.XOR:
-        return exclusive
-    return lambda ones, zeros: exclusive(ones, zeros)[::-1]
+    # an OR is the AND of the negated pins, negated
+    is_any = kind.join is Join.ANY
+    is_turned = kind.inverts != is_any
+    plain = exclusive if kind.join is Join.ODD else conjunction
+    if is_any:
+        return (lambda ones, zeros: plain(zeros, ones)[::-1]) if is_turned else lambda ones, zeros: plain(zeros, ones)
+    return (lambda ones, zeros: plain(ones, zeros)[::-1]) if is_turned else plain
 
 
 def bits_of(mask: int) -> Iterator[int]:

@@ -11,7 +11,7 @@ from multiprocessing.process import BaseProcess
 from types import TracebackType
 from typing import Any, Generic, TypeVar
 
-from ..program import interrupt_held
+from ..session.program import interrupt_held
 
 T = TypeVar("T")
 R = TypeVar("R")

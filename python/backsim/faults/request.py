@@ -8,15 +8,16 @@ from collections.abc import Iterator, Sequence
 from contextlib import contextmanager
 from pathlib import Path
 
-from ..arguments import count_of, in_units, moment_of
+from ..command_line.arguments import count_of, in_units, moment_of
 from ..convert.patterns import Patterns, read_patterns, stimulus_of
 from ..errors import FormatError, UsageError, WordsError, type_of_path
 from ..formats.circuit import Circuit
 from ..formats.netlist import read_netlist
-from ..formats.stimulus import MOST_TIME, read_stimulus
+from ..formats.stimulus import read_stimulus
 from ..formats.text import read_bytes, rows_of
 from ..formats.timing import Timing, read_timing
 from ..formats.units import Unit, is_time
+from ..limits import MOST_TIME
 from ..records import dataclass
 from .branches import Made
 from .circuit_files import write_circuit

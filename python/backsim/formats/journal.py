@@ -1,4 +1,4 @@
-"""The journal of a session, in its grammar (docs/use/FORMATS.md, The journal). Which journals are legal is told by `backsim.legality`."""
+"""The journal of a session, in its grammar (docs/use/FORMATS.md, The journal). Which journals are legal is told by `backsim.journal.legality`."""
 from __future__ import annotations
 
 from collections.abc import Callable, Iterable, Iterator
@@ -6,13 +6,11 @@ from dataclasses import field
 from typing import Union
 
 from ..errors import FormatError, type_of_path
+from ..limits import MOST_END, MOST_SHARDS
 from ..records import dataclass
 from ..values import LOGIC
-from .proof import plain_number
+from .proof import plain_numbers
 from .text import opened
-
-MOST_END = 2_000_002
-MOST_SHARDS = 64
 
 
 @dataclass(frozen=True, slots=True)
@@ -124,13 +122,13 @@ def entry_of(words: list[str]) -> Entry | None:
     if kind is None or len(words) != count + 1:
         return None
     is_cell = count == 6
-    numbers = list(map(plain_number, words[1:-1] if is_cell else words[1:]))
-    if None in numbers:
+    numbers = plain_numbers(words[1:-1] if is_cell else words[1:])
+    if numbers is None:
         return None
     make: Callable[..., Entry] = kind
     if is_cell:
         _, _, _, start, end = numbers
-        if words[-1] not in LOGIC or not start < end <= MOST_END:  # type: ignore[operator]
+        if words[-1] not in LOGIC or not start < end <= MOST_END:
             return None
         return make(*numbers, words[-1])
     return make(*numbers)
@@ -194,12 +192,13 @@ class _Grammar:
 
     def begin(self, text: str) -> Head:
         words = text.split(" ")
-        numbers = list(map(plain_number, words[2::2]))
-        if len(words) != 5 or words[:2] != ["journal", "shards"] or words[3] != "cells" or None in numbers:
+        numbers = plain_numbers(words[2::2])
+        if len(words) != 5 or words[:2] != ["journal", "shards"] or words[3] != "cells" or numbers is None:
             raise self.fault("expected `journal shards S cells C`")
-        if not 1 <= numbers[0] <= MOST_SHARDS:  # type: ignore[operator]
-            raise self.fault("a journal has from 1 to 64 shards")
-        self.head = Head(*numbers)  # type: ignore[arg-type]
+        shards, cells = numbers
+        if not 1 <= shards <= MOST_SHARDS:
+            raise self.fault(f"a journal has from 1 to {MOST_SHARDS} shards")
+        self.head = Head(shards, cells)
         return self.head
 
     def begin_section(self, text: str) -> SectionBegin:
@@ -210,7 +209,8 @@ class _Grammar:
             raise self.fault("a held section comes directly after a batch")
         self.sections += 1
         self.kind, self.shard = words[0], -1
-        self.shards = 1 if self.kind == "held" else self.head.shards  # type: ignore[union-attr]
+        assert self.head is not None
+        self.shards = 1 if self.kind == "held" else self.head.shards
         return SectionBegin(self.kind, self.sections)
 
 

@@ -1,22 +1,20 @@
 """The netlist, in the form of the ISCAS'85 and ISCAS'89 benchmarks (docs/use/FORMATS.md, The netlist)."""
 from __future__ import annotations
 
-import enum
 import re
 from collections.abc import Callable, Iterable, Iterator, Mapping
 from dataclasses import field, replace
 from typing import TextIO
 
-from .. import causes
+from ..circuit.kinds import Kind, kind_of
 from ..errors import FormatError, type_of_path
+from ..limits import MOST_NAMES, MOST_PINS, MOST_PINS_OF_A_GATE, NAME_LIMIT
 from ..records import dataclass
-from .text import NAME_LIMIT, check_mark, content_of, is_name, lines_of, read_bytes
+from . import causes
+from .text import check_mark, content_of, is_name, lines_of, read_bytes
 
 # a gate that a converter adds for a signal
 _PART = re.compile(r"(.+)\$[0-9]+")
-MOST_PINS_OF_A_GATE = 64
-MOST_NAMES = 1_048_576
-MOST_PINS = 4_194_304
 _TOKEN = re.compile(r"[(),=]|[^(),= ]+")
 _BLANKS = rb"[ \t\r]*"
 _NAME = rb"[!\"$-'*+\--<>-~]+"
@@ -25,31 +23,6 @@ _GATE = re.compile(rb"%b(%b)%b=%b([A-Za-z]+)%b\(%b(%b(?:%b,%b%b)*)%b\)%b(?:#.*)?
     _BLANKS, _NAME, _BLANKS, _BLANKS, _BLANKS, _BLANKS, _NAME, _BLANKS, _BLANKS, _NAME, _BLANKS, _BLANKS))
 # a comment that is a place in the source, as `# chip.v:12` or `# chip.v:12.5-14.8`
 _SOURCE = re.compile(rb"#[ \t]*([!-~]+:[0-9]+(?:\.[0-9]+(?:-[0-9]+\.[0-9]+)?)?)[ \t\r]*")
-
-
-class Kind(enum.Enum):
-    """The nine kinds; the value is the word of a netlist."""
-
-    AND = "AND"
-    NAND = "NAND"
-    OR = "OR"
-    NOR = "NOR"
-    XOR = "XOR"
-    XNOR = "XNOR"
-    NOT = "NOT"
-    BUFF = "BUFF"
-    DFF = "DFF"
-
-    @property
-    def is_unary(self) -> bool:
-        """Whether the kind has exactly one pin."""
-        return self in (Kind.NOT, Kind.BUFF, Kind.DFF)
-
-
-def kind_of(word: str) -> Kind | None:
-    """The kind of this word, in either case and with BUF for BUFF; None where it is none of the nine."""
-    upper = word.upper()
-    return Kind.__members__.get("BUFF" if upper == "BUF" else upper)
 
 
 @dataclass(frozen=True, slots=True)
@@ -72,7 +45,7 @@ class Netlist:
 
     inputs: tuple[str, ...]
     outputs: tuple[str, ...]
-    gates: dict[str, Gate]
+    gates: Mapping[str, Gate]
     names: tuple[str, ...]
     _numbers: dict[str, int] = field(init=False, repr=False, compare=False)
 
@@ -206,7 +179,7 @@ class _Parser:
         if word not in self.kinds:
             self.kinds[word] = kind_of(word.decode("ascii"))
         kind = self.kinds[word]
-        if kind is None or len(pins) > MOST_PINS_OF_A_GATE or len(pins) > 1 and kind.is_unary or name in self.gates or name in self.inputs:
+        if kind is None or len(pins) > MOST_PINS_OF_A_GATE or not kind.takes(len(pins)) or name in self.gates or name in self.inputs:
             return None
         return Gate(name, kind, tuple(pins), number, source_of(line))
 
@@ -252,7 +225,7 @@ class _Parser:
         kind = kind_of(tokens[2])
         if kind is None:
             raise self.fault(number, 2, tokens[2])
-        if not 1 <= len(pins) <= MOST_PINS_OF_A_GATE or kind.is_unary and len(pins) != 1:
+        if len(pins) > MOST_PINS_OF_A_GATE or not kind.takes(len(pins)):
             raise self.fault(number, 3, f"{kind.value} with {len(pins)} pins")
         return tokens[0], kind, tuple(pins)
 

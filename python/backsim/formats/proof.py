@@ -5,13 +5,11 @@ from collections.abc import Sequence
 from typing import TextIO
 
 from ..errors import FormatError, type_of_path
+from ..limits import MOST_NUMBER, PROOF_LIMIT
 from ..values import LOGIC, Proof, ProofCell
 from .text import is_name, read_bytes
 
-__all__ = ["PROOF_LIMIT", "Proof", "ProofCell", "cell_of", "claim_of", "parse_proof", "plain_number", "read_proof", "write_proof"]
-
-PROOF_LIMIT = 268_435_456
-MOST_NUMBER = 4_294_967_295
+__all__ = ["Proof", "ProofCell", "cell_of", "claim_of", "parse_proof", "plain_number", "plain_numbers", "read_proof", "write_proof"]
 
 
 def plain_number(word: str) -> int | None:
@@ -20,6 +18,12 @@ def plain_number(word: str) -> int | None:
         return None
     number = int(word)
     return number if number <= MOST_NUMBER else None
+
+
+def plain_numbers(words: Sequence[str]) -> tuple[int, ...] | None:
+    """The numbers of these words; None where one of them is none."""
+    numbers = tuple(number for number in map(plain_number, words) if number is not None)
+    return numbers if len(numbers) == len(words) else None
 
 
 def claim_of(words: Sequence[str]) -> tuple[str, int, str] | None:

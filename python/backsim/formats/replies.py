@@ -6,11 +6,12 @@ from operator import lt
 from typing import BinaryIO
 
 from ..errors import FormatError, type_of_path
+from ..limits import USUAL_BUDGET
 from ..records import dataclass
 from ..values import (LOGIC, Answer, At, BadLine, Budget, Dump, First, Past, Proof, ProofCell, Refusal, Stats, Stuck, Trimmed,
                       Unknown, Wave)
-from .proof import cell_of, claim_of, plain_number
-from .script import USUAL_BUDGET, AtLine, BadScriptLine, FirstLine, Line, StatsLine, StuckLine, Trim, VcdLine, WaveLine, WhyLine
+from .proof import cell_of, claim_of, plain_number, plain_numbers
+from .script import AtLine, BadScriptLine, FirstLine, Line, StatsLine, StuckLine, Trim, VcdLine, WaveLine, WhyLine
 from .text import is_name, opened
 
 
@@ -75,11 +76,6 @@ class ReplyReader:
             yield text.split(" ")
 
 
-def _numbers(words: Iterable[str]) -> tuple[int, ...] | None:
-    numbers = tuple(map(plain_number, words))
-    return None if None in numbers else numbers  # type: ignore[return-value]
-
-
 def _runs(reader: ReplyReader, what: str) -> tuple[tuple[int, str], ...]:
     runs: list[tuple[int, str]] = []
     for words in reader.inner_lines(what):
@@ -99,14 +95,14 @@ def _window_of(reader: ReplyReader, name: str, times: tuple[int, ...], what: str
 
 
 def _wave(reader: ReplyReader, words: list[str]) -> Answer | None:
-    times = _numbers(words[2:])
+    times = plain_numbers(words[2:])
     if len(words) != 4 or times is None or not is_name(words[1]):
         return None
     return _window_of(reader, words[1], times, f"`wave {words[1]}`")
 
 
 def _stuck(reader: ReplyReader, words: list[str]) -> Answer | None:
-    times = _numbers(words[4:])
+    times = plain_numbers(words[4:])
     if len(words) != 6 or times is None or not (is_name(words[1]) and is_name(words[3])) or words[2] not in ("0", "1"):
         return None
     return Stuck(words[1], words[2], _window_of(reader, words[3], times, f"`stuck {words[1]} {words[2]} {words[3]}`"))
@@ -144,27 +140,27 @@ def _unknown(_: ReplyReader, words: list[str]) -> Answer | None:
 
 
 def _past(_: ReplyReader, words: list[str]) -> Answer | None:
-    times = _numbers(words[2:])
+    times = plain_numbers(words[2:])
     return Past(words[1], *times) if len(words) == 4 and is_name(words[1]) and times is not None else None
 
 
 def _budget(_: ReplyReader, words: list[str]) -> Answer | None:
-    numbers = _numbers(words[2:])
+    numbers = plain_numbers(words[2:])
     return Budget(words[1], *numbers) if len(words) == 3 and is_name(words[1]) and numbers is not None else None
 
 
 def _error(_: ReplyReader, words: list[str]) -> Answer | None:
-    numbers = _numbers(words[2:])
+    numbers = plain_numbers(words[2:])
     return BadLine(*numbers) if len(words) == 3 and words[1] == "line" and numbers is not None else None
 
 
 def _trimmed(_: ReplyReader, words: list[str]) -> Answer | None:
-    numbers = _numbers(words[1:])
+    numbers = plain_numbers(words[1:])
     return Trimmed(*numbers) if len(words) == 2 and numbers is not None else None
 
 
 def _stats(_: ReplyReader, words: list[str]) -> Answer | None:
-    numbers = _numbers(words[2::2])
+    numbers = plain_numbers(words[2::2])
     names = ["batches", "fills", "evictions", "cells"]
     return Stats(*numbers) if len(words) == 9 and words[1::2] == names and numbers is not None else None
 
@@ -183,7 +179,7 @@ def _refused(_: ReplyReader, words: list[str]) -> Answer | None:
         return None
     if words[2:] == ["too", "long"]:
         return Refusal(words[1])
-    numbers = _numbers(words[3::2])
+    numbers = plain_numbers(words[3::2])
     return Refusal(words[1], *numbers) if len(words) == 6 and words[2::2] == ["line", "cause"] and numbers is not None else None
 
 
@@ -217,14 +213,15 @@ def usual_answer(line: Line, text: bytes) -> Answer | None:
         if not text.startswith(head):
             return None
         words = text[len(head):-4].split()
-        values = tuple(map(_LETTERS.get, words[1::2]))
+        # one that is no value leaves fewer values than times
+        values = [value for value in map(_LETTERS.get, words[1::2]) if value is not None]
         try:
             times = tuple(map(int, words[::2]))
         except ValueError:
             return None
-        if len(times) == len(values) and times and None not in values and (
+        if len(times) == len(values) and times and (
                 times[0] == line.start and times[-1] < line.stop and all(map(lt, times, times[1:]))):
-            return Wave(line.name, line.start, line.stop, tuple(zip(times, values)))  # type: ignore[arg-type]
+            return Wave(line.name, line.start, line.stop, tuple(zip(times, values)))
     return None
 
 

@@ -6,16 +6,10 @@ from collections.abc import Iterable, Iterator
 from typing import ClassVar, TextIO, Union
 
 from ..errors import FormatError, type_of_path
-from ..evaluations import MOST_CELLS
+from ..limits import (LINE_LIMIT, MOST_ASKED_TIME, MOST_BUDGET, MOST_BUDGETS, MOST_CELLS, MOST_ITEMS, MOST_LENGTHS, SCRIPT_LIMIT,
+                      USUAL_BUDGET)
 from ..records import dataclass
-from .text import LINE_LIMIT, NAME, SCRIPT_LIMIT, is_name, lines_of, logic_of, number_of, read_bytes, words_of
-
-MOST_TIME = 4_294_967_294
-MOST_BUDGET = 500_000
-USUAL_BUDGET = 50_000
-MOST_ITEMS = 64
-MOST_BUDGETS = 1_000_000
-MOST_LENGTHS = 4_000_000
+from .text import NAME, is_name, lines_of, logic_of, number_of, read_bytes, words_of
 
 
 @dataclass(slots=True, unsafe_hash=True, kw_only=True)
@@ -29,6 +23,8 @@ class _Line:
     word: ClassVar[str]
     has_reply: ClassVar[bool] = True
     is_item: ClassVar[bool] = False
+    # what `dataclass` writes: the names of what the line states, in order
+    __match_args__: ClassVar[tuple[str, ...]]
 
     @property
     def head(self) -> str:
@@ -238,7 +234,7 @@ def _at_most(word: str, most: int) -> int:
 
 
 def _time(word: str) -> int:
-    return _at_most(word, MOST_TIME)
+    return _at_most(word, MOST_ASKED_TIME)
 
 
 def _budget(words: list[str]) -> int | None:

@@ -3,17 +3,17 @@ from __future__ import annotations
 
 from bisect import bisect_right
 from dataclasses import field
+from itertools import chain
 from typing import TextIO
 
-from .. import causes
 from ..errors import FormatError, type_of_path
+from ..limits import MOST_TIME
 from ..records import dataclass
 from ..values import AFTER_VALUES
+from . import causes
 from .netlist import Netlist
 from .text import Row, is_name, logic_of, number_of, read_bytes, read_for, rows_of
 from .units import Unit, comment_of, unit_in
-
-MOST_TIME = 1_000_000
 
 
 @dataclass(slots=True)
@@ -31,6 +31,12 @@ class Stimulus:
         settings = self.settings.get(name, [])
         place = bisect_right(settings, (time, AFTER_VALUES))
         return settings[place - 1][1] if place else "x"
+
+    def changes(self, name: str) -> list[tuple[int, str]]:
+        """The settings of an input that change its value, which is x before its first one. A circuit has no others: a setting that repeats
+        the value ends no cell."""
+        settings = self.settings.get(name, [])
+        return [setting for setting, before in zip(settings, chain("x", (value for _, value in settings))) if setting[1] != before]
 
     def times(self) -> list[int]:
         """The times at which something is set, ascending."""

@@ -8,12 +8,9 @@ from contextlib import contextmanager
 from typing import BinaryIO, NamedTuple, TypeVar
 
 from ..errors import FormatError, reason_of, type_of_path
-from ..marks import MARK, has_mark
+from ..limits import FILE_LIMIT
+from .marks import MARK, has_mark
 
-FILE_LIMIT = 64 * 1024 * 1024
-SCRIPT_LIMIT = 16 * 1024 * 1024
-LINE_LIMIT = 4096
-NAME_LIMIT = 255
 # from ! to ~, without ( ) , = and #
 NAME = re.compile(r"[!\"$-'*+\--<>-~]+")
 DIGITS = re.compile(r"[0-9]+")

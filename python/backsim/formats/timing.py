@@ -4,14 +4,15 @@ from __future__ import annotations
 from dataclasses import field
 from typing import Any, TextIO, Union
 
-from .. import causes
+from ..circuit.kinds import Kind, kind_of
 from ..errors import FormatError, type_of_path
+from ..limits import MOST_PINS_OF_A_GATE, MOST_TIME
 from ..records import dataclass
-from .netlist import MOST_PINS_OF_A_GATE, Gate, Kind, Netlist, kind_of
+from . import causes
+from .netlist import Gate, Netlist
 from .text import is_name, number_of, read_for, rows_of
 from .units import Unit, comment_of, unit_in
 
-MOST_TIME = 1_000_000
 INITIALS = ("0", "1", "x")
 Key = tuple[Union[str, int], ...]
 
@@ -118,12 +119,12 @@ def _statement(words: tuple[str, ...], is_second: bool) -> tuple[Key, Any]:
 
 def _numbers(*parts: tuple[str, int, int]) -> tuple[int, ...]:
     """The numbers of words with their ranges."""
-    numbers = tuple(number_of(word) for word, _, _ in parts)
-    if None in numbers:
+    numbers = tuple(number for number in (number_of(word) for word, _, _ in parts) if number is not None)
+    if len(numbers) != len(parts):
         raise _Cause(1)
-    if not all(least <= number <= most for number, (_, least, most) in zip(numbers, parts)):  # type: ignore[operator]
+    if not all(least <= number <= most for number, (_, least, most) in zip(numbers, parts)):
         raise _Cause(2)
-    return numbers  # type: ignore[return-value]
+    return numbers
 
 
 def _store(timing: Timing, key: Key, value: Any) -> None:

@@ -11,11 +11,11 @@
     page = page_of(why, horizon=30)
 
 matplotlib is imported, and the program `dot` started, when a picture is made."""
+from ..circuit.rules import Cell, Design, Role, read_design
 from ..explanations.cells import CellGraph, Edge, Node, explain
 from .graph import dot_text, picture_of
 from .page import page_of
 from .rows import Row, bus_row, row_of, with_buses
-from ..rules import Cell, Design, Role, read_design
 from .waves import waves_picture
 
 __all__ = ["Cell", "Design", "Edge", "CellGraph", "Node", "Role", "Row", "bus_row", "dot_text", "explain", "page_of", "picture_of",

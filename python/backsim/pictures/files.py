@@ -4,8 +4,8 @@ from __future__ import annotations
 from collections.abc import Sequence
 from pathlib import Path
 
+from ..command_line.outputs import write_whole
 from ..errors import UsageError
-from ..outputs import write_whole
 
 
 def form_of(path: Path, forms: Sequence[str]) -> str:

@@ -8,8 +8,8 @@ from html import escape
 from importlib.resources import files
 from typing import TYPE_CHECKING
 
+from ..circuit.rules import Role
 from ..explanations.cells import CellGraph
-from ..rules import Role
 from .words import sentence_of, times_of, what_of
 
 if TYPE_CHECKING:

@@ -5,8 +5,8 @@ from __future__ import annotations
 from collections.abc import Mapping, Sequence
 from typing import TYPE_CHECKING
 
-from ..evaluations import MOST_CELLS
-from ..profile import Profile, most_first
+from ..journal.profile import Profile, most_first
+from ..limits import MOST_CELLS
 from . import figures
 from .words import shortened
 

@@ -4,7 +4,7 @@ from __future__ import annotations
 import re
 from collections.abc import Iterable, Sequence
 
-from ..buses import wave_of
+from ..circuit.buses import wave_of
 from ..records import dataclass
 from ..values import Wave
 

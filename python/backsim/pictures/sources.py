@@ -4,15 +4,15 @@ from __future__ import annotations
 from collections.abc import Mapping, Sequence
 from pathlib import Path
 
-from ..buses import bits_of, full_name, matching
+from ..circuit.buses import bits_of, full_name, matching
+from ..command_line.no_value import no_value_of
 from ..errors import FormatError, UsageError
 from ..explanations.names import listed
 from ..formats.netlist import read_netlist
 from ..formats.replies import read_replies_of
 from ..formats.stimulus import read_stimulus
 from ..formats.vcd import Changes, Variable, Vcd, read_vcd
-from ..no_value import no_value_of
-from ..session import Session
+from ..session.session import Session
 from ..values import At, Stuck, Wave
 from .rows import Row, bus_row, row_of
 

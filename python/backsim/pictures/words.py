@@ -3,8 +3,8 @@ from __future__ import annotations
 
 from collections.abc import Sequence
 
+from ..circuit.rules import Role
 from ..explanations.cells import Edge, Node
-from ..rules import Role, decides
 
 
 def times_of(node: Node) -> str:
@@ -56,7 +56,7 @@ def sentence_of(node: Node, causes: Sequence[Edge], nodes: Sequence[Node]) -> st
     if len(node.pins) == 1:
         return f"{kind} of one pin, {node.pins[0]}."
     reasons = [f"{nodes[edge.cause].name} is {nodes[edge.cause].value}" for edge in causes if edge.matters]
-    if node.kind and decides(node.kind, nodes[causes[-1].cause].value):
+    if node.kind and node.kind.decides(nodes[causes[-1].cause].value):
         return f"{kind} of {pins_of(node)}: {reasons[0]}, which decides whatever the other pins are."
     if node.value == "x":
         return f"{kind} of {pins_of(node)}: no pin decides, and {' and '.join(reasons[:3])}{' and more' if reasons[3:] else ''}."

@@ -5,15 +5,15 @@ from collections.abc import Callable, Iterator
 from functools import cached_property
 from typing import Any, TypeVar
 
-from ..buses import bits_of, full_name, number_of
+from ..circuit.buses import bits_of, full_name, number_of
+from ..command_line.no_value import no_value_of
 from ..errors import UsageError
 from ..explanations.names import compact, in_short
 from ..explanations.sentences import text_of, word_text
-from ..formats.script import MOST_BUDGET
 from ..formats.text import is_name
 from ..formats.units import Unit
-from ..no_value import no_value_of
-from ..session import Session
+from ..limits import MOST_BUDGET
+from ..session.session import Session
 from ..values import At, Budget, First, Past, Stuck, Unknown, Wave
 from .lines import HELP, asked_by, time_in, value_in
 

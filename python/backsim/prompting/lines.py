@@ -1,11 +1,11 @@
 """What a line of the prompt asks: its form, and the names and numbers in it."""
 from __future__ import annotations
 
-from ..buses import written_number
+from ..circuit.buses import written_number
 from ..errors import UsageError
-from ..formats.script import MOST_TIME
 from ..formats.text import number_of
 from ..formats.units import Unit, units_of
+from ..limits import MOST_ASKED_TIME
 from ..records import dataclass
 
 HELP = """\
@@ -55,8 +55,8 @@ def time_in(word: str, horizon: int, unit: Unit | None = None) -> int:
     number = number_of(word.replace(",", ""))
     if number is None and word[:1].isdigit():
         number = units_of(word, unit)
-    if number is None or number > MOST_TIME:
-        raise UsageError(f"{word} is no time: a whole number from 0 to {MOST_TIME:,} is wanted, or `end`")
+    if number is None or number > MOST_ASKED_TIME:
+        raise UsageError(f"{word} is no time: a whole number from 0 to {MOST_ASKED_TIME:,} is wanted, or `end`")
     return number
 
 

@@ -15,15 +15,16 @@ from queue import Empty, SimpleQueue
 from tempfile import TemporaryDirectory
 from typing import Any
 
-from ..buses import wave_of
+from ..circuit.buses import wave_of
+from ..circuit.forced import write_forced
 from ..errors import BacksimError, UsageError
-from ..forced import write_forced
-from ..formats.script import MOST_BUDGET, Line, StatsLine, WaveLine, WhyLine
+from ..formats.script import Line, StatsLine, WaveLine, WhyLine
 from ..formats.text import opened, words_of
-from ..outcomes import SessionError
-from ..questions import first_of_all, first_of_any
+from ..limits import MOST_BUDGET, USUAL_BUDGET
 from ..records import dataclass
-from ..session import Session
+from ..session.outcomes import SessionError
+from ..session.questions import first_of_all, first_of_any
+from ..session.session import Session
 from ..values import Answer, At, Budget, First, Past, Proof, Stats, Stuck, Unknown, Wave
 from .store import Key, Span, Store, shown, span_of
 
@@ -36,9 +37,7 @@ Turns = Generator[None, None, None]
 SLICE = 20_000
 ROW_LIMIT = 500_000
 SEARCH_LIMIT = 4_000_000
-_WHY_BUDGET = 50_000
 _SEARCHED, _MOST_SEARCHED = 256, 65_536
-SHARDS = 64
 _LONGEST = 1 << 20
 # questions for a bit that are asked at most where the waves of a window would tell too
 _MOST_STEPS = 64
@@ -442,7 +441,7 @@ class Asker(threading.Thread):
         def turns(job: Job) -> Turns:
             proofs: list[Proof] = []
             for name in names:
-                budget = _WHY_BUDGET
+                budget = USUAL_BUDGET
                 while isinstance(answer := self._ask((WhyLine(name, at, budget),))[0][0], Budget):
                     if budget == MOST_BUDGET:
                         raise UsageError(f"{budget:,} evaluations did not suffice to say why {name} has its value at {at:,}")

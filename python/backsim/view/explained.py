@@ -4,13 +4,13 @@ from __future__ import annotations
 from collections.abc import Sequence
 from typing import Any
 
+from ..circuit.rules import Design
 from ..explanations.chains import Step
 from ..explanations.explanation import Explanation
 from ..explanations.roots import Cause
 from ..explanations.sentences import first_few, summary_of
 from ..formats.stimulus import read_stimulus
 from ..formats.timing import read_timing
-from ..rules import Design
 from ..values import Proof
 from .index import Index
 

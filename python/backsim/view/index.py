@@ -6,16 +6,17 @@ import re
 import threading
 import time
 from bisect import bisect_left
-from collections.abc import Callable, Iterable, Iterator
+from collections.abc import Callable, Iterable, Iterator, Mapping
 from difflib import get_close_matches
 from functools import cached_property
 from heapq import nsmallest
 from typing import NamedTuple
 
-from ..buses import bits_of
+from ..circuit.buses import bits_of
+from ..circuit.kinds import kind_of
 from ..convert.build import ONE, ZERO
 from ..errors import UsageError, type_of_path
-from ..formats.netlist import Gate, Netlist, kind_of, source_of
+from ..formats.netlist import Gate, Netlist, source_of
 from ..formats.text import is_name, read_bytes
 from ..records import dataclass
 
@@ -262,20 +263,20 @@ def _take_registers(kinds: dict[str, str], lines: Iterable[tuple[bytes, ...]]) -
             kinds[gate.decode("latin-1")] = "register"
 
 
-class _Gates(dict[str, Gate]):
+class _Gates(Mapping[str, Gate]):
     """The gates of a netlist, each made of its line when it is first asked for."""
 
     def __init__(self) -> None:
-        super().__init__()
         self.lines: dict[str, tuple[bytes, bytes, bytes]] = {}
+        self._made: dict[str, Gate] = {}
 
-    def __missing__(self, name: str) -> Gate:
-        word, pins, comment = self.lines[name]
-        kind = kind_of(word.decode("latin-1"))
-        assert kind is not None
-        self[name] = gate = Gate(name, kind, tuple(pin.strip() for pin in pins.decode("latin-1").split(",")),
-                                 source=source_of(comment))
-        return gate
+    def __getitem__(self, name: str) -> Gate:
+        if name not in self._made:
+            word, pins, comment = self.lines[name]
+            kind = kind_of(word.decode("latin-1"))
+            assert kind is not None
+            self._made[name] = Gate(name, kind, tuple(pin.strip() for pin in pins.decode("latin-1").split(",")), source=source_of(comment))
+        return self._made[name]
 
     def __contains__(self, name: object) -> bool:
         return name in self.lines
@@ -285,12 +286,6 @@ class _Gates(dict[str, Gate]):
 
     def __len__(self) -> int:
         return len(self.lines)
-
-    def get(self, name: str, default: Gate | None = None) -> Gate | None:  # type: ignore[override]
-        return self[name] if name in self.lines else default
-
-    def values(self) -> Iterator[Gate]:  # type: ignore[override]
-        return (self[name] for name in self.lines)
 
 
 def _decoded(names: Iterable[bytes]) -> tuple[str, ...]:

@@ -18,8 +18,8 @@ from importlib.resources import files
 from typing import TYPE_CHECKING, Any
 from urllib.parse import parse_qs, urlsplit
 
-from ..arguments import unit_of_session
-from ..buses import written_number
+from ..circuit.buses import written_number
+from ..command_line.arguments import unit_of_session
 from ..convert.waves import dumped_of, runs_of
 from ..errors import BacksimError, UsageError
 from ..formats.vcd import write_vcd
@@ -72,8 +72,8 @@ class Pages(ThreadingHTTPServer):
         # without the look-up of the machine's name that http.server makes, which may wait for a network
         self.socket.setsockopt(socket.SOL_SOCKET, socket.SO_REUSEADDR, 1)
         self.socket.bind(self.server_address)
-        self.server_address = self.socket.getsockname()
-        self.server_name, self.server_port = self.server_address[:2]  # type: ignore[assignment]
+        self.server_address = address = self.socket.getsockname()
+        self.server_name, self.server_port = address[:2]
 
     def handle_error(self, request: Any, client_address: Any) -> None:
         """A reader that went away is no error; anything else is a fault of this program, and is shown."""

@@ -6,15 +6,24 @@ from bisect import bisect_left, bisect_right
 from collections import OrderedDict
 from collections.abc import Iterator, Sequence
 from math import ceil
-from typing import Union
+from typing import NamedTuple, Union
 
 from ..records import dataclass
 from ..values import Wave
 
 MOST_CHANGES = 4_000_000
 
-# an entry of what is shown: a run as (time, value), or changes that are too close to be shown apart as (time, `#`, count)
-Shown = Union[tuple[int, str], tuple[int, str, int]]
+
+class Busy(NamedTuple):
+    """Changes that are too close to be shown apart, from the time `begin` on."""
+
+    begin: int
+    mark: str  # `#`
+    changes: int
+
+
+# an entry of what is shown: a run as (time, value), or changes
+Shown = Union[tuple[int, str], Busy]
 
 
 @dataclass(slots=True)
@@ -160,9 +169,9 @@ def _add_busy(found: list[Shown], times: Sequence[int], values: Sequence[str], p
     """Adds the changes from `place` on and before `after` as one activity, joined with the one before where less than a pixel is
     between."""
     begin, changes = times[place], after - place
-    if len(found) >= 2 and len(found[-2]) == 3 and begin - found[-1][0] <= step:
-        found.pop()
-        begin, changes = found[-1][0], found[-1][2] + changes  # type: ignore[misc]
-        found.pop()
-    found.append((begin, "#", changes))
+    before = found[-2] if len(found) >= 2 else None
+    if isinstance(before, Busy) and begin - found[-1][0] <= step:
+        del found[-2:]
+        begin, changes = before.begin, before.changes + changes
+    found.append(Busy(begin, "#", changes))
     found.append((times[after - 1], values[after - 1]))

@@ -7,12 +7,12 @@ import sys
 from collections.abc import Callable
 from typing import TYPE_CHECKING, BinaryIO
 
-from .errors import FormatError, UsageError, WordsError, reason_of
-from .evaluations import MOST_CELLS
-from .formats.text import number_of
+from ..errors import FormatError, UsageError, WordsError, reason_of
+from ..formats.text import number_of
+from ..limits import MOST_CELLS, MOST_SHARDS, MOST_WORKERS
 
 if TYPE_CHECKING:
-    from .formats.units import Moment, Unit
+    from ..formats.units import Moment, Unit
 
 
 def count_of(least: int, most: int) -> Callable[[str], int]:
@@ -29,7 +29,7 @@ def count_of(least: int, most: int) -> Callable[[str], int]:
 
 def unit_word(word: str) -> Unit:
     """A type of an argument: a unit of time, as `10ps`."""
-    from .formats.units import unit_of  # `run` begins without it
+    from ..formats.units import unit_of  # `run` begins without it
     unit = unit_of(word)
     if unit is None:
         raise argparse.ArgumentTypeError(f"a unit of time is wanted, a whole number of s, ms, us, ns, ps or fs as 10ps, and not {word}")
@@ -38,7 +38,7 @@ def unit_word(word: str) -> Unit:
 
 def moment(word: str) -> Moment:
     """A type of an argument: a time in units, or such as `15ns`."""
-    from .formats.units import is_time
+    from ..formats.units import is_time
     if word.lstrip("-").isdigit():
         return int(word)
     if not is_time(word):
@@ -58,7 +58,7 @@ def moment_of(least: int, most: int) -> Callable[[str], Moment]:
 def in_units(time: Moment, unit: Unit | None, option: str, least: int, most: int) -> int:
     """What an option says, in units. WordsError where it is a time such as `15ns` that is between two units or out of the range, or the unit is
     not known."""
-    from .formats.units import units_of
+    from ..formats.units import units_of
     try:
         units = units_of(time, unit)
     except UsageError as error:
@@ -70,7 +70,7 @@ def in_units(time: Moment, unit: Unit | None, option: str, least: int, most: int
 
 def unit_of_session(timing: str | os.PathLike[str], stimulus: str | os.PathLike[str]) -> Unit | None:
     """The unit of time that the files of a session state."""
-    from .formats.units import unit_of_file
+    from ..formats.units import unit_of_file
     return unit_of_file(timing) or unit_of_file(stimulus)
 
 
@@ -87,8 +87,8 @@ def add_program(parser: argparse.ArgumentParser) -> None:
 
 def add_memo(parser: argparse.ArgumentParser) -> None:
     """Adds the options --workers, --shards and --cells."""
-    parser.add_argument("--workers", metavar="N", type=count_of(1, 64), help="of each process: 1 where there are several, else 4")
-    parser.add_argument("--shards", metavar="N", type=count_of(1, 64), help="of each process, 8 where it is left out")
+    parser.add_argument("--workers", metavar="N", type=count_of(1, MOST_WORKERS), help="of each process: 1 where there are several, else 4")
+    parser.add_argument("--shards", metavar="N", type=count_of(1, MOST_SHARDS), help="of each process, 8 where it is left out")
     parser.add_argument("--cells", metavar="N", type=count_of(1, MOST_CELLS), default=MOST_CELLS,
                         help=f"of each shard, {MOST_CELLS} where it is left out; each takes some 100 bytes once it comes")
 

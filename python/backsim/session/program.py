@@ -16,18 +16,18 @@ from collections.abc import Callable, Iterator, Sequence
 from contextlib import contextmanager
 from typing import TYPE_CHECKING, NamedTuple, TypeVar
 
+from ..errors import FormatError, UsageError, reason_of, type_of_path
+from ..limits import MOST_CELLS, MOST_SHARDS, MOST_WORKERS
+from ..scripts.parts import TextLine
 from .checks import whole_number
-from .errors import FormatError, UsageError, reason_of, type_of_path
-from .evaluations import MOST_CELLS
 from .outcomes import FAULTS, Fault, Refused, SessionError, ended
-from .parts import TextLine
 
 if TYPE_CHECKING:
-    from .formats.replies import Reply
-    from .formats.script import Line
-    from .values import Refusal
+    from ..formats.replies import Reply
+    from ..formats.script import Line
+    from ..values import Refusal
 
-TOP = os.path.realpath(os.path.join(__file__, *[os.pardir] * 3))
+TOP = os.path.realpath(os.path.join(__file__, *[os.pardir] * 4))
 L = TypeVar("L", "Line", TextLine)
 T = TypeVar("T")
 _CHUNK = 1 << 16
@@ -55,7 +55,7 @@ class Options(NamedTuple):
     def words(self) -> list[str]:
         """The options as words of a command. UsageError where a number is out of its range."""
         words: list[str] = []
-        for name, number, most in zip(self._fields, self, (64, 64, MOST_CELLS)):
+        for name, number, most in zip(self._fields, self, (MOST_WORKERS, MOST_SHARDS, MOST_CELLS)):
             if number is None:
                 continue
             words += [f"--{name}", str(whole_number(number, f"number of {name}", 1, most))]
@@ -101,7 +101,7 @@ def find_program(given: type_of_path | None = None) -> str:
 
 def _installed() -> str | None:
     """The program that was installed with this package."""
-    folder = os.path.dirname(os.path.abspath(__file__))
+    folder = os.path.dirname(os.path.dirname(os.path.abspath(__file__)))
     while folder != os.path.dirname(folder):
         folder = os.path.dirname(folder)
         found = shutil.which(os.path.join(folder, "bin", "backsim"))
@@ -140,8 +140,8 @@ class Conversation:
         except (OSError, ValueError) as error:
             raise UsageError(f"{words[0]}: {reason_of(error)}") from None
         assert self._process.stdin and self._process.stdout and self._process.stderr
-        self._in, self._out, self._err = (pipe.fileno() for pipe in (
-            self._process.stdin, self._process.stdout, self._process.stderr))
+        self._pipes = self._process.stdin, self._process.stdout, self._process.stderr
+        self._in, self._out, self._err = (pipe.fileno() for pipe in self._pipes)
         for pipe in (self._in, self._out, self._err):
             os.set_blocking(pipe, False)
         self._poll = select.poll()
@@ -203,7 +203,7 @@ class Conversation:
                 self._poll.unregister(self._in)
                 self._is_writing = False
             self._in = -1
-            self._process.stdin.close()  # type: ignore[union-attr]
+            self._pipes[0].close()
 
     def _step(self, waits: bool = True) -> bool:
         """Reads and writes the pipes that are ready, where it is to wait once one is; whether one was."""
@@ -276,8 +276,8 @@ class Conversation:
         return None
 
     def _reply_of(self, text: bytes, line: int = 1) -> Reply | None:
-        from .formats.replies import reply_of
-        from .values import Refusal
+        from ..formats.replies import reply_of
+        from ..values import Refusal
         reply = reply_of(text, line)
         if isinstance(reply.answer, Refusal):
             self.refusal, self._refusal_text = reply.answer, text
@@ -317,7 +317,7 @@ class Conversation:
 
     def _reply_to(self, line: Line | TextLine, text: bytes) -> Reply | None:
         """The reply, where it is one to the line; None of a refusal."""
-        from .formats.replies import first_line, fits, shown
+        from ..formats.replies import first_line, fits, shown
         asked = line.parsed() if isinstance(line, TextLine) else line
         try:
             reply = self._reply_of(text)
@@ -352,8 +352,8 @@ class Conversation:
 
     def _close_pipes(self) -> None:
         self._close_input()
-        for pipe in (self._process.stdout, self._process.stderr):
-            pipe.close()  # type: ignore[union-attr]
+        for pipe in self._pipes[1:]:
+            pipe.close()
         self._open.clear()
 
     def error_of(self, status: int) -> SessionError:

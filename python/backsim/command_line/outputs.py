@@ -11,7 +11,7 @@ from collections.abc import Iterator
 from contextlib import contextmanager
 from pathlib import Path
 
-from .errors import FormatError, reason_of, type_of_path
+from ..errors import FormatError, reason_of, type_of_path
 
 
 def write_whole(path: type_of_path, data: bytes) -> None:

@@ -13,29 +13,30 @@ from collections.abc import Callable, Collection, Iterable, Iterator
 from difflib import get_close_matches
 from itertools import islice
 from types import TracebackType
-from typing import TYPE_CHECKING, Any, TypeVar
+from typing import TYPE_CHECKING, TextIO, TypeVar
 
-from . import buses, questions
+from ..circuit import buses
+from ..errors import FormatError, UsageError, type_of_path
+from ..formats.netlist import Netlist, read_netlist, write_netlist
+from ..formats.replies import Reply
+from ..formats.script import Line, StatsLine, Trim, VcdLine
+from ..formats.stimulus import Stimulus, read_horizon, read_stimulus, write_stimulus
+from ..formats.text import is_name
+from ..formats.timing import Timing, read_timing, write_timing
+from ..formats.units import Moment, check_units, unit_of_file, units_of
+from ..limits import MOST_BUDGET, MOST_CELLS
+from ..values import Answer, At, Budget, Dump, First, Past, Proof, Stats, Stuck, Trimmed, Unknown, Wave
+from . import questions
 from .batch import Batch
 from .checks import whole_number
-from .errors import FormatError, UsageError, type_of_path
-from .evaluations import MOST_CELLS
 from .exchange import CHUNK, Asked, Exchange, Questions
-from .formats.netlist import Netlist, read_netlist, write_netlist
-from .formats.replies import Reply
-from .formats.script import MOST_BUDGET, Line, StatsLine, Trim, VcdLine
-from .formats.stimulus import Stimulus, read_horizon, read_stimulus, write_stimulus
-from .formats.text import is_name
-from .formats.timing import Timing, read_timing, write_timing
-from .formats.units import Moment, check_units, unit_of_file, units_of
 from .program import Conversation, Options, interrupt_held
 from .questions import Question
 from .scratch import Scratch
-from .values import Answer, At, Budget, Dump, First, Past, Proof, Stats, Stuck, Trimmed, Unknown, Wave
 
 if TYPE_CHECKING:
-    from .explanations import Explanation
-    from .rules import Design
+    from ..circuit.rules import Design
+    from ..explanations import Explanation
 
 T = TypeVar("T")
 _NEAREST = 3
@@ -129,7 +130,7 @@ class Session:
     def design(self) -> Design:
         """The netlist, the timing and the stimulus with the rules of cells, read when they are first wanted."""
         if self._design is None:
-            from .rules import Design
+            from ..circuit.rules import Design
             timing, stimulus = self._given
             netlist = self.netlist
             self._design = Design(netlist, timing if isinstance(timing, Timing) else read_timing(timing, netlist),
@@ -195,7 +196,7 @@ class Session:
         raised by itself: from 50,000 to 500,000, and by as much again as long as the memo keeps what was evaluated. With `until` the
         ways back end at these signals, and with `depth` after so many steps; with `has_all` the graph goes on from pins that do not
         matter too."""
-        from .explanations import Explanation
+        from ..explanations import Explanation
         time = self.time(time)
         if depth is not None:
             depth = whole_number(depth, "depth", 1)
@@ -292,7 +293,7 @@ class Session:
         answer = reply.answer
         return Unknown(answer.name, self.nearest(answer.name)) if isinstance(answer, Unknown) else answer
 
-    def _path_of(self, given: Any, write: Callable[[Any, Any], None]) -> str:
+    def _path_of(self, given: type_of_path | T, write: Callable[[T, TextIO], None]) -> str:
         """The path that is given, or that of a file to which what is given was written."""
         return os.fspath(given) if isinstance(given, (str, os.PathLike)) else self._scratch.written(write, given)
 

@@ -4,14 +4,15 @@ from __future__ import annotations
 
 import os
 from collections.abc import Sequence
-from typing import TYPE_CHECKING, Any
+from typing import TYPE_CHECKING
 
-from . import causes
-from .errors import BacksimError, reason_of
-from .marks import MARK, has_mark
+from ..errors import BacksimError, reason_of
+from ..formats import causes
+from ..formats.marks import MARK, has_mark
 
 if TYPE_CHECKING:
-    from .values import Refusal
+    from ..formats.script import Line
+    from ..values import Answer, Refusal
 
 # a fault may pass: a read or a write failed, or memory ran out; above 128 a signal ended the program
 _PASSING = (3, 4, 6)
@@ -31,7 +32,7 @@ class SessionError(BacksimError):
     def __init__(self, text: str, status: int) -> None:
         super().__init__(text)
         self.status = status
-        self.answered: tuple[tuple[Any, Any], ...] = ()
+        self.answered: tuple[tuple[Line, Answer], ...] = ()
 
 
 class Refused(SessionError):

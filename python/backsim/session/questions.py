@@ -5,12 +5,13 @@ from collections.abc import Callable, Generator, Sequence
 from functools import lru_cache
 from typing import Any, Generic, TypeVar
 
-from . import buses
+from ..circuit import buses
+from ..errors import UsageError
+from ..formats.script import AtLine, FirstLine, Line, StuckLine, WaveLine, WhyLine
+from ..formats.text import is_name
+from ..limits import MOST_ASKED_TIME, MOST_BUDGET
+from ..values import Answer, At, Budget, First, Past, Proof, Stuck, Unknown, Wave
 from .checks import whole_number
-from .errors import UsageError
-from .formats.script import MOST_BUDGET, MOST_TIME, AtLine, FirstLine, Line, StuckLine, WaveLine, WhyLine
-from .formats.text import is_name
-from .values import Answer, At, Budget, First, Past, Proof, Stuck, Unknown, Wave
 
 T = TypeVar("T", covariant=True)
 # names come again and again
@@ -128,7 +129,7 @@ def _checked(bits_of: Bits, name: str, times: tuple[int, ...], budget: int | Non
     """The bits of the name, the times and the budget, where a line can ask for it at these times with this budget; else UsageError."""
     if not isinstance(name, str) or not _is_name(name):
         raise UsageError(f"{name!r} is no name: it may have no blank and none of (, ), comma, = and #")
-    whole = [whole_number(time, "time", 0, MOST_TIME) for time in times]
+    whole = [whole_number(time, "time", 0, MOST_ASKED_TIME) for time in times]
     if budget is not None:
         budget = whole_number(budget, "budget", 0, MOST_BUDGET)
     return bits_of(name) if name[-1] == "]" else (name,), whole, budget

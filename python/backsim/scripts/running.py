@@ -7,14 +7,14 @@ from collections.abc import Generator, Sequence
 from queue import SimpleQueue
 from typing import TYPE_CHECKING, NamedTuple
 
-from .errors import type_of_path
-from .formats.text import NAME
-from .outcomes import may_pass
+from ..errors import type_of_path
+from ..formats.text import NAME
+from ..session.outcomes import may_pass
+from ..session.program import Conversation, Options, interrupt_held, looked_up
 from .parts import TextLine, divide, text_of
-from .program import Conversation, Options, interrupt_held, looked_up
 
 if TYPE_CHECKING:
-    from .formats.replies import Reply
+    from ..formats.replies import Reply
 
 RESTARTS = 2
 # lines whose replies are looked for at a time
@@ -111,9 +111,10 @@ class _Part(threading.Thread):
 
     def _is_answered(self) -> bool:
         """Whether all replies came."""
+        assert self._conversation is not None
         while self._answered < len(self._asked):
             lines = [self.lines[place] for place in self._asked[self._answered:self._answered + _AT_ONCE]]
-            came = self._conversation.replies_to(lines, _usual, _told)  # type: ignore[union-attr]
+            came = self._conversation.replies_to(lines, _usual, _told)
             if not came:
                 return False
             spent = tuple(line.number for line, (_, is_spent) in zip(lines, came) if is_spent)
@@ -124,10 +125,12 @@ class _Part(threading.Thread):
     def end(self) -> None:
         """Ends the process at once where it goes on, and so the thread."""
         self._is_stopped = True
+        if self._conversation is None:
+            return
         if self.is_alive():
-            self._conversation.interrupt()  # type: ignore[union-attr]
+            self._conversation.interrupt()
             self.join()
-        elif self._conversation is not None:
+        else:
             self._conversation.kill()
 
 

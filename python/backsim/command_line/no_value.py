@@ -1,8 +1,8 @@
 """What a command says that asked for a value and got none."""
 from __future__ import annotations
 
-from .errors import BacksimError, UsageError, type_of_path
-from .values import Budget, Past, Unknown
+from ..errors import BacksimError, UsageError, type_of_path
+from ..values import Budget, Past, Unknown
 
 
 class TooDear(BacksimError):

@@ -6,8 +6,8 @@ import sys
 from bisect import bisect_right
 from collections.abc import Iterator
 
-from .formats.netlist import Kind
-from .rules import Design, decides
+from ..circuit.kinds import Kind
+from ..circuit.rules import Design
 from .profile import Profile, grouped
 
 
@@ -51,7 +51,7 @@ class _Points:
             if seen >= 0 and base is None:
                 yield number, seen
             value = "x" if seen < 0 else base[1].value if base else self.value(number, seen)
-            if decides(gate.kind, value):
+            if gate.kind.decides(value):
                 return
 
     def value(self, signal: int, time: int) -> str:

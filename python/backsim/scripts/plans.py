@@ -6,8 +6,8 @@ import shlex
 import shutil
 from collections.abc import Sequence
 
-from .program import TOP
-from .records import dataclass
+from ..records import dataclass
+from ..session.program import TOP
 
 
 @dataclass(frozen=True, slots=True)

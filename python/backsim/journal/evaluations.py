@@ -1,12 +1,10 @@
-"""Counts evaluations in journals while sessions write them, and the limits of a memo."""
+"""Counts evaluations in journals while sessions write them."""
 from __future__ import annotations
 
 from collections.abc import Iterable
 
-from .errors import type_of_path
+from ..errors import type_of_path
 
-MOST_CELLS = 65_536
-SHARDS = (1, 2, 4, 8, 16, 32, 64)
 _FILL = b"\nfill "
 
 

@@ -7,12 +7,13 @@ from collections import Counter
 from collections.abc import Iterable, Iterator, Mapping, Sequence
 from pathlib import Path
 
-from .errors import FormatError, WordsError
-from .formats.netlist import read_netlist
-from .formats.script import read_script
+from ..circuit.rules import Design, read_design
+from ..errors import FormatError, WordsError
+from ..formats.netlist import read_netlist
+from ..formats.script import read_script
+from ..limits import HELD_CELLS, MOST_CELLS
+from ..pictures.files import form_of, write_picture
 from .needs import needs_of
-from .pictures.files import form_of, write_picture
-from .rules import Design, read_design
 from .profile import Profile, Question, Stretch, most_first, profile_of
 
 USUAL_MOST = 20
@@ -48,7 +49,7 @@ def run(journal: Path, arguments: argparse.Namespace) -> int:
     needs = _needs(profile, design, journal)
     sys.stdout.writelines(f"{line}\n" for line in profile_lines(profile, names, texts, needs, arguments.most))
     if form:
-        from .pictures.profile import profile_picture
+        from ..pictures.profile import profile_picture
         write_picture(arguments.picture, profile_picture(profile, form, names, texts))
     return 0
 
@@ -82,7 +83,7 @@ def _head(profile: Profile) -> Iterator[str]:
            f"evictions: {profile.evictions}, and {profile.trimmed} by trims")
     if profile.sections["held"]:
         yield (f"memos of stuck lines: {profile.held_fills} evaluations, {profile.held_evictions} evictions; "
-               f"the fullest had {profile.held_cells} of 65536 cells")
+               f"the fullest had {profile.held_cells} of {HELD_CELLS} cells")
 
 
 def _plural(kind: str) -> str:
@@ -140,7 +141,7 @@ def sections_of(stretch: Stretch) -> str:
 def _rooms(profile: Profile) -> Iterator[str]:
     yield "to hold every cell, so that nothing is evaluated again:"
     for room in profile.rooms():
-        note = "" if room.fits else "   (more than 65536, the most)"
+        note = "" if room.fits else f"   (more than {MOST_CELLS}, the most)"
         here = "   this session's shards" if room.shards == profile.shards else ""
         yield f"  --shards {room.shards} --cells {room.cells}{note}{here}"
     if profile.refused():

@@ -1,7 +1,7 @@
 """The line by which a file says that an interrupted command left it."""
 from __future__ import annotations
 
-from .errors import FormatError, type_of_path
+from ..errors import FormatError, type_of_path
 
 PARTIAL = "# partial: the command was interrupted"
 

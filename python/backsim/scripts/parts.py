@@ -7,11 +7,12 @@ from __future__ import annotations
 from collections.abc import Iterable, Iterator, Sequence
 from typing import TYPE_CHECKING, BinaryIO, NamedTuple
 
-from .errors import FormatError, type_of_path
-from .formats.text import LINE_LIMIT, SCRIPT_LIMIT, lines_of, words_of
+from ..errors import FormatError, type_of_path
+from ..formats.text import lines_of, words_of
+from ..limits import LINE_LIMIT, SCRIPT_LIMIT
 
 if TYPE_CHECKING:
-    from .formats.script import Line
+    from ..formats.script import Line
 
 _MOST_TOLD = 20
 _MOST_SHOWN = 60
@@ -36,13 +37,15 @@ class TextLine(NamedTuple):
         """Whether the reply to the line depends on the whole session: it is a `stats`, `trim` or `vcd` line."""
         if self.words[:1] not in (("stats",), ("trim",), ("vcd",)):
             return False
-        from .formats.script import BadScriptLine
+        from ..formats.script import BadScriptLine
         return not isinstance(self.parsed(), BadScriptLine)
 
     def parsed(self) -> Line:
         """The line by its form; few have to be known so."""
-        from .formats.script import parse_line
-        return parse_line(self.text, self.number)  # type: ignore[return-value]
+        from ..formats.script import parse_line
+        line = parse_line(self.text, self.number)
+        assert line is not None  # it is not blank
+        return line
 
 
 def read_lines(stream: BinaryIO, path: type_of_path) -> list[TextLine]:

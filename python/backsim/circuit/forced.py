@@ -7,8 +7,8 @@ import re
 from collections.abc import Sequence
 from pathlib import Path
 
-from .errors import type_of_path
-from .formats.text import read_bytes
+from ..errors import type_of_path
+from ..formats.text import read_bytes
 
 _BLANK = rb"[ \t\r]"
 

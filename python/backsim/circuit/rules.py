@@ -1,22 +1,18 @@
-"""The rules by which a cell follows from others (docs/meaning/RULES.md: Values, Looking order, Cells, Clocks and Base answers).
-
-The gates have the tables of the gate primitives of IEEE 1364 over 0, 1, x and z, and z at a pin counts as x."""
+"""The rules by which a cell follows from others (docs/meaning/RULES.md: Values, Looking order, Cells, Clocks and Base answers). What
+a kind of gate does stands in `kinds`."""
 from __future__ import annotations
 
 import enum
 from bisect import bisect_right
-from collections.abc import Sequence
+from dataclasses import field
 
-from .errors import type_of_path
-from .formats.circuit import Circuit, read_files
-from .formats.netlist import Gate, Kind
-from .formats.timing import Clock
-from .records import dataclass
-from .values import AFTER_VALUES
-
-_DECIDING = {Kind.AND: "0", Kind.NAND: "0", Kind.OR: "1", Kind.NOR: "1", Kind.XOR: "xz", Kind.XNOR: "xz"}
-_NEGATING = (Kind.NAND, Kind.NOR, Kind.XNOR, Kind.NOT)
-_NEGATION = {"0": "1", "1": "0", "x": "x"}
+from ..errors import type_of_path
+from ..formats.circuit import Circuit, read_files
+from ..formats.netlist import Gate
+from ..formats.timing import Clock
+from ..records import dataclass
+from ..values import AFTER_VALUES
+from .kinds import Kind
 
 
 class Role(enum.Enum):
@@ -49,28 +45,11 @@ class Cell:
     value: str
 
 
-def decides(kind: Kind, value: str) -> bool:
-    """Whether a pin with this value settles a gate of the kind, whatever its other pins are."""
-    return value in _DECIDING.get(kind, "")
-
-
-def gate_value(kind: Kind, values: Sequence[str]) -> str:
-    """The value of a gate whose pins have these values; for DFF the value that its pin gives it."""
-    if kind in (Kind.AND, Kind.NAND, Kind.OR, Kind.NOR):
-        deciding = _DECIDING[kind]
-        plain = deciding if deciding in values else "x" if _has_unknown(values) else _NEGATION[deciding]
-    else:
-        plain = "x" if _has_unknown(values) else str(values.count("1") % 2)
-    return _NEGATION[plain] if kind in _NEGATING else plain
-
-
-def _has_unknown(values: Sequence[str]) -> bool:
-    return "x" in values or "z" in values
-
-
 @dataclass(frozen=True, slots=True)
 class Design(Circuit):
     """A circuit with what its rules say of points."""
+
+    _changes: dict[str, list[tuple[int, str]]] = field(default_factory=dict, init=False, repr=False, compare=False)
 
     def delays(self, gate: Gate) -> tuple[int, ...]:
         """The delay of each pin of a gate or flip-flop."""
@@ -103,11 +82,17 @@ class Design(Circuit):
         shown = end if clock is None else min(clock.first + self.timing.delay(gate), end)
         return Role.INITIAL, Cell(0, shown, self.timing.initial(name))
 
+    def changes(self, name: str) -> list[tuple[int, str]]:
+        """The (time, value) of the settings of an input: those of the stimulus that change its value."""
+        if name not in self._changes:
+            self._changes[name] = self.stimulus.changes(name)
+        return self._changes[name]
+
     def _input_cell(self, name: str, time: int) -> Cell:
-        settings = self.stimulus.settings.get(name, [])
-        place = bisect_right(settings, (time, AFTER_VALUES))
-        start, value = settings[place - 1] if place else (0, "x")
-        return Cell(start, settings[place][0] if place < len(settings) else self.stimulus.horizon + 1, value)
+        changes = self.changes(name)
+        place = bisect_right(changes, (time, AFTER_VALUES))
+        start, value = changes[place - 1] if place else (0, "x")
+        return Cell(start, changes[place][0] if place < len(changes) else self.stimulus.horizon + 1, value)
 
 
 def read_design(netlist: type_of_path, timing: type_of_path, stimulus: type_of_path) -> Design:

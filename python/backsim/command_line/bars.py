@@ -7,7 +7,10 @@ import threading
 import time
 from collections.abc import Callable
 from types import TracebackType
-from typing import Any
+from typing import TYPE_CHECKING, NoReturn
+
+if TYPE_CHECKING:
+    from tqdm import tqdm
 
 _PERIOD = 0.3
 _SECONDS_OF_LINES = 10.0
@@ -25,7 +28,7 @@ class Bar:
         self._total, self._what, self._evaluations, self._left = total, what, evaluations, left
         self._has_lines = has_lines
         self._begun = time.monotonic()
-        self._bar: Any = None
+        self._bar: tqdm[NoReturn] | None = None
         self._done = 0
         self._ends = threading.Event()
         self._thread = threading.Thread(target=self._draw, daemon=True)
@@ -37,8 +40,8 @@ class Bar:
             except ImportError:
                 print("no bar: tqdm is not there (Debian's package python3-tqdm, or the extra bars)", file=sys.stderr)
             else:
-                own = {"bar_format": _FORMAT} if self._left else {}
-                self._bar = tqdm(total=self._total, unit=f" {self._what}", file=sys.stderr, dynamic_ncols=True, **own)
+                self._bar = tqdm(total=self._total, unit=f" {self._what}", file=sys.stderr, dynamic_ncols=True,
+                                 bar_format=_FORMAT if self._left else None)
                 self._thread.start()
         elif self._has_lines and sys.stderr is not None:
             self._thread = threading.Thread(target=self._tell, daemon=True)
@@ -68,6 +71,7 @@ class Bar:
             print(", ".join(filter(None, (f"{self._done} of {self._total} {self._what}", f"{taken:.0f} s", left))), file=sys.stderr, flush=True)
 
     def _show(self) -> None:
+        assert self._bar is not None
         if self._evaluations is not None:
             self._bar.set_postfix(evaluations=self._evaluations(), refresh=False)
         if self._left is not None:

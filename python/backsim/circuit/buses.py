@@ -8,8 +8,8 @@ import re
 from collections.abc import Collection, Iterable, Sequence
 from itertools import groupby
 
-from .errors import UsageError
-from .values import Wave
+from ..errors import UsageError
+from ..values import Wave
 
 _BUS = re.compile(r"(.+)\[([0-9]{1,6}):([0-9]{1,6})\]")
 _PLACE = re.compile(r"[0-9]{1,6}\]")

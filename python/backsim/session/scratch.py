@@ -4,7 +4,9 @@ from __future__ import annotations
 import os
 import tempfile
 from collections.abc import Callable
-from typing import IO, Any
+from typing import IO, TextIO, TypeVar
+
+T = TypeVar("T")
 
 
 class Scratch:
@@ -20,7 +22,7 @@ class Scratch:
         self._files.append(file)
         return f"/proc/{os.getpid()}/fd/{file.fileno()}"
 
-    def written(self, write: Callable[[Any, Any], None], what: object) -> str:
+    def written(self, write: Callable[[T, TextIO], None], what: T) -> str:
         """The path of a new file with the text that `write` makes of something."""
         path = self.file()
         with open(path, "w", encoding="ascii") as stream:

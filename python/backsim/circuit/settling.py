@@ -4,10 +4,10 @@ from __future__ import annotations
 from bisect import bisect_left, bisect_right
 from collections.abc import Iterable, Iterator, Mapping, Sequence
 
-from .formats.netlist import Gate, Netlist, in_order
-from .formats.stimulus import Stimulus
-from .formats.timing import Timing
-from .records import dataclass
+from ..formats.netlist import Gate, Netlist, in_order
+from ..formats.stimulus import Stimulus
+from ..formats.timing import Timing
+from ..records import dataclass
 
 INPUTS = "inputs"
 
@@ -31,7 +31,7 @@ class Pair:
 @dataclass(frozen=True, slots=True)
 class Settling:
     """What was found: the pairs of a source and a clock; the longest path to any signal, so that so long after the last change of an
-    input and the last edge each signal has its settled value; and whether an input that a gate or flip-flop reads is set after
+    input and the last edge each signal has its settled value; and whether an input that a gate or flip-flop reads changes after
     time 0 at all."""
 
     pairs: tuple[Pair, ...]
@@ -61,7 +61,7 @@ def settle(netlist: Netlist, timing: Timing, stimulus: Stimulus) -> Settling:
             flops.setdefault(name, []).append(flop)
             edges[name] = clock.edges(stimulus.horizon)
     read = {pin for gate in netlist.gates.values() for pin in gate.pins}
-    changes = sorted({time for name in read & stimulus.settings.keys() for time, _ in stimulus.settings[name] if time > 0})
+    changes = sorted({time for name in read & stimulus.settings.keys() for time, _ in stimulus.changes(name) if time > 0})
     starts: dict[str, dict[str, int]] = {INPUTS: dict.fromkeys(netlist.inputs, 0)}
     starts |= {name: {flop.name: timing.delay(flop) for flop in own} for name, own in flops.items()}
     pairs: list[Pair] = []

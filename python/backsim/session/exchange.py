@@ -6,13 +6,13 @@ from collections import deque
 from collections.abc import Callable, Iterable, Iterator
 from dataclasses import field, replace
 
-from .errors import UsageError
-from .formats.replies import Reply, usual_answer
-from .formats.script import BadScriptLine, Go, Line
+from ..errors import UsageError
+from ..formats.replies import Reply, usual_answer
+from ..formats.script import BadScriptLine, Go, Line
+from ..records import dataclass
+from ..values import Answer
 from .outcomes import SessionError
 from .program import Conversation
-from .records import dataclass
-from .values import Answer
 
 # lines that are sent at a time; those of a later time complete the program's batches of the one before, which have at most 64
 CHUNK = 256

@@ -10,13 +10,15 @@ from collections import Counter, defaultdict
 from collections.abc import Iterable, Iterator
 from dataclasses import field
 
-from .errors import type_of_path
-from .evaluations import MOST_CELLS, SHARDS
-from .formats.journal import Claim, Drop, Entry, Event, Evict, Fill, Head, SectionBegin, ShardBegin, Spent, Told, read_events
-from .records import dataclass
+from ..errors import type_of_path
+from ..formats.journal import Claim, Drop, Entry, Event, Evict, Fill, Head, SectionBegin, ShardBegin, Spent, Told, read_events
+from ..limits import MOST_CELLS
+from ..records import dataclass
 
 BLOCK = 64
 MOST_STRETCHES = 60
+# the numbers of shards that are told of
+_SHARDS = (1, 2, 4, 8, 16, 32, 64)
 
 
 @dataclass(slots=True)
@@ -90,7 +92,7 @@ class Profile:
         """What each number of shards would need; that of the session is among them."""
         counts = self.cells_of()
         rooms = []
-        for shards in sorted({*SHARDS, self.shards}):
+        for shards in sorted({*_SHARDS, self.shards}):
             held = [0] * shards
             for signal, count in counts.items():
                 held[signal % shards] += count

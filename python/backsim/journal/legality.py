@@ -1,16 +1,15 @@
 """Judges a journal by the table of legal entries alone (docs/meaning/RULES.md, The table of legal entries), knowing nothing of the circuit.
-Whether a point is needed, and whether a cell is the one of forward simulation, is not judged."""
+Whether a point is needed, and whether a cell is the one of forward simulation, is not judged. Nor is a query's own budget, which no
+journal tells: a refusal has at most as many claims as the greatest budget of a line."""
 from __future__ import annotations
 
 from bisect import bisect_left, bisect_right, insort
 from collections import OrderedDict
 from collections.abc import Iterable
 
-from .errors import FormatError, type_of_path
-from .formats.journal import Claim, Drop, Entry, Event, Evict, Fill, Head, SectionBegin, SectionEnd, ShardBegin, Spent, Told
-
-# how many cells the memo of a section `held K` has room for; it is one shard
-HELD_CELLS = 65_536
+from ..errors import FormatError, type_of_path
+from ..formats.journal import Claim, Drop, Entry, Event, Evict, Fill, Head, SectionBegin, SectionEnd, ShardBegin, Spent, Told
+from ..limits import HELD_CELLS, MOST_BUDGET
 
 
 class NotLegal(FormatError):
@@ -54,6 +53,8 @@ class _Shard:
             del self.claims[entry.signal, entry.time]
         elif isinstance(entry, Spent):
             self.is_free(entry.signal, entry.time)
+            if entry.held > MOST_BUDGET:
+                raise _Cause(f"{entry.held} claims are more than any budget")
 
     def is_own(self, signal: int) -> None:
         if signal % self.shards != self.number:

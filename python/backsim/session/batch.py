@@ -5,13 +5,13 @@ from itertools import islice
 from types import TracebackType
 from typing import TYPE_CHECKING, Any, Generic, TypeVar
 
+from ..errors import UsageError
+from ..formats.script import Line
+from ..formats.units import Moment
+from ..values import At, Budget, First, Past, Proof, Stuck, Unknown, Wave
 from . import questions
-from .errors import UsageError
 from .exchange import CHUNK, Questions
-from .formats.script import Line
-from .formats.units import Moment
 from .questions import Question
-from .values import At, Budget, First, Past, Proof, Stuck, Unknown, Wave
 
 if TYPE_CHECKING:
     from .session import Session
@@ -22,18 +22,17 @@ T = TypeVar("T")
 class Pending(Generic[T]):
     """A question of a batch, and its answer once the batch was asked."""
 
-    __slots__ = ("_answer", "_is_answered", "_question")
+    __slots__ = ("_answers", "_question")
 
     def __init__(self, question: Question[T]) -> None:
         self._question = question
-        self._answer: T | Unknown | Past | Budget | None = None
-        self._is_answered = False
+        self._answers: list[T | Unknown | Past | Budget] = []  # the answer alone, once it is there
 
     def result(self) -> T | Unknown | Past | Budget:
         """The answer. UsageError before the batch was asked."""
-        if not self._is_answered:
+        if not self._answers:
             raise UsageError("the batch was not asked yet: its answers are there once its `with` block has ended")
-        return self._answer  # type: ignore[return-value]
+        return self._answers[0]
 
 
 class Batch:
@@ -67,9 +66,8 @@ class Batch:
         pending, self._pending, self._asked = self._pending, [], None
         answers = iter(asked.answers())
         for one in pending:
-            one._answer = one._question.answer(list(islice(answers, len(one._question.lines))))
-            one._is_answered = True
-        self.results += [one._answer for one in pending]
+            one._answers.append(one._question.answer(list(islice(answers, len(one._question.lines)))))
+        self.results += [one.result() for one in pending]
         return self.results
 
     def _add(self, question: Question[T]) -> Pending[T]:
