@@ -252,7 +252,9 @@ def test_an_interrupt_leaves_what_is_known(number, long_work, tmp_path, program)
     while time.monotonic() < until and (not files["kept"].exists() or files["kept"].read_text().count("\n") < 4):
         assert running.poll() is None, running.stderr.read()
         time.sleep(0.02)
-    children = children_of(running.pid)
+    # one process may have ended, and the next not begun
+    while len(children := children_of(running.pid)) != 2 and time.monotonic() < until:
+        time.sleep(0.02)
     assert len(children) == 2
     running.send_signal(number)
     out, err = running.communicate(timeout=60)
