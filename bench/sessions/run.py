@@ -20,7 +20,8 @@ memory is the most that the process had. The replies must be those that integers
   alone.
 - limits: 12 layers of 2,000 XOR gates with four pins each, of 64 inputs that are set at each of 10,001 instants. A batch asks 64 gates of
   the last layer, each at an instant of its own and with the 64th part of the greatest budget. One session has one batch, and one has as
-  many as fill 64 shards of 65,536 cells, with four workers."""
+  many as fill 64 shards of 65,536 cells, with four workers.
+- chosen: files whose names or numbers were chosen for one bucket of a hash, and drawn ones, and no question."""
 from __future__ import annotations
 
 import os
@@ -362,10 +363,10 @@ def time_chosen(folder: Path) -> None:
     def usual(name: str) -> None:
         write(folder, name, plain[name])
 
-    def compare(row: str, name: str, drawn: list[str], chosen: list[str]) -> None:
+    def compare(row: str, name: str, drawn: list[str], chosen: list[str], before: list[str] | None = None) -> None:
         times = []
         for lines in (drawn, chosen):
-            write(folder, name, lines)
+            write(folder, name, [*(before or []), *lines])
             times.append(session(folder, b"").seconds)
         print(f"| {row} | {len(chosen):,} | {times[0]:.3f} | {times[1]:.3f} | {times[1] / times[0]:.1f} |", flush=True)
         usual(name)
@@ -379,17 +380,16 @@ def time_chosen(folder: Path) -> None:
     compare("names of delays", "t", [f"delay {name} 2" for name in drawn], [f"delay {name} 2" for name in chosen])
 
     numbers = sorted(range(1_000_000), key=lambda number: kit_hash(number) & 8_191)[:MORE]  # a table for so many has 8,192 groups
-    write(folder, "n", (f"n{number} = NOT(n0)" for number in range(1_000_000)))
-    compare("numbers of delays", "t", [f"delay n{number} 2" for number in draw.sample(range(1_000_000), MORE)],
-            [f"delay n{number} 2" for number in numbers])
-    usual("n")
+    gates = [f"n{number} = NOT(n0)" for number in range(1_000_000)]
+    others = draw.sample(range(1_000_000), MORE)
+    write(folder, "n", gates)
+    compare("numbers of delays", "t", [f"delay n{number} 2" for number in others], [f"delay n{number} 2" for number in numbers])
+    compare("numbers of outputs", "n", [f"OUTPUT(n{number})" for number in others], [f"OUTPUT(n{number})" for number in numbers], gates)
 
     pairs = sorted(((0, time) for time in range(1_000_000)), key=lambda pair: kit_hash(*pair) & 8_191)[:MORE]
     draw.shuffle(pairs)
-    others = [(0, time) for time in draw.sample(range(1_000_000), MORE)]
-    first = "horizon 999999"
-    compare("times of a stimulus", "s", [first, *(f"set i{place} {time} 0" for place, time in others)],
-            [first, *(f"set i{place} {time} 0" for place, time in pairs)])
+    compare("times of a stimulus", "s", [f"set i0 {time} 0" for time in draw.sample(range(1_000_000), MORE)],
+            [f"set i{place} {time} 0" for place, time in pairs], plain["s"])
 
 
 TABLES = {

@@ -3,10 +3,10 @@ use Rattle.std.proofs.Common.{◌≡◌, ℕ, zero, suc, ◌+◌, ◌<◌, ◌�
 use Rattle.std.specs.List.{list_all, flat_map}
 use Rattle.std.specs.Str.{bytes_eq}
 use Rattle.std.proofs.lemmas.Grind.{flat_map-append}
-use Rattle.std.proofs.lemmas.List.{append-nil, length-map, ext_get_or, take-map, get_or_append_left}
+use Rattle.std.proofs.lemmas.List.{append-nil, length-map, ext_get_or, take-map, drop-map, get_or_append_left}
 use Rattle.std.proofs.lemmas.List.Folds.{list_any-append}
 use Rattle.std.proofs.lemmas.List.Sums.{fold-append}
-use Rattle.std.proofs.Math.Bool.{or-true}
+use Rattle.std.proofs.Math.Bool.{and-false, or-true}
 use Rattle.indexmap.specs.IndexSet.{insert_key, insert_all}
 use Rattle.gate_values.specs.Spelling.{kind_of_word}
 use Rattle.bench_reader.specs.declared.netlist.Definition.{Definition}
@@ -18,16 +18,11 @@ use Rattle.bench_reader.specs.Netlists.{names, names_in, pins_in, outputs_in, de
 use Rattle.bench_reader.specs.inner.KeptNetlists.{driver}
 use Rattle.bench_reader.specs.inner.Reading.{Knows, Tells, first_missing}
 use Rattle.bench_reader.specs.inner.Reading as reading
-use Rattle.bench_reader.proofs.Places.{same_bytes, same_names, Extends, all_extends, present_place, present_lt, found_at, is_among_at, among_all, names_distinct}
+use Rattle.bench_reader.proofs.Places.{same_bytes, same_names, Extends, all_extends, present_place, present_lt, in_kept, found_at, is_among_at, among_all, names_distinct}
 use Rattle.bench_reader.proofs.Rows.{undriven, no_gates, left_false, right_false, defined_told}
 
-map-drop : {X Y : Type 0} (f : X → Y) (n : ℕ) (xs : List X) → drop n (map f xs) ≡ map f (drop n xs)
-map-drop f zero xs = refl
-map-drop f (suc n) [] = refl
-map-drop f (suc n) (x ∷ xs) = map-drop f n xs
-
 piece : (f : List ℕ → ℕ) (start count : ℕ) (xs : List (List ℕ)) → take count (drop start (map f xs)) ≡ map f (take count (drop start xs))
-piece f start count xs = ap (take count) (map-drop f start xs) ∙ take-map f count (drop start xs)
+piece f start count xs = ap (take count) (drop-map f start xs) ∙ take-map f count (drop start xs)
 
 -- what drives a signal, by its definition
 driver_told : (all : List Line) (pins : List ℕ) (i : ℕ) (d : Definition) (n : List ℕ) → pins ≡ map (number all) (flat_map pins_in all) → Tells all i d n → driver pins d ≡ driver_of all n
@@ -125,20 +120,13 @@ one_fails : (p : List ℕ → Bool) (ns : List (List ℕ)) (n : List ℕ) → is
 one_fails p [] n h f = absurd cc
 one_fails p (m ∷ ns) n h f = cases (λ e. one_fails p ns n e f) (bytes_eq n m) refl h
   where
-    and_false : (b : Bool) → (b && false) ≡ false
-    and_false true = refl
-    and_false false = refl
-
     cases : (is_among ns n ≡ true → list_all p ns ≡ false) → (b : Bool) → bytes_eq n m ≡ b → (b || is_among ns n) ≡ true → (p m && list_all p ns) ≡ false
     cases again true e h = let same : p m ≡ false = ap p (sym (same_names n m e)) ∙ f in rw same refl
-    cases again false e h = ap (λ (b : Bool). p m && b) (again h) ∙ and_false (p m)
+    cases again false e h = ap (λ (b : Bool). p m && b) (again h) ∙ and-false (p m)
 
 -- the names of more lines begin with those of fewer
 names_split : (done rest : List Line) → names (done ++ rest) ≡ insert_all bytes_eq (names done) (flat_map names_in rest)
 names_split done rest = ap (insert_all bytes_eq []) (flat_map-append names_in done rest) ∙ fold-append (insert_key bytes_eq) [] (flat_map names_in done) (flat_map names_in rest)
-
-in_front : (xs ys : List (List ℕ)) (n : List ℕ) → is_among xs n ≡ true → is_among (xs ++ ys) n ≡ true
-in_front xs ys n h = list_any-append (bytes_eq n) xs ys ∙ rw h refl
 
 in_back : (xs ys : List (List ℕ)) (n : List ℕ) → is_among ys n ≡ true → is_among (xs ++ ys) n ≡ true
 in_back xs ys n h = list_any-append (bytes_eq n) xs ys ∙ rw h (or-true (is_among xs n))
@@ -147,7 +135,7 @@ in_back xs ys n h = list_any-append (bytes_eq n) xs ys ∙ rw h (or-true (is_amo
 passes : (all done later : List Line) (n : ℕ) → ((m : List ℕ) → is_among (flat_map names_in done) m ≡ true → is_defined all m ≡ true) → undefined_from all n (done ++ later) ≡ undefined_from all (n + length done) later
 passes all [] later n h = ap (λ (k : ℕ). undefined_from all k later) (omega arith)
 passes all (l ∷ done) later n h =
-    let used : list_all (is_defined all) (pins_in l ++ outputs_in l) ≡ true = each_passes (is_defined all) (pins_in l ++ outputs_in l) (λ m e. h m (in_front (names_in l) (flat_map names_in done) m (used_named l m e))) in
+    let used : list_all (is_defined all) (pins_in l ++ outputs_in l) ≡ true = each_passes (is_defined all) (pins_in l ++ outputs_in l) (λ m e. h m (in_kept m (names_in l) (flat_map names_in done) (used_named l m e))) in
     let count : (n + 1) + length done ≡ n + length (l ∷ done) = omega arith in
     rw used (passes all done later (n + 1) (λ m e. h m (in_back (names_in l) (flat_map names_in done) m e)) ∙ ap (λ (k : ℕ). undefined_from all k later) count)
 
@@ -236,5 +224,5 @@ some_undefined all ks rows pins outputs number k len some = at (missing_some row
             let extends = all_extends (names done) (flat_map names_in (here ∷ later)) in
             let ks-are : ks ≡ names done ++ extends.more = k.names_are ∙ ap names split ∙ names_split done (here ∷ later) ∙ extends.is in
             let place-is : place ks m ≡ place (names done) m = ap (λ (ns : List (List ℕ)). place ns m) ks-are ∙ present_place m (names done) extends.more in-done in
-            let there : is_among ks m ≡ true = ap (λ (ns : List (List ℕ)). is_among ns m) ks-are ∙ in_front (names done) extends.more m in-done in
+            let there : is_among ks m ≡ true = ap (λ (ns : List (List ℕ)). is_among ns m) ks-are ∙ in_kept m (names done) extends.more in-done in
             named_defined all ks rows pins outputs m k there (defined (place ks m) (omega (arith, place-is, present_lt m (names done) in-done, above)))

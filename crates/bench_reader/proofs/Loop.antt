@@ -30,7 +30,7 @@ pub undefined_said : (text : List ℕ) (r : Reader) (number : ℕ) → (first_fa
 unfolding bench_of
 undefined_said text r number read missing =
     let all = map line_of (lines text) in
-    let first : undefined_from all 1 all ≡ Some (at_line number Undefined) = some_undefined all r.names r.rows.items r.pins.items r.outputs.keys number read.1.1 read.1.0.rows_len missing in
+    let first : undefined_from all 1 all ≡ Some (at_line number Undefined) = some_undefined all r.names r.rows.items r.pins.items r.outputs number read.1.1 read.1.0.rows_len missing in
     rw (read.0, first) refl
 
 abbrev pub content : List (List ℕ) → List NetlistDriver → List ℕ → Content
@@ -41,12 +41,12 @@ same_content n m r q o u e f g = ap (λ (x : List (List ℕ)). content x r o) e 
 
 -- all lines were read, and each name is defined
 pub netlist_said : (text : List ℕ) (r : Reader) → (first_fault cause_of [] (map line_of (lines text)) ≡ None) × IsRead (map line_of (lines text)) r → first_missing r.rows.items ≡ None
-    → bench_of text ≡ Ok (record { names = r.names; rows = map (driver r.pins.items) r.rows.items; outputs = r.outputs.keys })
+    → bench_of text ≡ Ok (record { names = r.names; rows = map (driver r.pins.items) r.rows.items; outputs = r.outputs })
 unfolding bench_of
 netlist_said text r (first, (sound, read)) missing =
     let all = map line_of (lines text) in
     let len = sound.rows_len in
-    let none : undefined_from all 1 all ≡ None = none_undefined all r.names r.rows.items r.pins.items r.outputs.keys read len missing in
-    let rows = rows_said all r.names r.rows.items r.pins.items r.outputs.keys read len in
-    let outputs = outputs_said all r.names r.rows.items r.pins.items r.outputs.keys read in
+    let none : undefined_from all 1 all ≡ None = none_undefined all r.names r.rows.items r.pins.items r.outputs read len missing in
+    let rows = rows_said all r.names r.rows.items r.pins.items r.outputs read len in
+    let outputs = outputs_said all r.names r.rows.items r.pins.items r.outputs read in
     rw (first, none) (ap Ok (same_content _ _ _ _ _ _ (sym read.names_are) (sym rows) (sym outputs)))

@@ -1,8 +1,8 @@
 -- Names in the order of first appearance, and their places.
-use Rattle.std.proofs.Common.{◌≡◌, ℕ, zero, suc, ◌+◌, ◌<◌, ◌≤◌, ◌&&◌, ◌||◌, eq-eqb, Bool, true, false, not, cond, List, [], ◌∷◌, ◌++◌, length, map, get_or, refl, sym, ap, subst, ◌∙◌, arith, append_assoc, ◌⊎◌, inl, inr}
+use Rattle.std.proofs.Common.{◌≡◌, ℕ, zero, suc, ◌+◌, ◌<◌, ◌≤◌, ◌||◌, eq-eqb, Bool, true, false, not, cond, List, [], ◌∷◌, ◌++◌, length, map, get_or, refl, sym, ap, subst, ◌∙◌, arith, append_assoc, ◌⊎◌, inl, inr}
 use Rattle.std.specs.List.{list_all, flat_map}
 use Rattle.std.specs.Str.{bytes_eq}
-use Rattle.std.proofs.lemmas.Bool.{cases_lt}
+use Rattle.std.proofs.lemmas.Bool.{and_parts, cases_lt}
 use Rattle.std.proofs.lemmas.Grind.{flat_map-append}
 use Rattle.std.proofs.lemmas.List.{append-nil, map-append, get_or_append_left, get_or_push, length-append}
 use Rattle.std.proofs.lemmas.List.Folds.{list_any-append, list_all-append}
@@ -173,17 +173,13 @@ grown before line =
     ap (insert_all bytes_eq []) (flat_map-append names_in before (line ∷ []) ∙ ap (λ (l : List (List ℕ)). flat_map names_in before ++ l) (append-nil (names_in line)))
     ∙ fold-append (insert_key bytes_eq) [] (flat_map names_in before) (names_in line)
 
-pub and_true : (a b : Bool) → (a && b) ≡ true → (a ≡ true) × (b ≡ true)
-and_true true b h = (refl, h)
-and_true false b h = absurd cc
-
 cons_same : (x y : ℕ) (xs ys : List ℕ) → x ≡ y → xs ≡ ys → x ∷ xs ≡ y ∷ ys
 cons_same x y xs ys e f = cc
 
 all_kept : (done : List (List ℕ)) (ks : List (List ℕ)) (m : List ℕ) → list_all (is_among ks) done ≡ true → (map (place (insert_key bytes_eq ks m)) done ≡ map (place ks) done) × (list_all (is_among (insert_key bytes_eq ks m)) done ≡ true)
 all_kept [] ks m h = (refl, refl)
 all_kept (n ∷ done) ks m h =
-    let both = and_true (is_among ks n) (list_all (is_among ks) done) h in
+    let both = and_parts (is_among ks n) (list_all (is_among ks) done) h in
     let rest = all_kept done ks m both.1 in
     (cons_same _ _ _ _ (place_kept n m ks both.0) rest.0, rw (is_among_kept n m ks both.0) rest.1)
 

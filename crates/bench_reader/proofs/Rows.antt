@@ -2,7 +2,7 @@
 use Rattle.std.proofs.Common.{◌≡◌, ℕ, ◌+◌, ◌-◌, ◌<◌, ◌≤◌, ◌||◌, Bool, true, false, List, [], ◌∷◌, ◌++◌, length, take, drop, get_or, set, replicate, Some, None, refl, sym, ap, subst, ◌∙◌, arith, ◌⊎◌, inl, inr, length-append}
 use Rattle.std.specs.List.{flat_map, find}
 use Rattle.std.specs.Str.{bytes_eq}
-use Rattle.std.proofs.lemmas.Bool.{cases_lt, cases_eq}
+use Rattle.std.proofs.lemmas.Bool.{cases_lt, cases_eq, or_from}
 use Rattle.std.proofs.lemmas.Grind.{flat_map-append}
 use Rattle.std.proofs.lemmas.List.{append-nil, append_assoc, get_or_append_left, get_or-append_right, get_or-replicate, get_or_past, get_or-set_same, get_or-set_other, take-append-le, drop-append-le, length-drop, take_at, drop_at}
 use Rattle.std.proofs.lemmas.List.Folds.{list_any-append, find-append}
@@ -29,9 +29,6 @@ stays f before l n b h none = among_more f before l n ∙ ap (λ (w : Bool). w |
 becomes : (f : Line → List (List ℕ)) (before : List Line) (l : Line) (n : List ℕ) → is_among (f l) n ≡ true → is_among (flat_map f (before ++ l ∷ [])) n ≡ true
 becomes f before l n h = among_more f before l n ∙ ap (λ (w : Bool). is_among (flat_map f before) n || w) h ∙ or-true (is_among (flat_map f before) n)
 
-pub or_falses : (a b : Bool) → a ≡ false → b ≡ false → (a || b) ≡ false
-or_falses a b h e = rw (h, e) refl
-
 pub left_false : (a b : Bool) → (a || b) ≡ false → a ≡ false
 left_false true b h = absurd cc
 left_false false b h = refl
@@ -54,21 +51,21 @@ defined_named line.Blank n h = refl
 defined_named line.Malformed n h = refl
 defined_named (line.Input name) n h = h
 defined_named (line.Output name) n h = refl
-defined_named (line.Gate name word pins) n h = or_falses (bytes_eq n name) false (left_false (bytes_eq n name) (is_among pins n) h) refl
+defined_named (line.Gate name word pins) n h = or_from (bytes_eq n name) false (left_false (bytes_eq n name) (is_among pins n) h) refl
 
 pub unnamed : (all : List Line) (n : List ℕ) → is_among (flat_map names_in all) n ≡ false → is_among (flat_map defined_in all) n ≡ false
 unnamed [] n h = refl
 unnamed (l ∷ all) n h =
     let parts : (is_among (names_in l) n || is_among (flat_map names_in all) n) ≡ false = sym (list_any-append (bytes_eq n) (names_in l) (flat_map names_in all)) ∙ h in
     list_any-append (bytes_eq n) (defined_in l) (flat_map defined_in all)
-    ∙ or_falses (is_among (defined_in l) n) (is_among (flat_map defined_in all) n) (defined_named l n (left_false (is_among (names_in l) n) (is_among (flat_map names_in all) n) parts)) (unnamed all n (right_false (is_among (names_in l) n) (is_among (flat_map names_in all) n) parts))
+    ∙ or_from (is_among (defined_in l) n) (is_among (flat_map defined_in all) n) (defined_named l n (left_false (is_among (names_in l) n) (is_among (flat_map names_in all) n) parts)) (unnamed all n (right_false (is_among (names_in l) n) (is_among (flat_map names_in all) n) parts))
 
 pub no_gates : (all : List Line) (n : List ℕ) → is_among (flat_map defined_in all) n ≡ false → is_among (flat_map gates_in all) n ≡ false
 no_gates [] n h = refl
 no_gates (l ∷ all) n h =
     let parts : (is_among (defined_in l) n || is_among (flat_map defined_in all) n) ≡ false = sym (list_any-append (bytes_eq n) (defined_in l) (flat_map defined_in all)) ∙ h in
     list_any-append (bytes_eq n) (gates_in l) (flat_map gates_in all)
-    ∙ or_falses (is_among (gates_in l) n) (is_among (flat_map gates_in all) n) (gates_defined l n (left_false (is_among (defined_in l) n) (is_among (flat_map defined_in all) n) parts)) (no_gates all n (right_false (is_among (defined_in l) n) (is_among (flat_map defined_in all) n) parts))
+    ∙ or_from (is_among (gates_in l) n) (is_among (flat_map gates_in all) n) (gates_defined l n (left_false (is_among (defined_in l) n) (is_among (flat_map defined_in all) n) parts)) (no_gates all n (right_false (is_among (defined_in l) n) (is_among (flat_map defined_in all) n) parts))
 
 -- where no gate line has the name, none drives it
 pub undriven : (all : List Line) (n : List ℕ) → is_among (flat_map gates_in all) n ≡ false → find (drives n) all ≡ None

@@ -1,6 +1,7 @@
 -- The lists of the reader stay sound.
-use Rattle.std.proofs.Common.{◌≡◌, ℕ, ◌+◌, ◌-◌, ◌*◌, ◌<◌, ◌≤◌, false, ltb, List, length, replicate, set, sym, ap, subst, ◌∙◌, arith, length-append}
+use Rattle.std.proofs.Common.{◌≡◌, ℕ, ◌+◌, ◌-◌, ◌<◌, ◌≤◌, false, ltb, List, length, replicate, set, sym, ap, subst, ◌∙◌, arith, length-append}
 use Rattle.std.specs.List.{All, sum_by}
+use Rattle.std.proofs.Math.Nat.{mul-zero}
 use Rattle.std.proofs.lemmas.Bool.{or_parts, ltb-false}
 use Rattle.std.proofs.lemmas.List.{length-set, length-replicate}
 use Rattle.std.proofs.lemmas.List.Elements.{All-append, All-set, All-weaker, All-replicate}
@@ -30,9 +31,6 @@ pub total_grown : (rows : List Definition) (count line : ℕ) → sum_by pin_cou
 total_grown rows count line =
     let none : sum_by pin_count (replicate (count - length rows) (Missing line)) ≡ 0 = sum_by-replicate pin_count (count - length rows) (Missing line) ∙ mul-zero (count - length rows) in
     omega (arith, sum_by-append pin_count rows (replicate (count - length rows) (Missing line)), none)
-  where
-    mul-zero : (n : ℕ) → n * 0 ≡ 0
-    mul-zero n = omega arith
 
 pub kept_grown : (ks new_ks : List (List ℕ)) (rows new_rows : List Definition) (pins new_pins : List ℕ) (line : ℕ) → IsKeptNetlist ks rows pins → length ks ≤ length new_ks → new_rows ≡ padded_rows rows (length new_ks) line → length pins ≤ length new_pins
     → exceeds (length new_ks) (length new_pins) ≡ false → IsKeptNetlist new_ks new_rows new_pins

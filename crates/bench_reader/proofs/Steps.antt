@@ -6,6 +6,7 @@ use Rattle.std.specs.Borrow.{Bor}
 use Rattle.std.proofs.lemmas.Grind.{flat_map-append}
 use Rattle.std.proofs.lemmas.List.{append-nil, length-map}
 use Rattle.std.proofs.lemmas.List.Sums.{fold-append}
+use Rattle.std.proofs.Math.Bool.{or-true}
 use Rattle.indexmap.specs.IndexSet.{insert_key, insert_all}
 use Rattle.gate_values.specs.declared.Kind.{Kind}
 use Rattle.gate_values.specs.Spelling.{kind_of_word}
@@ -42,7 +43,7 @@ knows_blank before ks rows pins outputs k = record {
 }
 
 pub blank_gives : (before : List Line) (r : Reader) (l : Line) → l ≡ line.Blank → HasRead before r → (cause_of before l ≡ None) × HasRead (before ++ l ∷ []) r
-blank_gives before r l is read = subst (λ (x : Line). (cause_of before x ≡ None) × HasRead (before ++ x ∷ []) r) (sym is) (refl, knows_blank before r.names r.rows.items r.pins.items r.outputs.keys read)
+blank_gives before r l is read = subst (λ (x : Line). (cause_of before x ≡ None) × HasRead (before ++ x ∷ []) r) (sym is) (refl, knows_blank before r.names r.rows.items r.pins.items r.outputs read)
 
 -- an INPUT line
 pub knows_input : (before : List Line) (ks new_ks : List (List ℕ)) (rows new_rows : List Definition) (pins outputs : List ℕ) (name : List ℕ) (number id : ℕ) → Knows before ks rows pins outputs → length rows ≡ length ks
@@ -112,11 +113,7 @@ knows_gate before ks new_ks rows new_rows pins new_pins outputs name word listed
     }
   where
     after : (ks listed : List (List ℕ)) → (is_among ks name || is_among (name ∷ listed) name) ≡ true
-    after ks listed = rw (same_bytes name) (rest (is_among ks name))
-      where
-        rest : (b : Bool) → (b || true) ≡ true
-        rest true = refl
-        rest false = refl
+    after ks listed = rw (same_bytes name) (or-true (is_among ks name))
 
 id_before : (ks new_ks : List (List ℕ)) (name : List ℕ) (id : ℕ) → new_ks ≡ insert_key bytes_eq ks name → id ≡ place new_ks name → place ks name ≡ id
 id_before ks new_ks name id names-are id-is = sym (id-is ∙ ap (λ (ns : List (List ℕ)). place ns name) names-are ∙ place_new name ks)

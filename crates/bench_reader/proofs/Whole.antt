@@ -2,7 +2,7 @@
 use Rattle.std.proofs.Common.{◌≡◌, ℕ, ◌+◌, ◌<◌, ◌≤◌, ◌&&◌, ◌||◌, Bool, true, false, not, eqb, ltb, cond, nat_eq, IsTrue, List, [], ◌∷◌, ◌++◌, length, map, take, drop, get_or, Some, refl, sym, ap, subst, ◌∙◌, arith, length-drop}
 use Rattle.std.specs.List.{All, sum, sum_by, list_any, list_all, position}
 use Rattle.std.specs.Str.{bytes_eq}
-use Rattle.std.proofs.lemmas.Bool.{or_parts, eqb-false, eqb-true, ltb-false, lt-ltb}
+use Rattle.std.proofs.lemmas.Bool.{and_parts, or_parts, eqb-false, eqb-true, ltb-false, lt-ltb}
 use Rattle.std.proofs.lemmas.List.{length-map, length-take-le}
 use Rattle.std.proofs.lemmas.List.Sums.{sum-map}
 use Rattle.std.proofs.lemmas.List.Elements.{All-nil, All-cons, All-head, All-tail, All-append, All-take, All-drop, All-map, All-weaker}
@@ -16,14 +16,14 @@ use Rattle.bench_reader.specs.Lines.{Line}
 use Rattle.bench_reader.specs.Netlists.{is_among, place, NetlistDriver, pins_of, IsNetlistDriver}
 use Rattle.bench_reader.specs.inner.KeptNetlists.{driver, pin_count, FitsRows, IsKeptName}
 use Rattle.bench_reader.specs.inner.Reading.{HasRead, IsSoundReading, Numbered}
-use Rattle.bench_reader.proofs.Places.{and_true, present_lt}
+use Rattle.bench_reader.proofs.Places.{present_lt}
 use Rattle.bench_reader.proofs.Rows.{distinct}
 
 -- numbers of names are below the count of names
 numbers_below : (ks : List (List ℕ)) (named : List (List ℕ)) → list_all (is_among ks) named ≡ true → All (λ p. p < length ks) (map (place ks) named)
 numbers_below ks [] h = All-nil (λ p. p < length ks)
 numbers_below ks (n ∷ named) h =
-    let parts = and_true (is_among ks n) (list_all (is_among ks) named) h in
+    let parts = and_parts (is_among ks n) (list_all (is_among ks) named) h in
     All-cons (λ p. p < length ks) (place ks n) (map (place ks) named) (present_lt n ks parts.0) (numbers_below ks named parts.1)
 
 numbered_below : (ks : List (List ℕ)) (ids : List ℕ) (named : List (List ℕ)) → Numbered ks ids named → All (λ p. p < length ks) ids
@@ -85,7 +85,7 @@ counts_are pins (d ∷ rows) h =
 pins_total : (pins : List ℕ) (rows : List Definition) → All (FitsRows (length pins)) rows → sum_by (λ d. length (pins_of d)) (map (driver pins) rows) ≡ sum_by pin_count rows
 pins_total pins rows h = sym (sum-map (λ (d : NetlistDriver). length (pins_of d)) (map (driver pins) rows)) ∙ ap sum (counts_are pins rows h) ∙ sum-map pin_count rows
 
-pub held : (all : List Line) (r : Reader) → IsSoundReading r → HasRead all r → IsKeptName r.names r.rows.items r.pins.items r.outputs.keys
+pub held : (all : List Line) (r : Reader) → IsSoundReading r → HasRead all r → IsKeptName r.names r.rows.items r.pins.items r.outputs
 held all r sound read =
     let ks = r.names in
     let pins_below = numbered_below ks r.pins.items _ read.pins_are in

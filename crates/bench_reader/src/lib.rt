@@ -45,6 +45,8 @@
 //! that follow one another seldom wait for memory. The hash is fixed, but no
 //! choice of names makes look-ups slow: where more than 33 have one bucket, all
 //! are from then on found in the order of names, which costs a copy of each.
+//! While a file is read, a flag for each signal up to the last output tells
+//! which are outputs.
 //!
 //! ```text
 //! let netlist = read_bench(alloc, b"INPUT(a)\nOUTPUT(y)\ny = NOT(a)\n")?;
@@ -61,6 +63,7 @@ mod form;
 mod index;
 mod names;
 mod netlist;
+mod outputs;
 mod reader;
 mod texts;
 

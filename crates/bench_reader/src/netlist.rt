@@ -7,7 +7,6 @@ ghost use Rattle.bench_reader.specs.KeptNetlists.{driver_of_row};
 
 use crate::names::Names;
 use gate_values::Kind;
-use indexmap::IndexSet;
 use std::marker::Model;
 
 /// What the lines so far say of a signal's definition. In a netlist none is missing.
@@ -36,7 +35,7 @@ pub struct Netlist {
     pub(crate) names: Names,
     pub(crate) rows: Vec<Definition>,
     pub(crate) pins: Vec<u32>,
-    pub(crate) outputs: IndexSet<u32>,
+    pub(crate) outputs: Vec<u32>,
 }
 
 impl Model for Netlist {
@@ -45,9 +44,9 @@ impl Model for Netlist {
 
     ghost Value = { Content };
 
-    ghost view = { λ n. content n.names n.rows.items n.pins.items n.outputs.keys };
+    ghost view = { λ n. content n.names n.rows.items n.pins.items n.outputs.items };
 
-    ghost invariant = { λ n. IsKeptName n.names n.rows.items n.pins.items n.outputs.keys };
+    ghost invariant = { λ n. IsKeptName n.names n.rows.items n.pins.items n.outputs.items };
 }
 
 impl Netlist {
@@ -101,6 +100,6 @@ impl Netlist {
     pub fn outputs(&self) -> &[u32]
         ensures { result.now ≡ self.now.outputs }
     {
-        self.outputs.as_slice()
+        &self.outputs
     }
 }

@@ -14,8 +14,8 @@ use crate::fault::{BenchCause, BenchFault};
 use crate::form::{Form, form_of};
 use crate::names::Names;
 use crate::netlist::{Definition, Netlist};
+use crate::outputs::Outputs;
 use gate_values::Kind;
-use indexmap::IndexSet;
 use line_faults::{LineReader, fault, read_lines};
 use smallvec::SmallVec;
 use std::alloc::Global;
@@ -27,7 +27,7 @@ pub struct Reader {
     pub names: Names,
     pub rows: Vec<Definition>,
     pub pins: Vec<u32>,
-    pub outputs: IndexSet<u32>,
+    pub outputs: Outputs,
 }
 
 /// The most bytes of a name, pins of a gate, names of a netlist and pins of all its gates.
@@ -116,7 +116,7 @@ impl Reader {
             names: Names::with_room(alloc, room_for(len))?,
             rows: Vec::new(alloc),
             pins: Vec::new(alloc),
-            outputs: IndexSet::new(alloc),
+            outputs: Outputs::new(alloc),
         })
     }
 
@@ -320,7 +320,7 @@ pub fn read_bench(alloc: Global, text: &[u8]) -> Result<Netlist, BenchFault>
             names: reader.names,
             rows: reader.rows,
             pins: reader.pins,
-            outputs: reader.outputs,
+            outputs: reader.outputs.into_vec(),
         }),
     }
 }

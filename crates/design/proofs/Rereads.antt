@@ -1,14 +1,17 @@
 -- What rows say, one row after another.
 use Rattle.std.proofs.Common.{◌≡◌, ℕ, ◌+◌, ◌<◌, ◌≤◌, Bool, true, false, ◌&&◌, cond, List, [], ◌∷◌, ◌++◌, length, take, drop, get_or, Option, Some, None, refl, sym, ap, ap₂, ◌∙◌, ◌⊎◌, inl, inr}
 use Rattle.std.specs.Prelude.{nat_eq, Result, Ok, Err, OnOk, IfErr}
-use Rattle.std.specs.Global.{Vec}
 use Rattle.std.specs.Str.{bytes_eq}
-use Rattle.std.specs.Map.{lookup}
+use Rattle.std.specs.Borrow.{Bor}
+use Rattle.std.specs.BTreeMap.{BTreeMap, get_by}
+use Rattle.std.specs.Cmp.Lexicographic.{slice_cmp}
+use Rattle.std.specs.Ordering.{nat_cmp, is_eq}
+use Rattle.std.specs.Cmp.{tied_then, unsigned_tied}
 use Rattle.std.proofs.lemmas.List.{drop_more, drop_all, take_more}
 use Rattle.std.proofs.lemmas.Cmp.{nat_list_eq_equiv}
-use Rattle.indexmap.specs.IndexMap.{insert_entry}
+use Rattle.std.proofs.lemmas.Map.Text.{is_eq-slice_cmp}
 use Rattle.flip_flops.specs.declared.Clock.{Clock}
-use Rattle.design.specs.inner.Said.{KnowsClocks, HasStated, TakesRow}
+use Rattle.design.specs.inner.Said.{KnowsClocks, HasStated, TakesRow, pin_cmp}
 use Rattle.bench_reader.specs.Netlists as netlists
 use Rattle.timing_file.specs.Timing as timings
 use Rattle.timing_file.specs.declared.ClockRow.{ClockRow}
@@ -61,9 +64,10 @@ module _ (netlist : netlists.Content) (before : List TimingRow) (row : TimingRow
   say-more s says v some x y put e = put ∙ ap (cond (nat_eq n s) (Some v)) e ∙ said (nat_eq n s) v (rows_say netlist before s says)
       ∙ sym (more s says ∙ ap (λ o. or_else (when (nat_eq n s) o) (rows_say netlist before s says)) some)
 
-  pub say-pin : {A : Type 0} (s : ℕ) (says : TimingWhat → Option A) (v : A) (c : Bool) → says w ≡ when c (Some v) → (x y : Option A) → y ≡ cond (nat_eq n s && c) (Some v) x → x ≡ rows_say netlist before s says → y ≡ rows_say netlist (before ++ row ∷ []) s says
-  say-pin s says v c some x y put e = put ∙ ap (cond (nat_eq n s && c) (Some v)) e ∙ said-twice (nat_eq n s) c v (rows_say netlist before s says)
-      ∙ sym (more s says ∙ ap (λ o. or_else (when (nat_eq n s) o) (rows_say netlist before s says)) some)
+  pub say-pin : {A : Type 0} (s k : ℕ) (says : TimingWhat → Option A) (p : ℕ) (v : A) → says w ≡ when (nat_eq p k) (Some v) → (x y : Option A) → y ≡ cond (is_eq (pin_cmp (n, p) (s, k))) (Some v) x → x ≡ rows_say netlist before s says
+      → y ≡ rows_say netlist (before ++ row ∷ []) s says
+  say-pin s k says p v some x y put e = put ∙ ap₂ (λ b o. cond b (Some v) o) (sym (tied_then (nat_cmp n s) (nat_cmp p k)) ∙ ap₂ (λ (a b : Bool). a && b) (unsigned_tied n s) (unsigned_tied p k)) e
+      ∙ said-twice (nat_eq n s) (nat_eq p k) v (rows_say netlist before s says) ∙ sym (more s says ∙ ap (λ o. or_else (when (nat_eq n s) o) (rows_say netlist before s says)) some)
 
 -- the first fault is that of the rows left
 pub fault-passed : {R : Type 0} (fault : R → Option JoinFault) (rows : List R) (i : ℕ) (d : R) → i < length rows → fault (get_or rows i d) ≡ None → first_fault fault (drop i rows) ≡ first_fault fault (drop (i + 1) rows)
@@ -79,52 +83,13 @@ said-clock : (b : Bool) (v : Clock) (x : Option Clock) → cond b (Some v) x ≡
 said-clock true v x = refl
 said-clock false v x = refl
 
-module _ (eq : Vec ℕ → Vec ℕ → Bool) (eq-is : (a b : Vec ℕ) → eq a b ≡ bytes_eq a.items b.items) (name : List ℕ) where
-  abbrev by-name : Vec ℕ → Bool
-  by-name key = bytes_eq name key.items
-
-  -- a key that equals another is found by the same names
-  alike : (k e : Vec ℕ) → eq k e ≡ true → by-name e ≡ by-name k
-  alike k e h =
-      let laws = nat_list_eq_equiv in
-      laws.symm name e.items ∙ sym (laws.congr k.items e.items name (sym (eq-is k e) ∙ h)) ∙ laws.symm k.items name
-
-  apart-keys : (k e : Vec ℕ) → eq k e ≡ false → by-name e ≡ true → by-name k ≡ false
-  apart-keys k e h p = go (by-name k) refl
-    where
-      go : (b : Bool) → by-name k ≡ b → by-name k ≡ false
-      go false q = q
-      go true q =
-          let laws = nat_list_eq_equiv in
-          let yes : eq k e ≡ true = eq-is k e ∙ sym (laws.congr name k.items e.items q) ∙ p in
-          absurd (let k = sym h ∙ yes in cc k)
-
-  both-found : (c d : Bool) (w v : Clock) (rest : Option Clock) → c ≡ d → cond c (Some v) rest ≡ cond d (Some v) (cond c (Some w) rest)
-  both-found true true w v rest h = refl
-  both-found true false w v rest h = absurd (cc h)
-  both-found false true w v rest h = absurd (cc h)
-  both-found false false w v rest h = refl
-
-  lookup-insert : (es : List (Vec ℕ × Clock)) (k : Vec ℕ) (v : Clock) → lookup by-name (insert_entry eq es k v) ≡ cond (by-name k) (Some v) (lookup by-name es)
-  lookup-insert [] k v = refl
-  lookup-insert (e ∷ es) k v = go (lookup-insert es k v) (eq k e.0) refl (by-name e.0) refl
-    where
-      go : lookup by-name (insert_entry eq es k v) ≡ cond (by-name k) (Some v) (lookup by-name es) → (b : Bool) → eq k e.0 ≡ b → (c : Bool) → by-name e.0 ≡ c → lookup by-name (cond b ((e.0, v) ∷ es) (e ∷ insert_entry eq es k v)) ≡ cond (by-name k) (Some v) (cond (by-name e.0) (Some e.1) (lookup by-name es))
-      go again true h c q = both-found (by-name e.0) (by-name k) e.1 v (lookup by-name es) (alike k e.0 h)
-      go again false h true p =
-          ap (λ b. cond b (Some e.1) (lookup by-name (insert_entry eq es k v))) p
-          ∙ sym (ap₂ (λ (a : Bool) (b : Bool). cond a (Some v) (cond b (Some e.1) (lookup by-name es))) (apart-keys k e.0 h p) p)
-      go again false h false p =
-          ap (λ b. cond b (Some e.1) (lookup by-name (insert_entry eq es k v))) p ∙ again
-          ∙ sym (ap (λ b. cond (by-name k) (Some v) (cond b (Some e.1) (lookup by-name es))) p)
-
 -- the clocks of one row more
-pub clock-more : (eq : Vec ℕ → Vec ℕ → Bool) → ((a b : Vec ℕ) → eq a b ≡ bytes_eq a.items b.items) → (rows : List ClockRow) (i : ℕ) (row : ClockRow) → i < length rows → row ≡ get_or rows i row
-    → (old new : List (Vec ℕ × Clock)) (k : Vec ℕ) → new ≡ insert_entry eq old k row.clock → k.items ≡ row.name → KnowsClocks (take i rows) old → KnowsClocks (take (i + 1) rows) new
-clock-more eq eq-is rows i row l at old new k put key knows name =
-    ap (lookup (λ (q : Vec ℕ). bytes_eq name q.items)) put ∙ lookup-insert eq eq-is name old k row.clock
-    ∙ ap₂ (λ (q : List ℕ) (o : Option Clock). cond (bytes_eq name q) (Some row.clock) o) key (knows name) ∙ said-clock (bytes_eq name row.name) row.clock (last_said (clock_of_row name) (take i rows))
-    ∙ sym (ap (last_said (clock_of_row name)) (take_more rows i row l ∙ ap (λ r. take i rows ++ r ∷ []) (sym at)) ∙ last_said-push (clock_of_row name) (take i rows) row)
+pub clock-more : (rows : List ClockRow) (i : ℕ) (row : ClockRow) → i < length rows → row ≡ get_or rows i row → (old new : BTreeMap (Bor (List ℕ)) Clock) (key : Bor (List ℕ)) → key.now ≡ row.name
+    → ((q : Bor (List ℕ)) → get_by (λ k. slice_cmp nat_cmp q.now k.now) new ≡ cond (is_eq (slice_cmp nat_cmp key.now q.now)) (Some row.clock) (get_by (λ k. slice_cmp nat_cmp q.now k.now) old)) → KnowsClocks (take i rows) old → KnowsClocks (take (i + 1) rows) new
+clock-more rows i row l at old new key named puts knows q =
+    let here : is_eq (slice_cmp nat_cmp key.now q.now) ≡ bytes_eq q.now row.name = is_eq-slice_cmp key.now q.now ∙ nat_list_eq_equiv.symm key.now q.now ∙ ap (bytes_eq q.now) named in
+    puts q ∙ ap₂ (λ b o. cond b (Some row.clock) o) here (knows q) ∙ said-clock (bytes_eq q.now row.name) row.clock (last_said (clock_of_row q.now) (take i rows))
+    ∙ sym (ap (last_said (clock_of_row q.now)) (take_more rows i row l ∙ ap (λ r. take i rows ++ r ∷ []) (sym at)) ∙ last_said-push (clock_of_row q.now) (take i rows) row)
 
 -- a timing row without a cause
 pub row-passes : (netlist : netlists.Content) (timing : timings.Content) (row : TimingRow) (s : ℕ) → number netlist row.name ≡ Some s → (o : Option JoinCause) → o ≡ cause_of_what timing (driver_at netlist s) row.what → o ≡ None

@@ -10,13 +10,15 @@
 //! that more than once calls [`Design::with_readers`] before.
 //!
 //! Costs: `base` takes O(log n) steps for an input with n settings, by binary search, and constant time for a gate or a flip-flop.
-//! `gate_of`, `child_time`, `pin_span`, `span_over`, `netlist` and `horizon` take constant time. None of these allocates. `reached`
-//! takes a flag for each signal, and time for the pins that read a signal of its result; and, where the design has no links to
-//! readers, time and memory for a link for each pin, at each call. `with_readers` makes these links once, for itself and all
-//! designs that are made of it. `hold` takes constant time, and a place for each held signal: the new design shares all else with
-//! the old one. `join` takes the time of its rows and pins, and sorts the settings. It looks a name up by hashing for each timing
-//! row, and once for all settings of a name. A design holds the netlist, a list of settings for each input, and, in flat lists, a
-//! row for each signal, a delay for each pin of a gate, the flip-flops, and, where they were made, the links.
+//! `gate_of`, `child_time`, `pin_span`, `span_over`, `netlist` and `horizon` take constant time. None of these allocates.
+//! `reached` takes a flag for each signal, and time for the pins that read a signal of its result; and, where the design has no
+//! links to readers, time and memory for a link for each pin, at each call. `with_readers` makes these links once, for itself and
+//! all designs that are made of it. `hold` takes constant time, and a place for each held signal: the new design shares all else
+//! with the old one. `join` takes the time of its rows and pins, and sorts the settings. It looks a name up for each timing row,
+//! and once for all settings of a name. No choice of names or of their order makes it slow: until it ends, it keeps what rows
+//! state in lists by the numbers of signals, and delays of pins and clocks with names in ordered maps. A design holds the netlist,
+//! a list of settings for each input, and, in flat lists, a row for each signal, a delay for each pin of a gate, the flip-flops,
+//! and, where they were made, the links.
 //!
 //! ```
 //! let design = Design::join(alloc, netlist, &timing, &stimulus)?;

@@ -1,8 +1,8 @@
 //! What the rows of a timing file say, by signal.
 
-ghost use Rattle.std.specs.Prelude.{◌≡◌, ◌+◌, ◌++◌, ◌∷◌, [], ◌<◌, List, Some, IfOk, IfErr, OnOk, length, map, unwrap_or};
+ghost use Rattle.std.specs.Prelude.{◌≡◌, ◌+◌, ◌++◌, ◌∷◌, [], ◌<◌, ℕ, List, Some, IfOk, IfErr, OnOk, if◌then◌else◌, length, map, nat_eq, unwrap_or};
 ghost use Rattle.std.specs.List.{range_with_len};
-ghost use Rattle.std.specs.HashMap.{get};
+ghost use Rattle.std.specs.BTreeMap.{get};
 ghost use Rattle.bench_reader.specs.Netlists as netlists;
 ghost use Rattle.bench_reader.specs.KeptNetlists.{driver_of_row};
 ghost use Rattle.timing_file.specs.Timing as timings;
@@ -12,7 +12,7 @@ ghost use Rattle.design.specs.Causes.{out_of_memory};
 ghost use Rattle.design.specs.Join as join;
 ghost use Rattle.design.specs.Join.{number, cause_of_what, clock_named, flop_of, rows_say, pin_said};
 ghost use Rattle.design.specs.inner.Said as said;
-ghost use Rattle.design.specs.inner.Said.{KnowsClocks, HasStated, TakesRow, TakesRows, KeepsRows};
+ghost use Rattle.design.specs.inner.Said.{KnowsClocks, HasStated, TakesRow, TakesRows, KeepsRows, pin_cmp, stated_of};
 
 use crate::fault::{JoinCause, JoinFault, JoinFile};
 use crate::rows::Row;
@@ -20,41 +20,39 @@ use bench_reader::{Netlist, Row as NetlistRow};
 use circuit_meaning::FlipFlop;
 use flip_flops::Clock;
 use gate_values::{Kind, Value};
-use indexmap::IndexMap;
 use std::alloc::{AllocError, Global};
-use std::collections::HashMap;
-use std::hash::Hash;
+use std::collections::BTreeMap;
 use timing_file::{ClockRow, Timing, TimingRow, TimingWhat};
 
-/// What rows state of signals, or of pins by signal and place.
+/// What rows state of signals, or of pins by signal and place. A list ends with the last signal of which a row states something.
 #[derive(Drop)]
 pub struct Stated {
-    pub delays: HashMap<u32, u32>,
-    pub pins: HashMap<(u32, u32), u32>,
-    pub initials: HashMap<u32, Value>,
-    pub clocks: HashMap<u32, Clock>,
+    pub delays: Vec<Option<u32>>,
+    pub pins: BTreeMap<(u32, u32), u32>,
+    pub initials: Vec<Option<Value>>,
+    pub clocks: Vec<Option<Clock>>,
 }
 
-/// The clocks with names.
+/// The clocks with names, which lie in the rows.
 #[derive(Drop)]
-pub struct NamedClocks {
-    pub clocks: IndexMap<Vec<u8>, Clock>,
+pub struct NamedClocks<'a> {
+    pub clocks: BTreeMap<&'a [u8], Clock>,
 }
 
-impl NamedClocks {
-    fn read(alloc: Global, rows: &[ClockRow]) -> Result<NamedClocks, JoinFault>
-        ensures ok { IfOk result (λ named. KnowsClocks rows.now named.clocks.entries) }
+impl<'a> NamedClocks<'a> {
+    fn read(alloc: Global, rows: &'a [ClockRow]) -> Result<NamedClocks<'a>, JoinFault>
+        ensures ok { IfOk result (λ named. KnowsClocks rows.now named.clocks) }
         ensures err { IfErr result (λ fault. fault ≡ out_of_memory) }
     {
-        let mut clocks = IndexMap::new(alloc);
+        let mut clocks = BTreeMap::new(alloc);
         for row in rows {
-            clocks.insert(row.name.bytes().to_vec(alloc)?, row.clock)?;
+            clocks.insert(row.name.bytes(), row.clock)?;
         }
         Ok(NamedClocks { clocks })
     }
 
     fn named(&self, name: &[u8]) -> Option<Clock>
-        ensures { (timing : timings.Content) → KnowsClocks timing.clocks self.now.clocks.entries
+        ensures { (timing : timings.Content) → KnowsClocks timing.clocks self.now.clocks
             → result ≡ clock_named timing name.now }
     {
         self.clocks.get(name).copied()
@@ -128,7 +126,7 @@ fn cause_of(
     what: &TimingWhat,
 ) -> Option<JoinCause>
     requires { signal < length netlist.now.names }
-    ensures { (timing : timings.Content) → KnowsClocks timing.clocks clocks.now.clocks.entries
+    ensures { (timing : timings.Content) → KnowsClocks timing.clocks clocks.now.clocks
         → result ≡ cause_of_what timing (join.driver_at netlist.now signal) what.now }
 {
     match what {
@@ -171,10 +169,10 @@ impl Stated {
             → HasStated netlist timing [] result }
     {
         Stated {
-            delays: HashMap::new(alloc),
-            pins: HashMap::new(alloc),
-            initials: HashMap::new(alloc),
-            clocks: HashMap::new(alloc),
+            delays: Vec::new(alloc),
+            pins: BTreeMap::new(alloc),
+            initials: Vec::new(alloc),
+            clocks: Vec::new(alloc),
         }
     }
 
@@ -187,25 +185,21 @@ impl Stated {
     ) -> Result<(), JoinFault>
         ensures ok { OnOk result ((netlist : netlists.Content) (timing : timings.Content)
             (before : List RowOf) (row : RowOf)
-            → KnowsClocks timing.clocks clocks.now.clocks.entries
+            → KnowsClocks timing.clocks clocks.now.clocks
             → number netlist row.name ≡ Some signal → row.what ≡ what.now
             → HasStated netlist timing before self.old
             → HasStated netlist timing (before ++ row ∷ []) self.new) }
         ensures err { IfErr result (λ fault. fault ≡ out_of_memory) }
     {
         match what {
-            TimingWhat::Delay(delay) => {
-                self.delays.insert(signal, *delay)?;
-            }
-            TimingWhat::Init(value) => {
-                self.initials.insert(signal, *value)?;
-            }
+            TimingWhat::Delay(delay) => state(&mut self.delays, signal, *delay)?,
+            TimingWhat::Init(value) => state(&mut self.initials, signal, *value)?,
             TimingWhat::Pin(place, delay) => {
                 self.pins.insert((signal, *place), *delay)?;
             }
             TimingWhat::Clocked(name) => {
                 if let Some(clock) = clocks.named(name.bytes()) {
-                    self.clocks.insert(signal, clock)?;
+                    state(&mut self.clocks, signal, clock)?;
                 }
             }
         }
@@ -220,7 +214,7 @@ impl Stated {
         row: &TimingRow,
     ) -> Result<(), JoinFault>
         ensures { (timing : timings.Content) (before : List RowOf)
-            → KnowsClocks timing.clocks clocks.now.clocks.entries
+            → KnowsClocks timing.clocks clocks.now.clocks
             → HasStated netlist.now timing before self.old
             → TakesRow netlist.now timing before row.now self.new result }
     {
@@ -253,7 +247,7 @@ impl Stated {
             → HasStated netlist timing.now timing.now.rows self.now
             → result ≡ join.delay_of netlist timing.now signal kind }
     {
-        stated_at(&self.delays, &signal).unwrap_or(timing.default_of(kind))
+        stated_of(&self.delays, signal).unwrap_or(timing.default_of(kind))
     }
 
     /// The delay of a pin of a gate that has this delay.
@@ -262,7 +256,7 @@ impl Stated {
             → HasStated netlist timing timing.rows self.now
             → result ≡ unwrap_or (rows_say netlist timing.rows signal (pin_said place)) of_gate }
     {
-        stated_at(&self.pins, &(signal, place)).unwrap_or(of_gate)
+        stated_pin(&self.pins, signal, place).unwrap_or(of_gate)
     }
 
     fn flop_of(&self, timing: &Timing, signal: u32, pins: &[u32]) -> FlipFlop
@@ -274,8 +268,8 @@ impl Stated {
         FlipFlop {
             pin: pins[0],
             delay: self.delay_of(timing, signal, Kind::Dff),
-            clock: stated_at(&self.clocks, &signal).or(timing.clock()),
-            initial: stated_at(&self.initials, &signal).unwrap_or(Value::X),
+            clock: stated_of(&self.clocks, signal).or(timing.clock()),
+            initial: stated_of(&self.initials, signal).unwrap_or(Value::X),
         }
     }
 
@@ -381,14 +375,34 @@ fn place_after(items: usize) -> Result<u32, AllocError>
     u32::try_from(items).map_err(|_| AllocError)
 }
 
-/// What a map has at a key. Most files leave most maps empty, and there no key is hashed.
-fn stated_at<K: Eq + Hash, V: Copy>(map: &HashMap<K, V>, key: &K) -> Option<V>
-    ensures { result ≡ get K.eq map.now key.now }
+/// What a list has of a signal.
+fn stated_of<V: Copy>(list: &[Option<V>], signal: u32) -> Option<V>
+    ensures { result ≡ stated_of list.now signal }
 {
-    if map.is_empty() {
+    *list.get(signal as usize)?
+}
+
+/// States this of a signal.
+fn state<V: Copy>(list: &mut Vec<Option<V>>, signal: u32, value: V) -> Result<(), AllocError>
+    ensures { OnOk result ((s : ℕ) → stated_of list.new.items s
+        ≡ (if nat_eq signal s then Some value else stated_of list.old.items s)) }
+{
+    let place = signal as usize;
+    if place >= list.len() {
+        list.resize(place + 1, None)?;
+    }
+    list[place] = Some(value);
+    Ok(())
+}
+
+/// The delay that is stated of a pin. Most files state none, and there no pins are compared.
+fn stated_pin(pins: &BTreeMap<(u32, u32), u32>, signal: u32, place: u32) -> Option<u32>
+    ensures { result ≡ get pin_cmp pins.now (signal, place) }
+{
+    if pins.is_empty() {
         None
     } else {
-        map.get(key).copied()
+        pins.get(&(signal, place)).copied()
     }
 }
 

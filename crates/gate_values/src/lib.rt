@@ -40,7 +40,7 @@ pub enum Value {
 }
 
 /// The kind of a gate. A `Dff` is a flip-flop: it copies its pin at each edge of its clock.
-#[derive(Clone, Copy, Debug, PartialEq, Eq)]
+#[derive(Clone, Copy, Debug, PartialEq, Eq, PartialOrd, Ord)]
 pub enum Kind {
     And,
     Nand,

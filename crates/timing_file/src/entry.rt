@@ -2,7 +2,7 @@
 
 ghost use Rattle.std.specs.Prelude.{◌≡◌};
 ghost use Rattle.timing_file.specs.Subjects as subjects;
-ghost use Rattle.timing_file.specs.inner.Views.{entry_seen, kind_seen, subject_seen};
+ghost use Rattle.timing_file.specs.inner.Views.{entry_seen, subject_seen};
 
 use flip_flops::Clock;
 use gate_values::{Kind, Value};
@@ -20,47 +20,17 @@ pub enum Entry<'a> {
     ClockedBy(&'a [u8], &'a [u8]),
 }
 
-/// A kind of gates, as subjects are ordered.
-#[derive(Clone, Copy, PartialEq, Eq, PartialOrd, Ord)]
-pub enum KindPlace {
-    And,
-    Nand,
-    Or,
-    Nor,
-    Xor,
-    Xnor,
-    Not,
-    Buff,
-    Dff,
-}
-
 /// What a line speaks of: no two lines of a file have the same subject.
 #[derive(Clone, Copy, PartialEq, Eq, PartialOrd, Ord)]
 pub enum Subject<'a> {
     CommonClock,
     NamedClock(&'a [u8]),
     Default,
-    DefaultOf(KindPlace),
+    DefaultOf(Kind),
     DelayOf(&'a [u8]),
     InitOf(&'a [u8]),
     PinOf(&'a [u8], u32),
     ClockOf(&'a [u8]),
-}
-
-fn place_of(kind: Kind) -> KindPlace
-    ensures { kind_seen result ≡ kind }
-{
-    match kind {
-        Kind::And => KindPlace::And,
-        Kind::Nand => KindPlace::Nand,
-        Kind::Or => KindPlace::Or,
-        Kind::Nor => KindPlace::Nor,
-        Kind::Xor => KindPlace::Xor,
-        Kind::Xnor => KindPlace::Xnor,
-        Kind::Not => KindPlace::Not,
-        Kind::Buff => KindPlace::Buff,
-        Kind::Dff => KindPlace::Dff,
-    }
 }
 
 impl<'a> Entry<'a> {
@@ -71,7 +41,7 @@ impl<'a> Entry<'a> {
             Entry::CommonClock(_) => Subject::CommonClock,
             Entry::NamedClock(name, _) => Subject::NamedClock(name),
             Entry::Default(_) => Subject::Default,
-            Entry::DefaultOf(kind, _) => Subject::DefaultOf(place_of(kind)),
+            Entry::DefaultOf(kind, _) => Subject::DefaultOf(kind),
             Entry::DelayOf(name, _) => Subject::DelayOf(name),
             Entry::InitOf(name, _) => Subject::InitOf(name),
             Entry::PinOf(name, place, _) => Subject::PinOf(name, place),

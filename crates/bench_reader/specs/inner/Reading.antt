@@ -98,7 +98,7 @@ pub record Knows (before : List Line) (ks : List (List ℕ)) (rows : List Defini
 
 -- the reader has read these lines, none of which is at fault
 abbrev pub HasRead : List Line → Reader → Type 0
-HasRead before r = Knows before r.names r.rows.items r.pins.items r.outputs.keys
+HasRead before r = Knows before r.names r.rows.items r.pins.items r.outputs
 
 -- what the reader answers to a line
 abbrev pub Takes : Reader → Line → ℕ → Reader → Result (Unit {0}) (LineFault BenchCause) → Type 0

@@ -1,10 +1,12 @@
 -- What is kept of the rows of the two files while they are read.
-use Rattle.std.specs.Prelude.{◌≡◌, ℕ, zero, suc, Bool, ◌&&◌, nat_eq, List, [], ◌∷◌, ◌++◌, length, map, slice_index_or, Option, Some, None, Result, Ok, Err, if◌then◌else◌, ◌⊎◌, ◌<◌, true, false, fold, min}
+use Rattle.std.specs.Prelude.{◌≡◌, ℕ, zero, suc, Bool, List, [], ◌∷◌, ◌++◌, length, map, slice_index_or, Option, Some, None, Result, Ok, Err, if◌then◌else◌, ◌⊎◌, ◌<◌, true, false, fold, min}
 use Rattle.std.specs.Option.{ok_or}
 use Rattle.std.specs.Global.{Vec}
-use Rattle.std.specs.Str.{bytes_eq}
-use Rattle.std.specs.HashMap as hash
-use Rattle.std.specs.Map.{lookup}
+use Rattle.std.specs.declared.cmp.Ordering.{Ordering}
+use Rattle.std.specs.Ordering.{nat_cmp, ordering_then}
+use Rattle.std.specs.Cmp.Lexicographic.{slice_cmp}
+use Rattle.std.specs.BTreeMap.{BTreeMap, get, get_by}
+use Rattle.std.specs.Borrow.{Bor}
 use Rattle.gate_values.specs.declared.Kind.{Kind}
 use Rattle.flip_flops.specs.declared.Clock.{Clock}
 use Rattle.circuit_meaning.specs.declared.Setting.{Setting}
@@ -27,18 +29,23 @@ use Rattle.design.specs.Causes.{out_of_memory}
 use Rattle.design.specs.Join.{number, driver_at, is_dff, is_input, clock_of_row, last_said, rows_say, delay_said, pin_said, initial_said, clock_said, timing_fault, set_fault, first_fault, stated_settings, pin_delays, flop_of}
 
 -- the clocks of these rows, by their names
-abbrev pub KnowsClocks : List ClockRow → List (Vec ℕ × Clock) → Type 0
-KnowsClocks rows clocks = (name : List ℕ) → lookup (λ (key : Vec ℕ). bytes_eq name key.items) clocks ≡ last_said (clock_of_row name) rows
+abbrev pub KnowsClocks : List ClockRow → BTreeMap (Bor (List ℕ)) Clock → Type 0
+KnowsClocks rows clocks = (name : Bor (List ℕ)) → get_by (λ key. slice_cmp nat_cmp name.now key.now) clocks ≡ last_said (clock_of_row name.now) rows
 
-abbrev pub pair_eq : ℕ × ℕ → ℕ × ℕ → Bool
-pair_eq a b = nat_eq a.0 b.0 && nat_eq a.1 b.1
+-- what a list has of a signal
+abbrev pub stated_of : {V : Type 0} → List (Option V) → ℕ → Option V
+stated_of list s = slice_index_or list s None
+
+-- pins are in the order of their signals, and of their places
+abbrev pub pin_cmp : ℕ × ℕ → ℕ × ℕ → Ordering
+pin_cmp a b = ordering_then (nat_cmp a.0 b.0) (nat_cmp a.1 b.1)
 
 -- what these rows state of each signal
 pub record HasStated (netlist : netlists.Content) (timing : timings.Content) (rows : List TimingRow) (stated : Stated) : Type 0 where
-  pub delays : (s : ℕ) → hash.get nat_eq stated.delays s ≡ rows_say netlist rows s delay_said
-  pub pins : (s k : ℕ) → hash.get pair_eq stated.pins (s, k) ≡ rows_say netlist rows s (pin_said k)
-  pub initials : (s : ℕ) → hash.get nat_eq stated.initials s ≡ rows_say netlist rows s initial_said
-  pub clocks : (s : ℕ) → hash.get nat_eq stated.clocks s ≡ rows_say netlist rows s (clock_said timing)
+  pub delays : (s : ℕ) → stated_of stated.delays.items s ≡ rows_say netlist rows s delay_said
+  pub pins : (s k : ℕ) → get pin_cmp stated.pins (s, k) ≡ rows_say netlist rows s (pin_said k)
+  pub initials : (s : ℕ) → stated_of stated.initials.items s ≡ rows_say netlist rows s initial_said
+  pub clocks : (s : ℕ) → stated_of stated.clocks.items s ≡ rows_say netlist rows s (clock_said timing)
 
 -- the result of one more timing row
 abbrev pub TakesRow : netlists.Content → timings.Content → List TimingRow → TimingRow → Stated → Result (Unit {0}) JoinFault → Type 0

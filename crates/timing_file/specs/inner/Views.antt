@@ -1,11 +1,7 @@
 -- What was read, without where its names lie in memory.
 use Rattle.std.specs.Prelude.{Bool, Option, Some, None}
-use Rattle.gate_values.specs.declared.Kind.{Kind}
-use Rattle.gate_values.specs.declared.Kind.TheVariants.{And, Nand, Or, Nor, Xor, Xnor, Not, Buff, Dff}
 use Rattle.timing_file.specs.declared.entry.Entry as declared_entry
 use Rattle.timing_file.specs.declared.entry.Entry.TheVariants as entries
-use Rattle.timing_file.specs.declared.entry.KindPlace.{KindPlace}
-use Rattle.timing_file.specs.declared.entry.KindPlace.TheVariants as places
 use Rattle.timing_file.specs.declared.entry.Subject as declared_subject
 use Rattle.timing_file.specs.declared.entry.Subject.TheVariants as keys
 use Rattle.timing_file.specs.declared.form.Form.{Form}
@@ -24,22 +20,11 @@ entry_seen (entries.InitOf name value) = InitOf name.now value
 entry_seen (entries.PinOf name place delay) = PinOf name.now place delay
 entry_seen (entries.ClockedBy flop clock) = ClockedBy flop.now clock.now
 
-abbrev pub kind_seen : KindPlace → Kind
-kind_seen places.And = And
-kind_seen places.Nand = Nand
-kind_seen places.Or = Or
-kind_seen places.Nor = Nor
-kind_seen places.Xor = Xor
-kind_seen places.Xnor = Xnor
-kind_seen places.Not = Not
-kind_seen places.Buff = Buff
-kind_seen places.Dff = Dff
-
 abbrev pub subject_seen : declared_subject.Subject → Subject
 subject_seen keys.CommonClock = subjects.CommonClock
 subject_seen (keys.NamedClock name) = subjects.NamedClock name.now
 subject_seen keys.Default = subjects.Default
-subject_seen (keys.DefaultOf kind) = subjects.DefaultOf (kind_seen kind)
+subject_seen (keys.DefaultOf kind) = subjects.DefaultOf kind
 subject_seen (keys.DelayOf name) = subjects.DelayOf name.now
 subject_seen (keys.InitOf name) = subjects.InitOf name.now
 subject_seen (keys.PinOf name place) = subjects.PinOf name.now place

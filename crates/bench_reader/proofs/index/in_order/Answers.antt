@@ -1,4 +1,4 @@
-use Rattle.std.proofs.Common.{List, ℕ, ap, subst, sym, ◌∙◌, arith}
+use Rattle.std.proofs.Common.{List, ℕ, subst, arith}
 use Rattle.std.proofs.lemmas.List.{take_all}
 use Rattle.bench_reader.specs.inner.Index.{AreOrdered}
 use Rattle.bench_reader.proofs.Chained.{got}

@@ -1,6 +1,7 @@
-use Rattle.std.proofs.Common.{inl, inr, sym, ap, ◌∙◌}
+use Rattle.std.proofs.Common.{Ok, inl, inr, sym, ap, subst, ◌∙◌}
 use Rattle.std.proofs.lemmas.Result.{err_from_is_err_and}
 use Rattle.bench_reader.specs.inner.Reading.{first_missing}
+use Rattle.bench_reader.specs.inner.KeptNetlists.{content, IsKeptName}
 use Rattle.bench_reader.proofs.Loop.{fault_answers, undefined_said, netlist_said}
 use Rattle.bench_reader.proofs.Whole.{held}
 use Rattle.bench_reader.proofs.reader.read_bench.Goals as goal
@@ -15,7 +16,11 @@ pub returns-in-Some : goal.returns-in-Some
 returns-in-Some c = inr (undefined_said c.args.text.now c.in_ok-whole.whole.known c.in-Some.line c.in_ok-whole.ensures (ap first_missing (sym c.deref.ensures.value) ∙ sym c.in-Some.ensures))
 
 pub returns : goal.returns
-returns c = netlist_said c.args.text.now c.in_ok-whole.whole.known c.in_ok-whole.ensures (ap first_missing (sym c.deref.ensures.value) ∙ sym c.in-None.ensures)
+returns c =
+    let known = c.in_ok-whole.whole.known in
+    netlist_said c.args.text.now known c.in_ok-whole.ensures (ap first_missing (sym c.deref.ensures.value) ∙ sym c.in-None.ensures) ∙ ap (λ outputs. Ok (content known.names known.rows.items known.pins.items outputs)) (sym c.into_vec.ensures)
 
 pub invariant_of-result : goal.invariant_of-result
-invariant_of-result c = held _ c.in_ok-whole.whole.known c.in_ok-whole.ensures.1.0 c.in_ok-whole.ensures.1.1
+invariant_of-result c =
+    let known = c.in_ok-whole.whole.known in
+    subst (IsKeptName known.names known.rows.items known.pins.items) (sym c.into_vec.ensures) (held _ known c.in_ok-whole.ensures.1.0 c.in_ok-whole.ensures.1.1)

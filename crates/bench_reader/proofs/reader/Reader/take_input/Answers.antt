@@ -13,7 +13,7 @@ pub returns-then-is_gate-clause-steps : goal.returns-then-is_gate-clause-steps
 returns-then-is_gate-clause-steps c before read line-is =
     let old = c.args.self.now in
     let short : is_long c.args.name.now ≡ false = sym c.is_long.ensures ∙ c.if-is_long.false in
-    let gate : is_among (flat_map gates_in before) c.args.name.now ≡ true = gate_known before old.names c.number.new.self old.rows.items c.deref.result.now old.pins.items old.outputs.keys c.args.name.now c.in_ok-id.id true c.is_gate.result
+    let gate : is_among (flat_map gates_in before) c.args.name.now ≡ true = gate_known before old.names c.number.new.self old.rows.items c.deref.result.now old.pins.items old.outputs c.args.name.now c.in_ok-id.id true c.is_gate.result
     read c.requires.sound.rows_len c.in_ok-id.ensures.keys c.in_ok-id.ensures.place c.deref.ensures.value c.is_gate.ensures c.if-is_gate.true in
     rw c.fault-then-is_gate.ensures (inr (input_twice before c.args.name.now short gate, refl))
 
@@ -21,7 +21,7 @@ pub returns-then-is_crowded-clause-steps : goal.returns-then-is_crowded-clause-s
 returns-then-is_crowded-clause-steps c before read line-is =
     let old = c.args.self.now in
     let short : is_long c.args.name.now ≡ false = sym c.is_long.ensures ∙ c.if-is_long.false in
-    let gate : is_among (flat_map gates_in before) c.args.name.now ≡ false = gate_known before old.names c.number.new.self old.rows.items c.deref.result.now old.pins.items old.outputs.keys c.args.name.now c.in_ok-id.id false c.is_gate.result
+    let gate : is_among (flat_map gates_in before) c.args.name.now ≡ false = gate_known before old.names c.number.new.self old.rows.items c.deref.result.now old.pins.items old.outputs c.args.name.now c.in_ok-id.id false c.is_gate.result
     read c.requires.sound.rows_len c.in_ok-id.ensures.keys c.in_ok-id.ensures.place c.deref.ensures.value c.is_gate.ensures c.if-is_gate.false in
     let l = Input c.args.name.now in
     let many : is_crowded (before ++ l ∷ []) ≡ true = crowd (before ++ l ∷ []) c.number.new.self (length old.pins.items) true (all_names before l old.names c.number.new.self read.names_are c.in_ok-id.ensures.keys) (pins_none before l old.names old.pins.items read.pins_are refl)
@@ -33,13 +33,13 @@ returns-clause-steps c before read line-is =
     let old = c.args.self.now in
     let len = c.requires.sound.rows_len in
     let short : is_long c.args.name.now ≡ false = sym c.is_long.ensures ∙ c.if-is_long.false in
-    let gate : is_among (flat_map gates_in before) c.args.name.now ≡ false = gate_known before old.names c.number.new.self old.rows.items c.deref.result.now old.pins.items old.outputs.keys c.args.name.now c.in_ok-id.id false c.is_gate.result
+    let gate : is_among (flat_map gates_in before) c.args.name.now ≡ false = gate_known before old.names c.number.new.self old.rows.items c.deref.result.now old.pins.items old.outputs c.args.name.now c.in_ok-id.id false c.is_gate.result
     read len c.in_ok-id.ensures.keys c.in_ok-id.ensures.place c.deref.ensures.value c.is_gate.ensures c.if-is_gate.false in
     let l = Input c.args.name.now in
     let few : is_crowded (before ++ l ∷ []) ≡ false = crowd (before ++ l ∷ []) c.number.new.self (length old.pins.items) false (all_names before l old.names c.number.new.self read.names_are c.in_ok-id.ensures.keys) (pins_none before l old.names old.pins.items read.pins_are refl)
     (sym c.is_crowded.ensures ∙ c.if-is_crowded.false) in (
       input_crowds before c.args.name.now false short gate few,
-      knows_input before old.names c.number.new.self old.rows.items c.add_rows.new.rows.items old.pins.items old.outputs.keys c.args.name.now c.args.line c.in_ok-id.id read len c.in_ok-id.ensures.keys
+      knows_input before old.names c.number.new.self old.rows.items c.add_rows.new.rows.items old.pins.items old.outputs c.args.name.now c.args.line c.in_ok-id.id read len c.in_ok-id.ensures.keys
           c.in_ok-add_rows.ensures.rows line-is c.in_ok-id.ensures.place gate,
     )
 

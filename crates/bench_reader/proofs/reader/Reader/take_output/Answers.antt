@@ -22,6 +22,6 @@ returns-clause-steps c before read line-is =
     let few : is_crowded (before ++ l ∷ []) ≡ false = crowd (before ++ l ∷ []) c.number.new.self (length old.pins.items) false (all_names before l old.names c.number.new.self read.names_are c.in_ok-id.ensures.keys) (pins_none before l old.names old.pins.items read.pins_are refl)
     (sym c.is_crowded.ensures ∙ c.if-is_crowded.false) in (
       output_crowds before c.args.name.now false short few,
-      knows_output before old.names c.number.new.self old.rows.items c.add_rows.new.rows.items old.pins.items old.outputs.keys c.insert.new.self.keys c.args.name.now c.args.line c.in_ok-id.id read c.requires.sound.rows_len c.in_ok-id.ensures.keys
-          c.in_ok-add_rows.ensures.rows line-is c.in_ok-id.ensures.place c.in_ok-insert.ensures.keys,
+      knows_output before old.names c.number.new.self old.rows.items c.add_rows.new.rows.items old.pins.items old.outputs c.insert.new.self c.args.name.now c.args.line c.in_ok-id.id read c.requires.sound.rows_len c.in_ok-id.ensures.keys
+          c.in_ok-add_rows.ensures.rows line-is c.in_ok-id.ensures.place c.in_ok-insert.ensures,
     )

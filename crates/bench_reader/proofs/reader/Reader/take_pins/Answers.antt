@@ -36,7 +36,7 @@ pub returns-then-is_defined-clause-steps : goal.returns-then-is_defined-clause-s
 returns-then-is_defined-clause-steps c word counts before read line-is =
     let old = c.args.self.now in
     let pins = each_now c.args.pins.now in
-    let known : is_among (flat_map defined_in before) c.args.name.now ≡ true = definition_known before old.names c.number.new.self old.rows.items c.deref.result.now old.pins.items old.outputs.keys c.args.name.now c.in_ok-id.id true c.is_defined.result
+    let known : is_among (flat_map defined_in before) c.args.name.now ≡ true = definition_known before old.names c.number.new.self old.rows.items c.deref.result.now old.pins.items old.outputs c.args.name.now c.in_ok-id.id true c.is_defined.result
     read c.requires.sound.rows_len c.in_ok-id.ensures.keys c.in_ok-id.ensures.place c.deref.ensures.value c.is_defined.ensures c.if-is_defined.true in
     rw c.fault.ensures (inr (gate_cause before c.args.name.now word pins c.args.kind counts.kind_is counts.counted ∙ gate_twice before c.args.name.now word pins counts.short known, refl))
 
@@ -46,7 +46,7 @@ returns-then-is_crowded-clause-steps c word counts before read line-is =
     let pins = each_now c.args.pins.now in
     let l = Gate c.args.name.now word pins in
     let ks = old.names in
-    let known : is_among (flat_map defined_in before) c.args.name.now ≡ false = definition_known before ks c.number.new.self old.rows.items c.deref.result.now old.pins.items old.outputs.keys c.args.name.now c.in_ok-id.id false c.is_defined.result
+    let known : is_among (flat_map defined_in before) c.args.name.now ≡ false = definition_known before ks c.number.new.self old.rows.items c.deref.result.now old.pins.items old.outputs c.args.name.now c.in_ok-id.id false c.is_defined.result
     read c.requires.sound.rows_len c.in_ok-id.ensures.keys c.in_ok-id.ensures.place c.deref.ensures.value c.is_defined.ensures c.if-is_defined.false in
     let keys = keys_of ks c.number.new.self c.number_all.new.self c.args.name.now pins c.in_ok-id.ensures.keys c.in_ok-number_all.ensures.keys in
     let many : is_crowded (before ++ l ∷ []) ≡ true = crowd (before ++ l ∷ []) c.number_all.new.self (length c.number_all.new.numbers.items) true (all_names before l ks c.number_all.new.self read.names_are keys)
@@ -60,13 +60,13 @@ returns-clause-steps c word counts before read line-is =
     let l = Gate c.args.name.now word pins in
     let ks = old.names in
     let len = c.requires.sound.rows_len in
-    let known : is_among (flat_map defined_in before) c.args.name.now ≡ false = definition_known before ks c.number.new.self old.rows.items c.deref.result.now old.pins.items old.outputs.keys c.args.name.now c.in_ok-id.id false c.is_defined.result
+    let known : is_among (flat_map defined_in before) c.args.name.now ≡ false = definition_known before ks c.number.new.self old.rows.items c.deref.result.now old.pins.items old.outputs c.args.name.now c.in_ok-id.id false c.is_defined.result
     read len c.in_ok-id.ensures.keys c.in_ok-id.ensures.place c.deref.ensures.value c.is_defined.ensures c.if-is_defined.false in
     let keys = keys_of ks c.number.new.self c.number_all.new.self c.args.name.now pins c.in_ok-id.ensures.keys c.in_ok-number_all.ensures.keys in
     let few : is_crowded (before ++ l ∷ []) ≡ false = crowd (before ++ l ∷ []) c.number_all.new.self (length c.number_all.new.numbers.items) false (all_names before l ks c.number_all.new.self read.names_are keys)
     (pins_some before c.args.name.now word pins ks c.number_all.new.self old.pins.items c.number_all.new.numbers.items read.pins_are c.in_ok-number_all.ensures.numbers) (sym c.is_crowded.ensures ∙ c.if-is_crowded.false) in (
       gate_cause before c.args.name.now word pins c.args.kind counts.kind_is counts.counted ∙ gate_crowds before c.args.name.now word pins false counts.short known few,
-      knows_gate before ks c.number_all.new.self old.rows.items c.add_rows.new.rows.items old.pins.items c.number_all.new.numbers.items old.outputs.keys c.args.name.now word pins c.args.kind c.args.line c.in_ok-id.id c.len-start.result (length c.args.pins.now)
+      knows_gate before ks c.number_all.new.self old.rows.items c.add_rows.new.rows.items old.pins.items c.number_all.new.numbers.items old.outputs c.args.name.now word pins c.args.kind c.args.line c.in_ok-id.id c.len-start.result (length c.args.pins.now)
           read len keys c.in_ok-add_rows.ensures.rows line-is
           (id_stays ks c.number.new.self c.number_all.new.self c.args.name.now pins c.in_ok-id.id c.in_ok-id.ensures.keys c.in_ok-number_all.ensures.keys c.in_ok-id.ensures.place)
           c.in_ok-number_all.ensures.numbers known counts.kind_is (omega (arith, c.len-start.ensures)) (sym (length-map _ _)),

@@ -3,4 +3,4 @@ use Rattle.design.specs.inner.Said.{KnowsClocks}
 use Rattle.design.proofs.stated.NamedClocks.read.Given as goal
 
 abbrev pub invariant-loop-row : goal.invariant-loop-row
-invariant-loop-row l = KnowsClocks (take l.row-index l.rows) l.clocks.entries
+invariant-loop-row l = KnowsClocks (take l.row-index l.rows) l.clocks

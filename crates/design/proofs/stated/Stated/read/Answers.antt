@@ -16,7 +16,7 @@ returns-in_err-take c =
     let netlist = c.args.netlist.now in
     let timing = c.args.timing.now in
     let p = err_from_is_err_and c.from_residual-in_err-take.result c.from_residual-in_err-take.ensures.1 in
-    let knows = subst (λ rows. KnowsClocks rows c.in_ok-clocks.clocks.clocks.entries) c.clocks.ensures c.in_ok-clocks.ensures.ok in
+    let knows = subst (λ rows. KnowsClocks rows c.in_ok-clocks.clocks.clocks) c.clocks.ensures c.in_ok-clocks.ensures.ok in
     let step = c.in_err-take.ensures timing _ knows c.loop-row.invariant.has in
     let found = refused-at (timing_fault netlist timing) c.rows-rows.result.now c.loop-row.row-index c.row-item.result _ c.loop-row-test.true c.row-item.is c.loop-row.invariant.fault step in
     subst (TakesRows netlist timing) (sym (p.1 ∙ ap Err p.2)) (subst (λ rows. (c.in_err-take.field-0.0 ≡ out_of_memory) ⊎ (first_fault (timing_fault netlist timing) rows ≡ Some c.in_err-take.field-0.0)) c.rows-rows.ensures found)
@@ -25,7 +25,7 @@ pub loop-row-preserved : goal.loop-row-preserved
 loop-row-preserved c =
     let netlist = c.args.netlist.now in
     let timing = c.args.timing.now in
-    let knows = subst (λ rows. KnowsClocks rows c.in_ok-clocks.clocks.clocks.entries) c.clocks.ensures c.in_ok-clocks.ensures.ok in
+    let knows = subst (λ rows. KnowsClocks rows c.in_ok-clocks.clocks.clocks) c.clocks.ensures c.in_ok-clocks.ensures.ok in
     let step = c.in_ok-take.ensures timing _ knows c.loop-row.invariant.has in
     record {
       has = subst (λ rows. HasStated netlist timing rows c.take.new.self) (taken-at c.rows-rows.result.now c.loop-row.row-index c.row-item.result c.loop-row-test.true c.row-item.is) step.1;
