@@ -1,5 +1,5 @@
 -- The content of a bounded store: cells of signals, the most recently used first.
-use Rattle.std.specs.Prelude.{◌≡◌, ℕ, ◌==◌, Bool, true, not, ◌&&◌, ◌⊎◌, ⊤, List, [], ◌∷◌, length, All, Option, option_map, if◌then◌else◌}
+use Rattle.std.specs.Prelude.{◌≡◌, ℕ, ◌<◌, ◌≤◌, ◌==◌, Bool, true, not, ◌&&◌, ◌⊎◌, ⊤, List, [], ◌∷◌, length, All, Option, option_map, if◌then◌else◌}
 use Rattle.valid_intervals.specs.declared.Point.{Point}
 use Rattle.valid_intervals.specs.declared.SignalCell.{SignalCell}
 use Rattle.valid_intervals.specs.Cells.{same_stored, covers, is_stored, last_cell, to_front, all_but_last}
@@ -28,6 +28,14 @@ IsApart x y = (p : Point) → covers p x ≡ true → covers p y ≡ true → �
 abbrev pub AreApart : List SignalCell → Type 0
 AreApart [] = ⊤
 AreApart (x ∷ cells) = All (IsApart x) cells × AreApart cells
+
+-- What is known of every store: it has room for a cell, and for no more than 65,536; it has no more cells than room, and no point is
+-- covered by two of them.
+pub record IsKnownStore (s : Contents) : Type 0 where
+  pub some : 0 < s.capacity
+  pub most : s.capacity ≤ 65536
+  pub within : length s.cells ≤ s.capacity
+  pub apart : AreApart s.cells
 
 -- each of the cells is x, or has no point in common with x
 abbrev pub FitsStore : SignalCell → List SignalCell → Type 0

@@ -4,7 +4,7 @@ ghost use Rattle.valid_intervals.specs.declared.SignalCell.{SignalCell};
 ghost use Rattle.valid_intervals.specs.Spans.{IsSpan};
 ghost use Rattle.valid_intervals.specs.Cells as cells;
 ghost use Rattle.valid_intervals.specs.Cells.{cell_for, to_front};
-ghost use Rattle.cell_store.specs.Recency.{contents, with_cells, key_of, last_key, pushes_out, after_put, FitsStore, AreApart};
+ghost use Rattle.cell_store.specs.Recency.{contents, with_cells, key_of, last_key, pushes_out, after_put, FitsStore, IsKnownStore};
 ghost use Rattle.valid_intervals.specs.Cells.{stored_at, is_stored};
 ghost use Rattle.cell_store.specs.inner.Index.{place_at, slot_and_cell, IsFront, IsInFront, IsPlaced};
 ghost use Rattle.lru.specs.LruCache.{last_entry as last_of};
@@ -66,11 +66,18 @@ impl CellStore {
         })
     }
 
+    /// The law of every store: it has room for a cell, no more cells than there is room for, and no point is covered by two of them. A
+    /// shard needs it to begin legal over the store.
+    pub fn facts(&self)
+        ensures { IsKnownStore self.now }
+    {
+        // A proof knows the invariant of a value whose field the body reads.
+        let _ = &self.cache;
+    }
+
     /// The number of stored cells.
     pub fn len(&self) -> u32
-        ensures len { result ≡ length self.now.cells }
-        ensures within { length self.now.cells ≤ self.now.capacity }
-        ensures apart { AreApart self.now.cells }
+        ensures { result ≡ length self.now.cells }
     {
         self.cache.len() as u32
     }
@@ -84,9 +91,7 @@ impl CellStore {
 
     /// The greatest number of cells.
     pub fn capacity(&self) -> u32
-        ensures capacity { result ≡ self.now.capacity }
-        ensures some { 0 < self.now.capacity }
-        ensures most { self.now.capacity ≤ MOST_CELLS }
+        ensures { result ≡ self.now.capacity }
     {
         self.cache.cap().get() as u32
     }

@@ -65,8 +65,8 @@ impl Parts {
         ensures ready { IsRootReady design.now.circuit self.new }
         ensures again { IsRootReady design.now.circuit self.old → self.new ≡ self.old }
     {
+        design.facts();
         'roots: loop {
-            design.facts();
             match self.known_root(design) {
                 None => return,
                 Some(cell) => {

@@ -86,8 +86,7 @@ impl<B: BatchName> Shard<B> {
               = [];
         } }
     {
-        // For the proof: it says that the cells are apart, and no more than there is room for, so the shard begins legal.
-        let _len = store.len();
+        store.facts();
         Shard {
             number,
             store,
@@ -101,7 +100,8 @@ impl<B: BatchName> Shard<B> {
     pub fn facts(&self)
         ensures { IsKnownShard B.batch B.opening self.now }
     {
-        self.claims.facts();
+        // A proof knows the invariant of a value whose field the body reads.
+        let _ = &self.store;
     }
 
     /// Its number.
@@ -295,8 +295,6 @@ impl<B: BatchName> Shard<B> {
     {
         strand.facts();
         let q = strand.query().number;
-        // For the proof: what was charged fits, and so does the number of what it holds.
-        let _charged = strand.charge();
         let claims = strand.claims() as u32;
         make_room(&mut self.journal, self.claims.len(), 1)?;
         self.journal.push_reserved(Entry::Spent { q, p, claims });
@@ -327,7 +325,7 @@ impl<B: BatchName> Shard<B> {
     }
 }
 
-/// What is known of every shard of a list.
+/// The law of each shard of a list. Whoever makes a plan or a memo of shards needs it.
 pub fn know_all<B: BatchName>(shards: &[Shard<B>])
     ensures { All (IsKnownShard B.batch B.opening) shards.now }
 {

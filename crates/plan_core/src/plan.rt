@@ -80,7 +80,8 @@ impl<B: BatchName> Plan<B> {
         ensures lawful { IsLawful B.batch }
         ensures sound { IsSound B.batch B.opening self.now }
     {
-        let _places = self.places.len();
+        // A proof knows the invariant of a value whose field the body reads.
+        let _ = &self.places;
     }
 
     /// One turn of the strand with this number. If memory runs out, nothing changes.
@@ -246,7 +247,6 @@ impl<B: BatchName> Plan<B> {
         ensures refused { IfOk result (λ unrefused. unrefused ≡ Some false
             → SomeRefused self.new) }
     {
-        self.facts();
         let mut left = most;
         let mut unrefused = true;
         for place in 0..self.places.len() {
