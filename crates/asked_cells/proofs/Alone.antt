@@ -1,6 +1,7 @@
 -- One strand alone over the shards in hand.
 use Rattle.std.proofs.Common.{◌≡◌, ℕ, zero, suc, ◌+◌, ◌<◌, ◌≤◌, min, false, List, [], ◌∷◌, ◌++◌, length, get_or, All, Bool, Option, Some, None, Result, Ok, Err, IfOk, IfNone, IfSome, refl, sym, ap, subst, ◌∙◌, arith, inl, inr, length-append}
 use Rattle.std.proofs.lemmas.List.Elements.{Contains-append_right, recursion_from_All}
+use Rattle.std.proofs.lemmas.Option.{slice_get_within, slice_get-get_or, get_or_from_slice_get}
 use Rattle.std.proofs.Math.ListN.{length-map}
 use Rattle.valid_intervals.specs.declared.Cell.{Cell}
 use Rattle.valid_intervals.specs.declared.Point.{Point}
@@ -32,15 +33,15 @@ use Rattle.asked_cells.specs.Memos.{IsChargedMemo, entries_of, is_missing}
 use Rattle.asked_cells.specs.inner.Tails.{lengths_of, tails}
 use Rattle.asked_cells.proofs.Index.{SameEntries, index-same}
 use Rattle.asked_cells.proofs.Entries.{shard-at, lengths-at, regroup, HaveGrown, filled-append}
-use Rattle.asked_cells.proofs.Lists.{low-at, or-at, at-or, each-from}
+use Rattle.asked_cells.proofs.Lists.{each-from}
 
 -- the plan's word for shards in order, and the one here
 in-order : (ms : List KeptShard) → AreNumbered ms → AreInOrder ms
-in-order ms numbers i m e = subst (λ (x : KeptShard). x.number ≡ i) (or-at ms i m m e) (numbers i m (low-at ms i m e))
+in-order ms numbers i m e = subst (λ (x : KeptShard). x.number ≡ i) (get_or_from_slice_get ms i m m e) (numbers i m (slice_get_within ms i m e))
 
 -- and back
 pub numbered : (ms : List KeptShard) → AreInOrder ms → AreNumbered ms
-numbered ms order n d low = order n (get_or ms n d) (at-or ms n d low)
+numbered ms order n d low = order n (get_or ms n d) (slice_get-get_or ms n d low)
 
 -- shards without claims are free
 pub free-shards : (b : Batch) (opening : ℕ → List SignalCell) (ms : List KeptShard) → AreNumbered ms → IsFresh b opening (shards_in ms) → AreFree b ms

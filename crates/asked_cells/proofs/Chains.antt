@@ -3,7 +3,7 @@ use Rattle.std.proofs.Common.{◌≡◌, ◌≢◌, ℕ, zero, suc, ◌+◌, ◌
 use Rattle.std.specs.List.{AllByRecursion}
 use Rattle.std.proofs.lemmas.Bool.{cases_eq, cases_lt}
 use Rattle.std.proofs.lemmas.Grind.{pow_more}
-use Rattle.std.proofs.lemmas.List.{get_or-map, length-map, map-append, get_or_append_left}
+use Rattle.std.proofs.lemmas.List.{get_or-map, get_or_past, length-map, map-append, get_or_append_left}
 use Rattle.std.proofs.Math.Seq.{map-set_same, get_or-append_seam}
 use Rattle.std.proofs.lemmas.Nat.{and_le_r, pow_pos}
 use Rattle.valid_intervals.specs.declared.Point.{Point}
@@ -275,17 +275,12 @@ module _ (journal : List Entry) (noted : List Noted) (n : ℕ) (d : Noted) (low 
   points-same x is = map-set_same (λ (y : Noted). point_at journal y.place) noted n x d (ap (point_at journal) is)
 
 -- a place is past the end
-past-none : {A : Type 0} (xs : List A) (n : ℕ) (d : A) → length xs ≤ n → get_or xs n d ≡ d
-past-none [] n d h = refl
-past-none (x ∷ xs) zero d h = absurd (omega arith)
-past-none (x ∷ xs) (suc n) d h = past-none xs n d (omega arith)
-
 module _ (journal : List Entry) (noted : List Noted) (n : ℕ) (high : length noted ≤ n) where
   pub past-point : get_or (points_of journal noted) n None ≡ None
-  past-point = past-none (points_of journal noted) n None (subst (λ l. l ≤ n) (sym (length-map noted (λ (x : Noted). point_at journal x.place))) high)
+  past-point = get_or_past (points_of journal noted) n None (subst (λ l. l ≤ n) (sym (length-map noted (λ (x : Noted). point_at journal x.place))) high)
 
   pub past-before : get_or (numbers_before noted) n 0 ≡ 0
-  past-before = past-none (numbers_before noted) n 0 (subst (λ l. l ≤ n) (sym (length-map noted (λ (x : Noted). x.before))) high)
+  past-before = get_or_past (numbers_before noted) n 0 (subst (λ l. l ≤ n) (sym (length-map noted (λ (x : Noted). x.before))) high)
 
 -- each wanted entry is noted, and each noted one is in its chain
 pub all-stand : (journal : List Entry) (wanted : Marked) (points : List (Option Point)) (count : ℕ) (last before : List ℕ) → length points ≡ count → HasNoted journal wanted (length journal) points → (linked : AreLinked points count last before)
@@ -297,7 +292,7 @@ all-stand journal wanted points count last before all noted linked place p numbe
           let l = h.1 in
           elim (cases_lt h.0 (length points)) [
             | inl within ↦ (linked (chain_of p (length last))).has h.0 p (omega arith) (omega arith) h.2 refl
-            | inr past ↦ absurd (let e = past-none points h.0 None past in let f = h.2 in cc (e, f))
+            | inr past ↦ absurd (let e = get_or_past points h.0 None past in let f = h.2 in cc (e, f))
           ]
       | inr high ↦ absurd (let e = point-past journal place high in cc (e, said))
     ]
@@ -322,7 +317,7 @@ noted-pushed journal wanted read noted x here few was place p low numbered said 
           let h = was place p (omega arith) numbered said is in
           elim (cases_lt h.0 (length (points_of journal noted))) [
             | inl within ↦ (h.0, h.1, ap (λ l. get_or l h.0 None) more ∙ get_or_append_left (points_of journal noted) (point_at journal x.place ∷ []) None h.0 within ∙ h.2)
-            | inr past ↦ absurd (let e = past-none (points_of journal noted) h.0 None past in let f = h.2 in cc (e, f))
+            | inr past ↦ absurd (let e = get_or_past (points_of journal noted) h.0 None past in let f = h.2 in cc (e, f))
           ]
     ]
   where

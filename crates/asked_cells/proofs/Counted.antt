@@ -1,5 +1,6 @@
 -- How many points queries filled, counted entry by entry, and in parts.
 use Rattle.std.proofs.Common.{◌≡◌, ℕ, ◌+◌, ◌≤◌, min, nat_eq, Bool, true, false, cond, List, [], ◌∷◌, ◌++◌, length, refl, sym, ap, ap₂, ◌∙◌, arith}
+use Rattle.std.proofs.Math.Nat.{min-le_right}
 use Rattle.valid_intervals.specs.declared.Cell.{Cell}
 use Rattle.valid_intervals.specs.declared.Point.{Point}
 use Rattle.valid_intervals.specs.declared.SignalCell.{SignalCell}
@@ -36,10 +37,7 @@ counted-filled es q p x old new h add = λ n.
 -- at most so many are counted
 all-most : (parts : List FillCounts) (n : ℕ) → fills_in_all parts n ≤ 4294967295
 all-most [] n = omega arith
-all-most (part ∷ parts) n = most (fills_in part n + fills_in_all parts n) 4294967295
-  where
-    most : (k m : ℕ) → min k m ≤ m
-    most k m = omega arith
+all-most (part ∷ parts) n = min-le_right (fills_in part n + fills_in_all parts n) 4294967295
 
 -- the counts of two lists of parts
 all-append : (xs ys : List FillCounts) (n : ℕ) → fills_in_all (xs ++ ys) n ≡ min (fills_in_all xs n + fills_in_all ys n) 4294967295

@@ -2,6 +2,7 @@
 use Rattle.std.proofs.Common.{◌≡◌, ℕ, zero, suc, ◌+◌, ◌<◌, Bool, List, [], ◌∷◌, ◌++◌, length, get_or, take, drop, refl, sym, ap, subst, ◌∙◌, arith, inl, inr, append_assoc, append-nil}
 use Rattle.std.proofs.lemmas.List.Elements.{Contains-append_left, Contains-append_right, Contains-append_cases}
 use Rattle.std.proofs.Math.Seq.{drop-append_seam}
+use Rattle.design.proofs.Rereads.{taken-at}
 use Rattle.journal_meaning.specs.declared.Entry.{Entry}
 use Rattle.journal_meaning.specs.Answers.{is_fill_of, fill_count}
 use Rattle.journal_meaning.specs.Counts.{count}
@@ -13,7 +14,6 @@ use Rattle.memo_shards.specs.KeptShards.{KeptShard}
 use Rattle.plan_core.specs.Parts.{shards_in}
 use Rattle.asked_cells.specs.Memos.{entries_of}
 use Rattle.asked_cells.specs.inner.Tails.{lengths_of, tails}
-use Rattle.asked_cells.proofs.Lists.{take-item}
 use Rattle.asked_cells.proofs.Index.{SameEntries}
 
 -- of the shards of two lists
@@ -23,7 +23,7 @@ entries-append (x ∷ xs) ys = ap (λ l. x.shard.journal ++ l) (entries-append x
 
 -- the entries of the first shards, with one shard more
 pub entries-item : (ms : List KeptShard) (n : ℕ) (m : KeptShard) → n < length ms → m ≡ get_or ms n m → entries_of (take (n + 1) ms) ≡ entries_of (take n ms) ++ m.shard.journal
-entries-item ms n m low is = ap entries_of (take-item ms n m low is) ∙ entries-append (take n ms) (m ∷ []) ∙ ap (λ l. entries_of (take n ms) ++ l) (append-nil m.shard.journal)
+entries-item ms n m low is = ap entries_of (sym (taken-at ms n m low is)) ∙ entries-append (take n ms) (m ∷ []) ∙ ap (λ l. entries_of (take n ms) ++ l) (append-nil m.shard.journal)
 
 entries-each : (P : Entry → Type 0) (ms : List KeptShard) (n : ℕ) (d : KeptShard) → n < length ms → Each P (entries_of ms) → Each P (get_or ms n d).shard.journal
 entries-each P [] n d low h = absurd (omega arith)

@@ -28,11 +28,6 @@ entries-contain (m ∷ ms) (suc k) d e low h = Contains-append_right m.shard.jou
 pub said-in-one : (ms : List KeptShard) (k : ℕ) (m : KeptShard) (p : Point) (x : Cell) → k < length ms → m ≡ get_or ms k m → IsSaidFor m.shard.journal p x → IsSaidFor (entries_of ms) p x
 said-in-one ms k m p x low is (e, h, same) = (e, entries-contain ms k m e low (subst (λ (s : KeptShard). Contains s.shard.journal e) is h), same)
 
--- a weaker fact of what is there
-pub if-some : {A : Type 0} (o : Option A) (P Q : A → Type 0) → ((x : A) → P x → Q x) → IfSome o P → IfSome o Q
-if-some None P Q f h = tt
-if-some (Some x) P Q f h = f x h
-
 -- what follows from what is there
 pub on-some : {A : Type 0} (o : Option A) (P : A → Type 0) (Q : Type 0) → ((x : A) → P x → Q) → IfSome o P → OnSome o Q
 on-some None P Q f h = tt

@@ -44,13 +44,11 @@ known-shards b opening ms count numbers known = record {
         subst (IsShard b n (opening n)) (sym (shard-at (m ∷ ms) n m no_shard (omega arith))) (subst (λ j. IsShard b j (opening j) (get_or (m ∷ ms) n m).shard) number k.shard)
 
 -- claims in order are of different points
-self-eq : (a : Point) → is_eq (point_cmp a a) ≡ true
-self-eq a = grind (arith, nat_tests)
-
 less-apart : (a b : Point) → point_cmp a b ≡ Less → a ≢ b
 less-apart a b e same =
     let k : point_cmp a a ≡ Less = subst (λ x. point_cmp a x ≡ Less) (sym same) e in
-    true≢false (sym (self-eq a) ∙ ap is_eq k)
+    let itself : is_eq (point_cmp a a) ≡ true = grind (arith, nat_tests) in
+    true≢false (sym itself ∙ ap is_eq k)
 
 abbrev points : List Claim → List Point
 points cs = map (λ (c : Claim). c.point) cs

@@ -1,8 +1,9 @@
 -- What the parse answers, by the form that the words are.
-use Rattle.std.proofs.Common.{◌≡◌, ◌∙◌, ◌&&◌, ◌==◌, ℕ, List, [], ◌∷◌, Bool, true, false, refl, sym, subst, Option, Some, None, option_map, ap, ap₂, length, suc, arith, inl, inr, map}
+use Rattle.std.proofs.Common.{◌≡◌, ◌∙◌, ◌==◌, ℕ, List, [], ◌∷◌, Bool, true, false, refl, sym, subst, Option, Some, None, option_map, ap, ap₂, length, suc, arith, inl, inr, map}
 use Rattle.std.specs.Borrow.{Bor}
 use Rattle.std.specs.List.{All, list_all}
 use Rattle.std.specs.Str.{IsUtf8, bytes_eq}
+use Rattle.std.proofs.lemmas.Bool.{and_parts}
 use Rattle.std.proofs.lemmas.Bool.Decides.{nat_tests}
 use Rattle.std.proofs.lemmas.List.Elements.{All-get_or, All-drop}
 use Rattle.clap.specs.Kinds.{IsAmong, HasKind, Kinds, or_else}
@@ -24,7 +25,7 @@ use Rattle.command_words.specs.Words.{Key, Workers, Shards, Cells, Work, Said, f
 use Rattle.command_words.proofs.Rules.{id_of, names_id, rules, shape}
 use Rattle.command_words.proofs.Rows.{Shows}
 use Rattle.command_words.proofs.Turns.{walk_at}
-use Rattle.command_words.proofs.Walks.{Utf8s, Meets, taken, meets, fault_from, rows_from, end_of}
+use Rattle.command_words.proofs.Walks.{Utf8s, Meets, taken, meets, fault_from, rows_from, end_of, or_else_nil}
 use Rattle.command_words.proofs.Document.{same}
 
 -- ---- no argument has a default
@@ -53,15 +54,11 @@ fault_none rows a e = go (has_row a.id rows) refl
     go true h = rw h refl
     go false h = rw (h, e) refl
 
-both : (a b : Bool) → (a && b) ≡ true → (a ≡ true) × (b ≡ true)
-both true b e = (refl, e)
-both false b e = cc
-
 all_none : (rs : List Rule) (rows : List Row) → list_all has_none rs ≡ true → (fold with_default rows rs ≡ rows) × (defaults_fault rows rs ≡ [])
 unfolding defaults_fault
 all_none [] rows e = (refl, refl)
 all_none (a ∷ rs) rows e =
-    let each = both (has_none a) (list_all has_none rs) e in
+    let each = and_parts (has_none a) (list_all has_none rs) e in
     let rest = all_none rs rows each.1 in
     let now = with_none rows a each.0 in (
       ap (λ r. fold with_default r rs) now ∙ rest.0,
@@ -75,10 +72,6 @@ rules_none = refl
 
 abbrev start : Walk
 start = walk_at [] None idle false
-
-or_else_nil : (a : Kinds) → or_else a [] ≡ a
-or_else_nil [] = refl
-or_else_nil (k ∷ ks) = refl
 
 rows_are : (words : List Text) → matches_of command_app words ≡ rows_from start words
 rows_are words = (all_none rules (settled rules (end_of start words).held).rows rules_none).0

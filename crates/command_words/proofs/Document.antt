@@ -1,6 +1,7 @@
 -- A value that begins with `-` is no number, so the words are none of the forms, whether it is refused as a word or as a value.
 use Rattle.std.proofs.Common.{◌≡◌, ◌∙◌, ◌||◌, ◌==◌, ℕ, List, [], ◌∷◌, Bool, true, false, refl, sym, subst, Option, Some, None, is_some, ap, arith}
 use Rattle.std.specs.Prelude.{option_and_then, if◌then◌else◌}
+use Rattle.std.proofs.lemmas.Bool.{or_right}
 use Rattle.std.proofs.lemmas.Bool.Decides.{nat_tests}
 use Rattle.text_rules.specs.Text.{is_number}
 use Rattle.command_words.specs.Words.{Text, Key, Workers, Shards, Cells, Work, Word, Dashes, Alone, Valued, Name, Refused, Said, Form, what_is, by_word, with_value, with_at, with_names, value_at, read, form_of, form_by, first_form, second_form, number_at, number_in, number_or, workload_of}
@@ -37,6 +38,10 @@ then_none : {A B : Type 0} (o : Option A) → option_and_then {T = A} {U = B} (�
 then_none None = refl
 then_none (Some x) = refl
 
+given : (o : Option Text) → NoNumber o → is_some o ≡ true
+given None bad = absurd bad
+given (Some text) bad = refl
+
 none_or : (key : Key) (n : ℕ) (o : Option Text) → NoNumber o → number_or key n o ≡ None
 none_or key n None bad = absurd bad
 none_or key n (Some text) bad = bad key
@@ -57,19 +62,11 @@ second_bad said text key bad work = go (is_some said.shards || is_some said.cell
     rest : Option Form
     rest = option_and_then (λ n. option_and_then (λ workers. workload_of said.names n workers) (number_or Workers 4 said.workers)) (number_at Work text)
 
-    given : (o : Option Text) → NoNumber o → is_some o ≡ true
-    given None b = absurd b
-    given (Some x) b = refl
-
-    right : (a b : Bool) → b ≡ true → (a || b) ≡ true
-    right true b e = refl
-    right false b e = e
-
     go : (t : Bool) → (is_some said.shards || is_some said.cells) ≡ t → (k : Key) → NoNumber (value_at k said) → (if t then None else rest) ≡ None
     go true e k b = refl
     go false e Workers b = rw (none_or Workers 4 said.workers b) (then_none (number_at Work text))
     go false e Shards b = let bad' : true ≡ false = sym (ap (λ x. x || is_some said.cells) (given said.shards b)) ∙ e in cc
-    go false e Cells b = let bad' : true ≡ false = sym (right (is_some said.shards) (is_some said.cells) (given said.cells b)) ∙ e in cc
+    go false e Cells b = let bad' : true ≡ false = sym (or_right (is_some said.shards) (is_some said.cells) (given said.cells b)) ∙ e in cc
     go false e Work b = let none : number_at Work text ≡ None = subst NoNumber work b Work in rw none refl
 
 bad_form : (said : Said) → IsBad said → form_of said ≡ None
@@ -84,10 +81,6 @@ bad_form said bad = go said.work refl
 said_stays : (key k : Key) (v : Text) (said : Said) → is_some (value_at key said) ≡ false → NoNumber (value_at k said) → NoNumber (value_at k (with_at key v said))
 said_stays key k v said none bad = go (same_key key k) refl
   where
-    given : (o : Option Text) → NoNumber o → is_some o ≡ true
-    given None b = absurd b
-    given (Some x) b = refl
-
     go : (t : Bool) → same_key key k ≡ t → NoNumber (value_at k (with_at key v said))
     go true e =
         let is = key_is key k e in

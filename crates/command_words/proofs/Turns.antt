@@ -1,5 +1,6 @@
 -- What one word does to clap's walk, by what the word is.
-use Rattle.std.proofs.Common.{◌≡◌, ◌&&◌, List, [], ◌∷◌, Bool, true, false, refl, Option, Some, None, ap}
+use Rattle.std.proofs.Common.{◌≡◌, List, [], ◌∷◌, Bool, true, false, refl, Option, Some, None, ap}
+use Rattle.std.proofs.Math.Bool.{and-false}
 use Rattle.clap.specs.Walk.{Row, Text, Walk, Waiting, idle, option, positional, walked, settled_rows, used, subcommand_met, is_pending, positional_held}
 use Rattle.clap.specs.Faults.{turn_fault, settle_fault, react_fault, positional_fault}
 use Rattle.clap.specs.Kinds.{Kinds, or_else}
@@ -28,10 +29,6 @@ no_subcommand idle word = refl
 no_subcommand (option id) word = refl
 no_subcommand positional word = refl
 
-never : (a : Bool) → (a && false) ≡ false
-never true = refl
-never false = refl
-
 pub turn_dashes : (rows : List Row) (pending : Pending) (waiting : Waiting) (word : Text) → Lexes word Dashes
     → Turn (walk_at rows pending waiting false) word [] (walk_at rows pending waiting true)
 unfolding walked
@@ -57,11 +54,11 @@ turn_refused rows pending waiting word l = rw (no_subcommand waiting word, l.0, 
 
 to_names : (rows : List Row) (pending : Pending) (word : Text)
     → positional_held rules names_built word (held rows pending) ≡ held (settled_rows rules pending rows) (Some (names_id, word ∷ []))
-to_names rows pending word = rw (never (is_pending names_built pending)) refl
+to_names rows pending word = rw (and-false (is_pending names_built pending)) refl
 
 names_settle : (rows : List Row) (pending : Pending)
     → positional_fault rules false names_built (held rows pending) ≡ settle_fault rules false (held rows pending)
-names_settle rows pending = rw (never (is_pending names_built pending)) refl
+names_settle rows pending = rw (and-false (is_pending names_built pending)) refl
 
 pub turn_name : (b : Bool) (rows : List Row) (pending : Pending) (word : Text) → Lexes word Name
     → Turn (walk_at rows pending (free b) false) word (settle_fault rules false (held rows pending))

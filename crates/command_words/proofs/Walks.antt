@@ -51,7 +51,7 @@ or_else_assoc : (a b c : Kinds) → or_else (or_else a b) c ≡ or_else a (or_el
 or_else_assoc [] b c = refl
 or_else_assoc (k ∷ ks) b c = refl
 
-or_else_nil : (a : Kinds) → or_else a [] ≡ a
+pub or_else_nil : (a : Kinds) → or_else a [] ≡ a
 or_else_nil [] = refl
 or_else_nil (k ∷ ks) = refl
 

@@ -1,5 +1,4 @@
 -- What the matches and the result say.
-use Rattle.std.specs.Prelude.{[]}
 use Rattle.command_words.specs.Words.{Form, Session, Workload}
 use Rattle.command_words.specs.declared.Words.{Words}
 use Rattle.command_words.specs.declared.Words.TheVariants as words

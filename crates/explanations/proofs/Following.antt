@@ -1,11 +1,11 @@
 -- Lines that were gathered, once none waits: each follows from those above it, and the value from all of them.
-use Rattle.std.proofs.Common.{◌≡◌, ℕ, zero, suc, eq-eqb, le-leb, lt-ltb, true≢false, ◌<◌, ◌⊎◌, Bool, true, false, cond, List, [], ◌∷◌, length, take, get_or, slice_get, All, Contains, Option, Some, None, IsSome, IfSome, MatchOption, option_map, refl, sym, ap, subst, ◌∙◌, arith, inl, inr}
+use Rattle.std.proofs.Common.{◌≡◌, ℕ, eq-eqb, le-leb, lt-ltb, true≢false, ◌<◌, ◌⊎◌, Bool, true, false, cond, List, [], ◌∷◌, length, take, get_or, slice_get, All, Contains, Option, Some, None, IsSome, MatchOption, option_map, refl, sym, ap, subst, ◌∙◌, arith, inl, inr}
 use Rattle.std.specs.Prelude.{find}
 use Rattle.std.specs.List.{AllByRecursion}
 use Rattle.std.proofs.lemmas.Bool.{and_from, cases_lt}
 use Rattle.std.proofs.lemmas.List.{get_or-take, length-take-le}
-use Rattle.std.proofs.lemmas.List.Elements.{All-weaker, All-contains_itself, All-contains, All-take, recursion_from_All}
-use Rattle.std.proofs.lemmas.Option.{get_or_from_slice_get}
+use Rattle.std.proofs.lemmas.List.Elements.{All-contains_itself, All-contains, All-take, recursion_from_All}
+use Rattle.std.proofs.lemmas.Option.{slice_get_within, get_or_from_slice_get}
 use Rattle.valid_intervals.specs.declared.Cell.{Cell}
 use Rattle.valid_intervals.specs.declared.Point.{Point}
 use Rattle.valid_intervals.specs.declared.SignalCell.{SignalCell}
@@ -29,27 +29,16 @@ use Rattle.why_proofs.specs.Laws.{IsTrueLine}
 use Rattle.why_proofs.specs.inner.Known.{IsKnown}
 use Rattle.why_proofs.proofs.Sound.{AreRight, answer-right, rule-right}
 use Rattle.why_proofs.proofs.Sources.{known-all}
+use Rattle.asked_cells.proofs.Pins.{evaluable-signal}
 use Rattle.explanations.specs.declared.waiting.Place.{Place}
 use Rattle.explanations.specs.declared.waiting.Asked.{Asked}
 use Rattle.explanations.specs.inner.Waiting.{Places}
 use Rattle.explanations.specs.inner.Gathered.{AreExplained, IsKept, IsSourceKept, AreSourcesKept, AreGathered}
-use Rattle.explanations.proofs.Moves.{source-earlier, evaluable-moves}
-use Rattle.explanations.proofs.Gathering.{evaluable-signal, in-time, has-time, has-start, from-start}
-
-if-some : {A : Type 0} (P : A → Type 0) (o : Option A) → ((x : A) → o ≡ Some x → P x) → IfSome o P
-if-some P None h = tt
-if-some P (Some x) h = h x refl
-
-all-from : {A : Type 0} (P : A → Type 0) (xs : List A) → ((x : A) → Contains xs x → P x) → All P xs
-all-from P xs f = All-weaker (Contains xs) P f xs (All-contains_itself xs)
+use Rattle.explanations.proofs.Moves.{if-some, source-earlier, evaluable-moves}
+use Rattle.explanations.proofs.Gathering.{all-from, in-time, has-time, has-start, from-start}
 
 contains-take : {A : Type 0} (xs : List A) (k : ℕ) (x : A) → Contains (take k xs) x → Contains xs x
 contains-take xs k x h = All-contains (Contains xs) (take k xs) x (All-take (Contains xs) k xs (All-contains_itself xs)) h
-
-low-of : {A : Type 0} (xs : List A) (k : ℕ) (x : A) → slice_get xs k ≡ Some x → k < length xs
-low-of [] k x e = absurd (cc e)
-low-of (y ∷ xs) zero x e = omega arith
-low-of (y ∷ xs) (suc k) x e = let l = low-of xs k x e in omega arith
 
 -- no line comes before itself
 no-circle : (x y : SignalCell) → IsBefore x y → IsBefore y x → ⊥
@@ -107,7 +96,7 @@ module _ (b : Batch) (lawful : IsLawful b) (q : Query) (known : Contains b.queri
   -- a line that comes before another stands above it
   is-above : (k : ℕ) (x : SignalCell) → slice_get lines k ≡ Some x → (z : SignalCell) → Contains lines z → IsBefore z x → Contains (take k lines) z
   is-above k x e z h before =
-      let low = low-of lines k x e in
+      let low = slice_get_within lines k x e in
       let at : get_or lines k z ≡ x = get_or_from_slice_get lines k x z e in
       elim (cases_lt h.0 k) [
         | inl l ↦ (h.0, (let n = length-take-le k lines (omega arith) in omega arith), get_or-take k lines h.0 z l ∙ h.2)
@@ -131,7 +120,7 @@ module _ (b : Batch) (lawful : IsLawful b) (q : Query) (known : Contains b.queri
 
   module _ (k : ℕ) (x : SignalCell) (e : slice_get lines k ≡ Some x) where
     has : Contains lines x
-    has = (k, low-of lines k x e, get_or_from_slice_get lines k x x e)
+    has = (k, slice_get_within lines k x e, get_or_from_slice_get lines k x x e)
 
     -- what its pins look at is answered by the lines above
     known-source : (j : ℕ) (o : Option Point) → get_or (looked_points c x.signal x.cell.span.start) j None ≡ o → IsSourceKept c lines now o → IsKnown (answer c (take k lines)) o

@@ -2,15 +2,15 @@
 use Rattle.std.proofs.Common.{◌≡◌, ℕ, zero, suc, ◌<◌, ◌≤◌, List, [], ◌∷◌, ◌++◌, reverse, length, get_or, All, Contains, Option, Some, None, refl, sym, ap, subst, ◌∙◌, arith, inl, inr}
 use Rattle.std.specs.List.{AllByRecursion}
 use Rattle.std.proofs.lemmas.List.{get_or_default, reverse-append}
-use Rattle.std.proofs.lemmas.List.Elements.{All-weaker, All-contains_itself, All-contains}
+use Rattle.std.proofs.lemmas.List.Elements.{All-weaker, All-contains_itself, All-contains, Contains-append_right}
 use Rattle.std.proofs.lemmas.List.Kept.{AllPairs-cons}
 use Rattle.valid_intervals.specs.declared.Cell.{Cell}
 use Rattle.valid_intervals.specs.declared.Point.{Point}
 use Rattle.valid_intervals.specs.declared.SignalCell.{SignalCell}
 use Rattle.valid_intervals.specs.Spans.{IsIn}
-use Rattle.circuit_meaning.specs.Circuit.{Circuit, Driver, Input}
+use Rattle.circuit_meaning.specs.Circuit.{Circuit}
 use Rattle.circuit_meaning.specs.Cells.{span, cell_at, point_at}
-use Rattle.circuit_meaning.specs.Need.{HasChildren, IsEvaluable}
+use Rattle.circuit_meaning.specs.Need.{IsEvaluable}
 use Rattle.circuit_meaning.specs.Looks.{looked_points}
 use Rattle.circuit_meaning.proofs.Cover.{cell-covers}
 use Rattle.batch_meaning.specs.declared.Query.{Query}
@@ -23,6 +23,7 @@ use Rattle.plan_machine.proofs.Steps.{wanted-time}
 use Rattle.plan_machine.proofs.Settle.{child-needed}
 use Rattle.plan_machine.proofs.Underway.{contains-one, contains-cases, contains-none}
 use Rattle.why_proofs.proofs.Sound.{steady}
+use Rattle.asked_cells.proofs.Pins.{evaluable-signal}
 use Rattle.explanations.specs.declared.waiting.Place.{Place}
 use Rattle.explanations.specs.declared.waiting.Asked.{Asked}
 use Rattle.explanations.specs.inner.Waiting.{IsBelow, line_of, point_of, place_of, Places, TakesLast}
@@ -30,13 +31,7 @@ use Rattle.explanations.specs.inner.Gathered.{IsWanted, IsSourceAdded, IsOfSourc
 use Rattle.explanations.proofs.Moves.{IsMoved, source-child, source-earlier, sources-moved, never-moves}
 use Rattle.explanations.proofs.Looks.{told-grows}
 
-behind : {A : Type 0} (y : A) (rest : List A) (x : A) → Contains rest x → Contains (y ∷ rest) x
-behind y rest x h = (suc h.0, (let l = h.1 in omega arith), h.2)
-
-at-front : {A : Type 0} (y : A) (rest : List A) → Contains (y ∷ rest) y
-at-front y rest = (0, omega arith, refl)
-
-all-from : {A : Type 0} (P : A → Type 0) (xs : List A) → ((x : A) → Contains xs x → P x) → All P xs
+pub all-from : {A : Type 0} (P : A → Type 0) (xs : List A) → ((x : A) → Contains xs x → P x) → All P xs
 all-from P xs f = All-weaker (Contains xs) P f xs (All-contains_itself xs)
 
 -- lines are kept in the order in which they are taken, and read from the end
@@ -61,12 +56,12 @@ kept-on lines old new f x (inl h) = inl h
 kept-on lines old new f x (inr h) = inr (h.0, h.1, f h.0 h.1 h.2, h.3)
 
 kept-taken : (lines : List SignalCell) (old new : Places) (a : Asked) → TakesLast old a new → (x : SignalCell) → IsKept lines old x → IsKept (line_of a ∷ lines) new x
-kept-taken lines old new a t x (inl h) = inl (behind (line_of a) lines x h)
+kept-taken lines old new a t x (inl h) = inl (Contains-append_right (line_of a ∷ []) lines x h)
 kept-taken lines old new a t x (inr h) = elim (t.kept h.0 h.1 h.2) [
   | inl same ↦
       let both : Some h.1 ≡ Some a = sym h.2 ∙ ap old same ∙ t.was in
       let is : h.1 ≡ a = cc in
-      inl (subst (Contains (line_of a ∷ lines)) (ap line_of (sym is) ∙ h.3) (at-front (line_of a) lines))
+      inl (subst (Contains (line_of a ∷ lines)) (ap line_of (sym is) ∙ h.3) (0, omega arith, refl))
   | inr e ↦ inr (h.0, h.1, e, h.3)
 ]
 
@@ -76,12 +71,6 @@ sources-looked c lines old new f x h = λ n. source-on c lines lines old new (ke
 
 pub sources-taken : (c : Circuit) (lines : List SignalCell) (old new : Places) (a : Asked) → TakesLast old a new → (x : SignalCell) → AreSourcesKept c lines old x → AreSourcesKept c (line_of a ∷ lines) new x
 sources-taken c lines old new a t x h = λ n. source-on c lines (line_of a ∷ lines) old new (kept-taken lines old new a t) (get_or (looked_points c x.signal x.cell.span.start) n None) (h n)
-
--- an evaluable point is of a signal of the circuit
-pub evaluable-signal : (t : ℕ) (ds : List Driver) (s : ℕ) → HasChildren t (get_or ds s (Input [])) → s < length ds
-evaluable-signal t [] s h = absurd h
-evaluable-signal t (d ∷ ds) zero h = omega arith
-evaluable-signal t (d ∷ ds) (suc s) h = let k = evaluable-signal t ds s h in omega arith
 
 each-get : {A : Type 0} (P : Option A → Type 0) (os : List (Option A)) → AllByRecursion P os → P None → (n : ℕ) → P (get_or os n None)
 each-get P [] h none n = none
@@ -143,15 +132,12 @@ module _ (b : Batch) (lawful : IsLawful b) (q : Query) (known : Contains b.queri
     }
 
     module _ (w : IsWanted b q es a) where
-      low : a.time ≤ c.horizon
-      low = in-time es a w
-
       inside : IsIn (span c a.signal a.time) a.cell.span.start
-      inside = has-start a w.told.right low
+      inside = has-start a w.told.right (in-time es a w)
 
       -- the source of a pin, at the time at which the line begins
       moved : (n : ℕ) → IsMoved c (get_or (looked_points c a.signal a.time) n None) (get_or (looked_points c a.signal a.cell.span.start) n None)
-      moved = sources-moved c lawful.circuit a.signal a.time a.cell.span.start inside low w.told.evaluable
+      moved = sources-moved c lawful.circuit a.signal a.time a.cell.span.start inside (in-time es a w) w.told.evaluable
 
       at-source : (y : Asked) → Contains (looked_points c a.signal a.time) (Some (point_of y)) → (n : ℕ) × (get_or (looked_points c a.signal a.time) n None ≡ Some (point_of y))
       at-source y h = (h.0, get_or_default (looked_points c a.signal a.time) h.0 None (Some (point_of y)) h.1 ∙ h.2)
@@ -217,7 +203,7 @@ module _ (b : Batch) (lawful : IsLawful b) (q : Query) (known : Contains b.queri
                 let x : Asked = record { signal = p.signal; time = p.time; cell = cell_at c p } in
                 let stands : place_of (line_of x) ≡ place_of (line_of y) = gathers.places (place_of (line_of x)) y h.1 in
                 let wy = gathers.waiting (place_of (line_of x)) y h.1 in
-                let same : x.cell ≡ y.cell = one-place x y refl (omega (arith, early, low)) wy.told.right (in-time fs y wy) stands in
+                let same : x.cell ≡ y.cell = one-place x y refl (omega (arith, early, in-time es a w)) wy.told.right (in-time fs y wy) stands in
                 inr (line_of y, inr (place_of (line_of x), y, h.1, refl), sym (ap (λ (k : Place). k.signal) stands) ∙ sym m.0, subst (λ (z : Cell). IsIn z.span r.time) same m.1)
 
   -- one line more

@@ -2,7 +2,7 @@
 use Rattle.std.proofs.Common.{◌≡◌, ℕ, zero, suc, ◌-◌, ◌+◌, ◌<◌, ◌≤◌, nat_lt, true, false, cond, List, [], ◌∷◌, map, fold, get_or, Contains, Option, Some, None, IfSome, refl, sym, ap, subst, ◌∙◌, arith, inl, inr, lt-ltb, le-ltb}
 use Rattle.std.specs.List.{AllByRecursion}
 use Rattle.std.proofs.lemmas.Bool.{cases_lt}
-use Rattle.std.proofs.lemmas.List.Elements.{All-contains}
+use Rattle.std.proofs.lemmas.List.Elements.{All-contains, recursion_from_All}
 use Rattle.gate_values.specs.declared.Value.TheVariants.{X}
 use Rattle.gate_values.specs.declared.Kind.{Kind}
 use Rattle.gate_values.specs.declared.Kind.TheVariants.{Dff}
@@ -64,10 +64,6 @@ all_map : {A B : Type 0} (P : B → Type 0) (f : A → B) (xs : List A) → AllB
 all_map P f [] h = tt
 all_map P f (x ∷ xs) h = (h.0, all_map P f xs h.1)
 
-all_of : {A : Type 0} (P : A → Type 0) → ((a : A) → P a) → (xs : List A) → AllByRecursion P xs
-all_of P h [] = tt
-all_of P h (x ∷ xs) = (h x, all_of P h xs)
-
 sees-source : (c : Circuit) (t : ℕ) (p : Pin) → sees c (pin_point t p) ≡ seen_value (value c) t p
 sees-source c t p = elim (nat_lt t p.delay) as (λ b. sees c (cond b None (Some (record { signal = p.signal; time = t - p.delay }))) ≡ cond b X (value c p.signal (t - p.delay))) [ true ↦ refl | false ↦ refl ]
 
@@ -77,7 +73,8 @@ points c t d = up_to_first (λ o. decides (kind_of d) (sees c o)) (pin_points_at
 
 cut-sources : (c : Circuit) (t : ℕ) (kind : Kind) (pins : List Pin) → map (pin_point t) (looked_pins c t kind pins) ≡ points c t (Gate kind pins)
 cut-sources c t kind pins =
-    ap (map (pin_point t)) (cut_alike (decides kind) (λ p. sees c (pin_point t p)) (seen_value (value c) t) pins (all_of (λ p. sees c (pin_point t p) ≡ seen_value (value c) t p) (sees-source c t) (up_to_first (λ p. decides kind (sees c (pin_point t p))) pins)))
+    let looked = up_to_first (λ p. decides kind (sees c (pin_point t p))) pins in
+    ap (map (pin_point t)) (cut_alike (decides kind) (λ p. sees c (pin_point t p)) (seen_value (value c) t) pins (recursion_from_All (λ p. sees c (pin_point t p) ≡ seen_value (value c) t p) looked (λ k d l. sees-source c t (get_or looked k d))))
     ∙ map-up_to_first (λ o. decides kind (sees c o)) (pin_point t) pins
 
 same-pins : (a b : List Pin) → Pins a ≡ Pins b → a ≡ b
@@ -123,7 +120,7 @@ module _ (c : Circuit) (ok : IsCircuit c) (t u : ℕ) where
       let e : shown_edge f.clock f.delay u ≡ shown_edge f.clock f.delay t = same-edge (shown_edge f.clock f.delay u) (shown_edge f.clock f.delay t) same in
       subst (λ o. IsMoved c (get_or (cut (shown_edge f.clock f.delay t)) n None) (get_or (cut o) n None)) (sym e) (stays (get_or (cut (shown_edge f.clock f.delay t)) n None) low)
 
-if-some : {A : Type 0} (P : A → Type 0) (o : Option A) → ((x : A) → o ≡ Some x → P x) → IfSome o P
+pub if-some : {A : Type 0} (P : A → Type 0) (o : Option A) → ((x : A) → o ≡ Some x → P x) → IfSome o P
 if-some P None h = tt
 if-some P (Some x) h = h x refl
 

@@ -1,6 +1,7 @@
 -- What becomes of a point's claim, and of the cells.
 use Rattle.std.proofs.Common.{◌≡◌, ◌≢◌, ℕ, ◌≤◌, Bool, true, false, cond, not, List, [], ◌∷◌, filter, find, option_map, Some, None, inl, inr, ◌⊎◌, refl, sym, subst, ◌∙◌, true≢false, eq-eqb, le-leb, lt-ltb}
 use Rattle.std.proofs.lemmas.Bool.{and_from, cases_Bool}
+use Rattle.std.proofs.lemmas.Option.{none-some}
 use Rattle.valid_intervals.specs.declared.Point.{Point}
 use Rattle.circuit_meaning.specs.Circuit.{Circuit, IsCircuit}
 use Rattle.circuit_meaning.proofs.Cover.{cell-covers}
@@ -14,14 +15,11 @@ use Rattle.circuit_meaning.specs.Cells.{cell_at}
 use Rattle.journal_meaning.proofs.Same.{same_point-true, same_point-itself}
 use Rattle.journal_meaning.proofs.Lists.{Each, Stands, stands-any, test-false}
 
-pub some≢none : {A : Type 0} (x : A) → Some x ≢ None
-some≢none x e = cc
-
 pub holder-filter : (test : Claim → Bool) (claims : List Claim) (p : Point) → holder claims p ≡ None → holder (filter test claims) p ≡ None
 holder-filter test [] p h = refl
 holder-filter test (c ∷ claims) p h =
     elim (same_point p c.point) as (λ b. same_point p c.point ≡ b → option_map (λ (c : Claim). c.query) (cond b (Some c) (find (λ c. same_point p c.point) claims)) ≡ None → holder (cond (test c) (c ∷ filter test claims) (filter test claims)) p ≡ None) [
-      | true ↦ λ e k. absurd (some≢none c.query k)
+      | true ↦ λ e k. absurd (none-some c.query (sym k))
       | false ↦ λ e k. elim (test c) as (λ t. holder (cond t (c ∷ filter test claims) (filter test claims)) p ≡ None) [
         | true ↦ rw e (holder-filter test claims p k)
         | false ↦ holder-filter test claims p k
@@ -43,7 +41,7 @@ some-same : (a b : ℕ) → Some a ≡ Some b → a ≡ b
 some-same a b e = cc
 
 pub holder-each : (P : ℕ → Point → Type 0) (claims : List Claim) (p : Point) (q : ℕ) → Each (λ c. P c.query c.point) claims → holder claims p ≡ Some q → P q p
-holder-each P [] p q h e = absurd (some≢none q (sym e))
+holder-each P [] p q h e = absurd (none-some q e)
 holder-each P (c ∷ claims) p q h e =
     elim (same_point p c.point) as (λ b. same_point p c.point ≡ b → option_map (λ (c : Claim). c.query) (cond b (Some c) (find (λ c. same_point p c.point) claims)) ≡ Some q → P q p) [
       | true ↦ λ k l. subst (λ z. P z p) (some-same c.query q l) (subst (λ z. P c.query z) (sym (same_point-true p c.point k)) h.0)
@@ -111,7 +109,7 @@ Quiet p (Spent q r held) = r ≢ p
 -- while a cell stands that covers the point, and the point is not claimed
 module _ (p : Point) (x : SignalCell) (c : covers p x ≡ true) (capacity : ℕ) (s : State) (unclaimed : holder s.claims p ≡ None) where
   claimed : (q : ℕ) (r : Point) → holder s.claims r ≡ Some q → r ≢ p
-  claimed q r h e = some≢none q (sym h ∙ subst (λ y. holder s.claims y ≡ None) (sym e) unclaimed)
+  claimed q r h e = none-some q (sym (subst (λ y. holder s.claims y ≡ None) (sym e) unclaimed) ∙ h)
 
   uncovered : Stands x s.cells → (r : Point) → is_covered s r ≡ false → r ≢ p
   uncovered st r h e = true≢false (sym (stands-any (covers p) x s.cells c st) ∙ subst (λ y. is_covered s y ≡ false) e h)

@@ -2,7 +2,7 @@
 use Rattle.std.proofs.Common.{◌≡◌, ◌≢◌, ℕ, zero, suc, ◌+◌, ◌<◌, ◌%◌, ◌&&◌, Bool, true, false, cond, nat_eq, List, [], ◌∷◌, ◌++◌, length, filter, get_or, slice_set, Contains, All, Option, Some, None, refl, sym, ap, subst, ◌∙◌, arith, inl, inr, true≢false, length-append, append_assoc, eqb-true}
 use Rattle.std.specs.Option.{option_or}
 use Rattle.std.proofs.Math.ListN.{length-set}
-use Rattle.std.proofs.lemmas.Bool.{cases_Bool, cases_eq, cases_lt, and_parts}
+use Rattle.std.proofs.lemmas.Bool.{cases_Bool, cases_eq, cases_lt, and_parts, ne_eqb}
 use Rattle.std.proofs.lemmas.List.{get_or-set_same, get_or-set_other, get_or_past, append-nil}
 use Rattle.std.proofs.lemmas.List.Elements.{filter-append, Contains-append_left, Contains-append_right, Contains-append_cases, All-weaker, All-contains, All-contains_itself, All-from_recursion, recursion_from_All}
 use Rattle.valid_intervals.specs.declared.Point.{Point}
@@ -437,14 +437,8 @@ other-none q p (Evicted signal start) h = refl
 other-none q p (Dropped r x) h = named-other q r p x h
 other-none q p (Spent r x held) h = named-other q r p x h
 
-other-number : (q r : ℕ) → r ≢ q → nat_eq r q ≡ false
-other-number q r ne = elim (cases_Bool (nat_eq r q)) [
-  | inl t ↦ absurd (ne (eqb-true r q t))
-  | inr f ↦ f
-]
-
 other-fills : (q : ℕ) (e : Entry) → IsForOther q e → is_fill_of q e ≡ false
-other-fills q (Filled r x y) h = other-number q r h
+other-fills q (Filled r x y) h = ne_eqb r q h
 other-fills q (Told r x y) h = refl
 other-fills q (Claimed r x) h = refl
 other-fills q (Evicted signal start) h = refl
@@ -457,7 +451,7 @@ other-refusals q (Told r x y) h = refl
 other-refusals q (Claimed r x) h = refl
 other-refusals q (Evicted signal start) h = refl
 other-refusals q (Dropped r x) h = refl
-other-refusals q (Spent r x held) h = other-number q r h
+other-refusals q (Spent r x held) h = ne_eqb r q h
 
 pub count-none : (test : Entry → Bool) (es : List Entry) → Each (λ e. test e ≡ false) es → count test es ≡ 0
 count-none test [] h = refl

@@ -1,6 +1,7 @@
 -- Worked examples: journals that are not legal.
 use Rattle.std.proofs.Common.{◌≡◌, ℕ, ◌≤◌, ◌⊎◌, refl, sym, ap, subst, arith, inl, inr, true≢false, [], ◌∷◌, List, Contains}
 use Rattle.std.proofs.lemmas.List.Elements.{All-from_recursion, All-contains}
+use Rattle.std.proofs.lemmas.Option.{none-some}
 use Rattle.gate_values.specs.declared.Value.TheVariants.{Zero, One}
 use Rattle.valid_intervals.specs.declared.Cell.{Cell}
 use Rattle.valid_intervals.specs.declared.SignalCell.{SignalCell}
@@ -14,7 +15,6 @@ use Rattle.journal_meaning.specs.Replay.{IsLegalBatch}
 use Rattle.journal_meaning.proofs.Examples.{at, cell, both, first_query, tight, both15, second_query, again, third_query, third}
 use Rattle.circuit_meaning.specs.Circuit.{driver, read_by}
 use Rattle.circuit_meaning.proofs.Points.{needed-in_cone}
-use Rattle.journal_meaning.proofs.Claims.{some≢none}
 
 -- a claim of a point that a stored cell covers
 told-not-claimed : IsLegalBatch third 0 (record { signal = 1; cell = cell 3 8 One } ∷ []) (Claimed 3 (at 1 3) ∷ Dropped 3 (at 1 3) ∷ []) → ⊥
@@ -58,7 +58,7 @@ not-needed h =
 
 -- a fill without its claim
 not-claimed : IsLegalBatch third 0 [] (Filled 3 (at 1 3) (cell 3 8 One) ∷ []) → ⊥
-not-claimed h = some≢none 3 (sym h.legal.0.0)
+not-claimed h = none-some 3 h.legal.0.0
 
 -- an eviction of another than the last cell, from a shard of two cells
 abbrev two : Batch
@@ -100,7 +100,7 @@ not-filled h = true≢false h.ended.made
 
 -- a second claim of a point, by another query or the same
 claimed-twice : IsLegalBatch third 0 [] (Claimed 3 (at 1 3) ∷ Claimed 3 (at 1 3) ∷ Dropped 3 (at 1 3) ∷ []) → ⊥
-claimed-twice h = some≢none 3 h.legal.2.0.2
+claimed-twice h = none-some 3 (sym h.legal.2.0.2)
 
 -- a refusal of a query that is said to have more claims than its budget
 spent-beyond : IsLegalBatch third 0 [] (Spent 3 (at 1 3) 500001 ∷ []) → ⊥

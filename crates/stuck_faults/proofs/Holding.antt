@@ -1,9 +1,10 @@
 -- What is claimed is what a strand holds, step by step.
 use Rattle.std.proofs.Common.{◌≡◌, ◌≢◌, ℕ, List, [], ◌∷◌, refl, sym, ap, subst, ◌∙◌, arith, inl, inr, Option, Some, None}
+use Rattle.std.proofs.lemmas.Option.{none-some}
 use Rattle.valid_intervals.specs.declared.Point.{Point}
 use Rattle.circuit_meaning.specs.Circuit.{Circuit, IsCircuit}
 use Rattle.journal_meaning.specs.States.{Claim, holder, without_point}
-use Rattle.journal_meaning.proofs.Claims.{some≢none, cases_point, claim-here, claim-other, holder-without, without-other, no-claims}
+use Rattle.journal_meaning.proofs.Claims.{cases_point, claim-here, claim-other, holder-without, without-other, no-claims}
 use Rattle.strand_meaning.specs.Strands.{Frame, rest, stack_heard, IsOnStack, IsChain}
 use Rattle.strand_meaning.proofs.Stacks.{IsTop, held-heard, heard-held, held-rest, rest-held, top-once}
 
@@ -41,7 +42,7 @@ module _ (number : ℕ) (claims : List Claim) (st : List Frame) (h : Holds numbe
         let ne : x ≢ p = λ e. (let t : x.time ≡ p.time = ap (λ (z : Point). z.time) e in absurd (omega arith)) in
         without-other claims p x ne ∙ h.held x (held-rest st x k);
     holder = λ x q k. elim (cases_point x p) [
-      | inl e ↦ absurd (some≢none q (sym (sym (subst (λ z. holder (without_point claims p) z ≡ None) (sym e.1) (holder-without claims p)) ∙ k)))
+      | inl e ↦ absurd (none-some q (sym (subst (λ z. holder (without_point claims p) z ≡ None) (sym e.1) (holder-without claims p)) ∙ k))
       | inr e ↦ elim (rest-held st p x top (h.holder x q (sym (without-other claims p x e.1) ∙ k))) [ inl same ↦ absurd (e.1 same) | inr l ↦ l ]
     ];
   }

@@ -54,9 +54,6 @@ amount_is t within =
 not_feed : (b : ℕ) → 11 ≤ b → not (eqb b 10) ≡ true
 not_feed b h = ap not (ne_eqb b 10 (λ e. omega (arith, e, h)))
 
-plain_append : (xs ys : List ℕ) → is_plain xs ≡ true → is_plain ys ≡ true → is_plain (xs ++ ys) ≡ true
-plain_append xs ys h k = list_all-append (λ b. not (eqb b 10)) xs ys ∙ and_from (is_plain xs) (is_plain ys) h k
-
 plain_digits : (ds : List ℕ) → all_ascii_digits ds ≡ true → is_plain ds ≡ true
 plain_digits [] h = refl
 plain_digits (d ∷ ds) h =
@@ -75,7 +72,8 @@ plain_name name h = plain_bytes name (and_parts (is_filled name) (list_all is_na
 
 plain_var : (code : ℕ) (name : List ℕ) → 33 ≤ code → is_name name ≡ true → is_plain (var_line code name) ≡ true
 plain_var code name from h =
-    rw (not_feed code (omega arith), plain_append name (codes " $end") (plain_name name h) refl) refl
+    let named : is_plain (name ++ codes " $end") ≡ true = list_all-append (λ b. not (eqb b 10)) name (codes " $end") ∙ and_from _ _ (plain_name name h) refl in
+    rw (not_feed code (omega arith), named) refl
 
 plain_time : (t : ℕ) → t ≤ 1000001 → is_plain (time_line t) ≡ true
 plain_time t within = plain_digits (decimal t) (digits_decimal own t (omega (arith, within)))

@@ -27,13 +27,11 @@ same_is Z Z h = refl
 same_is v w h = absurd cc
 
 same_self : (v w : Value) → v ≡ w → same_value v w ≡ true
-same_self v w e = ap (same_value v) (sym e) ∙ itself v
-  where
-    itself : (u : Value) → same_value u u ≡ true
-    itself Zero = refl
-    itself One = refl
-    itself X = refl
-    itself Z = refl
+same_self Zero Zero e = refl
+same_self One One e = refl
+same_self X X e = refl
+same_self Z Z e = refl
+same_self v w e = absurd cc
 
 abbrev pub point : (ℕ → Value) → ℕ → Run
 point f t = record { time = t; value = f t }

@@ -1,6 +1,6 @@
 -- From one query to the next, in both phases.
 use Rattle.std.proofs.Common.{◌≡◌, ◌≢◌, ℕ, suc, ◌+◌, ◌<◌, ◌≤◌, Bool, true, false, List, [], ◌∷◌, ◌++◌, length, get_or, take, drop, All, AllPairs, Contains, refl, sym, subst, ap, ◌∙◌, arith, drop-cons}
-use Rattle.std.proofs.lemmas.List.{take_more, take-append-drop, map-append, get_or_default}
+use Rattle.std.proofs.lemmas.List.{take_more, take-append-drop, map-append, get_or_default, take_all}
 use Rattle.std.proofs.Math.ListN.{drop_of_length-le}
 use Rattle.std.proofs.lemmas.List.Elements.{All-weaker, All-contains, All-from_recursion, recursion_from_All, Contains-append_right}
 use Rattle.valid_intervals.specs.declared.Point.{Point}
@@ -33,7 +33,6 @@ use Rattle.asked_cells.specs.Memos.{entries_of}
 use Rattle.asked_cells.specs.inner.Standings.{live, standing}
 use Rattle.window_answers.specs.inner.Phases.{IsFed, IsFedWith, AreAllFed, FeedsQuery, IsFeeding, IsWalking}
 use Rattle.window_answers.specs.Phases.{IsReplyTo, AreReplies, is_budget, refused_of}
-use Rattle.asked_cells.proofs.Lists.{take-all}
 use Rattle.window_answers.proofs.Filled.{fills-count}
 use Rattle.window_answers.proofs.Heard.{fills-heard}
 
@@ -256,11 +255,11 @@ module _ (b : Batch) (lawful : IsLawful b) (start : List Entry) (first : List Sh
 
   -- all are fed
   pub fed-last : (now : List Shard) (i : ℕ) (fs : List Fed) → length qs ≤ i → FedTo now i fs → IsFeeding b start first now b.queries fs []
-  fed-last now i fs l h = subst (λ z. IsFeeding b start first now z fs []) (take-all qs i l ∙ same) (subst (λ z. IsFeeding b start first now (take i qs) fs z) (drop_of_length-le qs l) h)
+  fed-last now i fs l h = subst (λ z. IsFeeding b start first now z fs []) (take_all i qs l ∙ same) (subst (λ z. IsFeeding b start first now (take i qs) fs z) (drop_of_length-le qs l) h)
 
   -- all are answered
   pub walk-last : (now : List Shard) (i : ℕ) (rs : List Reply) (all : List Fed) → length qs ≤ i → length all ≤ i → WalkedTo now i rs all → IsWalking b start first now b.queries rs [] []
-  walk-last now i rs all l m h = subst (λ z. IsWalking b start first now z rs [] []) (take-all qs i l ∙ same)
+  walk-last now i rs all l m h = subst (λ z. IsWalking b start first now z rs [] []) (take_all i qs l ∙ same)
       (subst (λ z. IsWalking b start first now (take i qs) rs z []) (drop_of_length-le qs l) (subst (λ z. IsWalking b start first now (take i qs) rs (drop i qs) z) (drop_of_length-le all m) h))
 
 -- none is fed yet

@@ -1,13 +1,12 @@
 -- What is asked for one query after another.
 use Rattle.std.proofs.Common.{ℕ, ◌+◌, ◌<◌, ◌≤◌, Bool, false, List, [], ◌∷◌, ◌++◌, length, get_or, take, refl, sym, subst}
-use Rattle.std.proofs.lemmas.List.{take_more, map-append}
+use Rattle.std.proofs.lemmas.List.{take_more, map-append, take_all}
 use Rattle.valid_intervals.specs.declared.SignalCell.{SignalCell}
 use Rattle.batch_meaning.specs.declared.Query.{Query}
 use Rattle.batch_meaning.specs.Batches.{Batch}
 use Rattle.plan_machine.specs.Shards.{Shard}
 use Rattle.reply_lines.specs.declared.reply.Reply.{Reply}
 use Rattle.asked_cells.specs.Asked.{AsksOn}
-use Rattle.asked_cells.proofs.Lists.{take-all}
 use Rattle.window_answers.specs.declared.answers.Fed.{Fed}
 use Rattle.window_answers.specs.Phases.{is_budget, refused_of}
 use Rattle.window_answers.specs.Settlement.{AskInTurn, none_refused}
@@ -41,7 +40,7 @@ module _ (b : Batch) (opening : ℕ → List SignalCell) where
 
     -- those of all queries are
     pub visit-last : (now : List Shard) (i : ℕ) (fs : List Fed) → length qs ≤ i → VisitsTo now i fs → AskInTurn b opening qs old (none_refused qs) now (refused_in fs)
-    visit-last now i fs l h = subst (λ z. AskInTurn b opening z old (none_refused z) now (refused_in fs)) (take-all qs i l) h
+    visit-last now i fs l h = subst (λ z. AskInTurn b opening z old (none_refused z) now (refused_in fs)) (take_all i qs l) h
 
     module _ (all : List Fed) where
       -- the windows of the first queries are walked
@@ -62,4 +61,4 @@ module _ (b : Batch) (opening : ℕ → List SignalCell) where
 
       -- those of all queries are
       pub turn-last : (now : List Shard) (i : ℕ) (rs : List Reply) → length qs ≤ i → length all ≤ i → WalksTo now i rs → AskInTurn b opening qs old (refused_in all) now (refused_of rs)
-      turn-last now i rs l m h = subst (λ z. AskInTurn b opening qs old (refused_in z) now (refused_of rs)) (take-all all i m) (subst (λ z. AskInTurn b opening z old (refused_in (take i all)) now (refused_of rs)) (take-all qs i l) h)
+      turn-last now i rs l m h = subst (λ z. AskInTurn b opening qs old (refused_in z) now (refused_of rs)) (take_all i all m) (subst (λ z. AskInTurn b opening z old (refused_in (take i all)) now (refused_of rs)) (take_all i qs l) h)

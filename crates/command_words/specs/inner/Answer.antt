@@ -3,7 +3,6 @@ use Rattle.std.specs.Prelude.{[], codes, option_map, unwrap_or}
 use Rattle.clap.specs.Words.{first_value, matched_of, raw_values}
 use Rattle.clap.specs.declared.parser.matches.Found.{Found}
 use Rattle.command_words.specs.Words.{Said}
-use Rattle.command_words.specs.declared.Words.TheVariants as words
 
 -- the options and the names in the matches
 abbrev pub said_in : Found → Said

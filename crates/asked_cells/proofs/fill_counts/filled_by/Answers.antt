@@ -1,7 +1,8 @@
 use Rattle.std.proofs.Common.{◌≡◌, ◌+◌, min, take, List, sym, ap, ap₂, ◌∙◌, arith}
+use Rattle.std.proofs.lemmas.List.{take_all}
+use Rattle.design.proofs.Rereads.{taken-at}
 use Rattle.asked_cells.specs.declared.fill_counts.FillCounts.{FillCounts}
 use Rattle.asked_cells.specs.FillCounts.{fills_in, fills_in_all}
-use Rattle.asked_cells.proofs.Lists.{take-item, take-all}
 use Rattle.asked_cells.proofs.Counted.{all-more}
 use Rattle.asked_cells.proofs.fill_counts.filled_by.Goals as goal
 
@@ -12,9 +13,9 @@ loop-part-preserved c =
     let x = c.part-item.result in
     let n = c.args.number in
     let more : fills_in_all (take (i + 1) parts) n ≡ min (fills_in_all (take i parts) n + fills_in x n) 4294967295 =
-    ap (λ (l : List FillCounts). fills_in_all l n) (take-item parts i x c.loop-part-test.true c.part-item.is) ∙ all-more (take i parts) x n in
+    ap (λ (l : List FillCounts). fills_in_all l n) (sym (taken-at parts i x c.loop-part-test.true c.part-item.is)) ∙ all-more (take i parts) x n in
     c.saturating_add-count.ensures ∙ ap₂ (λ a b. min (a + b) 4294967295) c.loop-part.invariant c.of.ensures ∙ sym more
 
 pub returns : goal.returns
 returns c =
-    c.loop-part.invariant ∙ ap (λ (l : List FillCounts). fills_in_all l c.args.number) (take-all c.args.parts.now c.loop-part.part-index (let t = c.loop-part-test.false in omega arith))
+    c.loop-part.invariant ∙ ap (λ (l : List FillCounts). fills_in_all l c.args.number) (take_all c.loop-part.part-index c.args.parts.now (let t = c.loop-part-test.false in omega arith))

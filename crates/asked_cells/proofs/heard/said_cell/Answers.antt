@@ -1,11 +1,9 @@
-use Rattle.std.proofs.Common.{◌≡◌}
-use Rattle.valid_intervals.specs.declared.Cell.{Cell}
-use Rattle.circuit_meaning.specs.Cells.{cell_at}
+use Rattle.std.proofs.lemmas.Option.{IfSome_then}
 use Rattle.journal_meaning.specs.Answers.{IsCovered}
 use Rattle.asked_cells.specs.Memos.{entries_of}
 use Rattle.asked_cells.specs.inner.Exact.{IsSaidFor}
 use Rattle.asked_cells.proofs.Alone.{covered-found}
-use Rattle.asked_cells.proofs.Exact.{exact-right, exact-found, if-some, on-some}
+use Rattle.asked_cells.proofs.Exact.{exact-right, exact-found, on-some}
 use Rattle.asked_cells.proofs.Known.{known-right}
 use Rattle.asked_cells.proofs.heard.said_cell.Goals as goal
 
@@ -13,8 +11,7 @@ pub returns-in-None-clause-cell : goal.returns-in-None-clause-cell
 returns-in-None-clause-cell g c =
     let b = g.B.BatchName.batch in
     let ms = c.args.shards.now in
-    if-some c.said_for.result (IsSaidFor (entries_of ms) c.args.x) (λ (cell : Cell). cell ≡ cell_at b.circuit c.args.x)
-    (λ cell h. exact-right b c.requires.lawful ms (known-right b c.requires.lawful g.B.BatchName.opening ms c.requires.known) c.args.x cell h) c.said_for.ensures
+    IfSome_then c.said_for.result c.said_for.ensures (λ cell h. exact-right b c.requires.lawful ms (known-right b c.requires.lawful g.B.BatchName.opening ms c.requires.known) c.args.x cell h)
 
 pub returns-in-None-clause-covered : goal.returns-in-None-clause-covered
 returns-in-None-clause-covered g c =

@@ -1,7 +1,8 @@
 use Rattle.std.proofs.Common.{◌++◌, ◌∷◌, [], List, ℕ, length, ap, ap₂, sym, ◌∙◌, arith}
+use Rattle.std.proofs.lemmas.List.{take_all}
 use Rattle.memo_shards.specs.KeptShards.{KeptShard}
 use Rattle.asked_cells.specs.inner.Tails.{lengths_of}
-use Rattle.asked_cells.proofs.Lists.{map-item, take-all}
+use Rattle.asked_cells.proofs.Lists.{map-item}
 use Rattle.asked_cells.proofs.memo.lengths.Goals as goal
 
 pub loop-shard-preserved : goal.loop-shard-preserved
@@ -12,4 +13,4 @@ loop-shard-preserved g c =
     ∙ sym (map-item (λ (m : KeptShard). length m.shard.journal) xs n c.shard-item.result c.loop-shard-test.true c.shard-item.is)
 
 pub returns : goal.returns
-returns g c = c.loop-shard.invariant ∙ ap lengths_of (take-all c.args.shards.now c.loop-shard.shard-index (let t = c.loop-shard-test.false in omega arith))
+returns g c = c.loop-shard.invariant ∙ ap lengths_of (take_all c.loop-shard.shard-index c.args.shards.now (let t = c.loop-shard-test.false in omega arith))

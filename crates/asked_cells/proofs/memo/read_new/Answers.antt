@@ -1,5 +1,6 @@
 use Rattle.std.proofs.Common.{◌≡◌, ◌<◌, ◌+◌, ◌++◌, List, get_or, length, take, drop, sym, ap, ap₂, subst, ◌∙◌, arith, append_assoc, append-nil}
 use Rattle.std.specs.BTreeMap.{get}
+use Rattle.std.proofs.lemmas.List.{take_all}
 use Rattle.journal_meaning.specs.declared.Entry.{Entry}
 use Rattle.journal_meaning.specs.Answers.{fill_count}
 use Rattle.journal_meaning.specs.inner.Grown.{IsRightEntry}
@@ -7,7 +8,6 @@ use Rattle.journal_meaning.specs.inner.Index.{cells_said, IsCellIndex}
 use Rattle.valid_intervals.specs.Cells.{point_cmp}
 use Rattle.asked_cells.specs.inner.Tails.{tails}
 use Rattle.asked_cells.proofs.Entries.{tails-item, tails-one, filled-append}
-use Rattle.asked_cells.proofs.Lists.{take-all}
 use Rattle.asked_cells.proofs.memo.read_new.Goals as goal
 
 pub loop-k-init : goal.loop-k-init
@@ -47,7 +47,7 @@ returns-clause-indexed g c = λ d es ok i right.
     let k = c.loop-k.k in
     let count = c.requires.count in
     let t = c.loop-k-test.false in
-    let all : tails (take k ns) (take k ms) ≡ tails ns ms = ap₂ tails (take-all ns k (omega arith)) (take-all ms k (omega arith)) in
+    let all : tails (take k ns) (take k ms) ≡ tails ns ms = ap₂ tails (take_all k ns (omega arith)) (take_all k ms (omega arith)) in
     subst (λ l. IsCellIndex d (cells_said (es ++ l)) (get point_cmp c.loop-k.cells.cells)) all (c.loop-k.invariant.indexed d es ok i right)
 
 pub returns-clause-charge : goal.returns-clause-charge
@@ -58,5 +58,5 @@ returns-clause-charge g c =
     let count = c.requires.count in
     let t = c.loop-k-test.false in
     let a = c.loop-k.invariant.counts in
-    let all : fill_count (tails (take k ns) (take k ms)) c.args.query.number ≡ fill_count (tails ns ms) c.args.query.number = ap (λ l. fill_count l c.args.query.number) (ap₂ tails (take-all ns k (omega arith)) (take-all ms k (omega arith))) in
+    let all : fill_count (tails (take k ns) (take k ms)) c.args.query.number ≡ fill_count (tails ns ms) c.args.query.number = ap (λ l. fill_count l c.args.query.number) (ap₂ tails (take_all k ns (omega arith)) (take_all k ms (omega arith))) in
     omega arith

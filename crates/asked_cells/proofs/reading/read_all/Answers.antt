@@ -1,12 +1,12 @@
 use Rattle.std.proofs.Common.{◌++◌, List, take, sym, subst, arith}
 use Rattle.std.specs.BTreeMap.{get}
 use Rattle.std.specs.List.{AllByRecursion}
+use Rattle.std.proofs.lemmas.List.{take_all}
 use Rattle.journal_meaning.specs.declared.Entry.{Entry}
 use Rattle.journal_meaning.specs.inner.Grown.{IsRightEntry}
 use Rattle.journal_meaning.specs.inner.Index.{cells_said, IsCellIndex}
 use Rattle.valid_intervals.specs.Cells.{point_cmp}
 use Rattle.asked_cells.specs.Memos.{entries_of}
-use Rattle.asked_cells.proofs.Lists.{take-all}
 use Rattle.asked_cells.proofs.Entries.{entries-item, entries-one}
 use Rattle.asked_cells.proofs.reading.read_all.Goals as goal
 
@@ -26,4 +26,4 @@ loop-shard-preserved g c = λ d ok right.
 pub returns : goal.returns
 returns g c = λ d ok right.
     let ms = c.args.shards.now in
-    subst (λ l. IsCellIndex d (cells_said (entries_of l)) (get point_cmp c.loop-shard.cells.cells)) (take-all ms c.loop-shard.shard-index (let t = c.loop-shard-test.false in omega arith)) (c.loop-shard.invariant d ok right)
+    subst (λ l. IsCellIndex d (cells_said (entries_of l)) (get point_cmp c.loop-shard.cells.cells)) (take_all c.loop-shard.shard-index ms (let t = c.loop-shard-test.false in omega arith)) (c.loop-shard.invariant d ok right)

@@ -1,11 +1,11 @@
-use Rattle.std.proofs.Common.{◌≡◌, ◌+◌, ◌/◌, ◌++◌, ◌∷◌, [], List, map, sym, ap, subst, ◌∙◌, arith}
+use Rattle.std.proofs.Common.{◌+◌, ◌/◌, ◌++◌, List, map, sym, ap, subst, ◌∙◌, arith}
 use Rattle.std.specs.List.{AllByRecursion}
+use Rattle.std.proofs.lemmas.Result.{on_ok_weaker}
 use Rattle.batch_meaning.specs.Pieces.{Start, IsStart, pieces}
 use Rattle.strand_meaning.specs.Strands.{started_strand}
 use Rattle.batch_meaning.proofs.Pieces.{pieces-lawful}
 use Rattle.plan_core.specs.Parts.{strands_in}
 use Rattle.window_answers.specs.inner.Starts.{piece_start}
-use Rattle.asked_cells.proofs.Lists.{on-ok}
 use Rattle.window_answers.proofs.Pieces.{pieces-by, last-start, last-left, next-start, next-left}
 use Rattle.window_answers.proofs.strands.push_pieces.Goals as goal
 
@@ -64,4 +64,4 @@ returns-clause-strands g c =
     let all = strands_in c.args.strands.now.items ++ map f (pieces q) in
     let one = piece_start q c.cuts.t q.to c.cuts.budget in
     let l = last-left b q c.cuts.budget (q.budget / c.count_pieces-count.result) i.0 c.cuts.t f old all (omega arith) i.3 in
-    on-ok c.push_piece-2.result (new ≡ old ++ f one ∷ []) (new ≡ all) (λ h. h ∙ l) c.push_piece-2.ensures.strands
+    on_ok_weaker c.push_piece-2.result (λ h. h ∙ l) c.push_piece-2.ensures.strands

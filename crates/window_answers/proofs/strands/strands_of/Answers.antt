@@ -1,8 +1,8 @@
 use Rattle.std.proofs.Common.{map, flat_map, ap, ◌∙◌, arith}
+use Rattle.std.proofs.lemmas.List.{take_all}
 use Rattle.strand_meaning.specs.Strands.{started_strand}
 use Rattle.batch_meaning.specs.Pieces.{pieces}
 use Rattle.plan_core.specs.Parts.{strands_in}
-use Rattle.asked_cells.proofs.Lists.{take-all}
 use Rattle.window_answers.proofs.Pieces.{strands-next}
 use Rattle.window_answers.proofs.strands.strands_of.Goals as goal
 
@@ -15,4 +15,4 @@ loop-q-preserved g c =
     }
 
 pub returns-clause-strands : goal.returns-clause-strands
-returns-clause-strands g c = c.loop-q.invariant.strands ∙ ap (λ l. map (started_strand g.B.BatchName.batch.circuit) (flat_map pieces l)) (take-all c.args.queries.now c.loop-q.q-index (let t = c.loop-q-test.false in omega arith))
+returns-clause-strands g c = c.loop-q.invariant.strands ∙ ap (λ l. map (started_strand g.B.BatchName.batch.circuit) (flat_map pieces l)) (take_all c.loop-q.q-index c.args.queries.now (let t = c.loop-q-test.false in omega arith))

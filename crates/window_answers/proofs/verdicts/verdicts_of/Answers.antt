@@ -1,7 +1,8 @@
 use Rattle.std.proofs.Common.{◌++◌, ◌∷◌, [], List, map, ap, ap₂, sym, ◌∙◌, arith}
+use Rattle.std.proofs.lemmas.List.{take_all}
 use Rattle.session_meaning.specs.declared.Verdict.{Verdict}
 use Rattle.session_meaning.specs.Verdicts.{verdict_of}
-use Rattle.asked_cells.proofs.Lists.{map-item, take-all}
+use Rattle.asked_cells.proofs.Lists.{map-item}
 use Rattle.window_answers.proofs.verdicts.verdicts_of.Goals as goal
 
 pub loop-item-preserved : goal.loop-item-preserved
@@ -10,4 +11,4 @@ loop-item-preserved c =
     ∙ sym (map-item (verdict_of c.args.design.now) c.args.items.now c.loop-item.item-index c.item-item.result c.loop-item-test.true c.item-item.is)
 
 pub returns : goal.returns
-returns c = c.loop-item.invariant ∙ ap (map (verdict_of c.args.design.now)) (take-all c.args.items.now c.loop-item.item-index (let t = c.loop-item-test.false in omega arith))
+returns c = c.loop-item.invariant ∙ ap (map (verdict_of c.args.design.now)) (take_all c.loop-item.item-index c.args.items.now (let t = c.loop-item-test.false in omega arith))

@@ -1,8 +1,8 @@
 use Rattle.std.proofs.Common.{◌++◌, List, take, sym, ap, subst, ◌∙◌, arith}
+use Rattle.std.proofs.lemmas.List.{take_all}
 use Rattle.journal_meaning.specs.declared.Entry.{Entry}
 use Rattle.memo_shards.specs.KeptShards.{KeptShard}
 use Rattle.asked_cells.specs.Memos.{entries_of}
-use Rattle.asked_cells.proofs.Lists.{take-all}
 use Rattle.asked_cells.proofs.Entries.{entries-item}
 use Rattle.asked_cells.specs.FillCounts.{HasCounted}
 use Rattle.asked_cells.proofs.fill_counts.FillCounts.gather.Goals as goal
@@ -16,4 +16,4 @@ loop-shard-preserved g c =
     subst (λ (es : List Entry). HasCounted es c.note_all.new.self) more (c.in_ok-note_all.ensures (entries_of (take i ms)) c.loop-shard.invariant)
 
 pub returns : goal.returns
-returns g c = subst (λ (ms : List KeptShard). HasCounted (entries_of ms) c.loop-shard.counts) (take-all c.args.shards.now c.loop-shard.shard-index (let t = c.loop-shard-test.false in omega arith)) c.loop-shard.invariant
+returns g c = subst (λ (ms : List KeptShard). HasCounted (entries_of ms) c.loop-shard.counts) (take_all c.loop-shard.shard-index c.args.shards.now (let t = c.loop-shard-test.false in omega arith)) c.loop-shard.invariant

@@ -1,10 +1,10 @@
 use Rattle.std.proofs.Common.{◌++◌, List, take, sym, ap, ap₂, ◌∙◌, arith}
+use Rattle.std.proofs.lemmas.List.{take_all}
 use Rattle.valid_intervals.specs.declared.Point.{Point}
 use Rattle.journal_meaning.specs.declared.Entry.{Entry}
 use Rattle.plan_machine.specs.Settling.{fills_of}
 use Rattle.memo_shards.specs.KeptShards.{KeptShard}
 use Rattle.asked_cells.specs.Memos.{entries_of}
-use Rattle.asked_cells.proofs.Lists.{take-all}
 use Rattle.asked_cells.proofs.Entries.{entries-item}
 use Rattle.window_answers.proofs.Filled.{fills-append}
 use Rattle.window_answers.proofs.fills.FilledPoints.gather.Goals as goal
@@ -20,4 +20,4 @@ loop-shard-preserved g c = λ n.
     ∙ ap (λ (es : List Entry). fills_of es n) (sym (entries-item ms i m c.loop-shard-test.true c.shard-item.is))
 
 pub returns : goal.returns
-returns g c = λ n. c.loop-shard.invariant n ∙ ap (λ (ms : List KeptShard). fills_of (entries_of ms) n) (take-all c.args.shards.now c.loop-shard.shard-index (let t = c.loop-shard-test.false in omega arith))
+returns g c = λ n. c.loop-shard.invariant n ∙ ap (λ (ms : List KeptShard). fills_of (entries_of ms) n) (take_all c.loop-shard.shard-index c.args.shards.now (let t = c.loop-shard-test.false in omega arith))

@@ -1,11 +1,12 @@
 use Rattle.std.proofs.Common.{◌++◌, ◌∷◌, [], List, take, sym, ap, ◌∙◌, arith, append_assoc, append-nil}
 use Rattle.std.specs.BTreeMap.{get}
 use Rattle.std.specs.Ordering.{nat_cmp}
+use Rattle.std.proofs.lemmas.List.{take_all}
 use Rattle.valid_intervals.specs.declared.Point.{Point}
 use Rattle.journal_meaning.specs.declared.Entry.{Entry}
 use Rattle.plan_machine.specs.Settling.{fills_of}
+use Rattle.design.proofs.Rereads.{taken-at}
 use Rattle.window_answers.specs.inner.Fills.{points_in}
-use Rattle.asked_cells.proofs.Lists.{take-item, take-all}
 use Rattle.window_answers.proofs.Filled.{fills-append}
 use Rattle.window_answers.proofs.fills.FilledPoints.note_all.Goals as goal
 
@@ -20,9 +21,9 @@ loop-entry-preserved c = λ n.
     let old : List Point = points_in (get nat_cmp c.args.self.now.by_query n) in
     c.in_ok-note.ensures n ∙ ap (λ (l : List Point). l ++ fills_of (e ∷ []) n) (c.loop-entry.invariant n)
     ∙ append_assoc old (fills_of (take i xs) n) (fills_of (e ∷ []) n)
-    ∙ ap (λ l. old ++ l) (sym (fills-append (take i xs) (e ∷ []) n) ∙ ap (λ (l : List Entry). fills_of l n) (sym (take-item xs i e c.loop-entry-test.true c.entry-item.is)))
+    ∙ ap (λ l. old ++ l) (sym (fills-append (take i xs) (e ∷ []) n) ∙ ap (λ (l : List Entry). fills_of l n) (taken-at xs i e c.loop-entry-test.true c.entry-item.is))
 
 pub returns : goal.returns
 returns c = λ n.
     let old : List Point = points_in (get nat_cmp c.args.self.now.by_query n) in
-    c.loop-entry.invariant n ∙ ap (λ (l : List Entry). old ++ fills_of l n) (take-all c.args.entries.now c.loop-entry.entry-index (let t = c.loop-entry-test.false in omega arith))
+    c.loop-entry.invariant n ∙ ap (λ (l : List Entry). old ++ fills_of l n) (take_all c.loop-entry.entry-index c.args.entries.now (let t = c.loop-entry-test.false in omega arith))
