@@ -1,6 +1,4 @@
-pub mod Changed
-pub mod Firsts
 pub mod Clashes
-pub mod Ends
 pub mod Verdicts
-pub mod Answered
+pub mod Read
+pub mod Judged

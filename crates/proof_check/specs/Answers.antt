@@ -11,9 +11,10 @@ use Rattle.why_proofs.specs.Broken.{IsBroken}
 use Rattle.why_proofs.specs.Justified.{IsJustifiedProof}
 use Rattle.why_proofs.specs.Verdicts.{IsTextOf, IsUnjustified}
 use Rattle.proof_check.specs.Given.{Given}
+use Rattle.proof_check.specs.Seen.{Output}
 use Rattle.proof_check.specs.Texts.{yes_line, no_line, bad_line}
 use Rattle.proof_check.specs.declared.status.CheckStatus.{CheckStatus}
-use Rattle.proof_check.specs.declared.status.CheckStatus.TheVariants.{Yes, Words, Refused, ReadFault, WriteFault, FileFault, OutOfMemory, No}
+use Rattle.proof_check.specs.declared.status.CheckStatus.TheVariants.{Yes, Words, Refused, ReadFault, FileFault, OutOfMemory, No}
 
 -- On a design and a text, whoever wrote it.
 
@@ -75,29 +76,26 @@ IsTrueOf given line = OfDesign given (λ d. IsTrue d line)
 -- What is written.
 
 -- a whole line of which this holds
-pub record Wrote (such : List ℕ → Type 0) (out new_out : List ℕ → Type 0) : Type 0 where
+pub record Wrote (such : List ℕ → Type 0) (out new_out : Output) : Type 0 where
   pub line : List ℕ
   pub is : such line
-  pub written : Grows out new_out line
+  pub written : Grows out.written new_out.written line
 
 -- at most a part of such a line
-pub record WrotePart (such : List ℕ → Type 0) (out new_out : List ℕ → Type 0) : Type 0 where
+pub record WrotePart (such : List ℕ → Type 0) (out new_out : Output) : Type 0 where
   pub line : List ℕ
   pub is : such line
-  pub written : GrowsByPrefix out new_out line
+  pub written : GrowsByPrefix out.written new_out.written line
 
 -- The end of a call.
 
 -- by a fault or for lack of memory
 abbrev pub IsCut : CheckStatus → Type 0
-IsCut ReadFault = ⊤
-IsCut WriteFault = ⊤
-IsCut FileFault = ⊤
-IsCut OutOfMemory = ⊤
 IsCut Yes = ⊥
 IsCut Words = ⊥
 IsCut Refused = ⊥
 IsCut No = ⊥
+IsCut _ = ⊤
 
 -- with this status, unless a fault or a lack of memory ends the call
 abbrev pub EndsAs : CheckStatus → CheckStatus → Type 0
@@ -108,8 +106,4 @@ abbrev pub WritesNothing : CheckStatus → Type 0
 WritesNothing ReadFault = ⊤
 WritesNothing FileFault = ⊤
 WritesNothing OutOfMemory = ⊤
-WritesNothing WriteFault = ⊥
-WritesNothing Yes = ⊥
-WritesNothing Words = ⊥
-WritesNothing Refused = ⊥
-WritesNothing No = ⊥
+WritesNothing _ = ⊥

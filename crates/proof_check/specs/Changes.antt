@@ -2,8 +2,9 @@
 use Rattle.std.specs.Prelude.{ℕ, ◌≡◌, ◌≤◌, ◌<◌}
 use Rattle.backsim_io.specs.State.{FilesState, Rises}
 use Rattle.circuit_files.specs.Changes.{Opened, OpenedUpTo, OpenedThenMissing, OpenedThenUnread}
+use Rattle.proof_check.specs.Seen.{Output}
 use Rattle.proof_check.specs.declared.status.CheckStatus.{CheckStatus}
-use Rattle.proof_check.specs.declared.status.CheckStatus.TheVariants.{Yes, Words, Refused, ReadFault, WriteFault, FileFault, OutOfMemory, No}
+use Rattle.proof_check.specs.declared.status.CheckStatus.TheVariants.{Yes, ReadFault, WriteFault, FileFault, No}
 
 -- one of this many files could not be opened; those before it were
 pub record MissingOf (all : ℕ) (old new : FilesState) : Type 0 where
@@ -17,13 +18,15 @@ pub record UnreadOf (all : ℕ) (old new : FilesState) : Type 0 where
   pub within : many ≤ all
   pub unread : OpenedThenUnread many old new
 
--- A status comes only with its cause, and nothing else of the files changes.
-abbrev pub CheckChanges : FilesState → FilesState → (out new_out : ℕ) → CheckStatus → Type 0
-CheckChanges old new out new_out Yes = Opened 4 old new × (new_out ≡ out)
-CheckChanges old new out new_out Words = (new ≡ old) × (new_out ≡ out)
-CheckChanges old new out new_out Refused = OpenedUpTo 4 old new × (new_out ≡ out)
-CheckChanges old new out new_out ReadFault = UnreadOf 4 old new × (new_out ≡ out)
-CheckChanges old new out new_out WriteFault = OpenedUpTo 4 old new × Rises out new_out
-CheckChanges old new out new_out FileFault = MissingOf 4 old new × (new_out ≡ out)
-CheckChanges old new out new_out OutOfMemory = OpenedUpTo 4 old new × (new_out ≡ out)
-CheckChanges old new out new_out No = Opened 4 old new × (new_out ≡ out)
+-- a status comes only with its cause, and nothing else of the files changes
+abbrev pub ChangesFiles : FilesState → FilesState → CheckStatus → Type 0
+ChangesFiles old new Yes = Opened 4 old new
+ChangesFiles old new No = Opened 4 old new
+ChangesFiles old new ReadFault = UnreadOf 4 old new
+ChangesFiles old new FileFault = MissingOf 4 old new
+ChangesFiles old new _ = OpenedUpTo 4 old new
+
+-- the count of the sink's faults rose, or stands at its greatest value, only if the line could not be written
+abbrev pub CountsFaults : Output → Output → CheckStatus → Type 0
+CountsFaults out new_out WriteFault = Rises out.faults new_out.faults
+CountsFaults out new_out _ = new_out.faults ≡ out.faults

@@ -1,5 +1,5 @@
 -- The input of a call.
-use Rattle.std.specs.Prelude.{◌≡◌, ⊤, ℕ, List, [], ◌∷◌, Option, Some}
+use Rattle.std.specs.Prelude.{◌≡◌, ℕ, List, Option, Some}
 
 -- the names of the four files
 pub record Names : Type 0 where
@@ -10,15 +10,6 @@ pub record Names : Type 0 where
 
 abbrev pub names_of : (netlist timing stimulus proof : List ℕ) → Names
 names_of netlist timing stimulus proof = record { netlist = netlist; timing = timing; stimulus = stimulus; proof = proof }
-
--- what holds if there are four words; otherwise nothing is claimed
-abbrev pub OnNames : (Names → Type 0) → List (List ℕ) → Type 0
-OnNames says [] = ⊤
-OnNames says (netlist ∷ []) = ⊤
-OnNames says (netlist ∷ timing ∷ []) = ⊤
-OnNames says (netlist ∷ timing ∷ stimulus ∷ []) = ⊤
-OnNames says (netlist ∷ timing ∷ stimulus ∷ proof ∷ []) = says (names_of netlist timing stimulus proof)
-OnNames says (netlist ∷ timing ∷ stimulus ∷ proof ∷ more ∷ rest) = ⊤
 
 -- the bytes of the three files of a circuit
 pub record Given : Type 0 where

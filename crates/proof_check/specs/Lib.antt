@@ -1,7 +1,9 @@
 pub mod Given
+pub mod Seen
 pub mod Texts
 pub mod Answers
 pub mod Refused
 pub mod Changes
+pub mod Checks
 pub mod Statuses
 pub mod inner

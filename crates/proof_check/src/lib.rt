@@ -21,7 +21,7 @@
 //! A fault or a lack of memory may end the call early. `ReadFault`, `WriteFault` and `FileFault` come only if the count of their kind
 //! rose, or stands at its greatest value.
 //!
-//! Further guarantees (`specs/Answers`, `specs/Refused`, `specs/Changes`):
+//! Further guarantees (`specs/Checks` has all):
 //!
 //! - **`yes NAME T V` is true**: in forward simulation of the circuit of the three files the signal NAME has the value V at the time T,
 //!   whoever wrote the proof. This holds even if the proof is unknown.

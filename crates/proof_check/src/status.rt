@@ -2,6 +2,9 @@
 
 ghost use Rattle.std.specs.Prelude.{◌≡◌};
 ghost use Rattle.proof_check.specs.Statuses.{number_of};
+ghost use Rattle.proof_check.specs.declared.status.CheckStatus.TheVariants.{OutOfMemory as out_of_memory};
+
+use owned_text::OutOfMemory;
 
 /// How a call ended.
 #[derive(Clone, Copy, Debug, PartialEq, Eq)]
@@ -38,5 +41,13 @@ impl CheckStatus {
             CheckStatus::OutOfMemory => 6,
             CheckStatus::No => 7,
         }
+    }
+}
+
+impl From<OutOfMemory> for CheckStatus {
+    ghost from_gives = { λ _ status. status ≡ out_of_memory };
+
+    fn from(_: OutOfMemory) -> CheckStatus {
+        CheckStatus::OutOfMemory
     }
 }
