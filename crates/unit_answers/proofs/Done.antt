@@ -18,7 +18,7 @@ use Rattle.window_answers.specs.Phases.{refused_of}
 use Rattle.session_meaning.specs.Verdicts.{verdict_of, queries_of}
 use Rattle.session_meaning.specs.Replies.{IsReply}
 use Rattle.session_meaning.specs.Session.{Setup, batch_of, trim_entries}
-use Rattle.unit_answers.specs.Stores.{AreStores, cells_of}
+use Rattle.unit_answers.specs.Stores.{IsSized, AreStores, cells_of}
 use Rattle.unit_answers.specs.Done.{IsBatchDone, IsTrimDone}
 use Rattle.unit_answers.specs.inner.Placed.{placed_replies}
 use Rattle.unit_answers.specs.inner.Trims.{trimmed_store, entries_at}
@@ -32,8 +32,8 @@ module _ (setup : Setup) (items : List Item) (opening : List Contents) (rs : Lis
   answered = settled-answered (batch_of setup items) (cells_of opening) run.handed run.shards (refused_of rs) run.settled
 
   -- the batch is done once the replies stand at the places of the items
-  pub batch-done : (replies : List Reply) → replies ≡ placed_replies (map (verdict_of setup.design) items) rs → IsBatchDone setup items opening replies lists left
-  batch-done replies at =
+  pub batch-done : IsSized setup → (replies : List Reply) → replies ≡ placed_replies (map (verdict_of setup.design) items) rs → IsBatchDone setup items opening replies lists left
+  batch-done sized replies at =
       let c = setup.design.circuit in
       let queries = queries_of setup.design items in
       let free = run.settled.fresh in
@@ -45,7 +45,7 @@ module _ (setup : Setup) (items : List Item) (opening : List Contents) (rs : Lis
         legal = lists-legal setup None queries opening run.shards lists left free run.lists_are run.stores_are;
         right = subst (AllZip (λ item reply. IsReply c (of_batch lists) (verdict_of setup.design item) reply) items) (sym at) (items-right c (of_batch lists) setup.design items rs run.replies_are answers);
         suits = subst (AllZip (λ (item : Item) reply. Suits item.what reply) items) (sym at) (items-suit c (of_batch lists) setup.design items rs run.replies_are answers);
-        stores = stores-left setup None queries opening run.shards lists left free run.lists_are run.stores_are;
+        stores = stores-left setup None queries opening run.shards lists left free run.lists_are run.stores_are sized;
         leaves = stores-leave setup None queries opening run.shards lists left free run.lists_are run.stores_are;
       }
 
@@ -68,6 +68,7 @@ module _ (setup : Setup) (most : ℕ) (opening : List Contents) (stores : AreSto
     legal = λ n low. subst (IsLegalTrim (fresh (cells_of opening n))) (sym (list-of n low)) (trims-legal most (cells_of opening n));
     evicts = list-of;
     stores = record {
+      sized = stores.sized;
       count = many;
       capacity = λ n d low.
           let count = stores.count in

@@ -14,7 +14,7 @@ use Rattle.plan_machine.specs.Plans.{no_shard}
 use Rattle.plan_machine.specs.Sound.{IsFresh}
 use Rattle.plan_machine.specs.Settle.{journals_of}
 use Rattle.session_meaning.specs.Session.{Setup}
-use Rattle.unit_answers.specs.Stores.{AreStores, cells_of}
+use Rattle.unit_answers.specs.Stores.{IsSized, AreStores, cells_of}
 use Rattle.unit_answers.specs.inner.Runs.{asks_at, store_of}
 
 module _ (setup : Setup) (site : Option Site) (queries : List Query) (opening : List Contents) (shards : List Shard) (lists : List (List Entry)) (left : List Contents) (free : IsFresh (asks_at setup site queries) (cells_of opening) shards)
@@ -47,8 +47,9 @@ module _ (setup : Setup) (site : Option Site) (queries : List Query) (opening : 
       } in
       subst (IsLegalBatch (asks_at setup site queries) n (cells_of opening n)) (sym (list-at n low)) one
 
-  pub stores-left : AreStores setup left
-  stores-left = record {
+  pub stores-left : IsSized setup → AreStores setup left
+  stores-left sized = record {
+    sized = sized;
     count = left-many;
     capacity = λ n d low. ap (λ (s : Contents). s.capacity) (left-at n d (omega (arith, left-many)));
     right = λ n d low.

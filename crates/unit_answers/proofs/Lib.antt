@@ -5,9 +5,7 @@ pub mod Answering
 pub mod Left
 pub mod Done
 pub mod Questions
-pub mod Firsts
-pub mod Whys
-pub mod Stucks
+pub mod Asking
 pub mod Zips
 pub mod Opening
 pub mod Running

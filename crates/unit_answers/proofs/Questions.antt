@@ -18,33 +18,34 @@ use Rattle.query_lines.specs.declared.unit.Asks.{Asks}
 use Rattle.reply_lines.specs.declared.reply.QuestionReply.{QuestionReply}
 use Rattle.session_meaning.specs.Questions.{question_queries, question_site, IsRightReply, IsOwnMemo}
 use Rattle.session_meaning.specs.Session.{Setup, question_batch}
-use Rattle.unit_answers.specs.Stores.{AreStores, cells_of}
+use Rattle.unit_answers.specs.Stores.{IsSized, AreStores, cells_of}
 use Rattle.unit_answers.specs.Done.{IsQuestionDone}
-use Rattle.unit_answers.specs.inner.Runs.{asks_at, store_of}
+use Rattle.unit_answers.specs.inner.Asked.{IsUnasked}
+use Rattle.unit_answers.specs.inner.Runs.{asks_at, store_of, IsNamed, AreEnded}
 use Rattle.unit_answers.proofs.Left.{lists-many, lists-legal, stores-left, stores-leave}
 use Rattle.unit_answers.proofs.Running.{map-twice}
 
 -- once its shards are closed, the question is done
-pub question-done : (setup : Setup) (line : ℕ) (asks : Asks) (reply : QuestionReply) (held : List (List Entry)) (b : Batch) (cells : ℕ → List SignalCell) (opening : List Contents)
-    → b ≡ question_batch setup line asks → cells ≡ cells_of opening
-    → (ms : List KeptShard) (lists : List (List Entry)) (left : List Contents) → IsFresh b cells (shards_in ms)
-    → IsOwnMemo setup.design line asks held → IsRightReply setup.design line asks (entries_in (shards_in ms)) (of_batch held) reply
-    → lists ≡ map (λ m. m.shard.journal) ms → left ≡ map (λ m. store_of b.capacity m.shard) ms → IsQuestionDone setup line asks opening reply lists held left
-question-done setup line asks reply held b cells opening batch opened ms lists left free memo answered journals stores =
+pub question-done : (setup : Setup) (line : ℕ) (asks what : Asks) → asks ≡ what → (reply : QuestionReply) (held : List (List Entry)) (b : Batch) (cells : ℕ → List SignalCell) (opening : List Contents)
+    → IsSized setup → IsNamed b cells (question_batch setup line asks) opening → (ms : List KeptShard) (lists : List (List Entry)) (left : List Contents) → IsFresh b cells (shards_in ms)
+    → IsOwnMemo setup.design line what held → IsRightReply setup.design line what (entries_in (shards_in ms)) (of_batch held) reply
+    → AreEnded b.capacity ms lists left → IsQuestionDone setup line asks opening reply lists held left
+question-done setup line asks what same reply held b cells opening sized named ms lists left free memo answered ended =
     let site : Option Site = question_site setup.design asks in
     let qs : List Query = question_queries setup.design line asks in
     let first : List Shard = shards_in ms in
     let begins : IsFresh (asks_at setup site qs) (cells_of opening) first =
-    subst (λ (x : Batch). IsFresh x (cells_of opening) first) batch (subst (λ (o : ℕ → List SignalCell). IsFresh b o first) opened free) in
-    let lists_are : lists ≡ journals_of first = journals ∙ map-twice (λ (x : Shard). x.journal) (λ (m : KeptShard). m.shard) ms in
+    subst (λ (x : Batch). IsFresh x (cells_of opening) first) named.batch (subst (λ (o : ℕ → List SignalCell). IsFresh b o first) named.opens free) in
+    let lists_are : lists ≡ journals_of first = ended.lists_are ∙ map-twice (λ (x : Shard). x.journal) (λ (m : KeptShard). m.shard) ms in
     let stores_are : left ≡ map (store_of setup.capacity) first =
-    stores ∙ map-twice (store_of b.capacity) (λ (m : KeptShard). m.shard) ms ∙ ap (λ (x : Batch). map (store_of x.capacity) first) batch in
+    ended.stores_are ∙ map-twice (store_of b.capacity) (λ (m : KeptShard). m.shard) ms ∙ ap (λ (x : Batch). map (store_of x.capacity) first) named.batch in
     record {
       count = lists-many setup site qs opening first lists left begins lists_are stores_are;
       legal = lists-legal setup site qs opening first lists left begins lists_are stores_are;
-      memo = memo;
-      right = subst (λ (l : List (List Entry)). IsRightReply setup.design line asks (of_batch l) (of_batch held) reply) (sym lists_are) answered;
-      stores = stores-left setup site qs opening first lists left begins lists_are stores_are;
+      memo = subst (λ (a : Asks). IsOwnMemo setup.design line a held) (sym same) memo;
+      right = subst (λ (l : List (List Entry)). IsRightReply setup.design line asks (of_batch l) (of_batch held) reply) (sym lists_are)
+          (subst (λ (a : Asks). IsRightReply setup.design line a (entries_in first) (of_batch held) reply) (sym same) answered);
+      stores = stores-left setup site qs opening first lists left begins lists_are stores_are sized;
       leaves = stores-leave setup site qs opening first lists left begins lists_are stores_are;
     }
 
@@ -58,8 +59,8 @@ nothing-told (store ∷ stores) = nothing-told stores
 
 -- where nothing is asked, the question is done with no entries and the stores as they were
 pub unasked-done : (setup : Setup) (line : ℕ) (asks : Asks) (opening : List Contents) (reply : QuestionReply) (lists held : List (List Entry)) → AreStores setup opening
-    → IsRightReply setup.design line asks [] [] reply → IsOwnMemo setup.design line asks [] → lists ≡ map none_for opening → held ≡ [] → IsQuestionDone setup line asks opening reply lists held opening
-unasked-done setup line asks opening reply lists held stores right none lists_are unheld =
+    → IsUnasked setup.design line asks reply → lists ≡ map none_for opening → held ≡ [] → IsQuestionDone setup line asks opening reply lists held opening
+unasked-done setup line asks opening reply lists held stores told lists_are unheld =
     let d = setup.design in
     let count = stores.count in
     let list-at : (n : ℕ) → n < setup.shards → get_or lists n [] ≡ [] = λ n low.
@@ -67,9 +68,9 @@ unasked-done setup line asks opening reply lists held stores right none lists_ar
     record {
       count = ap length lists_are ∙ length-map opening none_for ∙ stores.count;
       legal = λ n low. subst (IsLegalBatch (question_batch setup line asks) n (cells_of opening n)) (sym (list-at n low)) (record { legal = tt; ended = record { claims = refl; made = refl } });
-      memo = subst (IsOwnMemo d line asks) (sym unheld) none;
+      memo = subst (IsOwnMemo d line asks) (sym unheld) told.memo;
       right = subst (λ (l : List (List Entry)). IsRightReply d line asks (of_batch lists) (of_batch l) reply) (sym unheld)
-          (subst (λ es. IsRightReply d line asks es [] reply) (sym (ap of_batch lists_are ∙ nothing-told opening)) right);
+          (subst (λ es. IsRightReply d line asks es [] reply) (sym (ap of_batch lists_are ∙ nothing-told opening)) told.right);
       stores = stores;
       leaves = λ n low. ap (λ es. (replay (fresh (cells_of opening n)) es).cells) (sym (list-at n low));
     }

@@ -1,15 +1,13 @@
 -- A batch over the stores: it is lawful, its strands are new, and what settlement leaves.
-use Rattle.std.proofs.Common.{◌≡◌, ◌≢◌, ℕ, zero, suc, ◌+◌, ◌/◌, ◌%◌, ◌<◌, List, [], ◌∷◌, length, get_or, slice_get, map, flat_map, All, AllPairs, Option, Some, refl, sym, ap, subst, ◌∙◌, arith}
+use Rattle.std.proofs.Common.{◌≡◌, ◌≢◌, ℕ, zero, suc, ◌+◌, ◌/◌, ◌%◌, ◌<◌, List, [], ◌∷◌, length, get_or, slice_get, map, flat_map, All, AllPairs, Some, refl, sym, ap, subst, ◌∙◌, arith}
 use Rattle.std.proofs.lemmas.List.{get_or-map, length-map}
-use Rattle.std.proofs.lemmas.List.Elements.{recursion_from_All}
 use Rattle.valid_intervals.specs.declared.SignalCell.{SignalCell}
 use Rattle.valid_intervals.specs.Spans.{Span}
-use Rattle.cell_store.specs.Recency.{Contents, contents}
+use Rattle.cell_store.specs.Recency.{Contents}
 use Rattle.circuit_meaning.specs.Circuit.{Circuit}
 use Rattle.journal_meaning.specs.declared.Entry.{Entry}
 use Rattle.batch_meaning.specs.declared.Query.{Query}
-use Rattle.batch_meaning.specs.Batches.{Batch, Site}
-use Rattle.journal_meaning.specs.Allowed.{IsRight}
+use Rattle.batch_meaning.specs.Batches.{Batch}
 use Rattle.journal_meaning.proofs.Lists.{Each, each-append}
 use Rattle.batch_meaning.specs.Lawful.{IsLawful}
 use Rattle.strand_meaning.specs.Strands.{Strand, started_strand}
@@ -29,33 +27,20 @@ use Rattle.window_answers.specs.Strands.{IsInOrder}
 use Rattle.window_answers.specs.Settlement.{HasSettled}
 use Rattle.session_meaning.specs.Session.{Setup, batch_of}
 use Rattle.worker_gate.specs.Ends.{AreInOrder, AreNew}
-use Rattle.unit_answers.specs.Stores.{AreStores, cells_of}
-use Rattle.unit_answers.specs.inner.Runs.{asks_at, store_of, AreOpened, HasRun}
+use Rattle.unit_answers.specs.Stores.{IsSized}
+use Rattle.unit_answers.specs.inner.Runs.{store_of, AreEnded, HasRun}
 use Rattle.session_meaning.proofs.Asked.{queries-signals, queries-within, queries-apart}
 
 -- the batch of items is lawful
-pub lawful-items : (setup : Setup) (items : List Item) → IsDesign setup.design → 0 < setup.shards → 0 < setup.capacity → AllPairs (λ a b. a.line ≢ b.line) items → IsLawful (batch_of setup items)
-lawful-items setup items design some_shard some_cell lines = record {
+pub lawful-items : (setup : Setup) (items : List Item) → IsDesign setup.design → IsSized setup → AllPairs (λ a b. a.line ≢ b.line) items → IsLawful (batch_of setup items)
+lawful-items setup items design sized lines = record {
   circuit = design.circuit;
   horizon = design.limits.horizon;
   numbers = queries-apart setup.design items lines;
   signals = queries-signals setup.design items design.signals;
   windows = queries-within setup.design items;
-  some_shard = omega arith;
-  some_cell = omega arith;
-}
-
--- it begins with the stores
-pub opened-by : (setup : Setup) (site : Option Site) (queries : List Query) (stores : List Contents) → AreStores setup stores → AreOpened (asks_at setup site queries) (cells_of stores) stores
-opened-by setup site queries stores h = record {
-  count = h.count;
-  stored = λ n low.
-      let count = h.count in
-      let x : Contents = get_or stores n (contents 0 []) in
-      ap (λ k. contents k x.cells) (h.capacity n (contents 0 []) (omega arith));
-  right = λ n low.
-      let count = h.count in
-      recursion_from_All (IsRight setup.design.circuit) (cells_of stores n) (h.right n (contents 0 []) (omega arith));
+  some_shard = omega (arith, sized.some);
+  some_cell = omega (arith, sized.room);
 }
 
 -- a strand that has made no step
@@ -145,12 +130,12 @@ map-twice g f (x ∷ xs) = ap (λ l. g (f x) ∷ l) (map-twice g f xs)
 
 -- the batch has run
 pub has-run : (b : Batch) (opening : ℕ → List SignalCell) (handed ms : List KeptShard) (rs : List Reply) (lists : List (List Entry)) (left : List Contents) → HasSettled b opening handed ms rs
-    → lists ≡ map (λ m. m.shard.journal) ms → left ≡ map (λ m. store_of b.capacity m.shard) ms → HasRun b opening rs lists left
-has-run b opening handed ms rs lists left h journals stores = record {
+    → AreEnded b.capacity ms lists left → HasRun b opening rs lists left
+has-run b opening handed ms rs lists left h ended = record {
   handed = shards_in handed;
   shards = shards_in ms;
   settled = h.settled;
   replies_are = h.replies_are;
-  lists_are = journals ∙ map-twice (λ (x : Shard). x.journal) (λ (m : KeptShard). m.shard) ms;
-  stores_are = stores ∙ map-twice (store_of b.capacity) (λ (m : KeptShard). m.shard) ms;
+  lists_are = ended.lists_are ∙ map-twice (λ (x : Shard). x.journal) (λ (m : KeptShard). m.shard) ms;
+  stores_are = ended.stores_are ∙ map-twice (store_of b.capacity) (λ (m : KeptShard). m.shard) ms;
 }

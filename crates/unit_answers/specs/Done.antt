@@ -1,5 +1,5 @@
 -- The result of a unit over the stores.
-use Rattle.std.specs.Prelude.{◌≡◌, ℕ, ◌<◌, List, [], length, slice_index_or}
+use Rattle.std.specs.Prelude.{◌≡◌, ℕ, ◌<◌, List, [], length, slice_index_or, Result, IfOk}
 use Rattle.std.specs.List.{AllZip}
 use Rattle.cell_store.specs.Recency.{Contents}
 use Rattle.journal_meaning.specs.declared.Entry.{Entry}
@@ -8,6 +8,7 @@ use Rattle.journal_meaning.specs.Replay.{IsLegalBatch, IsLegalTrim, replay}
 use Rattle.journal_meaning.specs.Sections.{of_batch}
 use Rattle.query_lines.specs.declared.unit.Asks.{Asks}
 use Rattle.query_lines.specs.declared.unit.Item.{Item}
+use Rattle.query_lines.specs.declared.unit.Question.{Question}
 use Rattle.reply_lines.specs.declared.reply.QuestionReply.{QuestionReply}
 use Rattle.reply_lines.specs.declared.reply.Reply.{Reply}
 use Rattle.reply_lines.specs.Replies.{Suits}
@@ -16,6 +17,7 @@ use Rattle.session_meaning.specs.Verdicts.{verdict_of}
 use Rattle.session_meaning.specs.Replies.{IsReply}
 use Rattle.session_meaning.specs.Session.{Setup, batch_of, question_batch, trim_entries}
 use Rattle.unit_answers.specs.Stores.{AreStores, cells_of}
+use Rattle.unit_answers.specs.declared.question.QuestionDone.{QuestionDone}
 
 -- A batch: journals that are legal from the cells in the stores, a right reply to each item, and the stores as the journals leave them.
 pub record IsBatchDone (setup : Setup) (items : List Item) (opening : List Contents) (replies : List Reply) (lists : List (List Entry)) (left : List Contents) : Type 0 where
@@ -39,6 +41,11 @@ pub record IsQuestionDone (setup : Setup) (line : ℕ) (asks : Asks) (opening : 
   pub stores : AreStores setup left
   pub leaves : (shard : ℕ) → shard < setup.shards
       → cells_of left shard ≡ (replay (fresh (cells_of opening shard)) (slice_index_or lists shard [])).cells
+
+-- the same for a result, unless memory ran out
+abbrev pub AnswersQuestion : {E : Type 0} → Setup → Question → List Contents → Result QuestionDone E → Type 0
+AnswersQuestion setup question opening result = IfOk result (λ done.
+    IsQuestionDone setup question.line question.asks opening done.reply done.lists.items done.own_lists.items done.stores.items)
 
 -- A trim: in each shard the last cells are evicted until few enough are left, and the stores are as the lists leave them.
 pub record IsTrimDone (setup : Setup) (most : ℕ) (opening : List Contents) (lists : List (List Entry)) (left : List Contents) : Type 0 where

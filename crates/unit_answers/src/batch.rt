@@ -1,6 +1,6 @@
 //! A batch of items.
 
-ghost use Rattle.std.specs.Prelude.{◌≡◌, ◌≢◌, ◌<◌, ◌≤◌, flat_map, AllPairs, IfOk};
+ghost use Rattle.std.specs.Prelude.{◌≡◌, ◌≢◌, flat_map, AllPairs, IfOk};
 ghost use Rattle.batch_meaning.specs.Pieces.{pieces};
 ghost use Rattle.query_lines.specs.Laws.{IsWithin};
 ghost use Rattle.session_meaning.specs.Verdicts.{queries_of};
@@ -9,7 +9,7 @@ ghost use Rattle.unit_answers.specs.Stores.{setup_of, AreStores};
 ghost use Rattle.unit_answers.specs.Done.{IsBatchDone};
 
 use crate::replies::{place_replies, queries_of};
-use crate::run::{have_room, run_batch};
+use crate::run::run_batch;
 use crate::sizes::Sizes;
 use cell_store::CellStore;
 use design::Design;
@@ -41,7 +41,6 @@ pub fn answer_batch<C: Crew>(
     stores: Vec<CellStore>,
 ) -> Result<BatchDone, OutOfMemory>
     requires stores { AreStores (setup_of design.now sizes) stores.items }
-    requires shards { (0 < sizes.shards) × (sizes.shards ≤ 64) }
     requires within { IsWithin design.now.circuit.horizon items.now }
     requires lines { AllPairs (λ a b. a.line ≢ b.line) items.now }
     ensures done { IfOk result (λ done. IsBatchDone (setup_of design.now sizes) items.now
@@ -51,7 +50,6 @@ pub fn answer_batch<C: Crew>(
         done.lists.items) }
 {
     design.facts();
-    have_room(design, sizes, &stores);
     let verdicts = verdicts_of(alloc, design, items)?;
     let queries = queries_of(alloc, &verdicts)?;
     let ran = run_batch::<Brand, C>(crew, alloc, design, &queries, sizes, stores)?;

@@ -27,21 +27,17 @@
 //! ```
 #![tactic(auto)]
 
+mod asked;
 mod batch;
 mod dump;
-mod first;
-mod outcome;
 mod question;
 mod replies;
 mod run;
 mod sizes;
-mod stuck;
 mod trim;
-mod why;
 
 pub use batch::{BatchDone, answer_batch};
 pub use dump::{Dump, dump_waves};
-pub use outcome::QuestionDone;
-pub use question::answer_question;
+pub use question::{QuestionDone, answer_question};
 pub use sizes::Sizes;
 pub use trim::{TrimDone, trim_stores};

@@ -1,12 +1,11 @@
 //! The queries of a batch, run under the batch's name.
 
-ghost use Rattle.std.specs.Prelude.{◌≡◌, ◌<◌, ◌≤◌, [], length, map, flat_map, All, IfOk};
+ghost use Rattle.std.specs.Prelude.{◌≡◌, ◌≤◌, [], length, map, flat_map, All, IfOk};
 ghost use Rattle.cell_store.specs.Recency.{Contents};
-ghost use Rattle.batch_meaning.specs.Lawful.{IsLawful};
 ghost use Rattle.batch_meaning.specs.Pieces.{pieces};
 ghost use Rattle.unit_answers.specs.Stores.{setup_of, cells_of, AreStores};
 ghost use Rattle.unit_answers.specs.Crewed.{HasCrewed};
-ghost use Rattle.unit_answers.specs.inner.Runs.{asks, store_of, AreOpened, AreBegun, HasRun};
+ghost use Rattle.unit_answers.specs.inner.Runs.{asks, IsNamed, AreOpened, AreBegun, AreEnded, HasRun};
 
 use crate::sizes::Sizes;
 use batch_meaning::Query;
@@ -29,23 +28,12 @@ pub struct BatchRun {
     pub stores: Vec<CellStore>,
 }
 
-/// For the proof that a batch over these stores is lawful: each has room for a cell, as `capacity` says.
-pub fn have_room(design: &Design, sizes: Sizes, stores: &[CellStore])
-    requires stores { AreStores (setup_of design.now sizes) stores.now }
-    requires some { 0 < sizes.shards }
-    ensures { 0 < sizes.cells }
-{
-    let _capacity = stores[0].capacity();
-}
-
 /// Opens a shard over each store.
 pub fn begin_all<B: BatchName>(
     alloc: Global,
     stores: Vec<CellStore>,
 ) -> Result<Vec<Shard<B>>, OutOfMemory>
-    requires lawful { IsLawful B.batch }
-    requires opened { AreOpened B.batch B.opening stores.items }
-    requires most { length stores.items ≤ 64 }
+    requires { AreOpened B.batch B.opening stores.items }
     ensures { IfOk result (λ shards. AreBegun stores.items shards.items) }
 {
     let mut shards = Vec::new(alloc);
@@ -62,9 +50,8 @@ pub fn end_all<B: BatchName>(
     shards: Vec<Shard<B>>,
 ) -> Result<(Vec<EntryList>, Vec<CellStore>), OutOfMemory>
     requires { All (λ m. m.shard.state.claims ≡ []) shards.items }
-    ensures lists { IfOk result (λ ended. ended.0.items ≡ map (λ m. m.shard.journal) shards.items) }
-    ensures stores { IfOk result (λ ended. ended.1.items ≡ map
-        (λ m. store_of B.batch.capacity m.shard) shards.items) }
+    ensures { IfOk result (λ ended.
+        AreEnded B.batch.capacity shards.items ended.0.items ended.1.items) }
 {
     let mut lists = Vec::new(alloc);
     let mut stores = Vec::new(alloc);
@@ -85,11 +72,9 @@ pub fn run_batch<B: BatchName + Send + Sync, C: Crew>(
     sizes: Sizes,
     stores: Vec<CellStore>,
 ) -> Result<BatchRun, OutOfMemory>
-    requires batch { B.batch ≡ asks (setup_of design.now sizes) queries.now }
-    requires opening { B.opening ≡ cells_of stores.items }
-    requires lawful { IsLawful (asks (setup_of design.now sizes) queries.now) }
+    requires named { IsNamed B.batch B.opening (asks (setup_of design.now sizes) queries.now)
+        stores.items }
     requires stores { AreStores (setup_of design.now sizes) stores.items }
-    requires most { sizes.shards ≤ 64 }
     requires few { length (flat_map pieces queries.now) ≤ 256 }
     ensures run { IfOk result (λ run. HasRun (asks (setup_of design.now sizes) queries.now)
         (cells_of stores.items) run.replies.items run.lists.items run.stores.items) }

@@ -1,11 +1,12 @@
 -- The queries of a batch, run over the stores under the batch's name.
-use Rattle.std.specs.Prelude.{◌≡◌, ℕ, ◌<◌, List, [], length, slice_index_or, map, All, Option, None}
+use Rattle.std.specs.Prelude.{◌≡◌, ℕ, ◌<◌, ◌≤◌, List, [], length, slice_index_or, map, All, Option, None}
 use Rattle.std.specs.List.{AllByRecursion}
 use Rattle.valid_intervals.specs.declared.SignalCell.{SignalCell}
 use Rattle.cell_store.specs.Recency.{Contents, contents}
 use Rattle.journal_meaning.specs.declared.Entry.{Entry}
 use Rattle.batch_meaning.specs.declared.Query.{Query}
 use Rattle.batch_meaning.specs.Batches.{Batch, Site}
+use Rattle.batch_meaning.specs.Lawful.{IsLawful}
 use Rattle.journal_meaning.specs.Allowed.{IsRight}
 use Rattle.plan_machine.specs.Shards.{Shard}
 use Rattle.plan_machine.specs.Settle.{AreSettled, journals_of}
@@ -14,6 +15,7 @@ use Rattle.memo_shards.specs.KeptShards.{KeptShard}
 use Rattle.window_answers.specs.Phases.{AreReplies, refused_of}
 use Rattle.session_meaning.specs.Session.{Setup}
 use Rattle.worker_gate.specs.Ends.{AreInOrder}
+use Rattle.unit_answers.specs.Stores.{cells_of}
 
 -- the batch of these queries; with a site, of the circuit in which the site is forced
 abbrev pub asks_at : Setup → Option Site → List Query → Batch
@@ -29,8 +31,16 @@ asks_at setup site queries = record {
 abbrev pub asks : Setup → List Query → Batch
 asks setup queries = asks_at setup None queries
 
--- The batch begins with these stores: one for each shard, with its room and its opening cells.
+-- The name of a batch stands for this one, which is lawful, and which begins with the cells of these stores.
+pub record IsNamed (named : Batch) (opening : ℕ → List SignalCell) (b : Batch) (stores : List Contents) : Type 0 where
+  pub batch : named ≡ b
+  pub opens : opening ≡ cells_of stores
+  pub lawful : IsLawful b
+
+-- A lawful batch begins with these stores: one for each shard, with its room and its opening cells.
 pub record AreOpened (b : Batch) (opening : ℕ → List SignalCell) (stores : List Contents) : Type 0 where
+  pub lawful : IsLawful b
+  pub most : length stores ≤ 64
   pub count : length stores ≡ b.shards
   pub stored : (n : ℕ) → n < b.shards → slice_index_or stores n (contents 0 []) ≡ contents b.capacity (opening n)
   pub right : (n : ℕ) → n < b.shards → AllByRecursion (IsRight b.circuit) (opening n)
@@ -44,6 +54,11 @@ pub record AreBegun (stores : List Contents) (shards : List KeptShard) : Type 0 
 -- the store that a shard leaves
 abbrev pub store_of : ℕ → Shard → Contents
 store_of capacity h = contents capacity h.state.cells
+
+-- closed shards: the journal and the store of each
+pub record AreEnded (capacity : ℕ) (shards : List KeptShard) (lists : List (List Entry)) (stores : List Contents) : Type 0 where
+  pub lists_are : lists ≡ map (λ m. m.shard.journal) shards
+  pub stores_are : stores ≡ map (λ m. store_of capacity m.shard) shards
 
 -- The shards of the batch are settled, each query has its reply, and the journals and the stores are those of the shards.
 pub record HasRun (b : Batch) (opening : ℕ → List SignalCell) (replies : List Reply) (lists : List (List Entry)) (left : List Contents) : Type 0 where

@@ -1,26 +1,25 @@
-use Rattle.std.proofs.Common.{IfOk, sym, subst}
-use Rattle.design.specs.Joined.{Joined}
-use Rattle.unit_answers.specs.Done.{IsQuestionDone}
-use Rattle.unit_answers.specs.Stores.{setup_of, AreStores}
+use Rattle.std.proofs.Common.{refl, subst, ◌∙◌, ap, map}
+use Rattle.design.specs.Joined.{Joined, IsDesign}
+use Rattle.unit_answers.specs.Stores.{setup_of}
+use Rattle.unit_answers.specs.inner.Asked.{IsAsked, IsUnasked}
+use Rattle.unit_answers.proofs.Asking.{question-lawful}
+use Rattle.unit_answers.proofs.Questions.{none_for, unasked-done}
 use Rattle.unit_answers.proofs.question.answer_question.Goals as goal
 
-pub answer_first-requires-clause-stores : goal.answer_first-requires-clause-stores
-answer_first-requires-clause-stores c =
-    subst (λ (d : Joined). AreStores (setup_of d c.args.sizes) c.args.stores.items) (sym c.design.ensures) c.requires.stores
+pub run_question-requires-clause-named : goal.run_question-requires-clause-named
+run_question-requires-clause-named c =
+    let question = c.args.question.now in
+    record {
+      batch = refl;
+      opens = refl;
+      lawful = question-lawful (setup_of c.args.design.now c.args.sizes) question.line question.asks c.in-Ask.asked
+          (subst (λ (d : Joined). IsAsked d question.line question.asks c.in-Ask.asked) c.design-plain.ensures c.in-Ask.ensures) (subst IsDesign c.design-plain.ensures c.facts.ensures) c.requires.stores.sized;
+    }
 
-pub answer_why-requires-clause-stores : goal.answer_why-requires-clause-stores
-answer_why-requires-clause-stores c =
-    subst (λ (d : Joined). AreStores (setup_of d c.args.sizes) c.args.stores.items) (sym c.design-in-Why.ensures) c.requires.stores
-
-pub returns-in-First-clause-done : goal.returns-in-First-clause-done
-returns-in-First-clause-done c =
-    subst (λ (d : Joined). IfOk c.answer_first.result (λ done. IsQuestionDone (setup_of d c.args.sizes) c.args.question.now.line c.args.question.now.asks c.args.stores.items
-    done.reply done.lists.items done.own_lists.items done.stores.items)) c.design.ensures (rw c.in-First.is c.answer_first.ensures)
-
-pub returns-in-Why-clause-done : goal.returns-in-Why-clause-done
-returns-in-Why-clause-done c =
-    subst (λ (d : Joined). IfOk c.answer_why.result (λ done. IsQuestionDone (setup_of d c.args.sizes) c.args.question.now.line c.args.question.now.asks c.args.stores.items
-    done.reply done.lists.items done.own_lists.items done.stores.items)) c.design-in-Why.ensures (rw c.in-Why.is c.answer_why.ensures)
-
-pub returns-in-Stuck-clause-done : goal.returns-in-Stuck-clause-done
-returns-in-Stuck-clause-done c = rw c.in-Stuck.is c.answer_stuck.ensures.done
+-- nothing is asked
+pub returns-in_ok-lists-in-Tell-clause-done : goal.returns-in_ok-lists-in-Tell-clause-done
+returns-in_ok-lists-in-Tell-clause-done c =
+    let question = c.args.question.now in
+    unasked-done (setup_of c.args.design.now c.args.sizes) question.line question.asks c.args.stores.items c.in-Tell.reply c.in_ok-lists-in-Tell.lists.items c.new.result.items c.requires.stores
+    (subst (λ (d : Joined). IsUnasked d question.line question.asks c.in-Tell.reply) c.design-plain.ensures c.in-Tell.ensures)
+    (c.in_ok-lists-in-Tell.ensures ∙ ap (map none_for) c.deref.ensures.value) c.new.ensures.items

@@ -17,12 +17,12 @@ pub begin-requires : goal.begin-requires
 begin-requires g c =
     let number : c.len-number.result ≡ length c.loop-store.shards.items = c.len-number.ensures ∙ c.loop-store.shards.ok.0 in
     let low : c.len-number.result < length c.args.stores.items = opens-within c.args.stores.items c.loop-store.shards.items _ _ c.loop-store.invariant.2 c.in-Some.store _ c.in-Some.ensures.steps.0 c.len-number.result number in
-    let within : c.len-number.result < g.B.BatchName.batch.shards = omega (arith, c.requires.opened.count) in
+    let within : c.len-number.result < g.B.BatchName.batch.shards = omega (arith, c.requires.count) in
     record {
       lawful = c.requires.lawful;
       number = within;
-      opening = opens-store c.args.stores.items c.loop-store.shards.items _ _ c.loop-store.invariant.2 c.in-Some.store _ c.in-Some.ensures.steps.0 c.len-number.result number g.B.BatchName.batch g.B.BatchName.opening c.requires.opened;
-      right = c.requires.opened.right c.len-number.result within;
+      opening = opens-store c.args.stores.items c.loop-store.shards.items _ _ c.loop-store.invariant.2 c.in-Some.store _ c.in-Some.ensures.steps.0 c.len-number.result number g.B.BatchName.batch g.B.BatchName.opening c.requires;
+      right = c.requires.right c.len-number.result within;
     }
 
 pub loop-store-preserved : goal.loop-store-preserved

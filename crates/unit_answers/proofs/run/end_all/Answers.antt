@@ -19,8 +19,8 @@ loop-shard-preserved g c = (
       c.push-in-loop-shard.new.self.items c.in-Some.ensures.steps.0 c.in-Some.ensures.steps.1 (c.from_vec.ensures ∙ c.end_batch-store.ensures.journal) c.end_batch-store.ensures.store c.in_ok-push.ensures.items c.in_ok-push-2.ensures.items,
 )
 
-pub returns-clause-lists : goal.returns-clause-lists
-returns-clause-lists g c = closes-lists g.B.BatchName.batch.capacity c.args.shards.items c.loop-shard.lists.items c.loop-shard.stores.items _ _ c.loop-shard.invariant.2 c.in-None.ensures.steps.0
-
-pub returns-clause-stores : goal.returns-clause-stores
-returns-clause-stores g c = closes-stores g.B.BatchName.batch.capacity c.args.shards.items c.loop-shard.lists.items c.loop-shard.stores.items _ _ c.loop-shard.invariant.2 c.in-None.ensures.steps.0
+pub returns : goal.returns
+returns g c = record {
+  lists_are = closes-lists g.B.BatchName.batch.capacity c.args.shards.items c.loop-shard.lists.items c.loop-shard.stores.items _ _ c.loop-shard.invariant.2 c.in-None.ensures.steps.0;
+  stores_are = closes-stores g.B.BatchName.batch.capacity c.args.shards.items c.loop-shard.lists.items c.loop-shard.stores.items _ _ c.loop-shard.invariant.2 c.in-None.ensures.steps.0;
+}
