@@ -1,7 +1,8 @@
 -- What stands where the session's loop ends or halts.
-use Rattle.std.proofs.Common.{◌≡◌, ℕ, List, [], ◌++◌, take, drop, Option, Some, Ok, Err, ◌⊎◌, inl, inr, refl, sym, subst, ◌∙◌, append_assoc, append-nil, length}
+use Rattle.std.proofs.Common.{◌≡◌, ℕ, List, [], ◌++◌, take, drop, Option, Some, Ok, ◌⊎◌, inl, inr, refl, sym, subst, ◌∙◌, append_assoc, append-nil, length}
 use Rattle.std.proofs.lemmas.List.{take-append-drop}
-use Rattle.std.specs.Prelude.{◌≤◌, IsErrOf}
+use Rattle.std.specs.Prelude.{◌≤◌}
+use Rattle.std.specs.Io.KnownBytes.{IsAtEnd}
 use Rattle.owned_text.specs.Made.{Made}
 use Rattle.backsim_io.specs.Counts.{Grows, GrowsByPrefix, Stays}
 use Rattle.backsim_io.specs.FilesInMemory.{SameMade}
@@ -99,9 +100,9 @@ module _ (command : Command) (given : Given) (design : Joined) (accepted : desig
       (whole_sessions (setup_of command design) facts given.script) wrote)
 
   -- all was served
-  pub served-all : SessionsAreWhole → IsDesign design → Stays w' after.written → length given.script ≤ 16777216
+  pub served-all : SessionsAreWhole → IsDesign design → Stays w' after.written → length given.script ≤ 16777216 → IsAtEnd (left_in after)
       → LoopWrote (IsSessionOf (setup_of command design) given.script) → IsServed command given before after
-  served-all whole_sessions facts stays short wrote = record { short = short; session = whole whole_sessions facts stays wrote }
+  served-all whole_sessions facts stays short read wrote = record { short = short; read = read; session = whole whole_sessions facts stays wrote }
 
   -- of the line of a script that is too long such a part was written
   cut-off : (tail : List ℕ → Type 0) (rest : List ℕ) → LoopWrote (IsCutOff (setup_of command design) given.script) → tail rest → Grows w' after.written rest
@@ -162,7 +163,7 @@ module _ (command : Command) (given : Given) (design : Joined) (accepted : desig
   halt-leaves whole_sessions facts JournalUnmade status untouched halted told =
       subst (Leaves command given before after) (sym told.0) (inl (untouched refl told.1))
   halt-leaves whole_sessions facts JournalUnfinished status untouched halted told =
-      subst (Leaves command given before after) (sym told.0) (inr (served-all whole_sessions facts told.1 halted.0 halted.1))
+      subst (Leaves command given before after) (sym told.0) (inr (served-all whole_sessions facts told.1 halted.0 halted.1 halted.2))
   halt-leaves whole_sessions facts (Stopped stops.ScriptUnread) status untouched halted told =
       subst (Leaves command given before after) (sym told.0)
       (stands (λ setup. IsServedUntil setup given.script (left_in after)) told.1
@@ -209,9 +210,6 @@ halt-no_file says (Stopped stops.OutOfMemory) w w' status told = subst (OnFileFa
 pub halted-script : (setup : Setup) (name script : List ℕ) (old_left left : Option (List ℕ)) (w w' : List ℕ → Type 0) (m m' : List Made → Type 0) (n : ℕ) (halt : Halt) → old_left ≡ Some script
     → IsHalted setup name script old_left left w w' m m' n halt → IsHalted setup name script (Some script) left w w' m m' n halt
 halted-script setup name script old_left left w w' m m' n halt is halted = subst (λ (l : Option (List ℕ)). IsHalted setup name script l left w w' m m' n halt) is halted
-
-pub err-of : {T : Type 0} (halt met : Halt) → halt ≡ met → IsErrOf {T = T} (Err halt) met
-err-of halt met is = cc
 
 -- a stop that a halt is, under another name
 pub of-halt : (halt : Halt) (stop : Stop) (w w' : List ℕ → Type 0) (status : Status) → stop ≡ stop_of halt → EndsWith stop w w' status → EndsWith (stop_of halt) w w' status

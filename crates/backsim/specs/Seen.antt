@@ -3,8 +3,8 @@ use Rattle.std.specs.Prelude.{◌≡◌, ℕ, List, Option}
 use Rattle.owned_text.specs.Made.{Made}
 use Rattle.backsim_io.specs.Counts.{Stays}
 use Rattle.backsim_io.specs.FilesInMemory.{SameMade}
-use Rattle.backsim_io.specs.State.{FilesState}
-use Rattle.session_loop.specs.Outside.{Outside}
+use Rattle.backsim_io.specs.State.{FilesState, SourceState}
+use Rattle.session_loop.specs.Outside.{Outside, outside}
 
 -- what the files, the script's source and the sink of the replies tell as values; what may have been
 -- written to the sink; and what the files that were created may be
@@ -12,6 +12,10 @@ pub record Seen : Type 1 where
   pub outside : Outside
   pub written : List ℕ → Type 0
   pub made : List Made → Type 0
+
+-- of these files, this source and this sink
+abbrev pub seen_of : FilesState → (List Made → Type 0) → SourceState → (faults : ℕ) → (List ℕ → Type 0) → Seen
+seen_of files made script faults written = record { outside = outside files faults script; written = written; made = made }
 
 abbrev pub files_in : Seen → FilesState
 files_in seen = seen.outside.outputs.files

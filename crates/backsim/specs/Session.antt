@@ -1,5 +1,6 @@
 -- What a session is given, and what it serves.
 use Rattle.std.specs.Prelude.{◌≡◌, ◌≤◌, ℕ, List, [], ◌∷◌, length, Some, Ok}
+use Rattle.std.specs.Io.KnownBytes.{IsAtEnd}
 use Rattle.owned_text.specs.Made.{Made}
 use Rattle.circuit_files.specs.Files.{design_of_files}
 use Rattle.design.specs.Joined.{Joined}
@@ -47,7 +48,8 @@ Wrote command given before after such =
 abbrev pub ServedAll : Command → Given → Seen → Seen → Type 0
 ServedAll command given before after = Wrote command given before after (λ setup. IsWhole setup given.script)
 
--- the script has at most 16,777,216 bytes, and its session stands whole
+-- the script has at most 16,777,216 bytes and was read to its end, and its session stands whole
 pub record IsServed (command : Command) (given : Given) (before after : Seen) : Type 0 where
   pub short : length given.script ≤ 16777216
+  pub read : IsAtEnd (left_in after)
   pub session : ServedAll command given before after

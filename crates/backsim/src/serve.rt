@@ -5,6 +5,7 @@ ghost use Rattle.backsim_io.specs.FilesInMemory.{ConsumesUpTo};
 ghost use Rattle.command_words.specs.Words.{words_of};
 ghost use Rattle.backsim.specs.Commands.{command_of, OnNoSession};
 ghost use Rattle.backsim.specs.Serves.{Serves, ServesSession};
+ghost use Rattle.backsim.specs.Seen.{seen_of};
 ghost use Rattle.backsim.specs.inner.Stops.{EndsWith, EndExplains};
 
 use crate::refusal::Stop;
@@ -54,22 +55,8 @@ fn serve_files<F: Files, Q: Source, S: Sink, G: Gate, R: Threads + Wait + Sync>(
         ServesSession
         (command_of asks.netlist.now asks.timing.now asks.stimulus.now asks.journal.now
         asks.workers sizes.shards sizes.cells)
-        (record {
-          outside = record {
-            outputs = record { files = F.state files.old; replies = S.faults out.old };
-            script = Q.state queries.old;
-          };
-          written = S.written out.old;
-          made = F.made files.old;
-        })
-        (record {
-          outside = record {
-            outputs = record { files = F.state files.new; replies = S.faults out.new };
-            script = Q.state queries.new;
-          };
-          written = S.written out.new;
-          made = F.made files.new;
-        })
+        (seen_of (F.state files.old) (F.made files.old) (Q.state queries.old) (S.faults out.old) (S.written out.old))
+        (seen_of (F.state files.new) (F.made files.new) (Q.state queries.new) (S.faults out.new) (S.written out.new))
         result }
     ensures at_most { (script : List ℕ) → (Q.state queries.old).left ≡ Some script
         → ConsumesUpTo (Some script) (Q.state queries.new).left 16777217 }
@@ -141,22 +128,8 @@ pub fn serve<F: Files, Q: Source, S: Sink, G: Gate, R: Threads + Wait + Sync>(
     requires started { (F.state files.old).started ≡ 0 }
     requires created { (F.state files.old).created ≡ 0 }
     ensures serves { Serves (words_of (map (λ word. word.now) words.now))
-        (record {
-          outside = record {
-            outputs = record { files = F.state files.old; replies = S.faults out.old };
-            script = Q.state queries.old;
-          };
-          written = S.written out.old;
-          made = F.made files.old;
-        })
-        (record {
-          outside = record {
-            outputs = record { files = F.state files.new; replies = S.faults out.new };
-            script = Q.state queries.new;
-          };
-          written = S.written out.new;
-          made = F.made files.new;
-        })
+        (seen_of (F.state files.old) (F.made files.old) (Q.state queries.old) (S.faults out.old) (S.written out.old))
+        (seen_of (F.state files.new) (F.made files.new) (Q.state queries.new) (S.faults out.new) (S.written out.new))
         result }
     ensures at_most { (script : List ℕ) → (Q.state queries.old).left ≡ Some script
         → ConsumesUpTo (Some script) (Q.state queries.new).left 16777217 }

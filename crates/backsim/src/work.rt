@@ -4,6 +4,7 @@ ghost use Rattle.std.specs.Prelude.{◌≡◌, ◌<◌, ◌≤◌, Contains, IfO
 ghost use Rattle.backsim_io.specs.FilesInMemory.{SameMade};
 ghost use Rattle.backsim_io.specs.State.{SourceState};
 ghost use Rattle.backsim.specs.Serves.{ServesWorkload};
+ghost use Rattle.backsim.specs.Seen.{seen_of};
 ghost use Rattle.backsim.specs.Work as work;
 ghost use Rattle.backsim.specs.Work.{counts_line, run_count, one_count, work_line, runs_in};
 ghost use Rattle.backsim.specs.inner.Work.{IsLineTold, LineExplains, EndsWork};
@@ -52,22 +53,8 @@ pub fn serve_workload<F: Files, S: Sink, G: Gate, R: Threads + Wait + Sync>(
     requires workers { (0 < asked.now.workers) × (asked.now.workers ≤ 64) }
     ensures no_usage { ¬ (result ≡ Status.Words) }
     ensures serves { (script : SourceState) → ServesWorkload asked.now.number asked.now.journal.now
-        (record {
-          outside = record {
-            outputs = record { files = F.state files.old; replies = S.faults out.old };
-            script = script;
-          };
-          written = S.written out.old;
-          made = F.made files.old;
-        })
-        (record {
-          outside = record {
-            outputs = record { files = F.state files.new; replies = S.faults out.new };
-            script = script;
-          };
-          written = S.written out.new;
-          made = F.made files.new;
-        })
+        (seen_of (F.state files.old) (F.made files.old) script (S.faults out.old) (S.written out.old))
+        (seen_of (F.state files.new) (F.made files.new) script (S.faults out.new) (S.written out.new))
         result }
 {
     let Workload {

@@ -9,60 +9,12 @@ use Rattle.session_loop.specs.declared.stop.Stop.TheVariants.{ScriptUnread, Scri
 use Rattle.session_loop.specs.declared.halt.Halt.{Halt}
 use Rattle.session_loop.specs.declared.halt.Halt.TheVariants.{JournalUnmade, Stopped, JournalUnfinished}
 use Rattle.session_loop.specs.Outside.{Outputs, Outside, OfFiles, Dumped, DumpedThenFault, JournalStops, StopsAt, UnitsStop, Served, ServedThenUnread, ScriptStops, SessionChanges, WorkChanges, FinishChanges, with_file, with_journal}
-use Rattle.session_loop.specs.inner.Outside.{RepliesStops, UnitStops, UnitChanges, DumpStops, UnitsChanges, BeginChanges}
+use Rattle.session_loop.specs.inner.Outside.{RepliesStops, DumpStops, BeginChanges}
 
 -- what holds of an error holds of the result that hands it on
 pub handed-on : {T E : Type 0} (C : Result T E → Type 0) (was : E) (result : Result T E) → IsErrAnd result (λ e. e ≡ was) → C (Err was) → C result
 handed-on C was (Ok x) handed holds = absurd handed
 handed-on C was (Err e) handed holds = subst (λ s. C (Err s)) (sym handed) holds
-
--- A unit that makes no dump.
-
--- replies were not written
-pub of-replies : (files : FilesState) (old new : ℕ) (stop : Stop) → RepliesStops old new stop
-    → UnitStops (record { files = files; replies = old }) (record { files = files; replies = new }) stop
-of-replies files old new ScriptUnread h = absurd h
-of-replies files old new ScriptTooLong h = absurd h
-of-replies files old new RepliesUnwritten rises = record { same = refl; rises = rises }
-of-replies files old new JournalUnwritten h = absurd h
-of-replies files old new DumpUnmade h = absurd h
-of-replies files old new DumpUnwritten h = absurd h
-of-replies files old new DumpUnfinished h = absurd h
-of-replies files old new OutOfMemory same = ap (λ (n : ℕ). record { files = files; replies = n }) same
-
-journal-stops : (replies : ℕ) (old new : FilesState) (stop : Stop) → JournalStops old new stop
-    → UnitStops (record { files = old; replies = replies }) (record { files = new; replies = replies }) stop
-journal-stops replies old new ScriptUnread h = absurd h
-journal-stops replies old new ScriptTooLong h = absurd h
-journal-stops replies old new RepliesUnwritten h = absurd h
-journal-stops replies old new JournalUnwritten fault = record { same = refl; changed = fault }
-journal-stops replies old new DumpUnmade h = absurd h
-journal-stops replies old new DumpUnwritten h = absurd h
-journal-stops replies old new DumpUnfinished h = absurd h
-journal-stops replies old new OutOfMemory same = ap (λ (f : FilesState). record { files = f; replies = replies }) same
-
--- the journal was not written, after the replies
-pub of-journal : (replies new_replies : ℕ) (old mid new : FilesState) (stop : Stop) → new_replies ≡ replies → mid ≡ old → JournalStops mid new stop
-    → UnitStops (record { files = old; replies = replies }) (record { files = new; replies = new_replies }) stop
-of-journal replies new_replies old mid new stop calm same stops =
-    subst (λ n. UnitStops (record { files = old; replies = replies }) (record { files = new; replies = n }) stop) (sym calm)
-    (journal-stops replies old new stop (subst (λ f. JournalStops f new stop) same stops))
-
--- and nothing was created
-pub journal-created : (old new : FilesState) (stop : Stop) → JournalStops old new stop → new.created ≡ old.created
-journal-created old new ScriptUnread h = absurd h
-journal-created old new ScriptTooLong h = absurd h
-journal-created old new RepliesUnwritten h = absurd h
-journal-created old new JournalUnwritten fault = ap (λ f. f.created) fault.same
-journal-created old new DumpUnmade h = absurd h
-journal-created old new DumpUnwritten h = absurd h
-journal-created old new DumpUnfinished h = absurd h
-journal-created old new OutOfMemory same = ap (λ f. f.created) same
-
--- neither changed
-pub same-outputs : (a b : Outputs) → a.files ≡ b.files → a.replies ≡ b.replies → a ≡ b
-same-outputs a b files replies =
-    ap (λ (f : FilesState). record { files = f; replies = a.replies }) files ∙ ap (λ (n : ℕ). record { files = b.files; replies = n }) replies
 
 -- Units.
 
@@ -92,23 +44,52 @@ outputs-more a b c first next = record {
   changed = dumped-more a.files b.files c.files first.changed next.changed;
 }
 
-stops-at : (old new : Outputs) (stop : Stop) → UnitStops old new stop → StopsAt old new stop
-stops-at old new ScriptUnread h = h
-stops-at old new ScriptTooLong h = h
-stops-at old new RepliesUnwritten h = h
-stops-at old new JournalUnwritten h = h
-stops-at old new DumpUnmade h = absurd h
-stops-at old new DumpUnwritten h = absurd h
-stops-at old new DumpUnfinished h = absurd h
-stops-at old new OutOfMemory h = h
+-- replies were not written
+stops-replies : (files : FilesState) (old new : ℕ) (stop : Stop) → RepliesStops old new stop → StopsAt (record { files = files; replies = old }) (record { files = files; replies = new }) stop
+stops-replies files old new ScriptUnread h = absurd h
+stops-replies files old new ScriptTooLong h = absurd h
+stops-replies files old new RepliesUnwritten rises = record { same = refl; rises = rises }
+stops-replies files old new JournalUnwritten h = absurd h
+stops-replies files old new DumpUnmade h = absurd h
+stops-replies files old new DumpUnwritten h = absurd h
+stops-replies files old new DumpUnfinished h = absurd h
+stops-replies files old new OutOfMemory same = ap (λ (n : ℕ). record { files = files; replies = n }) same
 
--- a stop of a unit that makes no dump is one of units
-pub units-stop : (old new : Outputs) (stop : Stop) → UnitStops old new stop → UnitsStop old new stop
-units-stop old new stop stops = record { files = old.files; dumped = dumped-none old.files; stops = stops-at old new stop stops }
+pub of-replies : (files : FilesState) (old new : ℕ) (stop : Stop) → RepliesStops old new stop → UnitsStop (record { files = files; replies = old }) (record { files = files; replies = new }) stop
+of-replies files old new stop stops = record { files = files; dumped = dumped-none files; stops = stops-replies files old new stop stops }
 
-pub units-change : {A : Type 0} (old new : Outputs) (result : Result A Stop) → UnitChanges old new result → UnitsChanges old new result
-units-change old new (Ok done) same = calm old new same
-units-change old new (Err stop) stops = units-stop old new stop stops
+stops-journal : (replies : ℕ) (old new : FilesState) (stop : Stop) → JournalStops old new stop → StopsAt (record { files = old; replies = replies }) (record { files = new; replies = replies }) stop
+stops-journal replies old new ScriptUnread h = absurd h
+stops-journal replies old new ScriptTooLong h = absurd h
+stops-journal replies old new RepliesUnwritten h = absurd h
+stops-journal replies old new JournalUnwritten fault = record { same = refl; changed = fault }
+stops-journal replies old new DumpUnmade h = absurd h
+stops-journal replies old new DumpUnwritten h = absurd h
+stops-journal replies old new DumpUnfinished h = absurd h
+stops-journal replies old new OutOfMemory same = ap (λ (f : FilesState). record { files = f; replies = replies }) same
+
+-- the journal was not written, after the replies
+pub of-journal : (replies new_replies : ℕ) (old mid new : FilesState) (stop : Stop) → new_replies ≡ replies → mid ≡ old → JournalStops mid new stop
+    → UnitsStop (record { files = old; replies = replies }) (record { files = new; replies = new_replies }) stop
+of-journal replies new_replies old mid new stop calm same stops =
+    subst (λ n. UnitsStop (record { files = old; replies = replies }) (record { files = new; replies = n }) stop) (sym calm)
+    (record { files = old; dumped = dumped-none old; stops = stops-journal replies old new stop (subst (λ f. JournalStops f new stop) same stops) })
+
+-- where the journal was not written, nothing was created
+pub journal-created : (old new : FilesState) (stop : Stop) → JournalStops old new stop → new.created ≡ old.created
+journal-created old new ScriptUnread h = absurd h
+journal-created old new ScriptTooLong h = absurd h
+journal-created old new RepliesUnwritten h = absurd h
+journal-created old new JournalUnwritten fault = ap (λ f. f.created) fault.same
+journal-created old new DumpUnmade h = absurd h
+journal-created old new DumpUnwritten h = absurd h
+journal-created old new DumpUnfinished h = absurd h
+journal-created old new OutOfMemory same = ap (λ f. f.created) same
+
+-- neither changed
+pub same-outputs : (a b : Outputs) → a.files ≡ b.files → a.replies ≡ b.replies → a ≡ b
+same-outputs a b files replies =
+    ap (λ (f : FilesState). record { files = f; replies = a.replies }) files ∙ ap (λ (n : ℕ). record { files = b.files; replies = n }) replies
 
 -- dumps were made, and then units stopped
 pub dumped-then : (a b c : Outputs) (stop : Stop) → OfFiles Dumped a b → UnitsStop b c stop → UnitsStop a c stop
@@ -142,11 +123,7 @@ of-dump replies old new stop stops = record { files = old; dumped = dumped-none 
 -- the file was finished, and the reply not written
 pub of-reply : (old mid : FilesState) (replies new_replies : ℕ) (stop : Stop) → mid ≡ record old { created = old.created + 1 } → RepliesStops replies new_replies stop
     → UnitsStop (record { files = old; replies = replies }) (record { files = mid; replies = new_replies }) stop
-of-reply old mid replies new_replies stop is stops = record {
-  files = mid;
-  dumped = dumped-one old mid is;
-  stops = stops-at (record { files = mid; replies = replies }) (record { files = mid; replies = new_replies }) stop (of-replies mid replies new_replies stop stops);
-}
+of-reply old mid replies new_replies stop is stops = record { files = mid; dumped = dumped-one old mid is; stops = stops-replies mid replies new_replies stop stops }
 
 -- the reply was written too
 pub dump-served : (old mid : FilesState) (replies new_replies : ℕ) → mid ≡ record old { created = old.created + 1 } → new_replies ≡ replies
@@ -157,9 +134,6 @@ dump-served old mid replies new_replies is same = record {
 }
 
 -- A script.
-
-pub served-none : (outside : Outside) → Served outside outside
-served-none outside = record { read = refl; outputs = calm outside.outputs outside.outputs refl }
 
 -- more was read and served
 pub served-more : (a b c : Outside) → Served a b → c.script ≡ record b.script { left = c.script.left } → OfFiles Dumped b.outputs c.outputs → Served a c
@@ -233,7 +207,7 @@ head-stops : (old : Outside) (new : FilesState) (stop : Stop) → JournalStops (
     → ScriptStops (with_journal old) (record old { outputs = record old.outputs { files = new } }) stop
 head-stops old new stop stops =
     script-stops (with_journal old) (record old { outputs = record old.outputs { files = new } }) stop refl
-    (units-stop (with_journal old).outputs (record old.outputs { files = new }) stop (journal-stops old.outputs.replies (with_file old.outputs.files) new stop stops))
+    (of-journal old.outputs.replies old.outputs.replies (with_file old.outputs.files) (with_file old.outputs.files) new stop refl refl stops)
 
 -- the journal was not begun
 pub session-unbegun : {A : Type 0} (old : Outside) (new : FilesState) (halt : Halt) (result : Result A Halt) → IsErrAnd result (λ h. h ≡ halt) → BeginChanges {A = A} old.outputs.files new (Err halt)

@@ -1,6 +1,6 @@
 -- What a line that asks for a dump leads to, and how the file of a dump stands.
 use Rattle.std.proofs.Common.{◌≡◌, ℕ, zero, suc, ◌+◌, ◌<◌, Bool, true, false, cond, not, ◌&&◌, ◌||◌, ◌==◌, nat_lt, nat_le, List, [], ◌∷◌, ◌++◌, length, map, length-append, Option, Some, None, Result, Ok, Err, All, Contains, refl, sym, ap, ap₂, subst, ◌∙◌, append-nil, arith, inl, inr}
-use Rattle.std.specs.Prelude.{OnErr, OnOk, is_err}
+use Rattle.std.specs.Prelude.{OnErr, OnOk, IfSome, is_err}
 use Rattle.std.specs.List.{list_any, list_all}
 use Rattle.std.specs.Str.{bytes_eq, IsUtf8, IsAscii}
 use Rattle.std.proofs.lemmas.Bool.{and_parts, leb-true, ne_eqb, eq-eqb, true≢false, false≢true}
@@ -14,7 +14,6 @@ use Rattle.owned_text.specs.Made.{Made}
 use Rattle.backsim_io.specs.FilesInMemory.{files_with, CreatesIn, FileGrows, SameMade, Places, list_without}
 use Rattle.backsim_io.specs.State.{FilesState}
 use Rattle.text_rules.specs.Text.{is_mark, is_hash, is_name, is_name_byte}
-use Rattle.query_lines.specs.declared.unit.Unit.{Unit as ScriptUnit}
 use Rattle.query_lines.specs.declared.unit.Unit.TheVariants.{Vcd}
 use Rattle.reply_lines.specs.declared.reply.VcdReply.{VcdReply}
 use Rattle.reply_lines.specs.declared.reply.VcdReply.TheVariants as replies
@@ -22,7 +21,7 @@ use Rattle.reply_lines.specs.Replies.{vcd_line}
 use Rattle.vcd_answers.specs.Wires.{Wire}
 use Rattle.vcd_answers.specs.Dumps.{vcd_of}
 use Rattle.session_meaning.specs.Dumps.{wires_of}
-use Rattle.session_meaning.specs.Session.{Setup, Course, Served, is_taken, with_reply, with_dump, with_last, with_vcd}
+use Rattle.session_meaning.specs.Session.{Setup, Course, IsServed, Served, is_taken, with_reply, with_dump, with_last, with_vcd}
 use Rattle.session_meaning.specs.Broken.{IsPrefix, journal_of, AreBegun, IsBroken, IsBrokenInDump}
 use Rattle.session_meaning.proofs.Journals.{prefix-same, prefix-more, prefix-behind}
 use Rattle.session_meaning.proofs.Dumps.{begun-same, begun-one, begun-less}
@@ -30,15 +29,17 @@ use Rattle.session_loop.specs.declared.desk.Desk.{Desk}
 use Rattle.session_loop.specs.declared.desk.Dumps.{Dumps}
 use Rattle.session_loop.specs.declared.desk.LastBatch.{LastBatch}
 use Rattle.session_loop.specs.declared.stop.Stop.{Stop}
-use Rattle.session_loop.specs.declared.stop.Stop.TheVariants.{OutOfMemory}
-use Rattle.unit_answers.specs.Stores.{cells_of}
+use Rattle.session_loop.specs.declared.setting.Setting.{Setting}
+use Rattle.unit_answers.specs.Stores.{cells_of, AreStores}
 use Rattle.session_loop.specs.Halting.{session_files}
-use Rattle.session_loop.specs.Outside.{with_file}
-use Rattle.session_loop.specs.inner.Desks.{IsCount, Keeps, KeepsDumps, Shows, refused_reply, refused_last}
+use Rattle.session_loop.specs.Serving.{memo_of, session_of}
+use Rattle.session_loop.specs.Outside.{Seen, seen, with_file}
+use Rattle.session_loop.specs.inner.Desks.{IsCount, IsReady, IsShowable, Keeps, KeepsDumps, Shows, refused_reply, refused_last}
 use Rattle.session_loop.specs.inner.Outside.{RepliesStops, DumpStops}
 use Rattle.session_loop.specs.inner.Growing.{Adds, GrowsPart, IsDumpPart}
-use Rattle.session_loop.specs.inner.Serving.{BreaksAt, Serves, Stops}
-use Rattle.session_loop.proofs.Breaking.{within-map, within-none, broken-none, broken-at, dump-broken-at, breaks-in-reply, breaks-in-dump}
+use Rattle.session_loop.specs.inner.Serving.{BreaksAt, UnitsServed, UnitsStopped}
+use Rattle.session_loop.proofs.Breaking.{within-map, broken-at, dump-broken-at, breaks-in-reply, breaks-in-dump}
+use Rattle.session_loop.proofs.Changes.{of-dump, of-reply, dump-served as dump-changes}
 use Rattle.session_loop.proofs.Growing.{goes-none}
 
 -- ---- calls
@@ -71,10 +72,6 @@ adds-file u v w count slot name bytes is creates grows before long was =
 -- and nothing since
 pub adds-then : (u v w : List Made → Type 0) (count : ℕ) (more : List Made) → Adds u v count more → SameMade v w → Adds u w count more
 adds-then u v w count more adds same before long was = same (before ++ more) (adds before long was)
-
--- no file was created
-pub adds-none : (u v : List Made → Type 0) (count : ℕ) → SameMade u v → Adds u v count []
-adds-none u v count same before long was = subst v (sym (append-nil before)) (same before was)
 
 -- the place of a file that was just created is one that isn't finished
 pub holds-last : (before after : List ℕ) (place slot : ℕ) → after ≡ before ++ place ∷ [] → slot ≡ place → Contains after slot
@@ -192,148 +189,128 @@ module _ (setup : Setup) where
           made-name (is_taken setup now file) last (subst (λ l. Shows setup.design l now.waves) has keeps.shows)
           (ap (λ l. cond (is_taken setup now file) (Some replies.Taken) (refused_last l (length now.dumps))) (sym has) ∙ sym refused-is ∙ is)
 
-  -- ---- units
+-- ---- units
 
-  module _ (desk : Desk) where
-    count-is : (now : Course) (files : ℕ) → Keeps setup desk now → files ≡ length desk.dumps.made.items + 1 → files ≡ length now.dumps + 1
-    count-is now files keeps is = is ∙ ap (λ n. n + 1) (as-many now [] desk.dumps keeps.dumps)
+module _ (setting : Setting) (desk : Desk) (before : Seen) (ready : IsReady (memo_of setting) desk before.outputs.files) (file : List ℕ) where
+  -- no dump is made, and the reply says why
+  pub refusal-tells : (reply : VcdReply) → refused_reply desk.dumps file ≡ Some reply → (names : List (List ℕ)) (now : Course) → Keeps (session_of setting names) desk now
+      → IsServed (session_of setting names) now (Vcd file) (with_reply now (vcd_line file reply))
+  refusal-tells reply is names now keeps = sym (line-refused (session_of setting names) now file desk.dumps keeps.dumps reply is)
 
-    -- there is no memory, and nothing of the unit was written
-    pub unit-unbegun : (more : List ScriptUnit) (out : List ℕ → Type 0) (made : List Made → Type 0) (files : ℕ) → files ≡ length desk.dumps.made.items + 1
-        → Stops setup desk more out out made made files OutOfMemory
-    unit-unbegun more out made files is units now session keeps = record {
-      replies = now.out;
-      journal = journal_of setup now;
-      dumps = now.dumps;
-      broken = within-none units more (BreaksAt setup now.out (journal_of setup now) now.dumps OutOfMemory) (broken-none setup units more now session);
-      replied = goes-none out now.out;
-      recorded = λ name was. was;
-      count = count-is now files keeps is;
-    }
+  count-is : (names : List (List ℕ)) (now : Course) → Keeps (session_of setting names) desk now → before.outputs.files.created ≡ length now.dumps + 1
+  count-is names now keeps = ready.count ∙ ap (λ n. n + 1) (as-many (session_of setting names) now [] desk.dumps keeps.dumps)
 
-    module _ (file : List ℕ) where
-      -- no dump is made
-      module _ (reply : VcdReply) (is : refused_reply desk.dumps file ≡ Some reply) (out new_out : List ℕ → Type 0) (made : List Made → Type 0) where
-        -- its reply was written
-        pub refusal-served : Grows out new_out (vcd_line file reply) → Serves setup desk desk (Vcd file ∷ []) out new_out made made
-        refusal-served replied units now session keeps = record {
-          next = with_reply now (vcd_line file reply);
-          session = Served (Vcd file) session (sym (line-refused now file desk.dumps keeps.dumps reply is));
-          keeps = record {
-            cells = keeps.cells;
-            counts = keeps.counts;
-            dumps = record { shows = keeps.dumps.shows; own = keeps.dumps.own; made = keeps.dumps.made };
+  -- a dump is made
+  module _ (last : LastBatch) (has : desk.dumps.last ≡ Some last) (free : refused_reply desk.dumps file ≡ None)
+      (text : List ℕ) (text-is : text ≡ vcd_of (wires_of setting.design.now last.items last.replies.items)) where
+    abbrev wires : List Wire
+    wires = wires_of setting.design.now last.items last.replies.items
+
+    abbrev dump : Made
+    dump = record { name = file; bytes = text }
+
+    leads : (names : List (List ℕ)) (now : Course) → Keeps (session_of setting names) desk now → with_dump now file wires ≡ with_vcd (session_of setting names) now file
+    leads names now keeps = sym (line-makes (session_of setting names) now file desk.dumps keeps.dumps last has free)
+
+    one-more : (now : Course) → now.dumps ++ dump ∷ [] ≡ (with_dump now file wires).dumps
+    one-more now = ap (λ bytes. now.dumps ++ record { name = file; bytes = bytes } ∷ []) text-is
+
+    go-on : (made : List Made → Type 0) (names : List (List ℕ)) (now : Course) (more : List Made) → Keeps (session_of setting names) desk now → Adds before.made made before.outputs.files.created more → (name journal : List ℕ)
+        → before.made (session_files name journal now.dumps) → made (session_files name journal (now.dumps ++ more))
+    go-on made names now more keeps adds name journal was =
+        let stand = count-is names now keeps in
+        adds (session_files name journal now.dumps) (omega (arith, stand)) was
+
+    -- the file couldn't be created, written or finished
+    pub dump-stopped : (files : FilesState) (made : List Made → Type 0) (more : List Made) (stop : Stop) → DumpStops before.outputs.files files stop → IsDumpPart file text more
+        → Adds before.made made before.outputs.files.created more → files.created ≡ before.outputs.files.created + length more
+        → UnitsStopped setting desk (Vcd file ∷ []) before (seen files made before.outputs.replies before.written) stop
+    dump-stopped files made more stop kind part adds created = record {
+      stopped = λ names units now session keeps.
+          let setup : Setup = session_of setting names in
+          record {
+            replies = now.out;
+            journal = journal_of setup now;
+            dumps = now.dumps ++ more;
+            broken = within-map units (Vcd file ∷ []) (λ done later. IsBrokenInDump setup done later now.out (journal_of setup now) (now.dumps ++ more)) (BreaksAt setup now.out (journal_of setup now) (now.dumps ++ more) stop)
+                (breaks-in-dump setup now.out (journal_of setup now) (now.dumps ++ more) before.outputs.files files stop kind)
+                (dump-broken-at setup units file now (now.dumps ++ more) session (more, refl) (subst (λ (c : Course). AreBegun (now.dumps ++ more) c.dumps) (leads names now keeps) (begun now)));
+            replied = goes-none before.written now.out;
+            recorded = λ name. go-on made names now more keeps adds name (journal_of setup now);
+            count = let stand = count-is names now keeps in omega (arith, stand, created, length-append now.dumps more);
           };
-          replied = (vcd_line file reply, refl, replied);
-          recorded = λ name was. was;
-        }
+      state = of-dump before.outputs.replies before.outputs.files files stop kind;
+    }
+      where
+        begun : (now : Course) → AreBegun (now.dumps ++ more) (with_dump now file wires).dumps
+        begun now = elim part [
+          | inl none ↦ subst (λ l. AreBegun l (now.dumps ++ record { name = file; bytes = vcd_of wires } ∷ [])) (sym (append-nil now.dumps) ∙ ap (λ l. now.dumps ++ l) (sym none))
+              (begun-less now.dumps (record { name = file; bytes = vcd_of wires } ∷ []))
+          | inr one ↦ subst (λ l. AreBegun (now.dumps ++ l) (now.dumps ++ record { name = file; bytes = vcd_of wires } ∷ [])) (sym one.2)
+              (begun-one now.dumps file one.0 (vcd_of wires) (subst (IsPrefix one.0) text-is one.1))
+        ]
 
-        -- a part of its reply was written
-        pub refusal-stopped : (files a a' : ℕ) (stop : Stop) → files ≡ length desk.dumps.made.items + 1 → RepliesStops a a' stop → GrowsPart out new_out (vcd_line file reply)
-            → Stops setup desk (Vcd file ∷ []) out new_out made made files stop
-        refusal-stopped files a a' stop many cause replied units now session keeps =
-            let next : Course = with_reply now (vcd_line file reply) in
+    -- the file was finished, and the reply is written
+    module _ (line : List ℕ) (line-is : line ≡ vcd_line file (replies.Made (length wires))) (files : FilesState) (made : List Made → Type 0) (faults : ℕ) (written : List ℕ → Type 0)
+        (adds : Adds before.made made before.outputs.files.created (dump ∷ [])) (is : files ≡ record before.outputs.files { created = before.outputs.files.created + 1 }) where
+      -- all of it
+      pub dump-served : (later : Desk) → later.stores ≡ desk.stores → later.counts ≡ desk.counts → later.dumps.last ≡ desk.dumps.last → later.dumps.own ≡ desk.dumps.own
+          → later.dumps.made.items ≡ desk.dumps.made.items ++ file ∷ [] → later.last_site ≡ desk.last_site → Grows before.written written line → faults ≡ before.outputs.replies
+          → UnitsServed setting desk later (Vcd file ∷ []) before (seen files made faults written)
+      dump-served later stores counts same own names-are site replied calm = record {
+        ready = subst (IsReady (memo_of setting) later) (sym is) (record {
+          desk = record {
+            stores = subst (λ s. AreStores (memo_of setting) s.items) (sym stores) ready.desk.stores;
+            shown = subst (IsShowable setting.design.now) (sym same) ready.desk.shown;
+            site = subst (λ s. IfSome s (λ at. at ≡ setting.design.now)) (sym site) ready.desk.site;
+          };
+          count = omega (arith, ready.count, ap length names-are, length-append desk.dumps.made.items (file ∷ []));
+          unfinished = ready.unfinished;
+        });
+        served = λ names units now session keeps.
+            let setup : Setup = session_of setting names in
+            record {
+              next = with_dump now file wires;
+              session = Served (Vcd file) session (leads names now keeps);
+              keeps = record {
+                cells = λ shard h. ap (λ l. cells_of l shard) (ap (λ s. s.items) stores) ∙ keeps.cells shard h;
+                counts = subst (λ c. IsCount c now.sections) (sym counts) keeps.counts;
+                dumps = record {
+                  shows = subst (λ l. Shows setup.design l now.waves) (sym same) keeps.dumps.shows;
+                  own = ap (λ s. s.items) own ∙ keeps.dumps.own;
+                  made = names-are ∙ ap (λ l. l ++ file ∷ []) keeps.dumps.made
+                      ∙ sym (map-append (λ (d : Made). d.name) now.dumps (record { name = file; bytes = vcd_of wires } ∷ []));
+                };
+              };
+              replied = (line, ap (λ l. now.out ++ l) (sym line-is), replied);
+              recorded = λ name was. subst (λ l. made (session_files name (journal_of setup now) l)) (one-more now) (go-on made names now (dump ∷ []) keeps adds name (journal_of setup now) was);
+            };
+        state = dump-changes before.outputs.files files before.outputs.replies faults is calm;
+      }
+
+      -- or a part of it
+      pub reply-stopped : (stop : Stop) → RepliesStops before.outputs.replies faults stop → GrowsPart before.written written line → UnitsStopped setting desk (Vcd file ∷ []) before (seen files made faults written) stop
+      reply-stopped stop cause replied = record {
+        stopped = λ names units now session keeps.
+            let setup : Setup = session_of setting names in
+            let next : Course = with_dump now file wires in
             let journal : List ℕ = journal_of setup now in
+            let all : List Made = now.dumps ++ dump ∷ [] in
+            let stand = count-is names now keeps in
+            let created = ap (λ (f : FilesState). f.created) is in
             record {
               replies = now.out ++ replied.0;
               journal = journal;
-              dumps = now.dumps;
-              broken = within-map units (Vcd file ∷ []) (λ done later. IsBroken setup done later (now.out ++ replied.0) journal now.dumps) (BreaksAt setup (now.out ++ replied.0) journal now.dumps stop)
-                  (breaks-in-reply setup (now.out ++ replied.0) journal now.dumps a a' stop cause)
-                  (broken-at setup units (Vcd file) now next (now.out ++ replied.0) journal now.dumps session (sym (line-refused now file desk.dumps keeps.dumps reply is))
-                  (prefix-more now.out replied.0) (prefix-same journal) (prefix-behind now.out replied.0 (vcd_line file reply) replied.1) (prefix-same journal)
-                  ([], sym (append-nil now.dumps)) (begun-same now.dumps) (inr refl) (inr refl) (λ o j. refl));
+              dumps = all;
+              broken = within-map units (Vcd file ∷ []) (λ done later. IsBroken setup done later (now.out ++ replied.0) journal all) (BreaksAt setup (now.out ++ replied.0) journal all stop)
+                  (breaks-in-reply setup (now.out ++ replied.0) journal all before.outputs.replies faults stop cause)
+                  (broken-at setup units (Vcd file) now next (now.out ++ replied.0) journal all session (leads names now keeps)
+                  (prefix-more now.out replied.0) (prefix-same journal)
+                  (prefix-behind now.out replied.0 (vcd_line file (replies.Made (length wires))) (subst (IsPrefix replied.0) line-is replied.1)) (prefix-same journal)
+                  (dump ∷ [], refl) (subst (AreBegun all) (one-more now) (begun-same all)) (inr refl) (inr (one-more now)) (λ o j. one-more now));
               replied = (replied.0, refl, replied.2);
-              recorded = λ name was. was;
-              count = count-is now files keeps many;
-            }
-
-      -- a dump is made
-      module _ (last : LastBatch) (has : desk.dumps.last ≡ Some last) (free : refused_reply desk.dumps file ≡ None)
-          (text : List ℕ) (text-is : text ≡ vcd_of (wires_of setup.design last.items last.replies.items))
-          (count : ℕ) (many : count ≡ length desk.dumps.made.items + 1) (out new_out : List ℕ → Type 0) (made new_made : List Made → Type 0) where
-        abbrev wires : List Wire
-        wires = wires_of setup.design last.items last.replies.items
-
-        abbrev dump : Made
-        dump = record { name = file; bytes = text }
-
-        leads : (now : Course) → Keeps setup desk now → with_dump now file wires ≡ with_vcd setup now file
-        leads now keeps = sym (line-makes now file desk.dumps keeps.dumps last has free)
-
-        one-more : (now : Course) → now.dumps ++ dump ∷ [] ≡ (with_dump now file wires).dumps
-        one-more now = ap (λ bytes. now.dumps ++ record { name = file; bytes = bytes } ∷ []) text-is
-
-        go-on : (now : Course) (more : List Made) → Keeps setup desk now → Adds made new_made count more → (name journal : List ℕ)
-            → made (session_files name journal now.dumps) → new_made (session_files name journal (now.dumps ++ more))
-        go-on now more keeps adds name journal was =
-            let stand = count-is now count keeps many in
-            adds (session_files name journal now.dumps) (omega (arith, stand)) was
-
-        -- the file couldn't be created, written or finished
-        pub dump-stopped : (files : ℕ) (more : List Made) (old new : FilesState) (stop : Stop) → DumpStops old new stop → IsDumpPart file text more → Adds made new_made count more → files ≡ count + length more
-            → Stops setup desk (Vcd file ∷ []) out out made new_made files stop
-        dump-stopped files more old new stop kind part adds created units now session keeps = record {
-          replies = now.out;
-          journal = journal_of setup now;
-          dumps = now.dumps ++ more;
-          broken = within-map units (Vcd file ∷ []) (λ done later. IsBrokenInDump setup done later now.out (journal_of setup now) (now.dumps ++ more)) (BreaksAt setup now.out (journal_of setup now) (now.dumps ++ more) stop)
-              (breaks-in-dump setup now.out (journal_of setup now) (now.dumps ++ more) old new stop kind)
-              (dump-broken-at setup units file now (now.dumps ++ more) session (more, refl) (subst (λ (c : Course). AreBegun (now.dumps ++ more) c.dumps) (leads now keeps) begun));
-          replied = goes-none out now.out;
-          recorded = λ name. go-on now more keeps adds name (journal_of setup now);
-          count = let stand = count-is now count keeps many in omega (arith, stand, created, length-append now.dumps more);
-        }
-          where
-            begun : AreBegun (now.dumps ++ more) (with_dump now file wires).dumps
-            begun = elim part [
-              | inl none ↦ subst (λ l. AreBegun l (now.dumps ++ record { name = file; bytes = vcd_of wires } ∷ [])) (sym (append-nil now.dumps) ∙ ap (λ l. now.dumps ++ l) (sym none))
-                  (begun-less now.dumps (record { name = file; bytes = vcd_of wires } ∷ []))
-              | inr one ↦ subst (λ l. AreBegun (now.dumps ++ l) (now.dumps ++ record { name = file; bytes = vcd_of wires } ∷ [])) (sym one.2)
-                  (begun-one now.dumps file one.0 (vcd_of wires) (subst (IsPrefix one.0) text-is one.1))
-            ]
-
-        -- and the reply is written
-        module _ (line : List ℕ) (line-is : line ≡ vcd_line file (replies.Made (length wires))) (adds : Adds made new_made count (dump ∷ [])) where
-          -- all of it
-          pub dump-served : (later : Desk) → later.stores ≡ desk.stores → later.counts ≡ desk.counts → later.dumps.last ≡ desk.dumps.last → later.dumps.own ≡ desk.dumps.own
-              → later.dumps.made.items ≡ desk.dumps.made.items ++ file ∷ [] → Grows out new_out line → Serves setup desk later (Vcd file ∷ []) out new_out made new_made
-          dump-served later stores counts same own names replied units now session keeps = record {
-            next = with_dump now file wires;
-            session = Served (Vcd file) session (leads now keeps);
-            keeps = record {
-              cells = λ shard h. ap (λ l. cells_of l shard) (ap (λ s. s.items) stores) ∙ keeps.cells shard h;
-              counts = subst (λ c. IsCount c now.sections) (sym counts) keeps.counts;
-              dumps = record {
-                shows = subst (λ l. Shows setup.design l now.waves) (sym same) keeps.dumps.shows;
-                own = ap (λ s. s.items) own ∙ keeps.dumps.own;
-                made = names ∙ ap (λ l. l ++ file ∷ []) keeps.dumps.made
-                    ∙ sym (map-append (λ (d : Made). d.name) now.dumps (record { name = file; bytes = vcd_of wires } ∷ []));
-              };
+              recorded = λ name. go-on made names now (dump ∷ []) keeps adds name journal;
+              count = omega (arith, stand, created, length-append now.dumps (dump ∷ []));
             };
-            replied = (line, ap (λ l. now.out ++ l) (sym line-is), replied);
-            recorded = λ name was. subst (λ l. new_made (session_files name (journal_of setup now) l)) (one-more now) (go-on now (dump ∷ []) keeps adds name (journal_of setup now) was);
-          }
-
-          -- or a part of it
-          pub reply-stopped : (files a a' : ℕ) (stop : Stop) → files ≡ count + 1 → RepliesStops a a' stop → GrowsPart out new_out line
-              → Stops setup desk (Vcd file ∷ []) out new_out made new_made files stop
-          reply-stopped files a a' stop created cause replied units now session keeps =
-              let next : Course = with_dump now file wires in
-              let journal : List ℕ = journal_of setup now in
-              let all : List Made = now.dumps ++ dump ∷ [] in
-              let stand = count-is now count keeps many in
-              record {
-                replies = now.out ++ replied.0;
-                journal = journal;
-                dumps = all;
-                broken = within-map units (Vcd file ∷ []) (λ done later. IsBroken setup done later (now.out ++ replied.0) journal all) (BreaksAt setup (now.out ++ replied.0) journal all stop)
-                    (breaks-in-reply setup (now.out ++ replied.0) journal all a a' stop cause)
-                    (broken-at setup units (Vcd file) now next (now.out ++ replied.0) journal all session (leads now keeps)
-                    (prefix-more now.out replied.0) (prefix-same journal)
-                    (prefix-behind now.out replied.0 (vcd_line file (replies.Made (length wires))) (subst (IsPrefix replied.0) line-is replied.1)) (prefix-same journal)
-                    (dump ∷ [], refl) (subst (AreBegun all) (one-more now) (begun-same all)) (inr refl) (inr (one-more now)) (λ o j. one-more now));
-                replied = (replied.0, refl, replied.2);
-                recorded = λ name. go-on now (dump ∷ []) keeps adds name journal;
-                count = omega (arith, stand, created, length-append now.dumps (dump ∷ []));
-              }
+        state = of-reply before.outputs.files files before.outputs.replies faults stop is cause;
+      }

@@ -5,18 +5,19 @@ use Rattle.std.proofs.lemmas.List.{length-replicate, get_or-replicate}
 use Rattle.std.proofs.lemmas.List.Elements.{All-nil, All-replicate}
 use Rattle.cell_store.specs.Recency.{Contents, contents}
 use Rattle.journal_meaning.specs.Allowed.{IsRight}
-use Rattle.design.specs.Joined.{Joined}
-use Rattle.unit_answers.specs.declared.sizes.Sizes.{Sizes}
-use Rattle.unit_answers.specs.Stores.{setup_of, AreStores, cells_of}
+use Rattle.unit_answers.specs.Stores.{IsSized, AreStores, cells_of}
+use Rattle.session_loop.specs.declared.setting.Setting.{Setting}
+use Rattle.session_loop.specs.Serving.{memo_of}
 
 -- they are stores of the memo
-pub empty-are-stores : (design : Joined) (sizes : Sizes) (stores : List Contents) → stores ≡ replicate sizes.shards (contents sizes.cells []) → AreStores (setup_of design sizes) stores
-empty-are-stores design sizes stores are =
-    let none = contents sizes.cells [] in
-    subst (AreStores (setup_of design sizes)) (sym are) (record {
-      count = length-replicate sizes.shards none;
-      capacity = All-replicate (λ (s : Contents). s.capacity ≡ sizes.cells) sizes.shards none refl;
-      right = All-replicate (λ (s : Contents). All (IsRight design.circuit) s.cells) sizes.shards none (All-nil (IsRight design.circuit));
+pub empty-are-stores : (setting : Setting) (stores : List Contents) → IsSized (memo_of setting) → stores ≡ replicate setting.sizes.shards (contents setting.sizes.cells []) → AreStores (memo_of setting) stores
+empty-are-stores setting stores sized are =
+    let none = contents setting.sizes.cells [] in
+    subst (AreStores (memo_of setting)) (sym are) (record {
+      sized = sized;
+      count = length-replicate setting.sizes.shards none;
+      capacity = All-replicate (λ (s : Contents). s.capacity ≡ setting.sizes.cells) setting.sizes.shards none refl;
+      right = All-replicate (λ (s : Contents). All (IsRight setting.design.now.circuit) s.cells) setting.sizes.shards none (All-nil (IsRight setting.design.now.circuit));
     })
 
 -- no cell is stored

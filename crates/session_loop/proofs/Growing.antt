@@ -1,24 +1,40 @@
 -- Texts that grow, piece by piece.
 use Rattle.std.proofs.Common.{◌≡◌, ℕ, zero, suc, List, [], ◌∷◌, ◌++◌, take, drop, Result, Ok, Err, refl, sym, ap, subst, ◌∙◌, append_assoc, append-nil}
-use Rattle.std.specs.Prelude.{OnOk, OnErr, IfErr, IsErrAnd}
+use Rattle.std.specs.Prelude.{IsErrAnd}
 use Rattle.std.proofs.lemmas.List.{take-append-drop}
 use Rattle.backsim_io.specs.Counts.{Grows, GrowsByPrefix}
 use Rattle.owned_text.specs.Made.{Made}
 use Rattle.backsim_io.specs.FilesInMemory.{files_with, FileGrows, FileGrowsByPrefix}
+use Rattle.backsim_io.specs.State.{FilesState}
 use Rattle.session_meaning.specs.Broken.{IsPrefix}
-use Rattle.session_meaning.proofs.Journals.{prefix-same, prefix-again}
+use Rattle.session_meaning.proofs.Journals.{prefix-again}
+use Rattle.session_loop.specs.declared.stop.Stop.{Stop}
 use Rattle.session_loop.specs.Halting.{session_files}
+use Rattle.session_loop.specs.Outside.{JournalStops}
+use Rattle.session_loop.specs.inner.Outside.{RepliesStops}
+use Rattle.session_loop.specs.inner.Pieces.{RecordedPart, Records, RecordsBehind, RepliedPart, Replies, RepliesBehind}
 use Rattle.session_loop.specs.inner.Growing.{GoesOn, FilesGoOn, GrowsPart, FileGrowsPart, KeepsBack}
 
--- what holds anyhow
-pub on-err : {T E X : Type 0} (result : Result T E) → X → OnErr result X
-on-err (Ok x) is = tt
-on-err (Err e) is = is
+-- the stop that a result hands on
+pub handed-part : {A : Type 0} {lines : List ℕ} {old new : FilesState} {made new_made : List Made → Type 0} {was : Stop} (result : Result A Stop) → IsErrAnd result (λ e. e ≡ was)
+    → RecordedPart lines was old made new new_made → Records lines result old made new new_made
+handed-part (Ok x) handed part = absurd handed
+handed-part {A} {lines} {old} {new} {made} {new_made} (Err e) handed part = subst (λ stop. RecordedPart lines stop old made new new_made) (sym handed) part
 
--- what holds of the error that is handed on
-pub err-is : {T E : Type 0} (P : E → Type 0) (was : E) (result : Result T E) → IsErrAnd result (λ e. e ≡ was) → P was → IfErr result P
-err-is P was (Ok x) handed holds = tt
-err-is P was (Err e) handed holds = subst P (sym handed) holds
+pub handed-behind : {A : Type 0} (kept lines left : List ℕ) {old new : FilesState} {made new_made : List Made → Type 0} {was : Stop} (result : Result A Stop) → IsErrAnd result (λ e. e ≡ was)
+    → RecordedPart (kept ++ lines) was old made new new_made → RecordsBehind kept lines left result old made new new_made
+handed-behind kept lines left (Ok x) handed part = absurd handed
+handed-behind {A} kept lines left {old} {new} {made} {new_made} (Err e) handed part = subst (λ stop. RecordedPart (kept ++ lines) stop old made new new_made) (sym handed) part
+
+pub handed-replies : {A : Type 0} {text : List ℕ} {old new : ℕ} {out new_out : List ℕ → Type 0} {was : Stop} (result : Result A Stop) → IsErrAnd result (λ e. e ≡ was)
+    → RepliedPart text was old out new new_out → Replies text result old out new new_out
+handed-replies (Ok x) handed part = absurd handed
+handed-replies {A} {text} {old} {new} {out} {new_out} (Err e) handed part = subst (λ stop. RepliedPart text stop old out new new_out) (sym handed) part
+
+pub handed-replies-behind : {A : Type 0} (kept text left : List ℕ) {old new : ℕ} {out new_out : List ℕ → Type 0} {was : Stop} (result : Result A Stop) → IsErrAnd result (λ e. e ≡ was)
+    → RepliedPart (kept ++ text) was old out new new_out → RepliesBehind kept text left result old out new new_out
+handed-replies-behind kept text left (Ok x) handed part = absurd handed
+handed-replies-behind {A} kept text left {old} {new} {out} {new_out} (Err e) handed part = subst (λ stop. RepliedPart (kept ++ text) stop old out new new_out) (sym handed) part
 
 pub grows-none : (w : List ℕ → Type 0) → Grows w w []
 grows-none w before h = subst w (sym (append-nil before)) h
@@ -49,9 +65,6 @@ part-of u v whole g = (take g.0 whole, (drop g.0 whole, sym (take-append-drop g.
 pub part-none : (w : List ℕ → Type 0) (whole : List ℕ) → GrowsPart w w whole
 part-none w whole = ([], (whole, refl), grows-none w)
 
-pub part-whole : (u v : List ℕ → Type 0) (whole : List ℕ) → Grows u v whole → GrowsPart u v whole
-part-whole u v whole g = (whole, prefix-same whole, g)
-
 pub part-after : (u v w : List ℕ → Type 0) (done whole : List ℕ) → Grows u v done → GrowsPart v w whole → GrowsPart u w (done ++ whole)
 part-after u v w done whole f p = (done ++ p.0, (p.1.0, ap (λ l. done ++ l) p.1.1 ∙ sym (append_assoc done p.0 p.1.0)), grows-more u v w done p.0 f p.2)
 
@@ -63,9 +76,6 @@ file-part-of u v slot whole g = (take g.0 whole, (drop g.0 whole, sym (take-appe
 
 pub file-part-none : (m : List Made → Type 0) (slot : ℕ) (whole : List ℕ) → FileGrowsPart m m slot whole
 file-part-none m slot whole = ([], (whole, refl), file-none m slot)
-
-pub file-part-whole : (u v : List Made → Type 0) (slot : ℕ) (whole : List ℕ) → FileGrows u v slot whole → FileGrowsPart u v slot whole
-file-part-whole u v slot whole g = (whole, prefix-same whole, g)
 
 pub file-part-after : (u v w : List Made → Type 0) (slot : ℕ) (done whole : List ℕ) → FileGrows u v slot done → FileGrowsPart v w slot whole → FileGrowsPart u w slot (done ++ whole)
 file-part-after u v w slot done whole f p = (done ++ p.0, (p.1.0, ap (λ l. done ++ l) p.1.1 ∙ sym (append_assoc done p.0 p.1.0)), file-more u v w slot done p.0 f p.2)
@@ -96,21 +106,41 @@ module _ (G : List ℕ → Type 0) (a b c d : List ℕ) (f : KeepsBack G a b c) 
     }
 
     -- all of it
-    keeps-whole : H (c ++ d) → K (a ++ (b ++ d))
+    pub keeps-whole : H (c ++ d) → K (a ++ (b ++ d))
     keeps-whole g = subst K split (next f.written (c ++ d) f.grows g)
-
-    pub keeps-ok : {T E : Type 0} (r : Result T E) → OnOk r (H (c ++ d)) → OnOk r (K (a ++ (b ++ d)))
-    keeps-ok (Ok x) g = keeps-whole g
-    keeps-ok (Err e) g = g
 
   -- a part of it is written, and nothing of what is left
   module _ (P Q : List ℕ → Type 0) (next : (done whole : List ℕ) → G done → P whole → Q (done ++ whole)) (longer : (part whole : List ℕ) → IsPrefix part whole → Q part → Q whole) where
     pub keeps-part : (left whole : List ℕ) → whole ≡ (b ++ d) ++ left → P (c ++ d) → Q (a ++ whole)
     keeps-part left whole is p = longer (a ++ (b ++ d)) (a ++ whole) (left, ap (λ l. a ++ l) is ∙ sym (append_assoc a (b ++ d) left)) (subst Q split (next f.written (c ++ d) f.grows p))
 
-    pub keeps-err : {T E : Type 0} (r : Result T E) → OnErr r (P (c ++ d)) → OnErr r (Q (a ++ (b ++ d)))
-    keeps-err (Ok x) p = p
-    keeps-err (Err e) p = subst Q split (next f.written (c ++ d) f.grows p)
+-- all of it was written
+pub left-none : (G : List ℕ → Type 0) (whole left : List ℕ) → KeepsBack G [] whole left → left ≡ [] → G whole
+left-none G whole left f none = subst G (sym (append-nil f.written) ∙ ap (λ l. f.written ++ l) (sym none) ∙ f.same) f.grows
+
+-- what was kept back is written at last
+module _ {A : Type 0} (a b c d : List ℕ) where
+  pub replies-last : (u v w : List ℕ → Type 0) (f : KeepsBack (Grows u v) a b c) (old mid new : ℕ) → mid ≡ old → (result : Result A Stop) → Replies (c ++ d) result mid v new w
+      → Replies (a ++ (b ++ d)) result old u new w
+  replies-last u v w f old mid new same (Ok x) done = record {
+    written = keeps-whole (Grows u v) a b c d f (Grows v w) (Grows u w) (grows-more u v w) done.written;
+    state = done.state ∙ same;
+  }
+  replies-last u v w f old mid new same (Err stop) part = record {
+    begun = subst (GrowsPart u w) (split (Grows u v) a b c d f) (part-after u v w f.written (c ++ d) f.grows part.begun);
+    state = subst (λ n. RepliesStops n new stop) same part.state;
+  }
+
+  pub records-last : (u v w : List Made → Type 0) (f : KeepsBack (FileGrows u v 0) a b c) (old mid new : FilesState) → mid ≡ old → (result : Result A Stop) → Records (c ++ d) result mid v new w
+      → Records (a ++ (b ++ d)) result old u new w
+  records-last u v w f old mid new same (Ok x) done = record {
+    written = keeps-whole (FileGrows u v 0) a b c d f (FileGrows v w 0) (FileGrows u w 0) (file-more u v w 0) done.written;
+    state = done.state ∙ same;
+  }
+  records-last u v w f old mid new same (Err stop) part = record {
+    begun = subst (FileGrowsPart u w 0) (split (FileGrows u v 0) a b c d f) (file-part-after u v w 0 f.written (c ++ d) f.grows part.begun);
+    state = subst (λ n. JournalStops n new stop) same part.state;
+  }
 
 -- what is left to be written of a whole: at first all of it
 module _ (u : List Made → Type 0) (slot : ℕ) (whole : List ℕ) where
@@ -131,15 +161,29 @@ module _ (u : List Made → Type 0) (slot : ℕ) (whole : List ℕ) where
     left-part p =
         file-part-longer u w slot (f.written ++ part) whole (rest, sym f.same ∙ ap (λ l. f.written ++ l) parts ∙ sym (append_assoc f.written part rest)) (file-part-after u v w slot f.written part f.grows p)
 
--- what was kept back is written, and then all that comes after it
-module _ (u v w : List Made → Type 0) (slot : ℕ) (kept more : List ℕ) (f : FileGrows u v slot kept) where
-  pub keeps-nothing : {T E : Type 0} (r : Result T E) (left : List ℕ) → left ≡ [] → OnOk r (FileGrows v w slot more) → OnOk r (KeepsBack (FileGrows u w slot) kept more left)
-  keeps-nothing (Ok x) left none g = record { written = kept ++ more; grows = file-more u v w slot kept more f g; same = ap (λ l. (kept ++ more) ++ l) none ∙ append-nil (kept ++ more) }
-  keeps-nothing (Err e) left none g = g
+-- a first part of the lines is kept back already
+pub records-pushed : {A : Type 0} (old new : FilesState) (made new_made : List Made → Type 0) (kept first rest left : List ℕ) {more : List ℕ} → more ≡ kept ++ first → (result : Result A Stop)
+    → RecordsBehind more rest left result old made new new_made → RecordsBehind kept (first ++ rest) left result old made new new_made
+records-pushed old new made new_made kept first rest left is (Ok x) done = record {
+  kept = record { written = done.kept.written; grows = done.kept.grows; same = done.kept.same ∙ ap (λ l. l ++ rest) is ∙ append_assoc kept first rest };
+  state = done.state;
+}
+records-pushed old new made new_made kept first rest left is (Err stop) part = record {
+  begun = subst (FileGrowsPart made new_made 0) (ap (λ l. l ++ rest) is ∙ append_assoc kept first rest) part.begun;
+  state = part.state;
+}
 
-  pub part-follows : {T E : Type 0} (r : Result T E) → OnErr r (FileGrowsPart v w slot more) → OnErr r (FileGrowsPart u w slot (kept ++ more))
-  part-follows (Ok x) p = p
-  part-follows (Err e) p = file-part-after u v w slot kept more f p
+-- what was kept back is written, and then all that comes after it
+pub records-after : {A : Type 0} (u v w : List Made → Type 0) (kept more left : List ℕ) (old mid new : FilesState) → mid ≡ old → FileGrows u v 0 kept → left ≡ [] → (result : Result A Stop)
+    → Records more result mid v new w → RecordsBehind kept more left result old u new w
+records-after u v w kept more left old mid new same f none (Ok x) done = record {
+  kept = record { written = kept ++ more; grows = file-more u v w 0 kept more f done.written; same = ap (λ l. (kept ++ more) ++ l) none ∙ append-nil (kept ++ more) };
+  state = done.state ∙ same;
+}
+records-after u v w kept more left old mid new same f none (Err stop) part = record {
+  begun = file-part-after u v w 0 kept more f part.begun;
+  state = subst (λ n. JournalStops n new stop) same part.state;
+}
 
 -- texts that go on
 pub goes-none : (w : List ℕ → Type 0) (before : List ℕ) → GoesOn w w before before

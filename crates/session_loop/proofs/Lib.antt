@@ -1,10 +1,9 @@
 pub mod Growing
 pub mod Changes
-pub mod Named
 pub mod Breaking
 pub mod Served
-pub mod Questions
 pub mod Units
+pub mod Questions
 pub mod Taken
 pub mod Scripts
 pub mod Files

@@ -1,14 +1,15 @@
 -- A question with a batch of its own, and perhaps a memo of its own, is a unit of the session.
 use Rattle.std.proofs.Common.{◌≡◌, ℕ, ◌+◌, ◌<◌, ◌≤◌, List, [], ◌∷◌, ◌++◌, length, get_or, Option, Some, None, refl, sym, ap, subst, ◌∙◌, append_assoc, append-nil, length-append, arith}
+use Rattle.std.specs.Prelude.{IfSome}
 use Rattle.std.proofs.lemmas.List.Sums.{fold-append}
 use Rattle.cell_store.specs.Recency.{Contents}
-use Rattle.backsim_io.specs.Counts.{Grows}
 use Rattle.owned_text.specs.Made.{Made}
 use Rattle.backsim_io.specs.FilesInMemory.{FileGrows}
 use Rattle.circuit_meaning.specs.Circuit.{Circuit}
 use Rattle.journal_meaning.specs.declared.Entry.{Entry}
 use Rattle.batch_meaning.specs.Batches.{Site, Batch as BatchRecord}
-use Rattle.journal_meaning.specs.Replay.{IsLegalBatch}
+use Rattle.journal_meaning.specs.States.{fresh}
+use Rattle.journal_meaning.specs.Replay.{replay, IsLegalBatch}
 use Rattle.journal_meaning.specs.Sections.{Asks, Forces, SectionEntries, cells_left, cells_after}
 use Rattle.journal_text.specs.Spelling.{section_lines}
 use Rattle.journal_text.specs.declared.sections.SectionKind.TheVariants.{Batch, Held}
@@ -24,22 +25,37 @@ use Rattle.design.specs.Joined.{Joined}
 use Rattle.session_meaning.specs.declared.Verdict.{Verdict}
 use Rattle.session_meaning.specs.declared.Verdict.TheVariants.{Ask, Unknown, Past, Bad}
 use Rattle.session_meaning.specs.Verdicts.{site_of, stuck_verdict}
-use Rattle.session_meaning.specs.Session.{Setup, Course, question_batch, held_sections, own_sections, with_section, with_sections}
+use Rattle.session_meaning.specs.Session.{Setup, Course, IsServed, question_batch, held_sections, own_sections, with_section, with_sections}
 use Rattle.session_meaning.specs.Questions.{IsOwnMemo}
 use Rattle.session_meaning.specs.StuckSignals.{held_batch, IsHeldMemo}
 use Rattle.session_meaning.specs.Broken.{journal_of}
 use Rattle.session_meaning.proofs.Journals.{journal-more}
 use Rattle.session_loop.specs.declared.desk.Counts.{Counts}
 use Rattle.session_loop.specs.declared.desk.Desk.{Desk}
+use Rattle.session_loop.specs.declared.desk.Dumps.{Dumps}
+use Rattle.session_loop.specs.declared.setting.Setting.{Setting}
 use Rattle.session_loop.specs.declared.stop.Stop.{Stop}
 use Rattle.unit_answers.specs.Stores.{cells_of}
 use Rattle.unit_answers.specs.Done.{IsQuestionDone}
-use Rattle.session_loop.specs.inner.Desks.{IsCount, IsCounted, IsHeldCounted, Keeps}
-use Rattle.session_loop.specs.inner.Serving.{Serves, Stops, IsAnswered, forced_sections, held_text}
+use Rattle.session_loop.specs.inner.Desks.{IsCount, IsCounted, IsHeldCounted, IsReady, Keeps}
+use Rattle.session_loop.specs.Serving.{memo_of, session_of}
+use Rattle.session_loop.specs.Outside.{Seen}
+use Rattle.session_loop.specs.inner.Serving.{Serves, Stops, UnitsServed, UnitsStopped, held_text}
 use Rattle.session_loop.proofs.Growing.{file-none}
-use Rattle.session_loop.proofs.Served.{WritesPart, counts-more, cells-more, kept-dumps, sections-served, sections-stopped}
+use Rattle.session_loop.proofs.Served.{WritesAll, WritesPart, counts-more, cells-more, kept-dumps, sections-served, sections-stopped, unit-served, kept-desk}
 
 -- The section of a memo of its own, if there is one.
+
+-- it is that of this batch
+abbrev pub forced_sections : BatchRecord → List (List Entry) → List SectionEntries
+forced_sections own [] = []
+forced_sections own (es ∷ lists) = record { purpose = Forces own; lists = es ∷ lists } ∷ []
+
+-- A question with a batch of its own was answered by this text and these lists, whatever was served before, and by those of a memo of its
+-- own, if it had one. The stores are as the lists leave them.
+pub record IsAnswered (setup : Setup) (desk : Desk) (unit : ScriptUnit) (batch own : BatchRecord) (text : List ℕ) (lists own_lists : List (List Entry)) (left : List Contents) : Type 0 where
+  pub serves : (now : Course) → Keeps setup desk now → IsServed setup now unit (with_sections (with_section now (Asks batch) lists text) (forced_sections own own_lists))
+  pub leaves : (shard : ℕ) → shard < setup.shards → cells_of left shard ≡ (replay (fresh (cells_of desk.stores.items shard)) (get_or lists shard [])).cells
 
 -- where there is none, nothing is added
 sections-none : (now : Course) → with_sections now [] ≡ now
@@ -73,7 +89,7 @@ module _ (setup : Setup) where
   held-journal now own [] number is = ap (journal_of setup) (sections-none now) ∙ sym (append-nil (journal_of setup now))
   held-journal now own (es ∷ lists) number is = journal-more setup now (Forces own) (es ∷ lists) [] number is
 
-  module _ (unit : ScriptUnit) (b own : BatchRecord) (desk : Desk) (text : List ℕ) (lists held : List (List Entry)) (left : List Contents) (done : IsAnswered setup desk unit b own text lists held left) (counts : Counts) (counted : IsCounted desk.counts Batch lists counts) (out new_out : List ℕ → Type 0) (made new_made : List Made → Type 0) where
+  module _ (unit : ScriptUnit) (b own : BatchRecord) (desk : Desk) (text : List ℕ) (lists held : List (List Entry)) (left : List Contents) (done : IsAnswered setup desk unit b own text lists held left) (counts : Counts) (counted : IsCounted desk.counts Batch lists counts) (before after : Seen) where
     abbrev section : SectionEntries
     section = record { purpose = Asks b; lists = lists }
 
@@ -105,18 +121,17 @@ module _ (setup : Setup) where
       }
 
     -- all was written
-    pub question-served : (later : Desk) → IsHeldCounted counts held later.counts → later.stores.items ≡ left → later.dumps ≡ desk.dumps → Grows out new_out text
-        → FileGrows made new_made 0 question-text → Serves setup desk later (unit ∷ []) out new_out made new_made
-    question-served later same stores dumps replied recorded us now session keeps =
-        sections-served setup us unit now desk session keeps out new_out made new_made ((now.sections ++ section ∷ []) ++ forced_sections own held) text now.waves question-text
-        (done.serves now keeps) (question-journal now keeps) later (question-keeps now keeps later same stores dumps) replied recorded
+    pub question-served : (later : Desk) → IsHeldCounted counts held later.counts → later.stores.items ≡ left → later.dumps ≡ desk.dumps → WritesAll before after text question-text
+        → Serves setup desk later (unit ∷ []) before after
+    question-served later same stores dumps wrote us now session keeps =
+        sections-served setup us unit now desk session keeps before after ((now.sections ++ section ∷ []) ++ forced_sections own held) text now.waves question-text
+        (done.serves now keeps) (question-journal now keeps) later (question-keeps now keeps later same stores dumps) wrote
 
     -- a part of the reply and a part of the sections
-    pub question-stopped : (files : ℕ) (stop : Stop) → files ≡ length desk.dumps.made.items + 1
-        → WritesPart out new_out made new_made text question-text stop → Stops setup desk (unit ∷ []) out new_out made new_made files stop
-    question-stopped files stop many wrote us now session keeps =
-        sections-stopped setup us unit now desk session keeps out new_out made new_made ((now.sections ++ section ∷ []) ++ forced_sections own held) text now.waves question-text
-        (done.serves now keeps) (question-journal now keeps) stop wrote files many
+    pub question-stopped : (stop : Stop) → WritesPart before after text question-text stop → before.outputs.files.created ≡ length desk.dumps.made.items + 1 → Stops setup desk (unit ∷ []) before after stop
+    question-stopped stop wrote many us now session keeps =
+        sections-stopped setup us unit now desk session keeps before after ((now.sections ++ section ∷ []) ++ forced_sections own held) text now.waves question-text
+        (done.serves now keeps) (question-journal now keeps) stop wrote many
 
   module _ (line : ℕ) where
     -- the batch of the memo of its own where a signal is stuck and a query is asked, and else any
@@ -142,25 +157,53 @@ module _ (setup : Setup) where
     own-section (kinds.Stuck stuck) held memo = stuck-section stuck (site_of setup.design stuck) (stuck_verdict setup.design line stuck) held memo
     own-section asks held memo = subst (λ l. forced_sections (own-batch asks) l ≡ []) (sym memo) refl
 
-  -- what answers the question is a unit of the session
-  pub question-answered : (question : Question) (desk : Desk) (reply : QuestionReply) (lists held : List (List Entry)) (left : List Contents)
-      → IsQuestionDone setup question.line question.asks desk.stores.items reply lists held left
-      → IsAnswered setup desk (units.Question question) (question_batch setup question.line question.asks) (own-batch question.line question.asks) (question_lines question.asks reply) lists held left
-  question-answered question desk reply lists held left done =
-      let batch : BatchRecord = question_batch setup question.line question.asks in
-      record {
-        serves = λ now keeps. record {
-          lists = lists;
-          own_lists = held;
-          reply = reply;
-          count = done.count;
-          legal = λ shard h. subst (λ cells. IsLegalBatch batch shard cells (get_or lists shard [])) (keeps.cells shard h) (done.legal shard h);
-          memo = done.memo;
-          right = done.right;
-          leads = ap (with_sections (with_section now (Asks batch) lists (question_lines question.asks reply))) (own-section question.line question.asks held done.memo);
-        };
-        leaves = done.leaves;
-      }
+-- what answers the question, by this text, is a unit of the session
+pub question-answered : (setting : Setting) (names : List (List ℕ)) (question : Question) (desk : Desk) (text : List ℕ) (reply : QuestionReply) (lists held : List (List Entry)) (left : List Contents)
+    → IsQuestionDone (memo_of setting) question.line question.asks desk.stores.items reply lists held left → text ≡ question_lines question.asks reply
+    → (let setup = session_of setting names in
+    IsAnswered setup desk (units.Question question) (question_batch setup question.line question.asks) (own-batch setup question.line question.asks) text lists held left)
+question-answered setting names question desk text reply lists held left done is =
+    let setup : Setup = session_of setting names in
+    let batch : BatchRecord = question_batch setup question.line question.asks in
+    let own : BatchRecord = own-batch setup question.line question.asks in
+    subst (λ (t : List ℕ). IsAnswered setup desk (units.Question question) batch own t lists held left) (sym is) (record {
+      serves = λ now keeps. record {
+        lists = lists;
+        own_lists = held;
+        reply = reply;
+        count = done.count;
+        legal = λ shard h. subst (λ cells. IsLegalBatch batch shard cells (get_or lists shard [])) (keeps.cells shard h) (done.legal shard h);
+        memo = done.memo;
+        right = done.right;
+        leads = ap (with_sections (with_section now (Asks batch) lists (question_lines question.asks reply))) (own-section setup question.line question.asks held done.memo);
+      };
+      leaves = done.leaves;
+    })
+
+-- The question with all that is promised of it.
+module _ (setting : Setting) (desk : Desk) (before after : Seen) (ready : IsReady (memo_of setting) desk before.outputs.files)
+    (question : Question) (text : List ℕ) (reply : QuestionReply) (lists held : List (List Entry)) (left : List Contents)
+    (done : IsQuestionDone (memo_of setting) question.line question.asks desk.stores.items reply lists held left) (is : text ≡ question_lines question.asks reply)
+    (counts : Counts) (counted : IsCounted desk.counts Batch lists counts) where
+  abbrev pub asked-lines : List ℕ
+  asked-lines = section_lines (record { kind = Batch; number = counts.sections; shards = lists }) ++ held_text (counts.sections + 1) held
+
+  pub asked-served : (later : Desk) → IsHeldCounted counts held later.counts → later.stores.items ≡ left → later.dumps ≡ desk.dumps → IfSome later.last_site (λ last. last ≡ setting.design.now)
+      → WritesAll before after text asked-lines → UnitsServed setting desk later (units.Question question ∷ []) before after
+  asked-served later same stores dumps site wrote =
+      unit-served setting desk before after ready later (units.Question question) text asked-lines
+      (kept-desk setting desk before after ready later left done.stores stores dumps site) (ap (λ (d : Dumps). d.made.items) dumps) wrote
+      (λ names. let setup : Setup = session_of setting names in
+      question-served setup (units.Question question) (question_batch setup question.line question.asks) (own-batch setup question.line question.asks) desk text lists held left
+      (question-answered setting names question desk text reply lists held left done is) counts counted before after later same stores dumps wrote)
+
+  pub asked-stopped : (stop : Stop) → WritesPart before after text asked-lines stop → UnitsStopped setting desk (units.Question question ∷ []) before after stop
+  asked-stopped stop wrote = record {
+    stopped = λ names. let setup : Setup = session_of setting names in
+        question-stopped setup (units.Question question) (question_batch setup question.line question.asks) (own-batch setup question.line question.asks) desk text lists held left
+        (question-answered setting names question desk text reply lists held left done is) counts counted before after stop wrote ready.count;
+    state = wrote.state;
+  }
 
 -- a memo of its own has one shard at most
 stuck-few : (c : Circuit) (site : Option Site) (verdict : Verdict) (held : List (List Entry)) → IsHeldMemo c site verdict held → length held ≤ 1

@@ -1,5 +1,7 @@
 -- A script that was served, or in which the session stopped.
 use Rattle.std.proofs.Common.{◌≡◌, ℕ, ◌+◌, ◌<◌, ◌≤◌, List, [], ◌++◌, length, take, drop, Option, Some, None, refl, sym, ap, subst, ◌∙◌, append_assoc, append-nil, length-append, length-take, arith, ◌⊎◌, inl, inr}
+use Rattle.std.specs.Prelude.{Vec}
+use Rattle.std.specs.Global.{Global}
 use Rattle.std.proofs.lemmas.List.{take-append-drop, take-append-le, take-take, take_all}
 use Rattle.std.specs.Io.KnownBytes.{Consumes, IsAtEnd}
 use Rattle.std.proofs.KnownBytes.{Consumes-trans}
@@ -7,21 +9,25 @@ use Rattle.owned_text.specs.Made.{Made}
 use Rattle.backsim_io.specs.FilesInMemory.{ConsumesUpTo}
 use Rattle.query_lines.specs.declared.unit.Unit.{Unit as ScriptUnit}
 use Rattle.query_lines.specs.Reading.{script_units, completed_units}
-use Rattle.query_lines.specs.Readers.{Reader, HasRead}
+use Rattle.query_lines.specs.Readers.{HasRead}
 use Rattle.query_lines.proofs.Completed.{given-completed}
-use Rattle.session_meaning.specs.Session.{Setup, Opened, first_course, IsSession, IsSessionOf}
+use Rattle.session_meaning.specs.Session.{Setup, Opened, first_course, IsSession}
 use Rattle.session_meaning.specs.Broken.{journal_of, IsCutOff}
 use Rattle.session_loop.specs.declared.desk.Desk.{Desk}
-use Rattle.session_loop.specs.declared.desk.LastBatch.{LastBatch}
+use Rattle.session_loop.specs.declared.script.Script.{Script}
+use Rattle.session_loop.specs.declared.setting.Setting.{Setting}
 use Rattle.session_loop.specs.declared.stop.Stop.{Stop}
 use Rattle.session_loop.specs.declared.stop.Stop.TheVariants.{ScriptUnread, ScriptTooLong, RepliesUnwritten, JournalUnwritten, DumpUnmade, DumpUnwritten, DumpUnfinished, OutOfMemory}
+use Rattle.cell_store.specs.Recency.{Contents}
 use Rattle.unit_answers.specs.Stores.{cells_of}
-use Rattle.session_loop.specs.inner.Desks.{Shows, Keeps as KeepsDesk, no_counts}
-use Rattle.session_loop.specs.Outside.{Outputs, UnitsStop}
-use Rattle.session_loop.specs.inner.Serving.{BreaksAt, Within, Serves, StopsAfter, TakesServed, TakesStopped, EndsServed, EndsStopped, HasServed, Wrote}
-use Rattle.session_loop.specs.Serving.{BreaksIn, IsServedUntil, IsStopped}
+use Rattle.session_loop.specs.inner.Desks.{IsReady, Keeps as KeepsDesk, no_counts}
+use Rattle.session_loop.specs.Outside.{Outputs, Seen, UnitsStop}
+use Rattle.session_loop.specs.inner.Scripts.{HasTaken, BytesServed, BytesStopped, EndServed, EndStopped, HasServed, Wrote, ScriptServed}
+use Rattle.session_loop.specs.inner.Serving.{BreaksAt, Within, StopsAfter, UnitsServed}
+use Rattle.session_loop.specs.Serving.{BreaksIn, IsServedUntil, IsStopped, memo_of, session_of}
 use Rattle.session_loop.proofs.Growing.{goes-more, files-more}
-use Rattle.session_loop.proofs.Served.{count-of, serves-none, serves-more, stops-now}
+use Rattle.session_loop.proofs.Served.{count-of, stops-now}
+use Rattle.session_loop.proofs.Units.{units-first, units-more}
 
 -- the source is at its end, and gave nothing more
 took-none : (script : List ℕ) (first left next : Option (List ℕ)) (bytes into : List ℕ) (n : ℕ) → first ≡ Some script → Consumes first left bytes → Consumes left next (take n into) → n ≡ 0 → Consumes (Some script) next (bytes ++ [])
@@ -82,42 +88,78 @@ breaks-there setup script left before last ahead units more says read one block 
   broken = w.broken;
 }
 
-module _ (setup : Setup) (desk : Desk) (fresh : KeepsDesk setup desk first_course) where
+-- a session begins
+abbrev pub first-desk : Vec Contents Global → Vec (List ℕ) Global → Vec (List ℕ) Global → Desk
+first-desk stores names none = record { stores = stores; counts = no_counts; dumps = record { last = None; own = names; made = none }; last_site = None }
+
+fresh-desk : (setting : Setting) (stores : Vec Contents Global) (names none : Vec (List ℕ) Global) → ((shard : ℕ) → shard < setting.sizes.shards → cells_of stores.items shard ≡ []) → none.items ≡ []
+    → KeepsDesk (session_of setting names.items) (first-desk stores names none) first_course
+fresh-desk setting stores names none empty made = record {
+  cells = empty;
+  counts = record { sections_are = refl; batches = refl; fills = refl; evictions = refl };
+  dumps = record { shows = tt; own = refl; made = made };
+}
+
+module _ (setting : Setting) where
+  abbrev horizon : ℕ
+  horizon = setting.design.now.circuit.horizon
+
   -- nothing was read
-  pub has-none : (first : Option (List ℕ)) (reader : Reader) (out : List ℕ → Type 0) (made : List Made → Type 0) → HasRead setup.design.circuit.horizon [] [] reader → HasServed setup 0 first first reader desk desk out out made made
-  has-none first reader out made read = record {
+  pub has-none : (first : Option (List ℕ)) (at : Script) (desk : Desk) (before : Seen) → at.taken ≡ 0 → HasRead horizon [] [] at.reader → IsReady (memo_of setting) desk before.outputs.files
+      → HasServed setting first first at desk desk before before
+  has-none first at desk before none-taken read ready = record {
     bytes = [];
-    long = refl;
+    long = sym none-taken;
     took = none first;
     units = [];
     read = read;
-    served = serves-none setup desk out made;
+    served = units-first desk before ready;
   }
     where
       none : (o : Option (List ℕ)) → Consumes o o []
       none None = tt
       none (Some xs) = refl
 
-  -- a block more was taken and served
-  pub has-more : (taken now : ℕ) (first left next : Option (List ℕ)) (a b : Reader) (x y : Desk) (n m : ℕ) (into rest : List ℕ) (out mid new_out : List ℕ → Type 0) (made mid_made new_made : List Made → Type 0)
-      → HasServed setup taken first left a desk x out mid made mid_made → Consumes left next (take n into) → m ≡ n → n ≤ length into → now ≡ taken + length (take m (into ++ rest))
-      → TakesServed setup a b (take m (into ++ rest)) x y mid new_out mid_made new_made → HasServed setup now first next b desk y out new_out made new_made
-  has-more taken now first left next a b x y n m into rest out mid new_out made mid_made new_made so_far took same within is takes =
-      let bytes : take m (into ++ rest) ≡ take n into = ap (λ (k : ℕ). take k (into ++ rest)) same ∙ take-append-le n into rest within in
-      record {
-        bytes = so_far.bytes ++ take m (into ++ rest);
-        long = length-append so_far.bytes (take m (into ++ rest)) ∙ ap (λ k. k + length (take m (into ++ rest))) so_far.long ∙ sym is;
-        took = Consumes-trans first left next so_far.bytes (take m (into ++ rest)) so_far.took (subst (Consumes left next) (sym bytes) took);
-        units = so_far.units ++ takes.units;
-        read = takes.reads setup.design.circuit.horizon so_far.bytes so_far.units so_far.read;
-        served = serves-more setup desk x y so_far.units takes.units out mid new_out made mid_made new_made so_far.served takes.served;
-      }
+  module _ (first left : Option (List ℕ)) (at : Script) (desk x : Desk) (before mid : Seen) (so_far : HasServed setting first left at desk x before mid) where
+    -- what was read so far
+    pub has-taken : HasTaken horizon at.taken at.reader
+    has-taken = (so_far.bytes, so_far.units, so_far.read, so_far.long)
+
+    -- a block more was taken and served
+    pub has-more : (next : Option (List ℕ)) (b : Script) (y : Desk) (n m : ℕ) (into rest : List ℕ) (after : Seen) → Consumes left next (take n into) → m ≡ n → n ≤ length into
+        → BytesServed setting at b (take m (into ++ rest)) x y mid after → HasServed setting first next b desk y before after
+    has-more next b y n m into rest after took same within takes =
+        let bytes : take m (into ++ rest) ≡ take n into = ap (λ (k : ℕ). take k (into ++ rest)) same ∙ take-append-le n into rest within in
+        record {
+          bytes = so_far.bytes ++ take m (into ++ rest);
+          long = length-append so_far.bytes (take m (into ++ rest)) ∙ ap (λ k. k + length (take m (into ++ rest))) so_far.long ∙ sym takes.taken;
+          took = Consumes-trans first left next so_far.bytes (take m (into ++ rest)) so_far.took (subst (Consumes left next) (sym bytes) took);
+          units = so_far.units ++ takes.units;
+          read = takes.reads horizon so_far.bytes so_far.units so_far.read;
+          served = units-more desk x y so_far.units takes.units before mid after so_far.served takes.served;
+        }
+
+    -- how much was read
+    pub read-some : (script : List ℕ) (next : Option (List ℕ)) (more : List ℕ) (most : ℕ) → first ≡ Some script → Consumes left next more → at.taken + length more ≤ most → ConsumesUpTo (Some script) next most
+    read-some script next more most is took small =
+        (so_far.bytes ++ more, Consumes-trans (Some script) left next so_far.bytes more (subst (λ f. Consumes f left so_far.bytes) is so_far.took) took, omega (arith, length-append so_far.bytes more, so_far.long, small))
+
+wrote-map : (setup : Setup) (are such : List ℕ → List ℕ → List Made → Type 0) (before after : Seen) → ((replies journal : List ℕ) (dumps : List Made) → are replies journal dumps → such replies journal dumps)
+    → Wrote setup are before after → Wrote setup such before after
+wrote-map setup are such before after f w =
+    record { replies = w.replies; journal = w.journal; dumps = w.dumps; are = f w.replies w.journal w.dumps w.are; replied = w.replied; recorded = w.recorded; count = w.count }
+
+module _ (setting : Setting) (stores : Vec Contents Global) (names none : Vec (List ℕ) Global) (empty : (shard : ℕ) → shard < setting.sizes.shards → cells_of stores.items shard ≡ []) (none-is : none.items ≡ []) where
+  abbrev setup : Setup
+  setup = session_of setting names.items
+
+  abbrev desk : Desk
+  desk = first-desk stores names none
 
   -- units were served from the session's start
-  wrote-session : (units : List ScriptUnit) (later : Desk) (out new_out : List ℕ → Type 0) (made new_made : List Made → Type 0) (files : ℕ) → files ≡ length later.dumps.made.items + 1
-      → Serves setup desk later units out new_out made new_made → Wrote setup (IsSession setup units) out new_out made new_made files
-  wrote-session units later out new_out made new_made files many served =
-      let s = served [] first_course Opened fresh in
+  wrote-session : (units : List ScriptUnit) (later : Desk) (before after : Seen) → UnitsServed setting desk later units before after → Wrote setup (IsSession setup units) before after
+  wrote-session units later before after served =
+      let s = served.served names.items [] first_course Opened (fresh-desk setting stores names none empty none-is) in
       record {
         replies = s.next.out;
         journal = journal_of setup s.next;
@@ -125,167 +167,121 @@ module _ (setup : Setup) (desk : Desk) (fresh : KeepsDesk setup desk first_cours
         are = record { course = s.next; served = s.session; out_is = refl; journal_is = refl; dumps_are = refl };
         replied = s.replied;
         recorded = s.recorded;
-        count = count-of setup later s.next files s.keeps many;
+        count = count-of setup later s.next after.outputs.files.created s.keeps served.ready.count;
       }
 
-  wrote-map : (are such : List ℕ → List ℕ → List Made → Type 0) (out new_out : List ℕ → Type 0) (made new_made : List Made → Type 0) (files : ℕ)
-      → ((replies journal : List ℕ) (dumps : List Made) → are replies journal dumps → such replies journal dumps)
-      → Wrote setup are out new_out made new_made files → Wrote setup such out new_out made new_made files
-  wrote-map are such out new_out made new_made files f w =
-      record { replies = w.replies; journal = w.journal; dumps = w.dumps; are = f w.replies w.journal w.dumps w.are; replied = w.replied; recorded = w.recorded; count = w.count }
-
   -- units were served, and further ones, and then the session broke off
-  wrote-broken : (x : Desk) (units first more : List ScriptUnit) (out mid new_out : List ℕ → Type 0) (made mid_made new_made : List Made → Type 0) (files : ℕ) (stop : Stop)
-      → Serves setup desk x units out mid made mid_made → StopsAfter setup x first more mid new_out mid_made new_made files stop
-      → Wrote setup (λ replies journal dumps. Within (units ++ first) more (λ done later. BreaksAt setup replies journal dumps stop done later)) out new_out made new_made files
-  wrote-broken x units first more out mid new_out made mid_made new_made files stop served stopped =
-      let s = served [] first_course Opened fresh in
+  wrote-broken : (x : Desk) (units first more : List ScriptUnit) (before mid after : Seen) (stop : Stop) → UnitsServed setting desk x units before mid → StopsAfter setup x first more mid after stop
+      → Wrote setup (λ replies journal dumps. Within (units ++ first) more (λ done later. BreaksAt setup replies journal dumps stop done later)) before after
+  wrote-broken x units first more before mid after stop served stopped =
+      let s = served.served names.items [] first_course Opened (fresh-desk setting stores names none empty none-is) in
       let g = stopped units s.next s.session s.keeps in
       record {
         replies = g.replies;
         journal = g.journal;
         dumps = g.dumps;
         are = g.broken;
-        replied = goes-more out mid new_out [] s.next.out g.replies s.replied g.replied;
-        recorded = files-more made mid_made new_made (journal_of setup first_course) (journal_of setup s.next) g.journal [] s.next.dumps g.dumps s.recorded g.recorded;
+        replied = goes-more before.written mid.written after.written [] s.next.out g.replies s.replied g.replied;
+        recorded = files-more before.made mid.made after.made (journal_of setup first_course) (journal_of setup s.next) g.journal [] s.next.dumps g.dumps s.recorded g.recorded;
         count = g.count;
       }
 
-  module _ (script : List ℕ) (first : Option (List ℕ)) (is : first ≡ Some script) where
+  module _ (first left next : Option (List ℕ)) (at : Script) (x : Desk) (before mid : Seen) (so_far : HasServed setting first left at desk x before mid) (script : List ℕ) (is : first ≡ Some script) where
     -- the script ended, and what was left of it was served
-    pub all-served : (taken : ℕ) (left next : Option (List ℕ)) (n : ℕ) (into : List ℕ) (reader : Reader) (x y : Desk) (out mid new_out : List ℕ → Type 0) (made mid_made new_made : List Made → Type 0) (files : ℕ)
-        → HasServed setup taken first left reader desk x out mid made mid_made → Consumes left next (take n into) → n ≡ 0 → IsAtEnd next → files ≡ length y.dumps.made.items + 1
-        → EndsServed setup reader x y mid new_out mid_made new_made → Wrote setup (IsSessionOf setup script) out new_out made new_made files
-    all-served taken left next n into reader x y out mid new_out made mid_made new_made files so_far took none end many ends =
-        let all = all-taken script first left next so_far.bytes into n is so_far.took took none end in
-        let horizon = setup.design.circuit.horizon in
-        subst (λ us. Wrote setup (IsSession setup us) out new_out made new_made files) (sym (ap (script_units horizon) all ∙ ends.whole horizon so_far.bytes so_far.units so_far.read))
-        (wrote-session (so_far.units ++ ends.units) y out new_out made new_made files many (serves-more setup desk x y so_far.units ends.units out mid new_out made mid_made new_made so_far.served ends.served))
+    pub all-served : (n : ℕ) (into : List ℕ) (y : Desk) (after : Seen) → Consumes left next (take n into) → n ≡ 0 → IsAtEnd next → at.taken ≤ 16777216 → EndServed setting at.reader x y mid after
+        → ScriptServed setup script next before after
+    all-served n into y after took at-none end most ends =
+        let all = all-taken script first left next so_far.bytes into n is so_far.took took at-none end in
+        record {
+          short = omega (arith, ap length all, so_far.long, most);
+          read = end;
+          wrote = subst (λ us. Wrote setup (IsSession setup us) before after) (sym (ap (script_units (horizon setting)) all ∙ ends.whole (horizon setting) so_far.bytes so_far.units so_far.read))
+              (wrote-session (so_far.units ++ ends.units) y before after (units-more desk x y so_far.units ends.units before mid after so_far.served ends.served));
+        }
 
-    pub all-short : (taken : ℕ) (left next : Option (List ℕ)) (n : ℕ) (into : List ℕ) (reader : Reader) (x : Desk) (out mid : List ℕ → Type 0) (made mid_made : List Made → Type 0)
-        → HasServed setup taken first left reader desk x out mid made mid_made → Consumes left next (take n into) → n ≡ 0 → IsAtEnd next → taken ≤ 16777216 → length script ≤ 16777216
-    all-short taken left next n into reader x out mid made mid_made so_far took none end most =
-        omega (arith, ap length (all-taken script first left next so_far.bytes into n is so_far.took took none end), so_far.long, most)
+    module _ (bound : horizon setting ≤ 1000000) where
+      -- the script ended, and the session broke off in what was left of it
+      pub end-stopped : (n : ℕ) (into : List ℕ) (after : Seen) (stop : Stop) → Consumes left next (take n into) → n ≡ 0 → IsAtEnd next → EndStopped setting at.reader x mid after stop
+          → Wrote setup (IsStopped setup script next stop) before after
+      end-stopped n into after stop took at-none end ends =
+          let all = all-taken script first left next so_far.bytes into n is so_far.took took at-none end in
+          let given = given-completed (horizon setting) so_far.bytes so_far.units at.reader so_far.read bound in
+          wrote-map setup (λ replies journal dumps. Within (so_far.units ++ []) ends.units (λ done later. BreaksAt setup replies journal dumps stop done later)) (IsStopped setup script next stop) before after
+          (λ replies journal dumps within. stopped-is setup script next mid.outputs after.outputs stop replies journal dumps ends.stopped.state
+          (breaks-there setup script next so_far.bytes [] [] (so_far.units ++ []) ends.units (λ done later. BreaksAt setup replies journal dumps stop done later)
+          (took-none script first left next so_far.bytes into n is so_far.took took at-none) (omega arith) (omega arith) (append-nil so_far.units ∙ given)
+          (elim ends.whole [
+            | inl whole ↦ inr (all, ap (λ l. l ++ ends.units) (append-nil so_far.units) ∙ sym (ap (script_units (horizon setting)) all ∙ whole (horizon setting) so_far.bytes so_far.units so_far.read))
+            | inr empty ↦ inl (ap (λ us. (so_far.units ++ []) ++ us) empty ∙ append-nil (so_far.units ++ []) ∙ append-nil so_far.units ∙ given ∙ ap (completed_units (horizon setting)) (sym (append-nil so_far.bytes)))
+          ]) within))
+          (wrote-broken x so_far.units [] ends.units before mid after stop so_far.served (stops-now setup x ends.units mid after stop (ends.stopped.stopped names.items)))
 
-    -- the script ended, and the session broke off in what was left of it
-    pub end-stopped : (taken : ℕ) (left next : Option (List ℕ)) (n : ℕ) (into : List ℕ) (reader : Reader) (x : Desk) (old new : Outputs) (stop : Stop) (out mid new_out : List ℕ → Type 0) (made mid_made new_made : List Made → Type 0) (files : ℕ)
-        → setup.design.circuit.horizon ≤ 1000000 → HasServed setup taken first left reader desk x out mid made mid_made → Consumes left next (take n into) → n ≡ 0 → IsAtEnd next → UnitsStop old new stop
-        → EndsStopped setup reader x mid new_out mid_made new_made files stop → Wrote setup (IsStopped setup script next stop) out new_out made new_made files
-    end-stopped taken left next n into reader x old new stop out mid new_out made mid_made new_made files bound so_far took none end cause ends =
-        let all = all-taken script first left next so_far.bytes into n is so_far.took took none end in
-        let horizon = setup.design.circuit.horizon in
-        let given = given-completed horizon so_far.bytes so_far.units reader so_far.read bound in
-        wrote-map (λ replies journal dumps. Within (so_far.units ++ []) ends.units (λ done later. BreaksAt setup replies journal dumps stop done later)) (IsStopped setup script next stop) out new_out made new_made files
-        (λ replies journal dumps within. stopped-is setup script next old new stop replies journal dumps cause
-        (breaks-there setup script next so_far.bytes [] [] (so_far.units ++ []) ends.units (λ done later. BreaksAt setup replies journal dumps stop done later)
-        (took-none script first left next so_far.bytes into n is so_far.took took none) (omega arith) (omega arith) (append-nil so_far.units ∙ given)
-        (elim ends.whole [
-          | inl whole ↦ inr (all, ap (λ l. l ++ ends.units) (append-nil so_far.units) ∙ sym (ap (script_units horizon) all ∙ whole horizon so_far.bytes so_far.units so_far.read))
-          | inr empty ↦ inl (ap (λ us. (so_far.units ++ []) ++ us) empty ∙ append-nil (so_far.units ++ []) ∙ append-nil so_far.units ∙ given ∙ ap (completed_units horizon) (sym (append-nil so_far.bytes)))
-        ]) within))
-        (wrote-broken x so_far.units [] ends.units out mid new_out made mid_made new_made files stop so_far.served (stops-now setup x ends.units mid new_out mid_made new_made files stop ends.stopped))
+      -- the session broke off in a block
+      pub block-stopped : (n m : ℕ) (into rest : List ℕ) (after : Seen) (stop : Stop) → Consumes left next (take n into) → m ≤ n → n ≤ length into → n ≤ 4096
+          → BytesStopped setting at.reader (take m (into ++ rest)) x mid after stop → Wrote setup (IsStopped setup script next stop) before after
+      block-stopped n m into rest after stop took small within block stops =
+          let unused = drop m (take n into) in
+          let ahead = stops.front_is.0 ++ unused in
+          let given : take n into ≡ ((stops.front ++ stops.last) ++ stops.front_is.0) ++ unused =
+          block-front n m into rest small within ∙ ap (λ (l : List ℕ). l ++ unused) stops.front_is.1 in
+          let gave = stops.gave (horizon setting) so_far.bytes so_far.units so_far.read in
+          wrote-map setup (λ replies journal dumps. Within (so_far.units ++ stops.first) stops.units (λ done later. BreaksAt setup replies journal dumps stop done later)) (IsStopped setup script next stop) before after
+          (λ replies journal dumps within. stopped-is setup script next mid.outputs after.outputs stop replies journal dumps stops.state
+          (breaks-there setup script next (so_far.bytes ++ stops.front) stops.last ahead (so_far.units ++ stops.first) stops.units (λ done later. BreaksAt setup replies journal dumps stop done later)
+          (subst (λ (l : List ℕ). Consumes (Some script) next l) (ap (λ (l : List ℕ). so_far.bytes ++ l) given ∙ regroup so_far.bytes stops.front stops.last stops.front_is.0 unused)
+          (Consumes-trans (Some script) left next so_far.bytes (take n into) (subst (λ (f : Option (List ℕ)). Consumes f left so_far.bytes) is so_far.took) took))
+          stops.one (few stops.front stops.last stops.front_is.0 unused given)
+          (given-completed (horizon setting) (so_far.bytes ++ stops.front) (so_far.units ++ stops.first) stops.middle gave bound)
+          (inl (given-completed (horizon setting) ((so_far.bytes ++ stops.front) ++ stops.last) ((so_far.units ++ stops.first) ++ stops.units) stops.later (stops.reads (horizon setting) (so_far.bytes ++ stops.front) (so_far.units ++ stops.first) gave) bound))
+          within))
+          (wrote-broken x so_far.units stops.first stops.units before mid after stop so_far.served (stops.stopped names.items))
+        where
+          regroup : (a b c d e : List ℕ) → a ++ (((b ++ c) ++ d) ++ e) ≡ (a ++ b) ++ (c ++ (d ++ e))
+          regroup a b c d e = simp append_assoc
 
-    -- the session broke off in a block
-    pub block-stopped : (taken : ℕ) (left next : Option (List ℕ)) (reader : Reader) (x : Desk) (n m : ℕ) (into rest : List ℕ) (old new : Outputs) (stop : Stop) (out mid new_out : List ℕ → Type 0) (made mid_made new_made : List Made → Type 0) (files : ℕ)
-        → setup.design.circuit.horizon ≤ 1000000 → HasServed setup taken first left reader desk x out mid made mid_made → Consumes left next (take n into) → m ≤ n → n ≤ length into → n ≤ 4096 → UnitsStop old new stop
-        → TakesStopped setup reader (take m (into ++ rest)) x mid new_out mid_made new_made files stop → Wrote setup (IsStopped setup script next stop) out new_out made new_made files
-    block-stopped taken left next reader x n m into rest old new stop out mid new_out made mid_made new_made files bound so_far took small within block cause stops =
-        let horizon = setup.design.circuit.horizon in
-        let unused = drop m (take n into) in
-        let ahead = stops.front_is.0 ++ unused in
-        let given : take n into ≡ ((stops.front ++ stops.last) ++ stops.front_is.0) ++ unused =
-        block-front n m into rest small within ∙ ap (λ (l : List ℕ). l ++ unused) stops.front_is.1 in
-        let gave = stops.gave horizon so_far.bytes so_far.units so_far.read in
-        wrote-map (λ replies journal dumps. Within (so_far.units ++ stops.first) stops.units (λ done later. BreaksAt setup replies journal dumps stop done later)) (IsStopped setup script next stop) out new_out made new_made files
-        (λ replies journal dumps within. stopped-is setup script next old new stop replies journal dumps cause
-        (breaks-there setup script next (so_far.bytes ++ stops.front) stops.last ahead (so_far.units ++ stops.first) stops.units (λ done later. BreaksAt setup replies journal dumps stop done later)
-        (subst (λ (l : List ℕ). Consumes (Some script) next l) (ap (λ (l : List ℕ). so_far.bytes ++ l) given ∙ regroup so_far.bytes stops.front stops.last stops.front_is.0 unused)
-        (Consumes-trans (Some script) left next so_far.bytes (take n into) (subst (λ (f : Option (List ℕ)). Consumes f left so_far.bytes) is so_far.took) took))
-        stops.one (few stops.front stops.last stops.front_is.0 unused given)
-        (given-completed horizon (so_far.bytes ++ stops.front) (so_far.units ++ stops.first) stops.middle gave bound)
-        (inl (given-completed horizon ((so_far.bytes ++ stops.front) ++ stops.last) ((so_far.units ++ stops.first) ++ stops.units) stops.later (stops.reads horizon (so_far.bytes ++ stops.front) (so_far.units ++ stops.first) gave) bound))
-        within))
-        (wrote-broken x so_far.units stops.first stops.units out mid new_out made mid_made new_made files stop so_far.served stops.stopped)
-      where
-        regroup : (a b c d e : List ℕ) → a ++ (((b ++ c) ++ d) ++ e) ≡ (a ++ b) ++ (c ++ (d ++ e))
-        regroup a b c d e = simp append_assoc
+          few : (a b c d : List ℕ) → take n into ≡ ((a ++ b) ++ c) ++ d → length (b ++ (c ++ d)) ≤ 4096
+          few a b c d whole =
+              omega (arith, ap length whole, length-take n into, length-append b (c ++ d), length-append c d, length-append ((a ++ b) ++ c) d, length-append (a ++ b) c, length-append a b, within, block)
 
-        few : (a b c d : List ℕ) → take n into ≡ ((a ++ b) ++ c) ++ d → length (b ++ (c ++ d)) ≤ 4096
-        few a b c d whole =
-            omega (arith, ap length whole, length-take n into, length-append b (c ++ d), length-append c d, length-append ((a ++ b) ++ c) d, length-append (a ++ b) c, length-append a b, within, block)
+      -- the next block was not read
+      pub unread : next ≡ left → Wrote setup (IsServedUntil setup script next) before mid
+      unread same =
+          wrote-map setup (IsSession setup so_far.units) (IsServedUntil setup script next) before mid
+          (λ replies journal dumps session. record {
+            taken = so_far.bytes;
+            took = subst (λ o. Consumes (Some script) o so_far.bytes) (sym same) (subst (λ f. Consumes f left so_far.bytes) is so_far.took);
+            served = subst (λ us. IsSession setup us replies journal dumps) (given-completed (horizon setting) so_far.bytes so_far.units at.reader so_far.read bound) session;
+          })
+          (wrote-session so_far.units x before mid so_far.served)
 
-    -- the next block was not read
-    pub unread : (taken : ℕ) (left next : Option (List ℕ)) (reader : Reader) (x : Desk) (out mid : List ℕ → Type 0) (made mid_made : List Made → Type 0) (files : ℕ)
-        → setup.design.circuit.horizon ≤ 1000000 → HasServed setup taken first left reader desk x out mid made mid_made → files ≡ length x.dumps.made.items + 1 → next ≡ left
-        → Wrote setup (IsServedUntil setup script next) out mid made mid_made files
-    unread taken left next reader x out mid made mid_made files bound so_far many same =
-        wrote-map (IsSession setup so_far.units) (IsServedUntil setup script next) out mid made mid_made files
-        (λ replies journal dumps session. record {
-          taken = so_far.bytes;
-          took = subst (λ o. Consumes (Some script) o so_far.bytes) (sym same) (subst (λ f. Consumes f left so_far.bytes) is so_far.took);
-          served = subst (λ us. IsSession setup us replies journal dumps) (given-completed setup.design.circuit.horizon so_far.bytes so_far.units reader so_far.read bound) session;
-        })
-        (wrote-session so_far.units x out mid made mid_made files many so_far.served)
+      -- more bytes were read than a script may have
+      pub cut-off : (b : Script) (y : Desk) (n m : ℕ) (into rest : List ℕ) (after : Seen) → Consumes left next (take n into) → m < n → n ≤ length into → at.taken + m ≡ 16777216
+          → BytesServed setting at b (take m (into ++ rest)) x y mid after → Wrote setup (IsCutOff setup script) before after
+      cut-off b y n m into rest after took more within limit takes =
+          let split = split-script script first left next so_far.bytes (take n into) is so_far.took took in
+          let cut = take m (into ++ rest) in
+          let script-is : script ≡ (so_far.bytes ++ cut) ++ (drop m (take n into) ++ split.0) =
+          split.1 ∙ ap (λ (l : List ℕ). (so_far.bytes ++ l) ++ split.0) (block-front n m into rest (omega (arith, more)) within)
+          ∙ regroup so_far.bytes cut (drop m (take n into)) split.0 in
+          let long : length cut ≡ m = length-take m (into ++ rest) ∙ omega (arith, more, within, length-append into rest) in
+          let whole : length (so_far.bytes ++ cut) ≡ 16777216 = length-append so_far.bytes cut ∙ omega (arith, long, so_far.long, limit) in
+          let front : take 16777216 script ≡ so_far.bytes ++ cut =
+          ap (take 16777216) script-is ∙ take-append-le 16777216 (so_far.bytes ++ cut) (drop m (take n into) ++ split.0) (omega (arith, whole)) ∙ take-whole (so_far.bytes ++ cut) 16777216 whole in
+          let units = so_far.units ++ takes.units in
+          let completed : units ≡ completed_units (horizon setting) (take 16777216 script) =
+          given-completed (horizon setting) (so_far.bytes ++ cut) units b.reader (takes.reads (horizon setting) so_far.bytes so_far.units so_far.read) bound ∙ ap (completed_units (horizon setting)) (sym front) in
+          wrote-map setup (IsSession setup units) (IsCutOff setup script) before after
+          (λ replies journal dumps session. record {
+            long = longer split.0 split.1;
+            served = subst (λ us. IsSession setup us replies journal dumps) completed session;
+          })
+          (wrote-session units y before after (units-more desk x y so_far.units takes.units before mid after so_far.served takes.served))
+        where
+          regroup : (x y z t : List ℕ) → (x ++ (y ++ z)) ++ t ≡ (x ++ y) ++ (z ++ t)
+          regroup x y z t = simp append_assoc
 
-    -- more bytes were read than a script may have
-    pub cut-off : (taken : ℕ) (left next : Option (List ℕ)) (a b : Reader) (x y : Desk) (n m : ℕ) (into rest : List ℕ) (out mid new_out : List ℕ → Type 0) (made mid_made new_made : List Made → Type 0) (files : ℕ)
-        → setup.design.circuit.horizon ≤ 1000000 → HasServed setup taken first left a desk x out mid made mid_made → Consumes left next (take n into) → m < n → n ≤ length into → taken + m ≡ 16777216 → files ≡ length y.dumps.made.items + 1
-        → TakesServed setup a b (take m (into ++ rest)) x y mid new_out mid_made new_made → Wrote setup (IsCutOff setup script) out new_out made new_made files
-    cut-off taken left next a b x y n m into rest out mid new_out made mid_made new_made files bound so_far took more within limit many takes =
-        let split = split-script script first left next so_far.bytes (take n into) is so_far.took took in
-        let cut = take m (into ++ rest) in
-        let script-is : script ≡ (so_far.bytes ++ cut) ++ (drop m (take n into) ++ split.0) =
-        split.1 ∙ ap (λ (l : List ℕ). (so_far.bytes ++ l) ++ split.0) (block-front n m into rest (omega (arith, more)) within)
-        ∙ regroup so_far.bytes cut (drop m (take n into)) split.0 in
-        let long : length cut ≡ m = length-take m (into ++ rest) ∙ omega (arith, more, within, length-append into rest) in
-        let whole : length (so_far.bytes ++ cut) ≡ 16777216 = length-append so_far.bytes cut ∙ omega (arith, long, so_far.long, limit) in
-        let front : take 16777216 script ≡ so_far.bytes ++ cut =
-        ap (take 16777216) script-is ∙ take-append-le 16777216 (so_far.bytes ++ cut) (drop m (take n into) ++ split.0) (omega (arith, whole)) ∙ take-whole (so_far.bytes ++ cut) 16777216 whole in
-        let units = so_far.units ++ takes.units in
-        let horizon = setup.design.circuit.horizon in
-        let completed : units ≡ completed_units horizon (take 16777216 script) =
-        given-completed horizon (so_far.bytes ++ cut) units b (takes.reads horizon so_far.bytes so_far.units so_far.read) bound ∙ ap (completed_units horizon) (sym front) in
-        wrote-map (IsSession setup units) (IsCutOff setup script) out new_out made new_made files
-        (λ replies journal dumps session. record {
-          long = longer split.0 split.1;
-          served = subst (λ us. IsSession setup us replies journal dumps) completed session;
-        })
-        (wrote-session units y out new_out made new_made files many (serves-more setup desk x y so_far.units takes.units out mid new_out made mid_made new_made so_far.served takes.served))
-      where
-        regroup : (x y z t : List ℕ) → (x ++ (y ++ z)) ++ t ≡ (x ++ y) ++ (z ++ t)
-        regroup x y z t = simp append_assoc
+          take-whole : (xs : List ℕ) (k : ℕ) → length xs ≡ k → take k xs ≡ xs
+          take-whole xs k h = take_all k xs (omega (arith, h))
 
-        take-whole : (xs : List ℕ) (k : ℕ) → length xs ≡ k → take k xs ≡ xs
-        take-whole xs k h = take_all k xs (omega (arith, h))
-
-        longer : (tail : List ℕ) → script ≡ (so_far.bytes ++ take n into) ++ tail → 16777216 < length script
-        longer tail all = omega (arith, ap length all, length-append (so_far.bytes ++ take n into) tail, length-append so_far.bytes (take n into), length-take n into, so_far.long, limit, more, within)
-
-    -- how much was read
-    pub read-some : (taken most : ℕ) (left next : Option (List ℕ)) (reader : Reader) (x : Desk) (more : List ℕ) (out mid : List ℕ → Type 0) (made mid_made : List Made → Type 0)
-        → HasServed setup taken first left reader desk x out mid made mid_made → Consumes left next more → taken + length more ≤ most → ConsumesUpTo (Some script) next most
-    read-some taken most left next reader x more out mid made mid_made so_far took small =
-        (so_far.bytes ++ more, Consumes-trans (Some script) left next so_far.bytes more (subst (λ f. Consumes f left so_far.bytes) is so_far.took) took, omega (arith, length-append so_far.bytes more, so_far.long, small))
-
-    pub read-none : (taken most : ℕ) (left next : Option (List ℕ)) (reader : Reader) (x : Desk) (out mid : List ℕ → Type 0) (made mid_made : List Made → Type 0)
-        → HasServed setup taken first left reader desk x out mid made mid_made → next ≡ left → taken ≤ most → ConsumesUpTo (Some script) next most
-    read-none taken most left next reader x out mid made mid_made so_far same small =
-        (so_far.bytes, subst (λ o. Consumes (Some script) o so_far.bytes) (sym same) (subst (λ f. Consumes f left so_far.bytes) is so_far.took), omega (arith, so_far.long, small))
-
--- a session begins
-pub fresh-desk : (setup : Setup) (desk : Desk) → ((shard : ℕ) → shard < setup.shards → cells_of desk.stores.items shard ≡ []) → desk.counts ≡ no_counts
-    → desk.dumps.last ≡ None → desk.dumps.own.items ≡ setup.names → desk.dumps.made.items ≡ [] → KeepsDesk setup desk first_course
-fresh-desk setup desk empty none last own made = record {
-  cells = empty;
-  counts = record {
-    sections_are = ap (λ c. c.sections) none;
-    batches = ap (λ c. c.batches) none;
-    fills = ap (λ c. c.fills) none;
-    evictions = ap (λ c. c.evictions) none;
-  };
-  dumps = record {
-    shows = subst (λ (l : Option LastBatch). Shows setup.design l None) (sym last) tt;
-    own = own;
-    made = made;
-  };
-}
+          longer : (tail : List ℕ) → script ≡ (so_far.bytes ++ take n into) ++ tail → 16777216 < length script
+          longer tail all = omega (arith, ap length all, length-append (so_far.bytes ++ take n into) tail, length-append so_far.bytes (take n into), length-take n into, so_far.long, limit, more, within)

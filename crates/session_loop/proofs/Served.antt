@@ -1,8 +1,9 @@
 -- A unit that its parts served is a unit of the session; where a part failed, the session breaks off in it.
-use Rattle.std.proofs.Common.{◌≡◌, ℕ, Bool, suc, ◌+◌, ◌<◌, List, [], ◌∷◌, ◌++◌, length, get_or, map, filter, sum_by, Option, Some, refl, sym, ap, subst, ◌∙◌, append_assoc, append-nil, length-append, arith, ◌⊎◌, inl, inr}
+use Rattle.std.proofs.Common.{◌≡◌, ℕ, Bool, suc, ◌+◌, ◌<◌, List, [], ◌∷◌, ◌++◌, length, get_or, map, filter, sum_by, Option, Some, Result, Ok, Err, refl, sym, ap, subst, ◌∙◌, append_assoc, append-nil, length-append, arith, ◌⊎◌, inl, inr}
+use Rattle.std.specs.Prelude.{All, IfSome, IsErrAnd}
 use Rattle.std.proofs.Math.ListN.{length-map}
 use Rattle.std.proofs.lemmas.List.Sums.{fold-append, sum_by-append, sum_by-cons}
-use Rattle.std.specs.List.{range_with_len}
+use Rattle.std.specs.List.{AllZip, range_with_len}
 use Rattle.std.proofs.lemmas.List.Elements.{filter-append}
 use Rattle.valid_intervals.specs.declared.SignalCell.{SignalCell}
 use Rattle.cell_store.specs.Recency.{Contents}
@@ -16,6 +17,8 @@ use Rattle.journal_meaning.specs.Replay.{IsLegalBatch, IsLegalTrim}
 use Rattle.journal_meaning.specs.Sections.{Purpose, Asks, Trims, Forces, SectionEntries, own_entries, cells_left, cells_after}
 use Rattle.journal_meaning.specs.Counts.{count}
 use Rattle.journal_text.specs.Spelling.{section_lines}
+use Rattle.query_lines.specs.Fit.{AsksByName}
+use Rattle.query_lines.specs.Laws.{IsWithin}
 use Rattle.query_lines.specs.declared.unit.Item.{Item}
 use Rattle.query_lines.specs.declared.unit.Unit.{Unit as ScriptUnit}
 use Rattle.query_lines.specs.declared.unit.Unit.TheVariants as units
@@ -25,6 +28,7 @@ use Rattle.journal_text.specs.declared.sections.SectionKind.TheVariants.{Batch, 
 use Rattle.session_meaning.specs.Replies.{replies_text}
 use Rattle.session_meaning.specs.Written.{kind_of, numbered_section}
 use Rattle.session_meaning.specs.Session.{Setup, Course, IsServed, Session, Served, batch_of, with_section, with_reply, counts_line, cells_stored, trim_entries, is_batch, is_fill, is_eviction, entries_that}
+use Rattle.session_meaning.specs.Verdicts.{verdict_of}
 use Rattle.session_meaning.specs.Broken.{IsPrefix, journal_of, IsBroken, IsBrokenInJournal}
 use Rattle.session_meaning.specs.Dumps.{wires_of}
 use Rattle.session_meaning.proofs.Journals.{journal-more, prefix-same, prefix-more, prefix-behind}
@@ -34,16 +38,21 @@ use Rattle.session_loop.specs.declared.desk.Counts.{Counts}
 use Rattle.session_loop.specs.declared.desk.Desk.{Desk}
 use Rattle.session_loop.specs.declared.desk.Dumps.{Dumps}
 use Rattle.session_loop.specs.declared.desk.LastBatch.{LastBatch}
+use Rattle.session_loop.specs.declared.setting.Setting.{Setting}
 use Rattle.session_loop.specs.declared.stop.Stop.{Stop}
 use Rattle.session_loop.specs.declared.stop.Stop.TheVariants.{OutOfMemory}
-use Rattle.session_loop.specs.Outside.{JournalStops}
+use Rattle.session_loop.specs.Outside.{Outputs, Seen, seen, JournalStops, UnitsStop}
+use Rattle.session_loop.specs.Serving.{memo_of, session_of}
 use Rattle.session_loop.specs.inner.Outside.{RepliesStops}
 use Rattle.session_loop.specs.inner.Growing.{FilesGoOn, GrowsPart, FileGrowsPart}
 use Rattle.unit_answers.specs.Stores.{AreStores, cells_of}
 use Rattle.unit_answers.specs.Done.{IsBatchDone, IsTrimDone}
-use Rattle.session_loop.specs.inner.Desks.{IsCount, IsCounted, batches_in, counted_lists, Shows, KeepsDumps, Keeps}
-use Rattle.session_loop.specs.inner.Serving.{ServedTo, BreaksAt, Within, StoppedIn, Serves, Stops, StopsAfter}
+use Rattle.unit_answers.specs.Dumps.{IsOwnWave}
+use Rattle.unit_answers.proofs.Dumping.{done-waves}
+use Rattle.session_loop.specs.inner.Desks.{IsCount, IsCounted, batches_in, counted_lists, Shows, KeepsDumps, IsShowable, IsDesk, IsReady, Keeps}
+use Rattle.session_loop.specs.inner.Serving.{ServedTo, BreaksAt, Within, StoppedIn, Serves, Stops, StopsAfter, UnitsServed, UnitsStopped, ServesUnits}
 use Rattle.session_loop.proofs.Breaking.{within-front, within-longer, within-map, within-none, broken-none, broken-at, breaks-longer, breaks-in-reply, breaks-in-journal}
+use Rattle.session_loop.proofs.Changes.{calm, dumped-only, of-replies, of-journal, journal-created, same-outputs}
 use Rattle.session_loop.proofs.Growing.{goes-none, goes-more, file-none, files-none, files-more, journal-grows}
 
 -- no entry of a memo of its own is counted
@@ -95,28 +104,54 @@ OfReplies stop = (old : ℕ) × (new : ℕ) × RepliesStops old new stop
 abbrev pub OfJournal : Stop → Type 0
 OfJournal stop = (old : FilesState) × (new : FilesState) × JournalStops old new stop
 
+-- All of a text was written, and all of the lines after it.
+pub record WritesAll (before after : Seen) (text lines : List ℕ) : Type 0 where
+  pub replied : Grows before.written after.written text
+  pub recorded : FileGrows before.made after.made 0 lines
+  pub calm : after.outputs ≡ before.outputs
+
 -- A part of a text was written, and a part of the lines after it: of the lines only once all of the text was. The stop is one of the text,
 -- or of the lines, behind all of the text.
-pub record WritesPart (out new_out : List ℕ → Type 0) (made new_made : List Made → Type 0) (text lines : List ℕ) (stop : Stop) : Type 0 where
-  pub replied : GrowsPart out new_out text
-  pub recorded : FileGrowsPart made new_made 0 lines
+pub record WritesPart (before after : Seen) (text lines : List ℕ) (stop : Stop) : Type 0 where
+  pub replied : GrowsPart before.written after.written text
+  pub recorded : FileGrowsPart before.made after.made 0 lines
   pub first : (replied.0 ≡ text) ⊎ (recorded.0 ≡ [])
   pub cause : OfReplies stop ⊎ (OfJournal stop × (replied.0 ≡ text))
+  pub created : after.outputs.files.created ≡ before.outputs.files.created
+  pub state : UnitsStop before.outputs after.outputs stop
 
--- the text was begun
-pub text-begun : (old new : ℕ) (stop : Stop) → RepliesStops old new stop → (out new_out : List ℕ → Type 0) (made : List Made → Type 0) (text lines : List ℕ) → GrowsPart out new_out text
-    → WritesPart out new_out made made text lines stop
-text-begun old new stop cause out new_out made text lines replied = record { replied = replied; recorded = ([], (lines, refl), file-none made 0); first = inr refl; cause = inl (old, new, cause) }
+module _ (before : Seen) (text lines : List ℕ) where
+  pub all-written : (files : FilesState) (made : List Made → Type 0) (replies : ℕ) (written : List ℕ → Type 0) → files ≡ before.outputs.files → replies ≡ before.outputs.replies
+      → Grows before.written written text → FileGrows before.made made 0 lines → WritesAll before (seen files made replies written) text lines
+  all-written files made replies written same calm replied recorded = record {
+    replied = replied;
+    recorded = recorded;
+    calm = same-outputs (record { files = files; replies = replies }) before.outputs same calm;
+  }
 
--- the lines were begun
-pub lines-begun : (old new : FilesState) (stop : Stop) → JournalStops old new stop → (out new_out : List ℕ → Type 0) (made new_made : List Made → Type 0) (text lines : List ℕ)
-    → Grows out new_out text → FileGrowsPart made new_made 0 lines → WritesPart out new_out made new_made text lines stop
-lines-begun old new stop cause out new_out made new_made text lines replied recorded = record {
-  replied = (text, prefix-same text, replied);
-  recorded = recorded;
-  first = inl refl;
-  cause = inr ((old, new, cause), refl);
-}
+  -- the text was begun
+  pub text-begun : (replies : ℕ) (written : List ℕ → Type 0) (stop : Stop) → RepliesStops before.outputs.replies replies stop → GrowsPart before.written written text
+      → WritesPart before (seen before.outputs.files before.made replies written) text lines stop
+  text-begun replies written stop cause replied = record {
+    replied = replied;
+    recorded = ([], (lines, refl), file-none before.made 0);
+    first = inr refl;
+    cause = inl (before.outputs.replies, replies, cause);
+    created = refl;
+    state = of-replies before.outputs.files before.outputs.replies replies stop cause;
+  }
+
+  -- the lines were begun
+  pub lines-begun : (files mid : FilesState) (made : List Made → Type 0) (replies : ℕ) (written : List ℕ → Type 0) (stop : Stop) → replies ≡ before.outputs.replies → mid ≡ before.outputs.files
+      → JournalStops mid files stop → Grows before.written written text → FileGrowsPart before.made made 0 lines → WritesPart before (seen files made replies written) text lines stop
+  lines-begun files mid made replies written stop calm same cause replied recorded = record {
+    replied = (text, prefix-same text, replied);
+    recorded = recorded;
+    first = inl refl;
+    cause = inr ((mid, files, cause), refl);
+    created = journal-created mid files stop cause ∙ ap (λ f. f.created) same;
+    state = of-journal before.outputs.replies replies before.outputs.files mid files stop calm same cause;
+  }
 
 module _ (setup : Setup) where
   -- what is kept for dumps, where no dump is made
@@ -134,7 +169,7 @@ module _ (setup : Setup) where
   pub count-of : (desk : Desk) (now : Course) (files : ℕ) → Keeps setup desk now → files ≡ length desk.dumps.made.items + 1 → files ≡ length now.dumps + 1
   count-of desk now files keeps many = many ∙ ap (λ n. n + 1) (ap length keeps.dumps.made ∙ length-map now.dumps (λ (dump : Made). dump.name))
 
-  module _ (units : List ScriptUnit) (unit : ScriptUnit) (now : Course) (desk : Desk) (session : Session setup units now) (keeps : Keeps setup desk now) (out new_out : List ℕ → Type 0) (made new_made : List Made → Type 0) where
+  module _ (units : List ScriptUnit) (unit : ScriptUnit) (now : Course) (desk : Desk) (session : Session setup units now) (keeps : Keeps setup desk now) (before after : Seen) where
     module _ (sections : List SectionEntries) (text : List ℕ) (waves : Option (List Wire)) (lines : List ℕ) where
       -- with these sections, this text more, and these waves
       abbrev pub leads-to : Course
@@ -143,17 +178,17 @@ module _ (setup : Setup) where
       -- the sections have these lines more
       module _ (served : IsServed setup now unit leads-to) (journal-is : journal_of setup leads-to ≡ journal_of setup now ++ lines) where
         -- all was written
-        pub sections-served : (later : Desk) → Keeps setup later leads-to → Grows out new_out text → FileGrows made new_made 0 lines → ServedTo setup (units ++ unit ∷ []) now later out new_out made new_made
-        sections-served later kept replied recorded = record {
+        pub sections-served : (later : Desk) → Keeps setup later leads-to → WritesAll before after text lines → ServedTo setup (units ++ unit ∷ []) now later before after
+        sections-served later kept wrote = record {
           next = leads-to;
           session = Served unit session served;
           keeps = kept;
-          replied = (text, refl, replied);
-          recorded = subst (λ j. FilesGoOn made new_made (journal_of setup now) now.dumps j now.dumps) (sym journal-is) (journal-grows made new_made (journal_of setup now) lines now.dumps recorded);
+          replied = (text, refl, wrote.replied);
+          recorded = subst (λ j. FilesGoOn before.made after.made (journal_of setup now) now.dumps j now.dumps) (sym journal-is) (journal-grows before.made after.made (journal_of setup now) lines now.dumps wrote.recorded);
         }
 
         -- a part of the text and a part of the lines
-        module _ (stop : Stop) (wrote : WritesPart out new_out made new_made text lines stop) where
+        module _ (stop : Stop) (wrote : WritesPart before after text lines stop) where
           abbrev replies : List ℕ
           replies = now.out ++ wrote.replied.0
 
@@ -194,15 +229,15 @@ module _ (setup : Setup) where
               (breaks-in-reply setup replies journal now.dumps cause.0 cause.1 stop cause.2) in-unit
           by-cause (inr (cause, whole)) = breaks-in-journal setup units (unit ∷ []) replies journal now.dumps cause.0 cause.1 stop cause.2 (in-journal whole) in-unit
 
-          pub sections-stopped : (files : ℕ) → files ≡ length desk.dumps.made.items + 1 → StoppedIn setup units (unit ∷ []) now out new_out made new_made files stop
-          sections-stopped files many = record {
+          pub sections-stopped : before.outputs.files.created ≡ length desk.dumps.made.items + 1 → StoppedIn setup units (unit ∷ []) now before after stop
+          sections-stopped many = record {
             replies = replies;
             journal = journal;
             dumps = now.dumps;
             broken = by-cause wrote.cause;
             replied = (wrote.replied.0, refl, wrote.replied.2);
-            recorded = journal-grows made new_made (journal_of setup now) wrote.recorded.0 now.dumps wrote.recorded.2;
-            count = count-of desk now files keeps many;
+            recorded = journal-grows before.made after.made (journal_of setup now) wrote.recorded.0 now.dumps wrote.recorded.2;
+            count = count-of desk now after.outputs.files.created keeps (wrote.created ∙ many);
           }
 
     module _ (purpose : Purpose) (lists : List (List Entry)) (text : List ℕ) (waves : Option (List Wire)) where
@@ -223,8 +258,7 @@ module _ (setup : Setup) where
         -- with a section of its own
         pub section-served : (later : Desk) → IsCounted desk.counts (kind_of purpose) lists later.counts
             → ((shard : ℕ) → shard < setup.shards → cells_of later.stores.items shard ≡ cells_left shard (cells_of desk.stores.items shard) section)
-            → KeepsDumps setup later.dumps next
-            → Grows out new_out text → FileGrows made new_made 0 section-text → ServedTo setup (units ++ unit ∷ []) now later out new_out made new_made
+            → KeepsDumps setup later.dumps next → WritesAll before after text section-text → ServedTo setup (units ++ unit ∷ []) now later before after
         section-served later counted leaves dumps =
             sections-served (now.sections ++ section ∷ []) text waves section-text served journal-is later (record {
               cells = λ shard h. cells-more shard (cells_of desk.stores.items shard) (cells_of later.stores.items shard) now.sections section (keeps.cells shard h) (leaves shard h);
@@ -233,164 +267,60 @@ module _ (setup : Setup) where
             })
 
         -- a part of its replies and a part of its section
-        pub section-stopped : (files : ℕ) (stop : Stop) → files ≡ length desk.dumps.made.items + 1
-            → WritesPart out new_out made new_made text section-text stop → StoppedIn setup units (unit ∷ []) now out new_out made new_made files stop
-        section-stopped files stop many wrote = sections-stopped (now.sections ++ section ∷ []) text waves section-text served journal-is stop wrote files many
+        pub section-stopped : (stop : Stop) → WritesPart before after text section-text stop → before.outputs.files.created ≡ length desk.dumps.made.items + 1 → StoppedIn setup units (unit ∷ []) now before after stop
+        section-stopped stop wrote = sections-stopped (now.sections ++ section ∷ []) text waves section-text served journal-is stop wrote
 
     -- a reply alone
-    pub reply-served : (text : List ℕ) → IsServed setup now unit (with_reply now text) → Grows out new_out text → ServedTo setup (units ++ unit ∷ []) now desk out new_out made made
-    reply-served text served replied = record {
-      next = with_reply now text;
-      session = Served unit session served;
-      keeps = record { cells = keeps.cells; counts = keeps.counts; dumps = kept-dumps desk.dumps desk.dumps now (with_reply now text) refl refl refl keeps.dumps };
-      replied = (text, refl, replied);
-      recorded = files-none made (journal_of setup now) now.dumps;
-    }
+    module _ (text : List ℕ) (served : IsServed setup now unit (with_reply now text)) where
+      pub reply-served : WritesAll before after text [] → ServedTo setup (units ++ unit ∷ []) now desk before after
+      reply-served = sections-served now.sections text now.waves [] served (sym (append-nil (journal_of setup now))) desk (record {
+        cells = keeps.cells;
+        counts = keeps.counts;
+        dumps = kept-dumps desk.dumps desk.dumps now (with_reply now text) refl refl refl keeps.dumps;
+      })
 
-    pub reply-stopped : (text : List ℕ) (files old new : ℕ) (stop : Stop) → IsServed setup now unit (with_reply now text) → files ≡ length desk.dumps.made.items + 1 → RepliesStops old new stop
-        → GrowsPart out new_out text → StoppedIn setup units (unit ∷ []) now out new_out made made files stop
-    reply-stopped text files old new stop served many cause replied = record {
-      replies = now.out ++ replied.0;
-      journal = journal_of setup now;
-      dumps = now.dumps;
-      broken = within-map units (unit ∷ []) (λ done later. IsBroken setup done later (now.out ++ replied.0) (journal_of setup now) now.dumps) (BreaksAt setup (now.out ++ replied.0) (journal_of setup now) now.dumps stop)
-          (breaks-in-reply setup (now.out ++ replied.0) (journal_of setup now) now.dumps old new stop cause)
-          (broken-at setup units unit now (with_reply now text) (now.out ++ replied.0) (journal_of setup now) now.dumps session served
-          (prefix-more now.out replied.0) (prefix-same (journal_of setup now)) (prefix-behind now.out replied.0 text replied.1) (prefix-same (journal_of setup now))
-          ([], sym (append-nil now.dumps)) (begun-same now.dumps) (inr refl) (inr refl) (λ _ _. refl));
-      replied = (replied.0, refl, replied.2);
-      recorded = files-none made (journal_of setup now) now.dumps;
-      count = count-of desk now files keeps many;
-    }
+      pub reply-stopped : (stop : Stop) → WritesPart before after text [] stop → before.outputs.files.created ≡ length desk.dumps.made.items + 1 → StoppedIn setup units (unit ∷ []) now before after stop
+      reply-stopped stop wrote = sections-stopped now.sections text now.waves [] served (sym (append-nil (journal_of setup now))) stop wrote
 
   -- nothing of the next units was written
-  pub stops-none : (desk : Desk) (more : List ScriptUnit) (out : List ℕ → Type 0) (made : List Made → Type 0) (files : ℕ) → files ≡ length desk.dumps.made.items + 1 → Stops setup desk more out out made made files OutOfMemory
-  stops-none desk more out made files many units now session keeps = record {
+  pub stops-none : (desk : Desk) (more : List ScriptUnit) (before : Seen) → before.outputs.files.created ≡ length desk.dumps.made.items + 1 → Stops setup desk more before before OutOfMemory
+  stops-none desk more before many units now session keeps = record {
     replies = now.out;
     journal = journal_of setup now;
     dumps = now.dumps;
     broken = within-none units more (BreaksAt setup now.out (journal_of setup now) now.dumps OutOfMemory) (broken-none setup units more now session);
-    replied = goes-none out now.out;
-    recorded = files-none made (journal_of setup now) now.dumps;
-    count = count-of desk now files keeps many;
+    replied = goes-none before.written now.out;
+    recorded = files-none before.made (journal_of setup now) now.dumps;
+    count = count-of desk now before.outputs.files.created keeps many;
   }
 
-  -- A batch.
-  module _ (items : List Item) (desk : Desk) (replies : List Reply) (lists : List (List Entry)) (left : List Contents) (done : IsBatchDone setup items desk.stores.items replies lists left) (counts : Counts) (counted : IsCounted desk.counts Batch lists counts) (out new_out : List ℕ → Type 0) (made new_made : List Made → Type 0) where
-    abbrev shown : Option (List Wire)
-    shown = Some (wires_of setup.design items replies)
-
-    is-served : (now : Course) → Keeps setup desk now → IsServed setup now (units.Batch items) (record (with_section now (Asks (batch_of setup items)) lists (replies_text items replies)) { waves = shown })
-    is-served now keeps = record {
-      lists = lists;
-      replies = replies;
-      count = done.count;
-      legal = λ shard h. subst (λ cells. IsLegalBatch (batch_of setup items) shard cells (get_or lists shard [])) (keeps.cells shard h) (done.legal shard h);
-      right = done.right;
-      leads = refl;
-    }
-
-    -- its items and its replies are the last ones
-    pub batch-served : (later : Desk) (last : LastBatch) → later.counts ≡ counts → later.stores.items ≡ left → last.items ≡ items → last.replies.items ≡ replies
-        → later.dumps ≡ record { last = Some last; own = desk.dumps.own; made = desk.dumps.made } → Grows out new_out (replies_text items replies)
-        → FileGrows made new_made 0 (section_lines (record { kind = Batch; number = counts.sections; shards = lists })) → Serves setup desk later (units.Batch items ∷ []) out new_out made new_made
-    batch-served later last same stores asked answered dumps replied recorded us now session keeps =
-        section-served us (units.Batch items) now desk session keeps out new_out made new_made (Asks (batch_of setup items)) lists (replies_text items replies) shown (is-served now keeps) counts.sections counted.sections
-        later (subst (λ c. IsCounted desk.counts Batch lists c) (sym same) counted) (λ shard h. ap (λ l. cells_of l shard) stores ∙ done.leaves shard h)
-        (record {
-          shows = subst (λ (d : Dumps). Shows setup.design d.last shown) (sym dumps) (ap (λ l. wires_of setup.design l replies) (sym asked) ∙ ap (wires_of setup.design last.items) (sym answered));
-          own = ap (λ d. d.own.items) dumps ∙ keeps.dumps.own;
-          made = ap (λ d. d.made.items) dumps ∙ keeps.dumps.made;
-        })
-        replied recorded
-
-    pub batch-stopped : (files : ℕ) (stop : Stop) → files ≡ length desk.dumps.made.items + 1
-        → WritesPart out new_out made new_made (replies_text items replies) (section_lines (record { kind = Batch; number = counts.sections; shards = lists })) stop
-        → Stops setup desk (units.Batch items ∷ []) out new_out made new_made files stop
-    batch-stopped files stop many wrote us now session keeps =
-        section-stopped us (units.Batch items) now desk session keeps out new_out made new_made (Asks (batch_of setup items)) lists (replies_text items replies) shown (is-served now keeps) counts.sections counted.sections
-        files stop many wrote
-
-  -- A trim.
-  module _ (most : ℕ) (desk : Desk) (lists : List (List Entry)) (left : List Contents) (done : IsTrimDone setup most desk.stores.items lists left) (counts : Counts) (counted : IsCounted desk.counts Trim lists counts) (out new_out : List ℕ → Type 0) (made new_made : List Made → Type 0) where
-    is-trimmed : (now : Course) → Keeps setup desk now → IsServed setup now (units.Trim most) (with_section now Trims lists (trimmed_line (sum_by length lists)))
-    is-trimmed now keeps = record {
-      lists = lists;
-      count = done.count;
-      legal = λ shard h. subst (λ cells. IsLegalTrim (fresh cells) (get_or lists shard [])) (keeps.cells shard h) (done.legal shard h);
-      evicts = λ shard h. done.evicts shard h ∙ ap (trim_entries most) (keeps.cells shard h);
-      leads = refl;
-    }
-
-    pub trim-served : (later : Desk) → later.counts ≡ counts → later.stores.items ≡ left → later.dumps ≡ desk.dumps → Grows out new_out (trimmed_line (sum_by length lists))
-        → FileGrows made new_made 0 (section_lines (record { kind = Trim; number = counts.sections; shards = lists })) → Serves setup desk later (units.Trim most ∷ []) out new_out made new_made
-    trim-served later same stores dumps replied recorded us now session keeps =
-        let text = trimmed_line (sum_by length lists) in
-        section-served us (units.Trim most) now desk session keeps out new_out made new_made Trims lists text now.waves (is-trimmed now keeps) counts.sections counted.sections
-        later (subst (λ c. IsCounted desk.counts Trim lists c) (sym same) counted) (λ shard h. ap (λ l. cells_of l shard) stores ∙ done.leaves shard h)
-        (kept-dumps desk.dumps later.dumps now (with_section now Trims lists text) dumps refl refl keeps.dumps) replied recorded
-
-    pub trim-stopped : (files : ℕ) (stop : Stop) → files ≡ length desk.dumps.made.items + 1
-        → WritesPart out new_out made new_made (trimmed_line (sum_by length lists)) (section_lines (record { kind = Trim; number = counts.sections; shards = lists })) stop
-        → Stops setup desk (units.Trim most ∷ []) out new_out made new_made files stop
-    trim-stopped files stop many wrote us now session keeps =
-        section-stopped us (units.Trim most) now desk session keeps out new_out made new_made Trims lists (trimmed_line (sum_by length lists)) now.waves (is-trimmed now keeps) counts.sections counted.sections
-        files stop many wrote
-
-  -- The counts.
-  stored-from : (stores : List Contents) (first : ℕ) (cells : ℕ → List SignalCell) → ((i : ℕ) → i < length stores → cells_of stores i ≡ cells (first + i))
-      → sum_by (λ s. length s.cells) stores ≡ sum_by (λ shard. length (cells shard)) (range_with_len first (length stores))
-  stored-from [] first cells same = refl
-  stored-from (x ∷ stores) first cells same =
-      let here : length x.cells ≡ length (cells first) = ap length (same 0 (omega arith)) ∙ ap (λ n. length (cells n)) (omega arith) in
-      let rest = stored-from stores (first + 1) cells (λ i h. same (suc i) (omega (arith, h)) ∙ ap cells (omega arith)) in
-      sum_by-cons (λ (s : Contents). length s.cells) x stores ∙ omega (arith, here, rest) ∙ sym (sum_by-cons (λ shard. length (cells shard)) first (range_with_len (first + 1) (length stores)))
-
-  module _ (desk : Desk) (stores : AreStores setup desk.stores.items) (out new_out : List ℕ → Type 0) (made : List Made → Type 0) where
-    abbrev pub told : List ℕ
-    told = stats_line desk.counts.batches desk.counts.fills desk.counts.evictions (sum_by (λ s. length s.cells) desk.stores.items)
-
-    told-is : (now : Course) → Keeps setup desk now → told ≡ counts_line setup now.sections
-    told-is now keeps =
-        let cells = stored-from desk.stores.items 0 (λ shard. cells_after shard now.sections) (λ i h. keeps.cells i (let n = stores.count in omega (arith, h, n)) ∙ ap (λ n. cells_after n now.sections) (omega arith)) in
-        ap (λ n. stats_line desk.counts.batches desk.counts.fills desk.counts.evictions n) (cells ∙ ap (λ n. sum_by (λ shard. length (cells_after shard now.sections)) (range_with_len 0 n)) stores.count)
-        ∙ ap (λ n. stats_line n desk.counts.fills desk.counts.evictions (cells_stored setup.shards now.sections)) keeps.counts.batches
-        ∙ ap (λ n. stats_line (length (filter (λ s. is_batch s.purpose) now.sections)) n desk.counts.evictions (cells_stored setup.shards now.sections)) keeps.counts.fills
-        ∙ ap (λ n. stats_line (length (filter (λ s. is_batch s.purpose) now.sections)) (entries_that is_fill now.sections) n (cells_stored setup.shards now.sections)) keeps.counts.evictions
-
-    pub stats-served : Grows out new_out told → Serves setup desk desk (units.Stats ∷ []) out new_out made made
-    stats-served replied us now session keeps = reply-served us units.Stats now desk session keeps out new_out made made told (ap (with_reply now) (told-is now keeps)) replied
-
-    pub stats-stopped : (files old new : ℕ) (stop : Stop) → files ≡ length desk.dumps.made.items + 1 → RepliesStops old new stop → GrowsPart out new_out told → Stops setup desk (units.Stats ∷ []) out new_out made made files stop
-    stats-stopped files old new stop many cause replied us now session keeps = reply-stopped us units.Stats now desk session keeps out new_out made made told files old new stop (ap (with_reply now) (told-is now keeps)) many cause replied
-
   -- One unit after another.
-  pub serves-none : (desk : Desk) (out : List ℕ → Type 0) (made : List Made → Type 0) → Serves setup desk desk [] out out made made
-  serves-none desk out made units now session keeps = record {
+  pub serves-none : (desk : Desk) (before : Seen) → Serves setup desk desk [] before before
+  serves-none desk before units now session keeps = record {
     next = now;
     session = subst (λ us. Session setup us now) (sym (append-nil units)) session;
     keeps = keeps;
-    replied = goes-none out now.out;
-    recorded = files-none made (journal_of setup now) now.dumps;
+    replied = goes-none before.written now.out;
+    recorded = files-none before.made (journal_of setup now) now.dumps;
   }
 
-  pub serves-more : (a b c : Desk) (us vs : List ScriptUnit) (out mid new_out : List ℕ → Type 0) (made mid_made new_made : List Made → Type 0)
-      → Serves setup a b us out mid made mid_made → Serves setup b c vs mid new_out mid_made new_made → Serves setup a c (us ++ vs) out new_out made new_made
-  serves-more a b c us vs out mid new_out made mid_made new_made first then units now session keeps =
+  pub serves-more : (a b c : Desk) (us vs : List ScriptUnit) (before mid after : Seen)
+      → Serves setup a b us before mid → Serves setup b c vs mid after → Serves setup a c (us ++ vs) before after
+  serves-more a b c us vs before mid after first then units now session keeps =
       let f = first units now session keeps in
       let g = then (units ++ us) f.next f.session f.keeps in
       record {
         next = g.next;
         session = subst (λ l. Session setup l g.next) (append_assoc units us vs) g.session;
         keeps = g.keeps;
-        replied = goes-more out mid new_out now.out f.next.out g.next.out f.replied g.replied;
-        recorded = files-more made mid_made new_made (journal_of setup now) (journal_of setup f.next) (journal_of setup g.next) now.dumps f.next.dumps g.next.dumps f.recorded g.recorded;
+        replied = goes-more before.written mid.written after.written now.out f.next.out g.next.out f.replied g.replied;
+        recorded = files-more before.made mid.made after.made (journal_of setup now) (journal_of setup f.next) (journal_of setup g.next) now.dumps f.next.dumps g.next.dumps f.recorded g.recorded;
       }
 
   -- a stop after units that were served
-  pub stops-after : (a b : Desk) (us vs : List ScriptUnit) (out mid new_out : List ℕ → Type 0) (made mid_made new_made : List Made → Type 0) (files : ℕ) (stop : Stop)
-      → Serves setup a b us out mid made mid_made → Stops setup b vs mid new_out mid_made new_made files stop → StopsAfter setup a us vs out new_out made new_made files stop
-  stops-after a b us vs out mid new_out made mid_made new_made files stop first then units now session keeps =
+  pub stops-after : (a b : Desk) (us vs : List ScriptUnit) (before mid after : Seen) (stop : Stop)
+      → Serves setup a b us before mid → Stops setup b vs mid after stop → StopsAfter setup a us vs before after stop
+  stops-after a b us vs before mid after stop first then units now session keeps =
       let f = first units now session keeps in
       let g = then (units ++ us) f.next f.session f.keeps in
       record {
@@ -398,21 +328,21 @@ module _ (setup : Setup) where
         journal = g.journal;
         dumps = g.dumps;
         broken = g.broken;
-        replied = goes-more out mid new_out now.out f.next.out g.replies f.replied g.replied;
-        recorded = files-more made mid_made new_made (journal_of setup now) (journal_of setup f.next) g.journal now.dumps f.next.dumps g.dumps f.recorded g.recorded;
+        replied = goes-more before.written mid.written after.written now.out f.next.out g.replies f.replied g.replied;
+        recorded = files-more before.made mid.made after.made (journal_of setup now) (journal_of setup f.next) g.journal now.dumps f.next.dumps g.dumps f.recorded g.recorded;
         count = g.count;
       }
 
   -- no unit was served before
-  pub stops-now : (desk : Desk) (more : List ScriptUnit) (out new_out : List ℕ → Type 0) (made new_made : List Made → Type 0) (files : ℕ) (stop : Stop)
-      → Stops setup desk more out new_out made new_made files stop → StopsAfter setup desk [] more out new_out made new_made files stop
-  stops-now desk more out new_out made new_made files stop stopped units now session keeps =
-      subst (λ l. StoppedIn setup l more now out new_out made new_made files stop) (sym (append-nil units)) (stopped units now session keeps)
+  pub stops-now : (desk : Desk) (more : List ScriptUnit) (before after : Seen) (stop : Stop)
+      → Stops setup desk more before after stop → StopsAfter setup desk [] more before after stop
+  stops-now desk more before after stop stopped units now session keeps =
+      subst (λ l. StoppedIn setup l more now before after stop) (sym (append-nil units)) (stopped units now session keeps)
 
-  pub stops-more : (a b : Desk) (us vs : List ScriptUnit) (out mid new_out : List ℕ → Type 0) (made mid_made new_made : List Made → Type 0) (files : ℕ) (stop : Stop)
-      → Serves setup a b us out mid made mid_made → Stops setup b vs mid new_out mid_made new_made files stop → Stops setup a (us ++ vs) out new_out made new_made files stop
-  stops-more a b us vs out mid new_out made mid_made new_made files stop first then units now session keeps =
-      let g = stops-after a b us vs out mid new_out made mid_made new_made files stop first then units now session keeps in
+  pub stops-more : (a b : Desk) (us vs : List ScriptUnit) (before mid after : Seen) (stop : Stop)
+      → Serves setup a b us before mid → Stops setup b vs mid after stop → Stops setup a (us ++ vs) before after stop
+  stops-more a b us vs before mid after stop first then units now session keeps =
+      let g = stops-after a b us vs before mid after stop first then units now session keeps in
       record {
         replies = g.replies;
         journal = g.journal;
@@ -424,9 +354,9 @@ module _ (setup : Setup) where
       }
 
   -- a stop in the first of these units
-  pub stops-longer : (desk : Desk) (us more : List ScriptUnit) (out new_out : List ℕ → Type 0) (made new_made : List Made → Type 0) (files : ℕ) (stop : Stop)
-      → Stops setup desk us out new_out made new_made files stop → Stops setup desk (us ++ more) out new_out made new_made files stop
-  stops-longer desk us more out new_out made new_made files stop stopped units now session keeps =
+  pub stops-longer : (desk : Desk) (us more : List ScriptUnit) (before after : Seen) (stop : Stop)
+      → Stops setup desk us before after stop → Stops setup desk (us ++ more) before after stop
+  stops-longer desk us more before after stop stopped units now session keeps =
       let s = stopped units now session keeps in
       record {
         replies = s.replies;
@@ -437,3 +367,179 @@ module _ (setup : Setup) where
         recorded = s.recorded;
         count = s.count;
       }
+
+-- The counts.
+stored-from : (stores : List Contents) (first : ℕ) (cells : ℕ → List SignalCell) → ((i : ℕ) → i < length stores → cells_of stores i ≡ cells (first + i))
+    → sum_by (λ s. length s.cells) stores ≡ sum_by (λ shard. length (cells shard)) (range_with_len first (length stores))
+stored-from [] first cells same = refl
+stored-from (x ∷ stores) first cells same =
+    let here : length x.cells ≡ length (cells first) = ap length (same 0 (omega arith)) ∙ ap (λ n. length (cells n)) (omega arith) in
+    let rest = stored-from stores (first + 1) cells (λ i h. same (suc i) (omega (arith, h)) ∙ ap cells (omega arith)) in
+    sum_by-cons (λ (s : Contents). length s.cells) x stores ∙ omega (arith, here, rest) ∙ sym (sum_by-cons (λ shard. length (cells shard)) first (range_with_len (first + 1) (length stores)))
+
+-- A unit that makes no dump, with all that is promised of it.
+
+-- the stop that a result hands on
+pub handed-stop : {setting : Setting} {desk : Desk} {units : List ScriptUnit} {before after : Seen} {was : Stop} (result : Result Desk Stop) → IsErrAnd result (λ e. e ≡ was)
+    → UnitsStopped setting desk units before after was → ServesUnits setting desk units result before after
+handed-stop (Ok later) handed stopped = absurd handed
+handed-stop {setting} {desk} {units} {before} {after} (Err stop) handed stopped = subst (UnitsStopped setting desk units before after) (sym handed) stopped
+
+-- nothing of the next units was written
+pub units-none : {setting : Setting} {desk : Desk} {more : List ScriptUnit} (before : Seen) → IsReady (memo_of setting) desk before.outputs.files → UnitsStopped setting desk more before before OutOfMemory
+units-none {setting} {desk} {more} before ready = record {
+  stopped = λ names. stops-none (session_of setting names) desk more before ready.count;
+  state = dumped-only before.outputs before.outputs (calm before.outputs before.outputs refl);
+}
+
+module _ (setting : Setting) (desk : Desk) (before after : Seen) (ready : IsReady (memo_of setting) desk before.outputs.files) where
+  -- all was written
+  pub unit-served : (later : Desk) (unit : ScriptUnit) (text lines : List ℕ) → IsDesk (memo_of setting) later → later.dumps.made.items ≡ desk.dumps.made.items → WritesAll before after text lines
+      → ((names : List (List ℕ)) → Serves (session_of setting names) desk later (unit ∷ []) before after) → UnitsServed setting desk later (unit ∷ []) before after
+  unit-served later unit text lines kept made wrote served = record {
+    ready = subst (IsReady (memo_of setting) later) (ap (λ (o : Outputs). o.files) (sym wrote.calm)) (record {
+      desk = kept;
+      count = ready.count ∙ ap (λ l. length l + 1) (sym made);
+      unfinished = ready.unfinished;
+    });
+    served = served;
+    state = calm before.outputs after.outputs wrote.calm;
+  }
+
+  -- what is kept for dumps stays
+  pub kept-desk : (later : Desk) (left : List Contents) → AreStores (memo_of setting) left → later.stores.items ≡ left → later.dumps ≡ desk.dumps → IfSome later.last_site (λ last. last ≡ setting.design.now)
+      → IsDesk (memo_of setting) later
+  kept-desk later left are stores dumps site = record {
+    stores = subst (AreStores (memo_of setting)) (sym stores) are;
+    shown = subst (λ (d : Dumps). IsShowable setting.design.now d.last) (sym dumps) ready.desk.shown;
+    site = site;
+  }
+
+  -- A batch.
+  module _ (items asked : List Item) (same : asked ≡ items) (replies : List Reply) (lists : List (List Entry)) (left : List Contents) (done : IsBatchDone (memo_of setting) asked desk.stores.items replies lists left)
+      (counts : Counts) (counted : IsCounted desk.counts Batch lists counts) where
+    answered : IsBatchDone (memo_of setting) items desk.stores.items replies lists left
+    answered = subst (λ l. IsBatchDone (memo_of setting) l desk.stores.items replies lists left) same done
+
+    abbrev shown : Option (List Wire)
+    shown = Some (wires_of setting.design.now items replies)
+
+    abbrev pub batch-lines : List ℕ
+    batch-lines = section_lines (record { kind = Batch; number = counts.sections; shards = lists })
+
+    is-served : (names : List (List ℕ)) (now : Course) → Keeps (session_of setting names) desk now
+        → IsServed (session_of setting names) now (units.Batch items) (record (with_section now (Asks (batch_of (memo_of setting) items)) lists (replies_text items replies)) { waves = shown })
+    is-served names now keeps = record {
+      lists = lists;
+      replies = replies;
+      count = answered.count;
+      legal = λ shard h. subst (λ cells. IsLegalBatch (batch_of (memo_of setting) items) shard cells (get_or lists shard [])) (keeps.cells shard h) (answered.legal shard h);
+      right = answered.right;
+      leads = refl;
+    }
+
+    -- its items and its replies are the last ones, and their waves can be shown
+    pub batch-served : (later : Desk) (last : LastBatch) → later.counts ≡ counts → later.stores.items ≡ left → last.items ≡ items → last.replies.items ≡ replies
+        → later.dumps ≡ record { last = Some last; own = desk.dumps.own; made = desk.dumps.made } → IfSome later.last_site (λ last. last ≡ setting.design.now)
+        → IsWithin setting.design.now.circuit.horizon items → All (λ item. AsksByName item.what) items
+        → WritesAll before after (replies_text items replies) batch-lines → UnitsServed setting desk later (units.Batch items ∷ []) before after
+    batch-served later last counts-are stores asks answers dumps site within by-name wrote =
+        unit-served later (units.Batch items) (replies_text items replies) batch-lines
+        (record {
+          stores = subst (AreStores (memo_of setting)) (sym stores) answered.stores;
+          shown = subst (λ (d : Dumps). IsShowable setting.design.now d.last) (sym dumps) (record {
+            within = subst (IsWithin setting.design.now.circuit.horizon) (sym asks) within;
+            named = subst (All (λ item. AsksByName item.what)) (sym asks) by-name;
+            waves = subst (λ l. AllZip (λ item reply. IsOwnWave setting.design.now.circuit (verdict_of setting.design.now item) reply) l last.replies.items) (sym asks)
+                (subst (AllZip (λ item reply. IsOwnWave setting.design.now.circuit (verdict_of setting.design.now item) reply) items) (sym answers)
+                (done-waves (memo_of setting) items desk.stores.items replies lists left answered));
+          });
+          site = site;
+        })
+        (ap (λ (d : Dumps). d.made.items) dumps) wrote
+        (λ names us now session keeps.
+        section-served (session_of setting names) us (units.Batch items) now desk session keeps before after (Asks (batch_of (memo_of setting) items)) lists (replies_text items replies) shown
+        (is-served names now keeps) counts.sections counted.sections
+        later (subst (λ c. IsCounted desk.counts Batch lists c) (sym counts-are) counted) (λ shard h. ap (λ l. cells_of l shard) stores ∙ answered.leaves shard h)
+        (record {
+          shows = subst (λ (d : Dumps). Shows setting.design.now d.last shown) (sym dumps)
+              (ap (λ l. wires_of setting.design.now l replies) (sym asks) ∙ ap (wires_of setting.design.now last.items) (sym answers));
+          own = ap (λ d. d.own.items) dumps ∙ keeps.dumps.own;
+          made = ap (λ d. d.made.items) dumps ∙ keeps.dumps.made;
+        })
+        wrote)
+
+    pub batch-stopped : (stop : Stop) → WritesPart before after (replies_text items replies) batch-lines stop → UnitsStopped setting desk (units.Batch items ∷ []) before after stop
+    batch-stopped stop wrote = record {
+      stopped = λ names us now session keeps.
+          section-stopped (session_of setting names) us (units.Batch items) now desk session keeps before after (Asks (batch_of (memo_of setting) items)) lists (replies_text items replies) shown
+          (is-served names now keeps) counts.sections counted.sections stop wrote ready.count;
+      state = wrote.state;
+    }
+
+  -- A trim.
+  module _ (most : ℕ) (lists : List (List Entry)) (left : List Contents) (done : IsTrimDone (memo_of setting) most desk.stores.items lists left) (counts : Counts) (counted : IsCounted desk.counts Trim lists counts) where
+    abbrev pub trim-text : List ℕ
+    trim-text = trimmed_line (sum_by length lists)
+
+    abbrev pub trim-lines : List ℕ
+    trim-lines = section_lines (record { kind = Trim; number = counts.sections; shards = lists })
+
+    is-trimmed : (names : List (List ℕ)) (now : Course) → Keeps (session_of setting names) desk now → IsServed (session_of setting names) now (units.Trim most) (with_section now Trims lists trim-text)
+    is-trimmed names now keeps = record {
+      lists = lists;
+      count = done.count;
+      legal = λ shard h. subst (λ cells. IsLegalTrim (fresh cells) (get_or lists shard [])) (keeps.cells shard h) (done.legal shard h);
+      evicts = λ shard h. done.evicts shard h ∙ ap (trim_entries most) (keeps.cells shard h);
+      leads = refl;
+    }
+
+    pub trim-served : (later : Desk) → later.counts ≡ counts → later.stores.items ≡ left → later.dumps ≡ desk.dumps → IfSome later.last_site (λ last. last ≡ setting.design.now) → WritesAll before after trim-text trim-lines
+        → UnitsServed setting desk later (units.Trim most ∷ []) before after
+    trim-served later counts-are stores dumps site wrote =
+        unit-served later (units.Trim most) trim-text trim-lines
+        (kept-desk later left done.stores stores dumps site)
+        (ap (λ (d : Dumps). d.made.items) dumps) wrote
+        (λ names us now session keeps.
+        section-served (session_of setting names) us (units.Trim most) now desk session keeps before after Trims lists trim-text now.waves (is-trimmed names now keeps) counts.sections counted.sections
+        later (subst (λ c. IsCounted desk.counts Trim lists c) (sym counts-are) counted) (λ shard h. ap (λ l. cells_of l shard) stores ∙ done.leaves shard h)
+        (kept-dumps (session_of setting names) desk.dumps later.dumps now (with_section now Trims lists trim-text) dumps refl refl keeps.dumps) wrote)
+
+    pub trim-stopped : (stop : Stop) → WritesPart before after trim-text trim-lines stop → UnitsStopped setting desk (units.Trim most ∷ []) before after stop
+    trim-stopped stop wrote = record {
+      stopped = λ names us now session keeps.
+          section-stopped (session_of setting names) us (units.Trim most) now desk session keeps before after Trims lists trim-text now.waves (is-trimmed names now keeps) counts.sections counted.sections
+          stop wrote ready.count;
+      state = wrote.state;
+    }
+
+  -- The counts.
+  abbrev pub told : List ℕ
+  told = stats_line desk.counts.batches desk.counts.fills desk.counts.evictions (sum_by (λ s. length s.cells) desk.stores.items)
+
+  told-is : (names : List (List ℕ)) (now : Course) → Keeps (session_of setting names) desk now → told ≡ counts_line (session_of setting names) now.sections
+  told-is names now keeps =
+      let shards = setting.sizes.shards in
+      let many : length desk.stores.items ≡ shards = ready.desk.stores.count in
+      let below : (i : ℕ) → i < length desk.stores.items → i < shards = λ i h. omega (arith, h, many) in
+      let cells = stored-from desk.stores.items 0 (λ shard. cells_after shard now.sections) (λ i h. keeps.cells i (below i h) ∙ ap (λ n. cells_after n now.sections) (omega arith)) in
+      ap (λ n. stats_line desk.counts.batches desk.counts.fills desk.counts.evictions n) (cells ∙ ap (λ n. sum_by (λ shard. length (cells_after shard now.sections)) (range_with_len 0 n)) many)
+      ∙ ap (λ n. stats_line n desk.counts.fills desk.counts.evictions (cells_stored shards now.sections)) keeps.counts.batches
+      ∙ ap (λ n. stats_line (length (filter (λ s. is_batch s.purpose) now.sections)) n desk.counts.evictions (cells_stored shards now.sections)) keeps.counts.fills
+      ∙ ap (λ n. stats_line (length (filter (λ s. is_batch s.purpose) now.sections)) (entries_that is_fill now.sections) n (cells_stored shards now.sections)) keeps.counts.evictions
+
+  pub counts-tell : (names : List (List ℕ)) (now : Course) → Keeps (session_of setting names) desk now → IsServed (session_of setting names) now units.Stats (with_reply now told)
+  counts-tell names now keeps = ap (with_reply now) (told-is names now keeps)
+
+  -- A reply alone, whatever it tells.
+  module _ (unit : ScriptUnit) (text : List ℕ) (tells : (names : List (List ℕ)) (now : Course) → Keeps (session_of setting names) desk now → IsServed (session_of setting names) now unit (with_reply now text)) where
+    pub told-served : WritesAll before after text [] → UnitsServed setting desk desk (unit ∷ []) before after
+    told-served wrote =
+        unit-served desk unit text [] ready.desk refl wrote
+        (λ names us now session keeps. reply-served (session_of setting names) us unit now desk session keeps before after text (tells names now keeps) wrote)
+
+    pub told-stopped : (stop : Stop) → WritesPart before after text [] stop → UnitsStopped setting desk (unit ∷ []) before after stop
+    told-stopped stop wrote = record {
+      stopped = λ names us now session keeps. reply-stopped (session_of setting names) us unit now desk session keeps before after text (tells names now keeps) stop wrote ready.count;
+      state = wrote.state;
+    }

@@ -1,24 +1,31 @@
 -- The bytes of a script are taken and served.
 use Rattle.std.proofs.Common.{◌≡◌, ℕ, ◌+◌, ◌<◌, ◌≤◌, List, [], ◌∷◌, ◌++◌, length, get_or, take, drop, Result, Ok, Err, refl, sym, ap, subst, ◌∙◌, append_assoc, append-nil, length-append, arith, inl, inr}
-use Rattle.std.specs.Prelude.{IfOk, IfErr, All}
+use Rattle.std.specs.Prelude.{All, IsErrAnd}
 use Rattle.std.proofs.lemmas.List.Elements.{All-same}
-use Rattle.std.proofs.lemmas.List.{take_more, take-append-drop}
-use Rattle.owned_text.specs.Made.{Made}
+use Rattle.std.proofs.lemmas.List.{take_more, take_all, take-append-drop}
 use Rattle.query_lines.specs.declared.unit.Unit.{Unit as ScriptUnit}
 use Rattle.query_lines.specs.Readers.{Reader, HasRead}
 use Rattle.query_lines.specs.Fit.{IsFit}
 use Rattle.query_lines.proofs.OwnLines.{units-fit, given-fit, last-fit}
-use Rattle.session_meaning.specs.Session.{Setup}
 use Rattle.session_loop.specs.declared.desk.Desk.{Desk}
+use Rattle.session_loop.specs.declared.script.Script.{Script}
+use Rattle.session_loop.specs.declared.setting.Setting.{Setting}
 use Rattle.session_loop.specs.declared.stop.Stop.{Stop}
 use Rattle.session_loop.specs.declared.stop.Stop.TheVariants.{OutOfMemory}
-use Rattle.session_loop.specs.inner.Serving.{Serves, Stops, HasTaken, Reads, Ends, TakesServed, TakesStopped, EndsServed, EndsStopped}
-use Rattle.session_loop.proofs.Served.{serves-none, serves-more, stops-none, stops-after}
+use Rattle.session_loop.specs.Outside.{Seen}
+use Rattle.session_loop.specs.Serving.{memo_of, session_of}
+use Rattle.session_loop.specs.inner.Desks.{IsReady}
+use Rattle.session_loop.specs.inner.Scripts.{HasTaken, Reads, Ends, BytesServed, BytesStopped, ServesBytes, EndStopped, ServesEnd}
+use Rattle.session_loop.specs.inner.Serving.{UnitsServed, UnitsStopped, ServesUnits}
+use Rattle.session_loop.proofs.Changes.{dumped-only, dumped-then}
+use Rattle.session_loop.proofs.Served.{stops-none, stops-after, units-none}
+use Rattle.session_loop.proofs.Units.{units-first, units-more}
 
--- one byte more was taken
-pub taken-more : (horizon : ℕ) (reader later : Reader) (taken byte : ℕ) (units : List ScriptUnit) → Reads reader later (byte ∷ []) units → HasTaken horizon taken reader → HasTaken horizon (taken + 1) later
-taken-more horizon reader later taken byte units reads (script, given, read, long) =
-    (script ++ byte ∷ [], given ++ units, reads horizon script given read, omega (arith, long, length-append script (byte ∷ [])))
+-- more bytes were taken
+pub taken-more : (horizon : ℕ) (reader later : Reader) (taken : ℕ) (bytes : List ℕ) (units : List ScriptUnit) → Reads reader later bytes units → HasTaken horizon taken reader
+    → HasTaken horizon (taken + length bytes) later
+taken-more horizon reader later taken bytes units reads (script, given, read, long) =
+    (script ++ bytes, given ++ units, reads horizon script given read, omega (arith, long, length-append script bytes))
 
 -- the units that a byte completes are fit to be served
 pub taken-fit : (horizon : ℕ) (reader later : Reader) (taken byte : ℕ) (units : List ScriptUnit) → horizon ≤ 1000000 → Reads reader later (byte ∷ []) units → HasTaken horizon taken reader → All (IsFit horizon) units
@@ -39,64 +46,72 @@ reads-more a b c xs ys us vs first next horizon script given read =
     (subst (λ l. HasRead horizon (script ++ xs ++ ys) l c) (append_assoc given us vs)
     (next horizon (script ++ xs) (given ++ us) (first horizon script given read)))
 
-module _ (setup : Setup) where
-  pub takes-none : (reader : Reader) (desk : Desk) (out : List ℕ → Type 0) (made : List Made → Type 0) → TakesServed setup reader reader [] desk desk out out made made
-  takes-none reader desk out made = record { units = []; reads = reads-none reader; served = serves-none setup desk out made }
+-- the stop that a result hands on
+pub handed-bytes : {setting : Setting} (old new : Script) {bytes : List ℕ} {desk : Desk} {before after : Seen} {was : Stop} (result : Result Desk Stop) → IsErrAnd result (λ e. e ≡ was)
+    → BytesStopped setting old.reader bytes desk before after was → ServesBytes setting old new bytes desk result before after
+handed-bytes old new (Ok later) handed stopped = absurd handed
+handed-bytes {setting} old new {bytes} {desk} {before} {after} (Err stop) handed stopped = subst (BytesStopped setting old.reader bytes desk before after) (sym handed) stopped
 
-  pub takes-next : (a b c : Reader) (bytes : List ℕ) (i : ℕ) (units : List ScriptUnit) (x y z : Desk) (out mid new_out : List ℕ → Type 0) (made mid_made new_made : List Made → Type 0) → i < length bytes
-      → TakesServed setup a b (take i bytes) x y out mid made mid_made → Reads b c (get_or bytes i 0 ∷ []) units
-      → Serves setup y z units mid new_out mid_made new_made → TakesServed setup a c (take (i + 1) bytes) x z out new_out made new_made
-  takes-next a b c bytes i units x y z out mid new_out made mid_made new_made within first reads served =
-      subst (λ l. TakesServed setup a c l x z out new_out made new_made) (sym (take_more bytes i 0 within)) (record {
-        units = first.units ++ units;
-        reads = reads-more a b c (take i bytes) (get_or bytes i 0 ∷ []) first.units units first.reads reads;
-        served = serves-more setup x y z first.units units out mid new_out made mid_made new_made first.served served;
-      })
+module _ (setting : Setting) where
+  pub takes-none : (script : Script) (desk : Desk) (before : Seen) → IsReady (memo_of setting) desk before.outputs.files → BytesServed setting script script [] desk desk before before
+  takes-none script desk before ready = record { taken = omega arith; units = []; reads = reads-none script.reader; served = units-first desk before ready }
 
-  -- no further unit was given
-  pub takes-rest : (a b : Reader) (bytes : List ℕ) (i : ℕ) (x y : Desk) (out mid : List ℕ → Type 0) (made mid_made : List Made → Type 0) (files : ℕ) → files ≡ length y.dumps.made.items + 1
-      → TakesServed setup a b (take i bytes) x y out mid made mid_made → TakesStopped setup a bytes x out mid made mid_made files OutOfMemory
-  takes-rest a b bytes i x y out mid made mid_made files count first = record {
-    front = take i bytes;
-    last = [];
-    one = omega arith;
-    front_is = (drop i bytes, sym (take-append-drop i bytes) ∙ ap (λ l. l ++ drop i bytes) (sym (append-nil (take i bytes))));
-    middle = b;
-    later = b;
-    first = first.units;
-    units = [];
-    gave = first.reads;
-    reads = reads-none b;
-    stopped = stops-after setup x y first.units [] out mid mid made mid_made mid_made files OutOfMemory first.served (stops-none setup y [] mid mid_made files count);
-  }
+  module _ (a b : Script) (bytes : List ℕ) (i : ℕ) (x y : Desk) (before mid : Seen) (first : BytesServed setting a b (take i bytes) x y before mid) where
+    -- the reader takes the next byte, and its units are served
+    pub takes-next : (c : Script) (units : List ScriptUnit) (z : Desk) (after : Seen) → i < length bytes → c.taken ≡ b.taken + 1 → Reads b.reader c.reader (get_or bytes i 0 ∷ []) units
+        → UnitsServed setting y z units mid after → BytesServed setting a c (take (i + 1) bytes) x z before after
+    takes-next c units z after within one reads served =
+        subst (λ l. BytesServed setting a c l x z before after) (sym (take_more bytes i 0 within)) (record {
+          taken = omega (arith, one, first.taken, length-append (take i bytes) (get_or bytes i 0 ∷ []));
+          units = first.units ++ units;
+          reads = reads-more a.reader b.reader c.reader (take i bytes) (get_or bytes i 0 ∷ []) first.units units first.reads reads;
+          served = units-more x y z first.units units before mid after first.served served;
+        })
 
-  -- the session broke off in the units that a byte gave
-  pub takes-stop : (a b c : Reader) (bytes : List ℕ) (i : ℕ) (units : List ScriptUnit) (x y : Desk) (out mid new_out : List ℕ → Type 0) (made mid_made new_made : List Made → Type 0) (files : ℕ) (stop : Stop) → i < length bytes
-      → TakesServed setup a b (take i bytes) x y out mid made mid_made → Reads b c (get_or bytes i 0 ∷ []) units
-      → Stops setup y units mid new_out mid_made new_made files stop → TakesStopped setup a bytes x out new_out made new_made files stop
-  takes-stop a b c bytes i units x y out mid new_out made mid_made new_made files stop within first reads stopped = record {
-    front = take i bytes;
-    last = get_or bytes i 0 ∷ [];
-    one = omega arith;
-    front_is = (drop (i + 1) bytes, sym (take-append-drop (i + 1) bytes) ∙ ap (λ l. l ++ drop (i + 1) bytes) (take_more bytes i 0 within));
-    middle = b;
-    later = c;
-    first = first.units;
-    units = units;
-    gave = first.reads;
-    reads = reads;
-    stopped = stops-after setup x y first.units units out mid new_out made mid_made new_made files stop first.served stopped;
-  }
+    -- all bytes were taken
+    pub takes-all : length bytes ≤ i → BytesServed setting a b bytes x y before mid
+    takes-all all = subst (λ l. BytesServed setting a b l x y before mid) (take_all i bytes all) first
 
-  pub ends-served : {E : Type 0} (reader : Reader) (units : List ScriptUnit) (x : Desk) (result : Result Desk E) (out new_out : List ℕ → Type 0) (made new_made : List Made → Type 0) → Ends reader units
-      → IfOk result (λ y. Serves setup x y units out new_out made new_made) → IfOk result (λ y. EndsServed setup reader x y out new_out made new_made)
-  ends-served reader units x (Ok y) out new_out made new_made whole served = record { units = units; whole = whole; served = served }
-  ends-served reader units x (Err e) out new_out made new_made whole served = served
+    -- no further unit was given
+    pub takes-rest : BytesStopped setting a.reader bytes x before mid OutOfMemory
+    takes-rest = record {
+      front = take i bytes;
+      last = [];
+      one = omega arith;
+      front_is = (drop i bytes, sym (take-append-drop i bytes) ∙ ap (λ l. l ++ drop i bytes) (sym (append-nil (take i bytes))));
+      middle = b.reader;
+      later = b.reader;
+      first = first.units;
+      units = [];
+      gave = first.reads;
+      reads = reads-none b.reader;
+      stopped = λ names. let setup = session_of setting names in
+          stops-after setup x y first.units [] before mid mid OutOfMemory (first.served.served names) (stops-none setup y [] mid first.served.ready.count);
+      state = dumped-only before.outputs mid.outputs first.served.state;
+    }
 
-  pub ends-stopped : {T : Type 0} (reader : Reader) (units : List ScriptUnit) (x : Desk) (result : Result T Stop) (out new_out : List ℕ → Type 0) (made new_made : List Made → Type 0) (files : ℕ) → Ends reader units
-      → IfErr result (Stops setup x units out new_out made new_made files) → IfErr result (EndsStopped setup reader x out new_out made new_made files)
-  ends-stopped reader units x (Ok y) out new_out made new_made files whole stopped = stopped
-  ends-stopped reader units x (Err stop) out new_out made new_made files whole stopped = record { units = units; whole = inl whole; stopped = stopped }
+    -- the session broke off in the units that a byte gave
+    pub takes-stop : (later : Reader) (units : List ScriptUnit) (after : Seen) (stop : Stop) → i < length bytes → Reads b.reader later (get_or bytes i 0 ∷ []) units
+        → UnitsStopped setting y units mid after stop → BytesStopped setting a.reader bytes x before after stop
+    takes-stop later units after stop within reads stopped = record {
+      front = take i bytes;
+      last = get_or bytes i 0 ∷ [];
+      one = omega arith;
+      front_is = (drop (i + 1) bytes, sym (take-append-drop (i + 1) bytes) ∙ ap (λ l. l ++ drop (i + 1) bytes) (take_more bytes i 0 within));
+      middle = b.reader;
+      later = later;
+      first = first.units;
+      units = units;
+      gave = first.reads;
+      reads = reads;
+      stopped = λ names. stops-after (session_of setting names) x y first.units units before mid after stop (first.served.served names) (stopped.stopped names);
+      state = dumped-then before.outputs mid.outputs after.outputs stop first.served.state stopped.state;
+    }
 
-  pub ends-none : (reader : Reader) (x : Desk) (out : List ℕ → Type 0) (made : List Made → Type 0) (files : ℕ) → files ≡ length x.dumps.made.items + 1 → EndsStopped setup reader x out out made made files OutOfMemory
-  ends-none reader x out made files count = record { units = []; whole = inr refl; stopped = stops-none setup x [] out made files count }
+  pub ends-so : (reader : Reader) (units : List ScriptUnit) (x : Desk) (before after : Seen) (result : Result Desk Stop) → Ends reader units → ServesUnits setting x units result before after
+      → ServesEnd setting reader x result before after
+  ends-so reader units x before after (Ok y) whole served = record { units = units; whole = whole; served = served }
+  ends-so reader units x before after (Err stop) whole stopped = record { units = units; whole = inl whole; stopped = stopped }
+
+  pub ends-none : (reader : Reader) (x : Desk) (before : Seen) → IsReady (memo_of setting) x before.outputs.files → EndStopped setting reader x before before OutOfMemory
+  ends-none reader x before ready = record { units = []; whole = inr refl; stopped = units-none before ready }

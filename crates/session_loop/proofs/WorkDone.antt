@@ -15,7 +15,7 @@ use Rattle.session_meaning.specs.Replies.{replies_text}
 use Rattle.session_meaning.specs.Dumps.{wires_of}
 use Rattle.session_meaning.specs.Session.{Setup, Course, Opened, first_course, batch_of, with_section, with_waves, IsBatchServed}
 use Rattle.session_meaning.specs.Broken.{IsPrefix, journal_of}
-use Rattle.session_meaning.proofs.Journals.{journal-more, prefix-same, prefix-behind}
+use Rattle.session_meaning.proofs.Journals.{journal-more, prefix-behind}
 use Rattle.unit_answers.specs.Stores.{cells_of}
 use Rattle.unit_answers.specs.Done.{IsBatchDone}
 use Rattle.session_loop.specs.declared.halt.Halt.{Halt}
@@ -29,9 +29,6 @@ module _ (setup : Setup) (items : List Item) (name : List ℕ) where
   -- the head at most was written
   pub work-unbegun : (part : List ℕ) (m0 m1 : List Made → Type 0) → IsPrefix part (head_line setup.shards setup.capacity) → Stands name part m0 m1 → WroteJournal (IsWorkBegun setup items) name m0 m1
   work-unbegun part m0 m1 prefix stands = record { journal = part; are = inl prefix; created = stands }
-
-  pub work-head : (m0 m1 : List Made → Type 0) → Stands name (head_line setup.shards setup.capacity) m0 m1 → WroteJournal (IsWorkBegun setup items) name m0 m1
-  work-head m0 m1 stands = work-unbegun (head_line setup.shards setup.capacity) m0 m1 (prefix-same (head_line setup.shards setup.capacity)) stands
 
   pub work-head-halted : (m0 m1 : List Made → Type 0) (files new_files : ℕ) (halt : Halt) → IsHeadHalted name (head_line setup.shards setup.capacity) m0 m1 files new_files halt → IsWorkHalted setup items name m0 m1 halt
   work-head-halted m0 m1 files new_files JournalUnmade h = h.0

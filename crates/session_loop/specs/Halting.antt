@@ -1,5 +1,6 @@
 -- A session with its journal, from the creation of the file to its end.
-use Rattle.std.specs.Prelude.{◌≡◌, ⊤, ℕ, ◌+◌, ◌≤◌, ◌⊎◌, List, [], ◌∷◌, length, Option}
+use Rattle.std.specs.Prelude.{◌≡◌, ⊤, ℕ, ◌+◌, ◌≤◌, ◌⊎◌, List, [], ◌∷◌, length, Option, Some, Result, Ok, Err}
+use Rattle.std.specs.Io.KnownBytes.{IsAtEnd}
 use Rattle.backsim_io.specs.Counts.{Grows, Stays}
 use Rattle.owned_text.specs.Made.{Made}
 use Rattle.backsim_io.specs.FilesInMemory.{SameMade}
@@ -14,6 +15,7 @@ use Rattle.session_loop.specs.declared.stop.Stop.{Stop}
 use Rattle.session_loop.specs.declared.stop.Stop.TheVariants.{ScriptUnread, ScriptTooLong, RepliesUnwritten, JournalUnwritten, DumpUnmade, DumpUnwritten, DumpUnfinished, OutOfMemory}
 use Rattle.session_loop.specs.declared.halt.Halt.{Halt}
 use Rattle.session_loop.specs.declared.halt.Halt.TheVariants.{JournalUnmade, Stopped, JournalUnfinished}
+use Rattle.session_loop.specs.Outside.{Seen}
 use Rattle.session_loop.specs.Serving.{IsStopped}
 
 -- The one file that was created has this name and these bytes, where none had been created before.
@@ -58,7 +60,7 @@ IsHalted setup name script old_left left out new_out made new_made files Journal
 IsHalted setup name script old_left left out new_out made new_made files (Stopped stop) =
     WroteFiles (IsUnbegun setup old_left left stop) name out new_out made new_made files ⊎ WroteFiles (IsStopped setup script left stop) name out new_out made new_made files
 IsHalted setup name script old_left left out new_out made new_made files JournalUnfinished =
-    (length script ≤ 16777216) × WroteFiles (IsSessionOf setup script) name out new_out made new_made files
+    (length script ≤ 16777216) × IsAtEnd left × WroteFiles (IsSessionOf setup script) name out new_out made new_made files
 
 -- Where the journal was not created, nothing was replied, and the script and the created files are as they were.
 pub record IsUntouched (old_left left : Option (List ℕ)) (out new_out : List ℕ → Type 0) (made new_made : List Made → Type 0) (files new_files : ℕ) : Type 0 where
@@ -66,6 +68,23 @@ pub record IsUntouched (old_left left : Option (List ℕ)) (out new_out : List �
   pub unreplied : Stays out new_out
   pub same_files : SameMade made new_made
   pub no_file : new_files ≡ files
+
+-- a known script was served to its end, and the journal finished
+pub record SessionServed (setup : Setup) (name script : List ℕ) (left : Option (List ℕ)) (before after : Seen) : Type 0 where
+  pub short : length script ≤ 16777216
+  pub read : IsAtEnd left
+  pub wrote : WroteFiles (IsSessionOf setup script) name before.written after.written before.made after.made after.outputs.files.created
+
+-- The session halted. What stands is told of a known script.
+pub record SessionHalted (setup : Setup) (name : List ℕ) (first left : Option (List ℕ)) (before after : Seen) (halt : Halt) : Type 0 where
+  pub halted : (script : List ℕ) → first ≡ Some script
+      → IsHalted setup name script first left before.written after.written before.made after.made after.outputs.files.created halt
+  pub untouched : halt ≡ JournalUnmade → IsUntouched first left before.written after.written before.made after.made before.outputs.files.created after.outputs.files.created
+
+-- what a session comes to, by the outcome
+abbrev pub ServesSession : {A : Type 0} → Setup → List ℕ → Option (List ℕ) → Option (List ℕ) → Result A Halt → Seen → Seen → Type 0
+ServesSession setup name first left (Ok done) before after = (script : List ℕ) → first ≡ Some script → SessionServed setup name script left before after
+ServesSession setup name first left (Err halt) before after = SessionHalted setup name first left before after halt
 
 -- A session without a script.
 

@@ -1,6 +1,7 @@
 -- What a session changes of the outside: of its files, of its script's source and of the sink of its
 -- replies. The bytes that it writes are told elsewhere.
-use Rattle.std.specs.Prelude.{◌≡◌, ◌≤◌, ℕ, ◌+◌, [], ◌∷◌, ◌++◌, Result, Ok, Err}
+use Rattle.std.specs.Prelude.{◌≡◌, ◌≤◌, ℕ, ◌+◌, List, [], ◌∷◌, ◌++◌, Result, Ok, Err}
+use Rattle.owned_text.specs.Made.{Made}
 use Rattle.backsim_io.specs.FilesInMemory.{list_without}
 use Rattle.backsim_io.specs.State.{FilesState, SourceState, FileFault, WriteFault, Rises}
 use Rattle.session_loop.specs.declared.stop.Stop.{Stop}
@@ -13,10 +14,24 @@ pub record Outputs : Type 0 where
   pub files : FilesState
   pub replies : ℕ
 
+-- What is seen at one time of what a session writes to: its state, the bytes that the sink may have taken, and what the created files may be.
+pub record Seen : Type 1 where
+  pub outputs : Outputs
+  pub written : List ℕ → Type 0
+  pub made : List Made → Type 0
+
+-- what is seen of files and of a sink
+abbrev pub seen : FilesState → (List Made → Type 0) → ℕ → (List ℕ → Type 0) → Seen
+seen files made replies written = record { outputs = record { files = files; replies = replies }; written = written; made = made }
+
 -- what a session writes to, and the source of its script
 pub record Outside : Type 0 where
   pub outputs : Outputs
   pub script : SourceState
+
+-- files, the faults of a sink, and a source
+abbrev pub outside : FilesState → ℕ → SourceState → Outside
+outside files replies script = record { outputs = record { files = files; replies = replies }; script = script }
 
 -- nothing but the count of the replies' faults changed, and it rose
 pub record RepliesFault (old new : Outputs) : Type 0 where

@@ -6,15 +6,18 @@ use Rattle.query_lines.specs.declared.unit.Unit.{Unit as ScriptUnit}
 use Rattle.query_lines.specs.Reading.{script_units, completed_units}
 use Rattle.session_meaning.specs.Session.{Setup}
 use Rattle.session_meaning.specs.Broken.{IsServedUpTo, IsCutOff, IsBroken, IsBrokenInJournal, IsBrokenInDump}
-use Rattle.design.specs.Joined.{Joined}
 use Rattle.unit_answers.specs.Stores.{setup_of}
-use Rattle.unit_answers.specs.declared.sizes.Sizes.{Sizes}
+use Rattle.session_loop.specs.declared.setting.Setting.{Setting}
 use Rattle.session_loop.specs.declared.stop.Stop.{Stop}
 use Rattle.session_loop.specs.declared.stop.Stop.TheVariants.{ScriptUnread, ScriptTooLong, RepliesUnwritten, JournalUnwritten, DumpUnmade, DumpUnwritten, DumpUnfinished, OutOfMemory}
 
--- a session over a design, with a memo of these sizes and files of these names
-abbrev pub session_of : Joined → Sizes → List (List ℕ) → Setup
-session_of design sizes names = record (setup_of design sizes) { names = names }
+-- what units are served with, whatever the names of files
+abbrev pub memo_of : Setting → Setup
+memo_of setting = setup_of setting.design.now setting.sizes
+
+-- and with files of these names
+abbrev pub session_of : Setting → List (List ℕ) → Setup
+session_of setting names = record (memo_of setting) { names = names }
 
 -- The script.
 

@@ -2,4 +2,6 @@ pub mod Desks
 pub mod Growing
 pub mod Halting
 pub mod Outside
+pub mod Pieces
+pub mod Scripts
 pub mod Serving

@@ -3,17 +3,17 @@
 ghost use Rattle.std.specs.Prelude.{◌≡◌, ◌+◌, ◌++◌, ◌<◌, ◌∷◌, [], ℕ, List, IsTrue, length, IfErr, IfOk, OnErr, OnOk, None};
 ghost use Rattle.std.specs.List.{list_any};
 ghost use Rattle.std.specs.Str.{bytes_eq};
-ghost use Rattle.backsim_io.specs.Counts.{Grows};
 ghost use Rattle.owned_text.specs.Made.{Made};
 ghost use Rattle.text_rules.specs.Text as texts;
 ghost use Rattle.query_lines.specs.declared.unit.Unit.TheVariants as kinds;
 ghost use Rattle.reply_lines.specs.Replies.{vcd_line};
-ghost use Rattle.unit_answers.specs.Stores.{setup_of};
-ghost use Rattle.session_loop.specs.Serving.{session_of};
-ghost use Rattle.session_loop.specs.inner.Desks.{IsDesk, refused_reply};
-ghost use Rattle.session_loop.specs.inner.Growing.{Adds, GrowsPart, IsDumpPart};
-ghost use Rattle.session_loop.specs.inner.Serving.{Serves, Stops};
-ghost use Rattle.session_loop.specs.inner.Outside.{RepliesChanges, DumpChanges, UnitsChanges};
+ghost use Rattle.session_loop.specs.Outside.{seen};
+ghost use Rattle.session_loop.specs.Serving.{memo_of};
+ghost use Rattle.session_loop.specs.inner.Desks.{IsReady, refused_reply};
+ghost use Rattle.session_loop.specs.inner.Growing.{Adds, IsDumpPart};
+ghost use Rattle.session_loop.specs.inner.Pieces.{Replies};
+ghost use Rattle.session_loop.specs.inner.Serving.{ServesUnits};
+ghost use Rattle.session_loop.specs.inner.Outside.{DumpChanges};
 
 use crate::desk::{Desk, Dumps};
 use crate::section::write_reply;
@@ -83,11 +83,8 @@ fn refuse_dump<S: Sink>(
     reply: VcdReply,
     out: &mut S,
 ) -> Result<(), Stop>
-    ensures written { let line = vcd_line file.now reply in
-        OnOk result (Grows (S.written out.old) (S.written out.new) line) }
-    ensures begun { let line = vcd_line file.now reply in
-        OnErr result (GrowsPart (S.written out.old) (S.written out.new) line) }
-    ensures state { RepliesChanges (S.faults out.old) (S.faults out.new) result }
+    ensures { Replies (vcd_line file.now reply) result
+        (S.faults out.old) (S.written out.old) (S.faults out.new) (S.written out.new) }
 {
     let text = dump_text(alloc, file, reply)?;
     write_reply(&text, out)
@@ -111,26 +108,10 @@ fn make_dump<F: Files, S: Sink>(
 ) -> Result<Desk, Stop>
     requires named { IsTrue (texts.is_name file) }
     requires free { refused_reply desk.dumps file ≡ None }
-    requires desk { IsDesk (setup_of setting.now.design.now setting.now.sizes) desk }
-    requires files { (F.state files.old).created ≡ length desk.dumps.made.items + 1 }
-    ensures desk { let setup = setup_of setting.now.design.now setting.now.sizes in
-        IfOk result (λ later. IsDesk setup later) }
-    ensures count { IfOk result (λ later.
-        (F.state files.new).created ≡ length later.dumps.made.items + 1) }
-    ensures served { (names : List (List ℕ)) →
-        let setup = session_of setting.now.design.now setting.now.sizes names in
-        IfOk result (λ later. Serves setup desk later (kinds.Vcd file ∷ [])
-        (S.written out.old) (S.written out.new)
-        (F.made files.old) (F.made files.new)) }
-    ensures stopped { (names : List (List ℕ)) →
-        let setup = session_of setting.now.design.now setting.now.sizes names in
-        IfErr result (Stops setup desk (kinds.Vcd file ∷ [])
-        (S.written out.old) (S.written out.new)
-        (F.made files.old) (F.made files.new) (F.state files.new).created) }
-    ensures state { UnitsChanges
-        (record { files = F.state files.old; replies = S.faults out.old })
-        (record { files = F.state files.new; replies = S.faults out.new })
-        result }
+    requires ready { IsReady (memo_of setting.now) desk (F.state files.old) }
+    ensures { ServesUnits setting.now desk (kinds.Vcd file ∷ []) result
+        (seen (F.state files.old) (F.made files.old) (S.faults out.old) (S.written out.old))
+        (seen (F.state files.new) (F.made files.new) (S.faults out.new) (S.written out.new)) }
 {
     let alloc = setting.alloc;
     let design = setting.design;
@@ -159,26 +140,10 @@ pub fn serve_vcd<F: Files, S: Sink>(
     out: &mut S,
 ) -> Result<Desk, Stop>
     requires named { IsTrue (texts.is_name file) }
-    requires desk { IsDesk (setup_of setting.now.design.now setting.now.sizes) desk }
-    requires files { (F.state files.old).created ≡ length desk.dumps.made.items + 1 }
-    ensures desk { let setup = setup_of setting.now.design.now setting.now.sizes in
-        IfOk result (λ later. IsDesk setup later) }
-    ensures count { IfOk result (λ later.
-        (F.state files.new).created ≡ length later.dumps.made.items + 1) }
-    ensures served { (names : List (List ℕ)) →
-        let setup = session_of setting.now.design.now setting.now.sizes names in
-        IfOk result (λ later. Serves setup desk later (kinds.Vcd file ∷ [])
-        (S.written out.old) (S.written out.new)
-        (F.made files.old) (F.made files.new)) }
-    ensures stopped { (names : List (List ℕ)) →
-        let setup = session_of setting.now.design.now setting.now.sizes names in
-        IfErr result (Stops setup desk (kinds.Vcd file ∷ [])
-        (S.written out.old) (S.written out.new)
-        (F.made files.old) (F.made files.new) (F.state files.new).created) }
-    ensures state { UnitsChanges
-        (record { files = F.state files.old; replies = S.faults out.old })
-        (record { files = F.state files.new; replies = S.faults out.new })
-        result }
+    requires ready { IsReady (memo_of setting.now) desk (F.state files.old) }
+    ensures { ServesUnits setting.now desk (kinds.Vcd file ∷ []) result
+        (seen (F.state files.old) (F.made files.old) (S.faults out.old) (S.written out.old))
+        (seen (F.state files.new) (F.made files.new) (S.faults out.new) (S.written out.new)) }
 {
     let alloc = setting.alloc;
     match refusal_of(&desk.dumps, &file) {

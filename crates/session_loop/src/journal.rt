@@ -9,14 +9,11 @@ ghost use Rattle.session_loop.specs.Outside.{FinishChanges};
 ghost use Rattle.session_loop.specs.inner.Outside.{BeginChanges};
 
 use crate::halt::Halt;
-use crate::section::write_piece;
+use crate::section::{JOURNAL, write_piece};
 use backsim_io::Files;
 use journal_text::head_text;
 use std::alloc::Global;
 use unit_answers::Sizes;
-
-/// The place of the journal, which is the first file that a session creates.
-pub const JOURNAL: u32 = 0;
 
 /// How each journal begins.
 const HEAD: &[u8] = b"journal shards";
@@ -40,7 +37,7 @@ pub fn begin_journal<F: Files>(
         return Err(Halt::JournalUnmade);
     }
     let head = head_text(alloc, sizes.shards, sizes.cells)?;
-    write_piece(JOURNAL, &head, files)?;
+    write_piece(&head, files)?;
     Ok(())
 }
 

@@ -1,13 +1,13 @@
 //! The script, read a block at a time and served a unit at a time.
 
-ghost use Rattle.std.specs.Prelude.{◌≡◌, ◌+◌, ◌<◌, ◌≤◌, ℕ, List, [], length, Some, Contains, IfErr, IfOk, OnOk};
+ghost use Rattle.std.specs.Prelude.{◌≡◌, ℕ, List, length, Some, IfOk};
 ghost use Rattle.backsim_io.specs.FilesInMemory.{ConsumesUpTo};
-ghost use Rattle.session_meaning.specs.Session.{IsSessionOf};
-ghost use Rattle.unit_answers.specs.Stores.{setup_of, AreStores, cells_of};
-ghost use Rattle.session_loop.specs.inner.Desks.{IsDesk};
-ghost use Rattle.session_loop.specs.inner.Serving.{HasTaken, TakesServed, TakesStopped, EndsServed, EndsStopped, Wrote};
-ghost use Rattle.session_loop.specs.Serving.{session_of, IsStopped};
-ghost use Rattle.session_loop.specs.inner.Outside.{UnitsChanges, ScriptChanges};
+ghost use Rattle.unit_answers.specs.Stores.{AreStores};
+ghost use Rattle.session_loop.specs.Outside.{outside, seen};
+ghost use Rattle.session_loop.specs.Serving.{memo_of, session_of};
+ghost use Rattle.session_loop.specs.inner.Desks.{IsReady};
+ghost use Rattle.session_loop.specs.inner.Scripts.{CanTake, IsFresh, ServesBytes, ServesEnd, ServesScript};
+ghost use Rattle.session_loop.specs.inner.Outside.{ScriptChanges};
 
 use crate::desk::{Counts, Desk, Dumps};
 use crate::setting::Setting;
@@ -43,35 +43,11 @@ impl Script {
         files: &mut F,
         out: &mut S,
     ) -> Result<Desk, Stop>
-        requires limit { self.old.taken + length bytes.now ≤ 16777216 }
-        requires horizon { setting.now.design.now.circuit.horizon ≤ 1000000 }
-        requires read { let horizon = setting.now.design.now.circuit.horizon in
-            HasTaken horizon self.old.taken self.old.reader }
-        requires shards { (0 < setting.now.sizes.shards) × (setting.now.sizes.shards ≤ 64) }
-        requires desk { IsDesk (setup_of setting.now.design.now setting.now.sizes) desk }
-        requires files { (F.state files.old).created ≡ length desk.dumps.made.items + 1 }
-        requires unfinished { Contains (F.state files.old).unfinished 0 }
-        ensures taken { OnOk result (self.new.taken ≡ self.old.taken + length bytes.now) }
-        ensures read { let horizon = setting.now.design.now.circuit.horizon in
-            OnOk result (HasTaken horizon self.new.taken self.new.reader) }
-        ensures desk { let setup = setup_of setting.now.design.now setting.now.sizes in
-            IfOk result (λ later. IsDesk setup later) }
-        ensures count { IfOk result (λ later.
-            (F.state files.new).created ≡ length later.dumps.made.items + 1) }
-        ensures served { (names : List (List ℕ)) →
-            let setup = session_of setting.now.design.now setting.now.sizes names in
-            IfOk result (λ later. TakesServed setup self.old.reader self.new.reader bytes.now
-            desk later (S.written out.old) (S.written out.new)
-            (F.made files.old) (F.made files.new)) }
-        ensures stopped { (names : List (List ℕ)) →
-            let setup = session_of setting.now.design.now setting.now.sizes names in
-            IfErr result (TakesStopped setup self.old.reader bytes.now desk
-            (S.written out.old) (S.written out.new)
-            (F.made files.old) (F.made files.new) (F.state files.new).created) }
-        ensures state { UnitsChanges
-            (record { files = F.state files.old; replies = S.faults out.old })
-            (record { files = F.state files.new; replies = S.faults out.new })
-            result }
+        requires script { CanTake setting.now self.old (length bytes.now) }
+        requires ready { IsReady (memo_of setting.now) desk (F.state files.old) }
+        ensures { ServesBytes setting.now self.old self.new bytes.now desk result
+            (seen (F.state files.old) (F.made files.old) (S.faults out.old) (S.written out.old))
+            (seen (F.state files.new) (F.made files.new) (S.faults out.new) (S.written out.new)) }
     {
         let mut desk = desk;
         for byte in bytes {
@@ -91,31 +67,11 @@ impl Script {
         files: &mut F,
         out: &mut S,
     ) -> Result<Desk, Stop>
-        requires limit { self.taken ≤ 16777216 }
-        requires horizon { setting.now.design.now.circuit.horizon ≤ 1000000 }
-        requires read { HasTaken setting.now.design.now.circuit.horizon self.taken self.reader }
-        requires shards { (0 < setting.now.sizes.shards) × (setting.now.sizes.shards ≤ 64) }
-        requires desk { IsDesk (setup_of setting.now.design.now setting.now.sizes) desk }
-        requires files { (F.state files.old).created ≡ length desk.dumps.made.items + 1 }
-        requires unfinished { Contains (F.state files.old).unfinished 0 }
-        ensures desk { let setup = setup_of setting.now.design.now setting.now.sizes in
-            IfOk result (λ later. IsDesk setup later) }
-        ensures count { IfOk result (λ later.
-            (F.state files.new).created ≡ length later.dumps.made.items + 1) }
-        ensures served { (names : List (List ℕ)) →
-            let setup = session_of setting.now.design.now setting.now.sizes names in
-            IfOk result (λ later. EndsServed setup self.reader desk later
-            (S.written out.old) (S.written out.new)
-            (F.made files.old) (F.made files.new)) }
-        ensures stopped { (names : List (List ℕ)) →
-            let setup = session_of setting.now.design.now setting.now.sizes names in
-            IfErr result (EndsStopped setup self.reader desk
-            (S.written out.old) (S.written out.new)
-            (F.made files.old) (F.made files.new) (F.state files.new).created) }
-        ensures state { UnitsChanges
-            (record { files = F.state files.old; replies = S.faults out.old })
-            (record { files = F.state files.new; replies = S.faults out.new })
-            result }
+        requires script { CanTake setting.now self 0 }
+        requires ready { IsReady (memo_of setting.now) desk (F.state files.old) }
+        ensures { ServesEnd setting.now self.reader desk result
+            (seen (F.state files.old) (F.made files.old) (S.faults out.old) (S.written out.old))
+            (seen (F.state files.new) (F.made files.new) (S.faults out.new) (S.written out.new)) }
     {
         let units = self.reader.end()?;
         serve_units(crew, setting, units, desk, files, out)
@@ -133,38 +89,17 @@ pub fn serve_script<C: Crew, F: Files, Q: Source, S: Sink>(
     queries: &mut Q,
     out: &mut S,
 ) -> Result<Vec<CellStore>, Stop>
-    requires shards { (0 < setting.now.sizes.shards) × (setting.now.sizes.shards ≤ 64) }
-    requires stores { AreStores (setup_of setting.now.design.now setting.now.sizes) stores.items }
-    requires empty { (shard : ℕ) → shard < setting.now.sizes.shards
-        → cells_of stores.items shard ≡ [] }
-    requires files { (F.state files.old).created ≡ 1 }
-    requires unfinished { Contains (F.state files.old).unfinished 0 }
+    requires fresh { IsFresh setting.now stores.items (F.state files.old) }
     ensures at_most { (script : List ℕ) → (Q.state queries.old).left ≡ Some script
         → ConsumesUpTo (Some script) (Q.state queries.new).left 16777217 }
-    ensures short { (script : List ℕ) → (Q.state queries.old).left ≡ Some script
-        → OnOk result (length script ≤ 16777216) }
-    ensures served { let setup = session_of setting.now.design.now setting.now.sizes names.items in
-        (script : List ℕ) → (Q.state queries.old).left ≡ Some script
-        → OnOk result (Wrote setup (IsSessionOf setup script)
-        (S.written out.old) (S.written out.new)
-        (F.made files.old) (F.made files.new) (F.state files.new).created) }
-    ensures stores { let setup = setup_of setting.now.design.now setting.now.sizes in
-        IfOk result (λ stores. AreStores setup stores.items) }
-    ensures stopped { let setup = session_of setting.now.design.now setting.now.sizes names.items in
-        (script : List ℕ) → (Q.state queries.old).left ≡ Some script
-        → IfErr result (λ stop. Wrote setup (IsStopped setup script (Q.state queries.new).left stop)
-        (S.written out.old) (S.written out.new)
-        (F.made files.old) (F.made files.new) (F.state files.new).created) }
+    ensures stores { IfOk result (λ stores. AreStores (memo_of setting.now) stores.items) }
+    ensures served { ServesScript (session_of setting.now names.items)
+        (Q.state queries.old).left (Q.state queries.new).left result
+        (seen (F.state files.old) (F.made files.old) (S.faults out.old) (S.written out.old))
+        (seen (F.state files.new) (F.made files.new) (S.faults out.new) (S.written out.new)) }
     ensures state { ScriptChanges
-        (record {
-          outputs = record { files = F.state files.old; replies = S.faults out.old };
-          script = Q.state queries.old;
-        })
-        (record {
-          outputs = record { files = F.state files.new; replies = S.faults out.new };
-          script = Q.state queries.new;
-        })
-        result }
+        (outside (F.state files.old) (S.faults out.old) (Q.state queries.old))
+        (outside (F.state files.new) (S.faults out.new) (Q.state queries.new)) result }
 {
     let alloc = setting.alloc;
     let design = setting.design;

@@ -1,16 +1,14 @@
 //! Replies and sections are written. One thread writes all, piece by piece. Where a shard has many entries, the crew makes their lines,
 //! block by block, each block as several texts, which are written one after another.
 
-ghost use Rattle.std.specs.Prelude.{◌≡◌, ◌++◌, ◌<◌, ◌≤◌, [], length, flat_map, Contains, IfOk, OnErr, OnOk};
+ghost use Rattle.std.specs.Prelude.{◌≡◌, ◌++◌, ◌≤◌, [], length, flat_map, Contains, IfOk, OnOk};
 ghost use Rattle.std.specs.List.{AllZip};
-ghost use Rattle.backsim_io.specs.Counts.{Grows};
-ghost use Rattle.backsim_io.specs.FilesInMemory.{FileGrows};
 ghost use Rattle.journal_text.specs.Spelling.{entry_line, kind_word, line_feed, shard_lines, section_lines};
 ghost use Rattle.reply_lines.specs.Replies.{Suits, text_of};
 ghost use Rattle.session_meaning.specs.Replies.{replies_text};
-ghost use Rattle.session_loop.specs.inner.Growing.{GrowsPart, FileGrowsPart, KeepsBack, shard_line};
+ghost use Rattle.session_loop.specs.inner.Growing.{shard_line};
+ghost use Rattle.session_loop.specs.inner.Pieces.{Records, RecordsBehind, Replies, RepliesBehind};
 ghost use Rattle.text_fields.specs.Spelling.{field};
-ghost use Rattle.session_loop.specs.inner.Outside.{RepliesChanges, JournalChanges};
 
 use crate::stop::Stop;
 use backsim_io::{Files, Sink, write_all, write_file};
@@ -23,6 +21,9 @@ use std::alloc::Global;
 use text_fields::push_field;
 use worker_gate::Crew;
 
+/// The place of the journal, which is the first file that a session creates.
+pub const JOURNAL: u32 = 0;
+
 /// How many bytes of replies, or of a section, are kept back until they are written.
 const PIECE: usize = 32_768;
 
@@ -34,9 +35,8 @@ const BLOCK: usize = 262_144;
 
 /// Writes a reply, by one `write_all`.
 pub fn write_reply<S: Sink>(text: &[u8], out: &mut S) -> Result<(), Stop>
-    ensures written { OnOk result (Grows (S.written out.old) (S.written out.new) text.now) }
-    ensures begun { OnErr result (GrowsPart (S.written out.old) (S.written out.new) text.now) }
-    ensures state { RepliesChanges (S.faults out.old) (S.faults out.new) result }
+    ensures { Replies text.now result
+        (S.faults out.old) (S.written out.old) (S.faults out.new) (S.written out.new) }
 {
     match write_all(out, text) {
         Ok(()) => Ok(()),
@@ -53,9 +53,8 @@ fn push_reply<S: Sink>(
     out: &mut S,
 ) -> Result<(), Stop>
     requires suits { Suits item.now.what reply.now }
-    ensures kept { OnOk result (KeepsBack (Grows (S.written out.old) (S.written out.new)) text.old.items (text_of item.now reply.now) text.new.items) }
-    ensures begun { OnErr result (GrowsPart (S.written out.old) (S.written out.new) (text.old.items ++ text_of item.now reply.now)) }
-    ensures state { RepliesChanges (S.faults out.old) (S.faults out.new) result }
+    ensures { RepliesBehind text.old.items (text_of item.now reply.now) text.new.items result
+        (S.faults out.old) (S.written out.old) (S.faults out.new) (S.written out.new) }
 {
     let more = reply_text(alloc, item, reply)?;
     text.extend_from_slice(&more)?;
@@ -75,11 +74,8 @@ pub fn write_replies<S: Sink>(
     out: &mut S,
 ) -> Result<(), Stop>
     requires suits { AllZip (λ item reply. Suits item.what reply) items.now replies.now }
-    ensures written { let text = replies_text items.now replies.now in
-        OnOk result (Grows (S.written out.old) (S.written out.new) text) }
-    ensures begun { let text = replies_text items.now replies.now in
-        OnErr result (GrowsPart (S.written out.old) (S.written out.new) text) }
-    ensures state { RepliesChanges (S.faults out.old) (S.faults out.new) result }
+    ensures { Replies (replies_text items.now replies.now) result
+        (S.faults out.old) (S.written out.old) (S.faults out.new) (S.written out.new) }
 {
     let mut text = Vec::new(alloc);
     for i in 0..items.len() {
@@ -88,69 +84,53 @@ pub fn write_replies<S: Sink>(
     write_reply(text.as_slice(), out)
 }
 
-/// Writes a text after the bytes of a created file.
-pub fn write_piece<F: Files>(slot: u32, text: &[u8], files: &mut F) -> Result<(), Stop>
-    requires unfinished { Contains (F.state files.old).unfinished slot }
-    ensures written { OnOk result (FileGrows (F.made files.old) (F.made files.new) slot text.now) }
-    ensures begun { OnErr result
-        (FileGrowsPart (F.made files.old) (F.made files.new) slot text.now) }
-    ensures state { JournalChanges (F.state files.old) (F.state files.new) result }
+/// Writes a text after the bytes of the journal.
+pub fn write_piece<F: Files>(text: &[u8], files: &mut F) -> Result<(), Stop>
+    requires unfinished { Contains (F.state files.old).unfinished 0 }
+    ensures { Records text.now result
+        (F.state files.old) (F.made files.old) (F.state files.new) (F.made files.new) }
 {
-    match write_file(files, slot, text) {
+    match write_file(files, JOURNAL, text) {
         Ok(()) => Ok(()),
         Err(_) => Err(Stop::JournalUnwritten),
     }
 }
 
-/// Writes the text to a created file once it is a piece long. Until then it is kept back.
-fn write_full<F: Files>(slot: u32, text: &mut Vec<u8>, files: &mut F) -> Result<(), Stop>
-    requires unfinished { Contains (F.state files.old).unfinished slot }
-    ensures kept { OnOk result (KeepsBack (FileGrows (F.made files.old) (F.made files.new) slot) text.old.items []
-        text.new.items) }
-    ensures begun { OnErr result
-        (FileGrowsPart (F.made files.old) (F.made files.new) slot text.old.items) }
-    ensures state { JournalChanges (F.state files.old) (F.state files.new) result }
+/// Writes the text to the journal once it is a piece long. Until then it is kept back.
+fn write_full<F: Files>(text: &mut Vec<u8>, files: &mut F) -> Result<(), Stop>
+    requires unfinished { Contains (F.state files.old).unfinished 0 }
+    ensures { RecordsBehind text.old.items [] text.new.items result
+        (F.state files.old) (F.made files.old) (F.state files.new) (F.made files.new) }
 {
     if text.len() < PIECE {
         return Ok(());
     }
-    write_piece(slot, text.as_slice(), files)?;
+    write_piece(text.as_slice(), files)?;
     text.clear();
     Ok(())
 }
 
 /// Writes the lines of entries after the text that is kept back.
-fn write_entries<F: Files>(
-    entries: &[Entry],
-    slot: u32,
-    text: &mut Vec<u8>,
-    files: &mut F,
-) -> Result<(), Stop>
-    requires unfinished { Contains (F.state files.old).unfinished slot }
-    ensures kept { let lines = flat_map entry_line entries.now in
-        OnOk result (KeepsBack (FileGrows (F.made files.old) (F.made files.new) slot) text.old.items lines text.new.items) }
-    ensures begun { let lines = flat_map entry_line entries.now in
-        OnErr result (FileGrowsPart (F.made files.old) (F.made files.new) slot (text.old.items ++ lines)) }
-    ensures state { JournalChanges (F.state files.old) (F.state files.new) result }
+fn write_entries<F: Files>(entries: &[Entry], text: &mut Vec<u8>, files: &mut F) -> Result<(), Stop>
+    requires unfinished { Contains (F.state files.old).unfinished 0 }
+    ensures { RecordsBehind text.old.items (flat_map entry_line entries.now) text.new.items result
+        (F.state files.old) (F.made files.old) (F.state files.new) (F.made files.new) }
 {
     for entry in entries {
         push_entry(text, entry)?;
-        write_full(slot, text, files)?;
+        write_full(text, files)?;
     }
     Ok(())
 }
 
 /// Writes texts, one after another.
-fn write_texts<F: Files>(texts: &[Vec<u8>], slot: u32, files: &mut F) -> Result<(), Stop>
-    requires unfinished { Contains (F.state files.old).unfinished slot }
-    ensures written { let lines = flat_map (λ text. text.items) texts.now in
-        OnOk result (FileGrows (F.made files.old) (F.made files.new) slot lines) }
-    ensures begun { let lines = flat_map (λ text. text.items) texts.now in
-        OnErr result (FileGrowsPart (F.made files.old) (F.made files.new) slot lines) }
-    ensures state { JournalChanges (F.state files.old) (F.state files.new) result }
+fn write_texts<F: Files>(texts: &[Vec<u8>], files: &mut F) -> Result<(), Stop>
+    requires unfinished { Contains (F.state files.old).unfinished 0 }
+    ensures { Records (flat_map (λ text. text.items) texts.now) result
+        (F.state files.old) (F.made files.old) (F.state files.new) (F.made files.new) }
 {
     for text in texts {
-        write_piece(slot, text.as_slice(), files)?;
+        write_piece(text.as_slice(), files)?;
     }
     Ok(())
 }
@@ -160,18 +140,14 @@ fn write_block<C: Crew, F: Files>(
     crew: &C,
     alloc: Global,
     entries: &[Entry],
-    slot: u32,
     files: &mut F,
 ) -> Result<(), Stop>
-    requires unfinished { Contains (F.state files.old).unfinished slot }
-    ensures written { let lines = flat_map entry_line entries.now in
-        OnOk result (FileGrows (F.made files.old) (F.made files.new) slot lines) }
-    ensures begun { let lines = flat_map entry_line entries.now in
-        OnErr result (FileGrowsPart (F.made files.old) (F.made files.new) slot lines) }
-    ensures state { JournalChanges (F.state files.old) (F.state files.new) result }
+    requires unfinished { Contains (F.state files.old).unfinished 0 }
+    ensures { Records (flat_map entry_line entries.now) result
+        (F.state files.old) (F.made files.old) (F.state files.new) (F.made files.new) }
 {
     let texts = crew.lines_of(alloc, entries)?;
-    write_texts(texts.as_slice(), slot, files)
+    write_texts(texts.as_slice(), files)
 }
 
 /// Writes the lines of entries, block by block.
@@ -179,18 +155,14 @@ fn write_blocks<C: Crew, F: Files>(
     crew: &C,
     alloc: Global,
     entries: &[Entry],
-    slot: u32,
     files: &mut F,
 ) -> Result<(), Stop>
-    requires unfinished { Contains (F.state files.old).unfinished slot }
-    ensures written { let lines = flat_map entry_line entries.now in
-        OnOk result (FileGrows (F.made files.old) (F.made files.new) slot lines) }
-    ensures begun { let lines = flat_map entry_line entries.now in
-        OnErr result (FileGrowsPart (F.made files.old) (F.made files.new) slot lines) }
-    ensures state { JournalChanges (F.state files.old) (F.state files.new) result }
+    requires unfinished { Contains (F.state files.old).unfinished 0 }
+    ensures { Records (flat_map entry_line entries.now) result
+        (F.state files.old) (F.made files.old) (F.state files.new) (F.made files.new) }
 {
     for block in entries.chunks(BLOCK) {
-        write_block(crew, alloc, block, slot, files)?;
+        write_block(crew, alloc, block, files)?;
     }
     Ok(())
 }
@@ -200,23 +172,19 @@ fn write_lines<C: Crew, F: Files>(
     crew: &C,
     alloc: Global,
     entries: &[Entry],
-    slot: u32,
     text: &mut Vec<u8>,
     files: &mut F,
 ) -> Result<(), Stop>
-    requires unfinished { Contains (F.state files.old).unfinished slot }
-    ensures kept { let lines = flat_map entry_line entries.now in
-        OnOk result (KeepsBack (FileGrows (F.made files.old) (F.made files.new) slot) text.old.items lines text.new.items) }
-    ensures begun { let lines = flat_map entry_line entries.now in
-        OnErr result (FileGrowsPart (F.made files.old) (F.made files.new) slot (text.old.items ++ lines)) }
-    ensures state { JournalChanges (F.state files.old) (F.state files.new) result }
+    requires unfinished { Contains (F.state files.old).unfinished 0 }
+    ensures { RecordsBehind text.old.items (flat_map entry_line entries.now) text.new.items result
+        (F.state files.old) (F.made files.old) (F.state files.new) (F.made files.new) }
 {
     if crew.workers() == 1 || entries.len() < ENTRIES_FOR_TWO {
-        return write_entries(entries, slot, text, files);
+        return write_entries(entries, text, files);
     }
-    write_piece(slot, text.as_slice(), files)?;
+    write_piece(text.as_slice(), files)?;
     text.clear();
-    write_blocks(crew, alloc, entries, slot, files)
+    write_blocks(crew, alloc, entries, files)
 }
 
 /// Adds the line of a shard.
@@ -235,19 +203,16 @@ fn write_shard<C: Crew, F: Files>(
     alloc: Global,
     number: u32,
     entries: &[Entry],
-    slot: u32,
     text: &mut Vec<u8>,
     files: &mut F,
 ) -> Result<(), Stop>
-    requires unfinished { Contains (F.state files.old).unfinished slot }
-    ensures kept { let lines = shard_line number ++ flat_map entry_line entries.now in
-        OnOk result (KeepsBack (FileGrows (F.made files.old) (F.made files.new) slot) text.old.items lines text.new.items) }
-    ensures begun { let lines = shard_line number ++ flat_map entry_line entries.now in
-        OnErr result (FileGrowsPart (F.made files.old) (F.made files.new) slot (text.old.items ++ lines)) }
-    ensures state { JournalChanges (F.state files.old) (F.state files.new) result }
+    requires unfinished { Contains (F.state files.old).unfinished 0 }
+    ensures { RecordsBehind text.old.items (shard_line number ++ flat_map entry_line entries.now)
+        text.new.items result
+        (F.state files.old) (F.made files.old) (F.state files.new) (F.made files.new) }
 {
     push_shard(text, number)?;
-    write_lines(crew, alloc, entries, slot, text, files)
+    write_lines(crew, alloc, entries, text, files)
 }
 
 /// Writes the lines of all shards after the text that is kept back.
@@ -255,21 +220,17 @@ fn write_shards<C: Crew, F: Files>(
     crew: &C,
     alloc: Global,
     lists: &[EntryList],
-    slot: u32,
     text: &mut Vec<u8>,
     files: &mut F,
 ) -> Result<(), Stop>
     requires few { length lists.now ≤ 4294967295 }
-    requires unfinished { Contains (F.state files.old).unfinished slot }
-    ensures kept { let lines = shard_lines 0 lists.now in
-        OnOk result (KeepsBack (FileGrows (F.made files.old) (F.made files.new) slot) text.old.items lines text.new.items) }
-    ensures begun { let lines = shard_lines 0 lists.now in
-        OnErr result (FileGrowsPart (F.made files.old) (F.made files.new) slot (text.old.items ++ lines)) }
-    ensures state { JournalChanges (F.state files.old) (F.state files.new) result }
+    requires unfinished { Contains (F.state files.old).unfinished 0 }
+    ensures { RecordsBehind text.old.items (shard_lines 0 lists.now) text.new.items result
+        (F.state files.old) (F.made files.old) (F.state files.new) (F.made files.new) }
 {
     let mut number = 0u32;
     for list in lists {
-        write_shard(crew, alloc, number, list.as_slice(), slot, text, files)?;
+        write_shard(crew, alloc, number, list.as_slice(), text, files)?;
         number += 1;
     }
     Ok(())
@@ -295,28 +256,23 @@ fn head_line(alloc: Global, kind: SectionKind, number: u32) -> Result<Vec<u8>, O
     Ok(text)
 }
 
-/// Writes a section to a created file, piece by piece, each of bounded size. The lines of a shard with many entries are made by the workers.
+/// Writes a section to the journal, piece by piece, each of bounded size. The lines of a shard with many entries are made by the workers.
 pub fn write_section<C: Crew, F: Files>(
     crew: &C,
     alloc: Global,
     kind: SectionKind,
     number: u32,
     lists: &[EntryList],
-    slot: u32,
     files: &mut F,
 ) -> Result<(), Stop>
     requires few { length lists.now ≤ 4294967295 }
-    requires unfinished { Contains (F.state files.old).unfinished slot }
-    ensures written { let lines =
-        section_lines (record { kind = kind; number = number; shards = lists.now }) in
-        OnOk result (FileGrows (F.made files.old) (F.made files.new) slot lines) }
-    ensures begun { let lines =
-        section_lines (record { kind = kind; number = number; shards = lists.now }) in
-        OnErr result (FileGrowsPart (F.made files.old) (F.made files.new) slot lines) }
-    ensures state { JournalChanges (F.state files.old) (F.state files.new) result }
+    requires unfinished { Contains (F.state files.old).unfinished 0 }
+    ensures { Records
+        (section_lines (record { kind = kind; number = number; shards = lists.now })) result
+        (F.state files.old) (F.made files.old) (F.state files.new) (F.made files.new) }
 {
     let mut text = head_line(alloc, kind, number)?;
-    write_shards(crew, alloc, lists, slot, &mut text, files)?;
+    write_shards(crew, alloc, lists, &mut text, files)?;
     text.extend_from_slice(b"end\n")?;
-    write_piece(slot, text.as_slice(), files)
+    write_piece(text.as_slice(), files)
 }

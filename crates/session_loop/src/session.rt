@@ -1,12 +1,11 @@
 //! A session of a script, with its journal.
 
-ghost use Rattle.std.specs.Prelude.{◌≡◌, ◌++◌, ◌∷◌, ◌<◌, ◌≤◌, [], ℕ, List, Some, length, map, IsErrOf, IfErr, IfOk, OnOk};
+ghost use Rattle.std.specs.Prelude.{◌≡◌, ◌++◌, ◌∷◌, ◌<◌, ◌≤◌, [], ℕ, List, Some, map, IfOk};
 ghost use Rattle.backsim_io.specs.FilesInMemory.{ConsumesUpTo};
-ghost use Rattle.session_meaning.specs.Session.{IsSessionOf};
-ghost use Rattle.unit_answers.specs.Stores.{setup_of, AreStores};
-ghost use Rattle.session_loop.specs.Halting.{WroteFiles, IsHalted, IsUntouched};
-ghost use Rattle.session_loop.specs.Serving.{session_of};
-ghost use Rattle.session_loop.specs.Outside.{SessionChanges};
+ghost use Rattle.unit_answers.specs.Stores.{AreStores};
+ghost use Rattle.session_loop.specs.Halting.{ServesSession};
+ghost use Rattle.session_loop.specs.Serving.{memo_of, session_of};
+ghost use Rattle.session_loop.specs.Outside.{outside, seen, SessionChanges};
 
 use crate::halt::Halt;
 use crate::journal::{begin_journal, finish_journal};
@@ -50,39 +49,17 @@ pub fn serve_session<C: Crew, F: Files, Q: Source, S: Sink>(
     requires shards { (0 < setting.now.sizes.shards) × (setting.now.sizes.shards ≤ 64) }
     requires cells { (0 < setting.now.sizes.cells) × (setting.now.sizes.cells ≤ 65536) }
     requires files { (F.state files.old).created ≡ 0 }
-    ensures served { let setup = session_of setting.now.design.now setting.now.sizes
-        (map (λ name. name.now) inputs.now ++ journal.now ∷ []) in
-        (script : List ℕ) → (Q.state queries.old).left ≡ Some script
-        → OnOk result (WroteFiles (IsSessionOf setup script) journal.now
-        (S.written out.old) (S.written out.new)
-        (F.made files.old) (F.made files.new) (F.state files.new).created) }
-    ensures stores { let setup = setup_of setting.now.design.now setting.now.sizes in
-        IfOk result (λ stores. AreStores setup stores.items) }
-    ensures short { (script : List ℕ) → (Q.state queries.old).left ≡ Some script
-        → OnOk result (length script ≤ 16777216) }
-    ensures halted { let setup = session_of setting.now.design.now setting.now.sizes
-        (map (λ name. name.now) inputs.now ++ journal.now ∷ []) in
-        (script : List ℕ) → (Q.state queries.old).left ≡ Some script
-        → IfErr result (IsHalted setup journal.now script
-        (Q.state queries.old).left (Q.state queries.new).left
-        (S.written out.old) (S.written out.new)
-        (F.made files.old) (F.made files.new) (F.state files.new).created) }
-    ensures untouched { IsErrOf result Halt.JournalUnmade
-        → IsUntouched (Q.state queries.old).left (Q.state queries.new).left
-        (S.written out.old) (S.written out.new) (F.made files.old) (F.made files.new)
-        (F.state files.old).created (F.state files.new).created }
+    ensures served { let names = map (λ name. name.now) inputs.now ++ journal.now ∷ [] in
+        ServesSession (session_of setting.now names) journal.now
+        (Q.state queries.old).left (Q.state queries.new).left result
+        (seen (F.state files.old) (F.made files.old) (S.faults out.old) (S.written out.old))
+        (seen (F.state files.new) (F.made files.new) (S.faults out.new) (S.written out.new)) }
+    ensures stores { IfOk result (λ stores. AreStores (memo_of setting.now) stores.items) }
     ensures at_most { (script : List ℕ) → (Q.state queries.old).left ≡ Some script
         → ConsumesUpTo (Some script) (Q.state queries.new).left 16777217 }
     ensures state { SessionChanges
-        (record {
-          outputs = record { files = F.state files.old; replies = S.faults out.old };
-          script = Q.state queries.old;
-        })
-        (record {
-          outputs = record { files = F.state files.new; replies = S.faults out.new };
-          script = Q.state queries.new;
-        })
-        result }
+        (outside (F.state files.old) (S.faults out.old) (Q.state queries.old))
+        (outside (F.state files.new) (S.faults out.new) (Q.state queries.new)) result }
 {
     let alloc = setting.alloc;
     let sizes = setting.sizes;

@@ -1,19 +1,17 @@
 //! A unit is served.
 
-ghost use Rattle.std.specs.Prelude.{◌≡◌, ◌+◌, ◌<◌, ◌≤◌, ◌∷◌, [], ℕ, List, length, All, Contains, IfErr, IfOk};
+ghost use Rattle.std.specs.Prelude.{◌∷◌, [], All};
 ghost use Rattle.query_lines.specs.declared.unit.Unit.TheVariants as kinds;
 ghost use Rattle.query_lines.specs.Laws.{IsWithin};
 ghost use Rattle.query_lines.specs.Fit.{AsksByName, HaveOwnLines, IsFit};
-ghost use Rattle.unit_answers.specs.Stores.{setup_of};
-ghost use Rattle.session_loop.specs.Serving.{session_of};
-ghost use Rattle.session_loop.specs.inner.Desks.{IsDesk};
-ghost use Rattle.session_loop.specs.inner.Serving.{Serves, Stops};
-ghost use Rattle.session_loop.specs.inner.Outside.{UnitChanges, UnitsChanges};
+ghost use Rattle.session_loop.specs.Outside.{seen};
+ghost use Rattle.session_loop.specs.Serving.{memo_of};
+ghost use Rattle.session_loop.specs.inner.Desks.{IsReady};
+ghost use Rattle.session_loop.specs.inner.Serving.{ServesUnits};
 
 use crate::counting::{cells_in, count_section, entries_in};
 use crate::desk::{Desk, LastBatch};
 use crate::dump::serve_vcd;
-use crate::journal::JOURNAL;
 use crate::question::serve_question;
 use crate::section::{write_replies, write_reply, write_section};
 use crate::setting::Setting;
@@ -34,31 +32,13 @@ pub fn serve_batch<C: Crew, F: Files, S: Sink>(
     files: &mut F,
     out: &mut S,
 ) -> Result<Desk, Stop>
-    requires shards { (0 < setting.now.sizes.shards) × (setting.now.sizes.shards ≤ 64) }
     requires within { IsWithin setting.now.design.now.circuit.horizon items }
     requires lines { HaveOwnLines items }
     requires named { All (λ item. AsksByName item.what) items }
-    requires desk { IsDesk (setup_of setting.now.design.now setting.now.sizes) desk }
-    requires files { (F.state files.old).created ≡ length desk.dumps.made.items + 1 }
-    requires unfinished { Contains (F.state files.old).unfinished 0 }
-    ensures desk { let setup = setup_of setting.now.design.now setting.now.sizes in
-        IfOk result (λ later. IsDesk setup later) }
-    ensures count { IfOk result (λ later.
-        (F.state files.new).created ≡ length later.dumps.made.items + 1) }
-    ensures served { (names : List (List ℕ)) →
-        let setup = session_of setting.now.design.now setting.now.sizes names in
-        IfOk result (λ later. Serves setup desk later (kinds.Batch items ∷ [])
-        (S.written out.old) (S.written out.new)
-        (F.made files.old) (F.made files.new)) }
-    ensures stopped { (names : List (List ℕ)) →
-        let setup = session_of setting.now.design.now setting.now.sizes names in
-        IfErr result (Stops setup desk (kinds.Batch items ∷ [])
-        (S.written out.old) (S.written out.new)
-        (F.made files.old) (F.made files.new) (F.state files.new).created) }
-    ensures state { UnitChanges
-        (record { files = F.state files.old; replies = S.faults out.old })
-        (record { files = F.state files.new; replies = S.faults out.new })
-        result }
+    requires ready { IsReady (memo_of setting.now) desk (F.state files.old) }
+    ensures { ServesUnits setting.now desk (kinds.Batch items ∷ []) result
+        (seen (F.state files.old) (F.made files.old) (S.faults out.old) (S.written out.old))
+        (seen (F.state files.new) (F.made files.new) (S.faults out.new) (S.written out.new)) }
 {
     let alloc = setting.alloc;
     let design = setting.design;
@@ -82,7 +62,6 @@ pub fn serve_batch<C: Crew, F: Files, S: Sink>(
         SectionKind::Batch,
         counts.sections,
         &done.lists,
-        JOURNAL,
         files,
     )?;
     dumps.last = Some(LastBatch {
@@ -106,28 +85,10 @@ pub fn serve_trim<C: Crew, F: Files, S: Sink>(
     files: &mut F,
     out: &mut S,
 ) -> Result<Desk, Stop>
-    requires shards { (0 < setting.now.sizes.shards) × (setting.now.sizes.shards ≤ 64) }
-    requires desk { IsDesk (setup_of setting.now.design.now setting.now.sizes) desk }
-    requires files { (F.state files.old).created ≡ length desk.dumps.made.items + 1 }
-    requires unfinished { Contains (F.state files.old).unfinished 0 }
-    ensures desk { let setup = setup_of setting.now.design.now setting.now.sizes in
-        IfOk result (λ later. IsDesk setup later) }
-    ensures count { IfOk result (λ later.
-        (F.state files.new).created ≡ length later.dumps.made.items + 1) }
-    ensures served { (names : List (List ℕ)) →
-        let setup = session_of setting.now.design.now setting.now.sizes names in
-        IfOk result (λ later. Serves setup desk later (kinds.Trim most ∷ [])
-        (S.written out.old) (S.written out.new)
-        (F.made files.old) (F.made files.new)) }
-    ensures stopped { (names : List (List ℕ)) →
-        let setup = session_of setting.now.design.now setting.now.sizes names in
-        IfErr result (Stops setup desk (kinds.Trim most ∷ [])
-        (S.written out.old) (S.written out.new)
-        (F.made files.old) (F.made files.new) (F.state files.new).created) }
-    ensures state { UnitChanges
-        (record { files = F.state files.old; replies = S.faults out.old })
-        (record { files = F.state files.new; replies = S.faults out.new })
-        result }
+    requires ready { IsReady (memo_of setting.now) desk (F.state files.old) }
+    ensures { ServesUnits setting.now desk (kinds.Trim most ∷ []) result
+        (seen (F.state files.old) (F.made files.old) (S.faults out.old) (S.written out.old))
+        (seen (F.state files.new) (F.made files.new) (S.faults out.new) (S.written out.new)) }
 {
     let alloc = setting.alloc;
     let design = setting.design;
@@ -153,7 +114,6 @@ pub fn serve_trim<C: Crew, F: Files, S: Sink>(
         SectionKind::Trim,
         counts.sections,
         &done.lists,
-        JOURNAL,
         files,
     )?;
     Ok(Desk {
@@ -171,27 +131,10 @@ pub fn serve_stats<F: Files, S: Sink>(
     files: &mut F,
     out: &mut S,
 ) -> Result<Desk, Stop>
-    requires desk { IsDesk (setup_of setting.now.design.now setting.now.sizes) desk }
-    requires files { (F.state files.old).created ≡ length desk.dumps.made.items + 1 }
-    requires unfinished { Contains (F.state files.old).unfinished 0 }
-    ensures desk { let setup = setup_of setting.now.design.now setting.now.sizes in
-        IfOk result (λ later. IsDesk setup later) }
-    ensures count { IfOk result (λ later.
-        (F.state files.new).created ≡ length later.dumps.made.items + 1) }
-    ensures served { (names : List (List ℕ)) →
-        let setup = session_of setting.now.design.now setting.now.sizes names in
-        IfOk result (λ later. Serves setup desk later (kinds.Stats ∷ [])
-        (S.written out.old) (S.written out.new)
-        (F.made files.old) (F.made files.new)) }
-    ensures stopped { (names : List (List ℕ)) →
-        let setup = session_of setting.now.design.now setting.now.sizes names in
-        IfErr result (Stops setup desk (kinds.Stats ∷ [])
-        (S.written out.old) (S.written out.new)
-        (F.made files.old) (F.made files.new) (F.state files.new).created) }
-    ensures state { UnitChanges
-        (record { files = F.state files.old; replies = S.faults out.old })
-        (record { files = F.state files.new; replies = S.faults out.new })
-        result }
+    requires ready { IsReady (memo_of setting.now) desk (F.state files.old) }
+    ensures { ServesUnits setting.now desk (kinds.Stats ∷ []) result
+        (seen (F.state files.old) (F.made files.old) (S.faults out.old) (S.written out.old))
+        (seen (F.state files.new) (F.made files.new) (S.faults out.new) (S.written out.new)) }
 {
     let alloc = setting.alloc;
     let Some(cells) = cells_in(&desk.stores) else {
@@ -212,29 +155,11 @@ pub fn serve_unit<C: Crew, F: Files, S: Sink>(
     files: &mut F,
     out: &mut S,
 ) -> Result<Desk, Stop>
-    requires shards { (0 < setting.now.sizes.shards) × (setting.now.sizes.shards ≤ 64) }
     requires fit { IsFit setting.now.design.now.circuit.horizon unit }
-    requires desk { IsDesk (setup_of setting.now.design.now setting.now.sizes) desk }
-    requires files { (F.state files.old).created ≡ length desk.dumps.made.items + 1 }
-    requires unfinished { Contains (F.state files.old).unfinished 0 }
-    ensures desk { let setup = setup_of setting.now.design.now setting.now.sizes in
-        IfOk result (λ later. IsDesk setup later) }
-    ensures count { IfOk result (λ later.
-        (F.state files.new).created ≡ length later.dumps.made.items + 1) }
-    ensures served { (names : List (List ℕ)) →
-        let setup = session_of setting.now.design.now setting.now.sizes names in
-        IfOk result (λ later. Serves setup desk later (unit ∷ [])
-        (S.written out.old) (S.written out.new)
-        (F.made files.old) (F.made files.new)) }
-    ensures stopped { (names : List (List ℕ)) →
-        let setup = session_of setting.now.design.now setting.now.sizes names in
-        IfErr result (Stops setup desk (unit ∷ [])
-        (S.written out.old) (S.written out.new)
-        (F.made files.old) (F.made files.new) (F.state files.new).created) }
-    ensures state { UnitsChanges
-        (record { files = F.state files.old; replies = S.faults out.old })
-        (record { files = F.state files.new; replies = S.faults out.new })
-        result }
+    requires ready { IsReady (memo_of setting.now) desk (F.state files.old) }
+    ensures { ServesUnits setting.now desk (unit ∷ []) result
+        (seen (F.state files.old) (F.made files.old) (S.faults out.old) (S.written out.old))
+        (seen (F.state files.new) (F.made files.new) (S.faults out.new) (S.written out.new)) }
 {
     match unit {
         Unit::Batch(items) => { serve_batch(crew, setting, items, desk, files, out) }
@@ -254,29 +179,11 @@ pub fn serve_units<C: Crew, F: Files, S: Sink>(
     files: &mut F,
     out: &mut S,
 ) -> Result<Desk, Stop>
-    requires shards { (0 < setting.now.sizes.shards) × (setting.now.sizes.shards ≤ 64) }
     requires fit { All (IsFit setting.now.design.now.circuit.horizon) units }
-    requires desk { IsDesk (setup_of setting.now.design.now setting.now.sizes) desk }
-    requires files { (F.state files.old).created ≡ length desk.dumps.made.items + 1 }
-    requires unfinished { Contains (F.state files.old).unfinished 0 }
-    ensures desk { let setup = setup_of setting.now.design.now setting.now.sizes in
-        IfOk result (λ later. IsDesk setup later) }
-    ensures count { IfOk result (λ later.
-        (F.state files.new).created ≡ length later.dumps.made.items + 1) }
-    ensures served { (names : List (List ℕ)) →
-        let setup = session_of setting.now.design.now setting.now.sizes names in
-        IfOk result (λ later. Serves setup desk later units
-        (S.written out.old) (S.written out.new)
-        (F.made files.old) (F.made files.new)) }
-    ensures stopped { (names : List (List ℕ)) →
-        let setup = session_of setting.now.design.now setting.now.sizes names in
-        IfErr result (Stops setup desk units
-        (S.written out.old) (S.written out.new)
-        (F.made files.old) (F.made files.new) (F.state files.new).created) }
-    ensures state { UnitsChanges
-        (record { files = F.state files.old; replies = S.faults out.old })
-        (record { files = F.state files.new; replies = S.faults out.new })
-        result }
+    requires ready { IsReady (memo_of setting.now) desk (F.state files.old) }
+    ensures { ServesUnits setting.now desk units result
+        (seen (F.state files.old) (F.made files.old) (S.faults out.old) (S.written out.old))
+        (seen (F.state files.new) (F.made files.new) (S.faults out.new) (S.written out.new)) }
 {
     let mut desk = desk;
     for unit in units.into_vec() {

@@ -4,13 +4,13 @@ ghost use Rattle.std.specs.Prelude.{◌≡◌, ◌<◌, ◌≤◌, [], replicate
 ghost use Rattle.query_lines.specs.Laws.{IsWithin};
 ghost use Rattle.query_lines.specs.Fit.{HaveOwnLines};
 ghost use Rattle.cell_store.specs.Recency.{contents};
-ghost use Rattle.unit_answers.specs.Stores.{setup_of};
 ghost use Rattle.unit_answers.specs.Done.{IsBatchDone};
 ghost use Rattle.session_loop.specs.Halting.{WroteJournal, IsWork, IsWorkHalted};
+ghost use Rattle.session_loop.specs.Serving.{memo_of};
 ghost use Rattle.session_loop.specs.Outside.{WorkChanges};
 
 use crate::halt::Halt;
-use crate::journal::{JOURNAL, begin_journal};
+use crate::journal::begin_journal;
 use crate::section::write_section;
 use crate::setting::Setting;
 use crate::stores::empty_stores;
@@ -35,15 +35,13 @@ pub fn serve_work<C: Crew, F: Files>(
     requires within { IsWithin setting.now.design.now.circuit.horizon items.now }
     requires lines { HaveOwnLines items.now }
     requires files { (F.state files.old).created ≡ 0 }
-    ensures done { let setup = setup_of setting.now.design.now setting.now.sizes in
-        let empty = replicate setting.now.sizes.shards (contents setting.now.sizes.cells []) in
-        IfOk result (λ done. IsBatchDone setup items.now empty
+    ensures done { IfOk result (λ done. IsBatchDone (memo_of setting.now) items.now
+        (replicate setting.now.sizes.shards (contents setting.now.sizes.cells []))
         done.replies.items done.lists.items done.stores.items) }
-    ensures worked { let setup = setup_of setting.now.design.now setting.now.sizes in
-        IfOk result (λ done. WroteJournal (IsWork setup items.now done.replies.items) journal.now
+    ensures worked { IfOk result (λ done. WroteJournal
+        (IsWork (memo_of setting.now) items.now done.replies.items) journal.now
         (F.made files.old) (F.made files.new)) }
-    ensures halted { let setup = setup_of setting.now.design.now setting.now.sizes in
-        IfErr result (IsWorkHalted setup items.now journal.now
+    ensures halted { IfErr result (IsWorkHalted (memo_of setting.now) items.now journal.now
         (F.made files.old) (F.made files.new)) }
     ensures state { WorkChanges (F.state files.old) (F.state files.new) result }
 {
@@ -53,14 +51,6 @@ pub fn serve_work<C: Crew, F: Files>(
     begin_journal(alloc, sizes, journal, files)?;
     let stores = empty_stores(alloc, sizes)?;
     let done = answer_batch(crew, alloc, design, items, sizes, stores)?;
-    write_section(
-        crew,
-        alloc,
-        SectionKind::Batch,
-        1,
-        &done.lists,
-        JOURNAL,
-        files,
-    )?;
+    write_section(crew, alloc, SectionKind::Batch, 1, &done.lists, files)?;
     Ok(done)
 }

@@ -1,7 +1,8 @@
 -- What a session keeps from one unit to the next.
-use Rattle.std.specs.Prelude.{◌≡◌, ⊤, ℕ, ◌+◌, ◌<◌, List, [], ◌∷◌, length, map, filter, sum_by, nat_le, ◌||◌, if◌then◌else◌, Option, Some, None, IfSome}
+use Rattle.std.specs.Prelude.{◌≡◌, ⊤, ℕ, ◌+◌, ◌<◌, List, [], ◌∷◌, length, map, filter, sum_by, nat_le, ◌||◌, if◌then◌else◌, Option, Some, None, Contains, IfSome}
 use Rattle.std.specs.List.{list_any}
 use Rattle.std.specs.Str.{bytes_eq}
+use Rattle.backsim_io.specs.State.{FilesState}
 use Rattle.journal_meaning.specs.declared.Entry.{Entry}
 use Rattle.journal_meaning.specs.Sections.{SectionEntries, cells_after}
 use Rattle.journal_meaning.specs.Counts.{count}
@@ -87,6 +88,12 @@ pub record IsDesk (setup : Setup) (desk : Desk) : Type 0 where
   pub stores : AreStores setup desk.stores.items
   pub shown : IsShowable setup.design desk.dumps.last
   pub site : IfSome desk.last_site (λ last. last ≡ setup.design)
+
+-- Units can be served over this desk and these files: the journal, which isn't finished, and the dumps are the files that were created.
+pub record IsReady (setup : Setup) (kept : Desk) (files : FilesState) : Type 0 where
+  pub desk : IsDesk setup kept
+  pub count : files.created ≡ length kept.dumps.made.items + 1
+  pub unfinished : Contains files.unfinished 0
 
 -- what is kept is what the session has come to
 pub record Keeps (setup : Setup) (desk : Desk) (now : Course) : Type 0 where

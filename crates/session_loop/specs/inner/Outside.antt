@@ -1,11 +1,11 @@
 -- What the private functions of this crate change of the outside, by their outcomes, beside `Outside`.
 use Rattle.std.specs.Prelude.{◌≡◌, ℕ, ◌+◌, Result, Ok, Err}
-use Rattle.backsim_io.specs.State.{FilesState, FileFault, WriteFault, Rises}
+use Rattle.backsim_io.specs.State.{FilesState, FileFault, Rises}
 use Rattle.session_loop.specs.declared.stop.Stop.{Stop}
 use Rattle.session_loop.specs.declared.stop.Stop.TheVariants.{ScriptUnread, ScriptTooLong, RepliesUnwritten, JournalUnwritten, DumpUnmade, DumpUnwritten, DumpUnfinished, OutOfMemory}
 use Rattle.session_loop.specs.declared.halt.Halt.{Halt}
 use Rattle.session_loop.specs.declared.halt.Halt.TheVariants.{JournalUnmade, Stopped, JournalUnfinished}
-use Rattle.session_loop.specs.Outside.{Outputs, Outside, RepliesFault, OfFiles, Dumped, LeavesUnwritten, LeavesUnfinished, JournalStops, UnitsStop, Served, ScriptStops, with_file}
+use Rattle.session_loop.specs.Outside.{Outside, LeavesUnwritten, LeavesUnfinished, JournalStops, Served, ScriptStops, with_file}
 
 -- the writing of replies
 abbrev pub RepliesStops : ℕ → ℕ → Stop → Type 0
@@ -17,30 +17,6 @@ RepliesStops old new JournalUnwritten = ⊥
 RepliesStops old new DumpUnmade = ⊥
 RepliesStops old new DumpUnwritten = ⊥
 RepliesStops old new DumpUnfinished = ⊥
-
-abbrev pub RepliesChanges : {A : Type 0} → ℕ → ℕ → Result A Stop → Type 0
-RepliesChanges old new (Ok done) = new ≡ old
-RepliesChanges old new (Err stop) = RepliesStops old new stop
-
--- the writing of the journal
-abbrev pub JournalChanges : {A : Type 0} → FilesState → FilesState → Result A Stop → Type 0
-JournalChanges old new (Ok done) = new ≡ old
-JournalChanges old new (Err stop) = JournalStops old new stop
-
--- a unit that makes no dump
-abbrev pub UnitStops : Outputs → Outputs → Stop → Type 0
-UnitStops old new RepliesUnwritten = RepliesFault old new
-UnitStops old new JournalUnwritten = OfFiles WriteFault old new
-UnitStops old new OutOfMemory = new ≡ old
-UnitStops old new ScriptUnread = ⊥
-UnitStops old new ScriptTooLong = ⊥
-UnitStops old new DumpUnmade = ⊥
-UnitStops old new DumpUnwritten = ⊥
-UnitStops old new DumpUnfinished = ⊥
-
-abbrev pub UnitChanges : {A : Type 0} → Outputs → Outputs → Result A Stop → Type 0
-UnitChanges old new (Ok done) = new ≡ old
-UnitChanges old new (Err stop) = UnitStops old new stop
 
 -- the making of a dump's file
 abbrev pub DumpStops : FilesState → FilesState → Stop → Type 0
@@ -56,11 +32,6 @@ DumpStops old new OutOfMemory = ⊥
 abbrev pub DumpChanges : {A : Type 0} → FilesState → FilesState → Result A Stop → Type 0
 DumpChanges old new (Ok done) = new ≡ record old { created = old.created + 1 }
 DumpChanges old new (Err stop) = DumpStops old new stop
-
--- any units
-abbrev pub UnitsChanges : {A : Type 0} → Outputs → Outputs → Result A Stop → Type 0
-UnitsChanges old new (Ok done) = OfFiles Dumped old new
-UnitsChanges old new (Err stop) = UnitsStop old new stop
 
 -- a script
 abbrev pub ScriptChanges : {A : Type 0} → Outside → Outside → Result A Stop → Type 0

@@ -18,7 +18,7 @@ use Rattle.backsim.specs.inner.Stops.{files_stop, stop_of, EndsWith, EndExplains
 use Rattle.backsim.proofs.Asked.{session-complete, of-accepted, no-refusal, short-script, ended-no-usage, early-serves}
 use Rattle.backsim.proofs.Ends.{NoneCreated, of-files, ends-early, early-no_usage, files-refused, files-leave, files-untouched, first-refuses, all-refuse, files-refuse}
 use Rattle.backsim.proofs.Explained.{outside_at, calm-then, calm-files, calm-served, files-explain, files-kept, end-explains, halt-ends, halt-open, files-open, none-unfinished}
-use Rattle.backsim.proofs.Halts.{served-all, halt-refused, halt-leaves, halted-script, err-of, of-halt, halt-no_file}
+use Rattle.backsim.proofs.Halts.{served-all, halt-refused, halt-leaves, halted-script, of-halt, halt-no_file}
 use Rattle.backsim.proofs.serve.serve_files.Goals as goal
 
 -- the files made no design
@@ -77,9 +77,9 @@ returns-in-Ok-serve_session-clause-serves g c =
     (record {
       ended = λ given are is. served-all command given c.in-Ok.design (c.in-Ok.ensures.design given.netlist given.timing given.stimulus are.netlist are.timing are.stimulus)
           before after after.written (g.F.Files.made c.read_design.new.files) c.in-Ok.ensures.made c.sessions_are_whole.ensures c.facts.ensures
-          (λ start h. h) (served.short given.script are.script) (served.served given.script are.script);
+          (λ start h. h) (served.served given.script are.script).short (served.served given.script are.script).read (served.served given.script are.script).wrote;
       refused = λ given are is. no-refusal command given before after is;
-      script_refused = λ given are long. short-script given (served.short given.script are.script) long;
+      script_refused = λ given are long. short-script given (served.served given.script are.script).short long;
       no_usage = ended-no-usage;
       cause = calm;
       leaves = λ given are. tt;
@@ -115,12 +115,12 @@ returns-in-Err-serve_session-clause-serves g c =
     let design = c.in-Ok.design in
     let script-halted : (given : Given) → AreGiven before command given
     → IsHalted (setup_of command design) command.journal given.script (Some given.script) (left_in after) before.written w' m' after.made (created_in after) halt =
-    λ given are. halted-script (setup_of command design) command.journal given.script (left_in before) (left_in after) before.written w' m' after.made (created_in after) halt are.script (halted.halted given.script are.script) in
+    λ given are. halted-script (setup_of command design) command.journal given.script (left_in before) (left_in after) before.written w' m' after.made (created_in after) halt are.script (halted.served.halted given.script are.script) in
     let refused : (given : Given) → AreGiven before command given → status ≡ statuses.Refused → IsRefused command given before after =
     λ given are is. halt-refused command given design (c.in-Ok.ensures.design given.netlist given.timing given.stimulus are.netlist are.timing are.stimulus)
     before after w' m' c.in-Ok.ensures.made halt status (script-halted given are) told is in
     let untouched : halt ≡ JournalUnmade → Stays w' after.written → IsUntouched before after =
-    λ unmade stays. let is = halted.untouched (err-of halt JournalUnmade unmade) in record {
+    λ unmade stays. let is = halted.served.untouched unmade in record {
       unread = is.unread;
       unreplied = λ start h. stays start (is.unreplied start h);
       same_files = λ start h. is.same_files start (c.in-Ok.ensures.made start h);

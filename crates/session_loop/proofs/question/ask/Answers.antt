@@ -5,9 +5,8 @@ use Rattle.unit_answers.specs.Stores.{setup_of, AreStores}
 use Rattle.session_loop.proofs.question.ask.Goals as goal
 
 -- the design that is asked is the session's
-pub answer_question-requires-clause-stores : goal.answer_question-requires-clause-stores
-answer_question-requires-clause-stores c =
-    subst (λ (d : Joined). AreStores (setup_of d c.args.setting.now.sizes) c.args.stores.items) (sym c.new-design.ensures) c.requires.stores
+pub answer_question-requires : goal.answer_question-requires
+answer_question-requires c = record { stores = subst (λ (d : Joined). AreStores (setup_of d c.args.setting.now.sizes) c.args.stores.items) (sym c.new-design.ensures) c.requires.stores }
 
 pub returns-clause-done : goal.returns-clause-done
 returns-clause-done c =

@@ -11,6 +11,6 @@ abbrev pub invariant-loop-block : goal.invariant-loop-block
 invariant-loop-block g l = record {
   next : (goal.iterator-loop-block g).can_next l.block-iterator;
   finite : (goal.iterator-loop-block g).is_finite l.block-iterator;
-  left : KeepsBack (FileGrows (g.F.Files.made l.initial.files) (g.F.Files.made l.files) l.slot) [] (flat_map entry_line l.fn.entries) (flat_map entry_line (chunks_rest l.block-iterator));
+  left : KeepsBack (FileGrows (g.F.Files.made l.initial.files) (g.F.Files.made l.files) 0) [] (flat_map entry_line l.fn.entries) (flat_map entry_line (chunks_rest l.block-iterator));
   same : g.F.Files.state l.files ≡ g.F.Files.state l.initial.files;
 }

@@ -1,12 +1,13 @@
 use Rattle.std.proofs.Common.{◌≡◌, ◌+◌, ◌<◌, ◌++◌, [], ap, sym, subst, ◌∙◌, take, drop, length, append-nil, arith}
 use Rattle.std.proofs.lemmas.Grind.{common_steps}
 use Rattle.std.proofs.lemmas.List.{take_all}
-use Rattle.std.specs.Prelude.{OnOk, OnErr}
 use Rattle.backsim_io.specs.Counts.{Grows}
 use Rattle.reply_lines.specs.Replies.{Suits, text_of}
 use Rattle.session_meaning.specs.Replies.{replies_text}
 use Rattle.session_loop.specs.inner.Growing.{GrowsPart, KeepsBack}
-use Rattle.session_loop.proofs.Growing.{on-err, grows-more, part-after, part-longer, keeps-more, keeps-part, keeps-ok, keeps-err}
+use Rattle.session_loop.specs.inner.Outside.{RepliesStops}
+use Rattle.session_loop.specs.inner.Pieces.{Replies}
+use Rattle.session_loop.proofs.Growing.{handed-replies, grows-more, part-after, part-longer, keeps-more, keeps-part, replies-last}
 use Rattle.unit_answers.proofs.Zips.{zip-length, zip-get}
 use Rattle.session_loop.proofs.Pieces.{replies-next, replies-after}
 use Rattle.session_loop.proofs.section.write_replies.Goals as goal
@@ -20,8 +21,8 @@ push_reply-requires g c = record {
       (subst (Suits _) (sym c.index-replies-i.is) (zip-get (λ item reply. Suits item.what reply) c.args.items.now c.args.replies.now c.loop-i.i c.index-items-i.result c.index-replies-i.result c.requires.suits c.loop-i-test.true));
 }
 
-pub returns-in_err-push_reply-clause-begun : goal.returns-in_err-push_reply-clause-begun
-returns-in_err-push_reply-clause-begun g c =
+pub returns-in_err-push_reply : goal.returns-in_err-push_reply
+returns-in_err-push_reply g c =
     let W = g.S.Sink.written in
     let u = W c.args.out.now in
     let v = W c.loop-i.out in
@@ -32,10 +33,12 @@ returns-in_err-push_reply-clause-begun g c =
     let item = c.index-items-i.result in
     let reply = c.index-replies-i.result in
     let inside : i < length replies = omega (arith, c.loop-i-test.true, zip-length (λ item reply. Suits item.what reply) items replies c.requires.suits) in
-    on-err c.from_residual.result
-    (keeps-part (Grows u v) [] (replies_text (take i items) (take i replies)) c.loop-i.text.items (text_of item reply) c.loop-i.invariant.kept
-    (GrowsPart v w) (GrowsPart u w) (part-after u v w) (part-longer u w)
-    (replies_text (drop (i + 1) items) (drop (i + 1) replies)) (replies_text items replies) (replies-after items replies i item reply c.loop-i-test.true inside c.index-items-i.is c.index-replies-i.is) c.in_err-push_reply.ensures.begun)
+    handed-replies c.from_residual.result c.from_residual.ensures.1 (record {
+      begun = keeps-part (Grows u v) [] (replies_text (take i items) (take i replies)) c.loop-i.text.items (text_of item reply) c.loop-i.invariant.kept
+          (GrowsPart v w) (GrowsPart u w) (part-after u v w) (part-longer u w)
+          (replies_text (drop (i + 1) items) (drop (i + 1) replies)) (replies_text items replies) (replies-after items replies i item reply c.loop-i-test.true inside c.index-items-i.is c.index-replies-i.is) c.in_err-push_reply.ensures.begun;
+      state = subst (λ n. RepliesStops n (g.S.Sink.faults c.push_reply.new.out) c.in_err-push_reply.field-0.0) c.loop-i.invariant.calm c.in_err-push_reply.ensures.state;
+    })
 
 pub loop-i-preserved : goal.loop-i-preserved
 loop-i-preserved g c =
@@ -56,9 +59,10 @@ loop-i-preserved g c =
       calm = c.in_ok-push_reply.ensures.state ∙ c.loop-i.invariant.calm;
     }
 
-pub returns-clause-written : goal.returns-clause-written
-returns-clause-written g c =
+pub returns : goal.returns
+returns g c =
     let W = g.S.Sink.written in
+    let N = g.S.Sink.faults in
     let u = W c.args.out.now in
     let v = W c.loop-i.out in
     let w = W c.write_reply.new.out in
@@ -73,27 +77,6 @@ returns-clause-written g c =
     append-nil first
     ∙ ap (λ l. replies_text l (take i replies)) (take_all i items (omega (arith, c.loop-i-test.false)))
     ∙ ap (replies_text items) (take_all i replies (omega (arith, c.loop-i-test.false, n))) in
-    subst (λ l. OnOk c.write_reply.result (Grows u w l)) all
-    (keeps-ok (Grows u v) [] first left [] c.loop-i.invariant.kept (Grows v w) (Grows u w) (grows-more u v w)
-    c.write_reply.result (subst (λ l. OnOk c.write_reply.result (Grows v w l)) text c.write_reply.ensures.written))
-
-pub returns-clause-begun : goal.returns-clause-begun
-returns-clause-begun g c =
-    let W = g.S.Sink.written in
-    let u = W c.args.out.now in
-    let v = W c.loop-i.out in
-    let w = W c.write_reply.new.out in
-    let i = c.loop-i.i in
-    let items = c.args.items.now in
-    let replies = c.args.replies.now in
-    let left = c.loop-i.text.items in
-    let text : c.as_slice.result.now ≡ left ++ [] = grind (arith, common_steps) in
-    let first = replies_text (take i items) (take i replies) in
-    let n = zip-length (λ item reply. Suits item.what reply) items replies c.requires.suits in
-    let all : first ++ [] ≡ replies_text items replies =
-    append-nil first
-    ∙ ap (λ l. replies_text l (take i replies)) (take_all i items (omega (arith, c.loop-i-test.false)))
-    ∙ ap (replies_text items) (take_all i replies (omega (arith, c.loop-i-test.false, n))) in
-    subst (λ l. OnErr c.write_reply.result (GrowsPart u w l)) all
-    (keeps-err (Grows u v) [] first left [] c.loop-i.invariant.kept (GrowsPart v w) (GrowsPart u w) (part-after u v w) (part-longer u w)
-    c.write_reply.result (subst (λ l. OnErr c.write_reply.result (GrowsPart v w l)) text c.write_reply.ensures.begun))
+    subst (λ l. Replies l c.write_reply.result (N c.args.out.now) u (N c.write_reply.new.out) w) all
+    (replies-last [] first left [] u v w c.loop-i.invariant.kept (N c.args.out.now) (N c.loop-i.out) (N c.write_reply.new.out) c.loop-i.invariant.calm c.write_reply.result
+    (subst (λ l. Replies l c.write_reply.result (N c.loop-i.out) v (N c.write_reply.new.out) w) text c.write_reply.ensures))

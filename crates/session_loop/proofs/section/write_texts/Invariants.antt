@@ -7,6 +7,6 @@ use Rattle.session_loop.proofs.section.write_texts.Given as goal
 
 abbrev pub invariant-loop-text : goal.invariant-loop-text
 invariant-loop-text g l = record {
-  left : KeepsBack (FileGrows (g.F.Files.made l.initial.files) (g.F.Files.made l.files) l.slot) [] (flat_map (λ text. text.items) l.texts) (flat_map (λ text. text.items) (drop l.text-index l.texts));
+  left : KeepsBack (FileGrows (g.F.Files.made l.initial.files) (g.F.Files.made l.files) 0) [] (flat_map (λ text. text.items) l.texts) (flat_map (λ text. text.items) (drop l.text-index l.texts));
   same : g.F.Files.state l.files ≡ g.F.Files.state l.initial.files;
 }

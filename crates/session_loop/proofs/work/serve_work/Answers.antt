@@ -3,7 +3,7 @@ use Rattle.std.proofs.lemmas.Result.{err_from_is_err_and}
 use Rattle.backsim_io.specs.FilesInMemory.{FileGrows}
 use Rattle.journal_text.specs.Spelling.{section_lines}
 use Rattle.journal_text.specs.declared.sections.SectionKind.TheVariants.{Batch}
-use Rattle.unit_answers.specs.Stores.{setup_of}
+use Rattle.session_loop.specs.Serving.{memo_of}
 use Rattle.session_loop.specs.inner.Growing.{FileGrowsPart}
 use Rattle.session_loop.specs.declared.halt.Halt.TheVariants.{Stopped}
 use Rattle.session_loop.specs.declared.stop.Stop.TheVariants.{OutOfMemory}
@@ -20,10 +20,10 @@ returns-in_err-begin_journal-clause-halted g c =
     let F = g.F.Files.state in
     let M = g.F.Files.made in
     rw (p.1, p.2)
-    (work-head-halted (setup_of c.args.setting.now.design.now c.args.setting.now.sizes) c.args.items.now c.args.journal.now (M c.args.files.now) (M c.begin_journal.new.files) (F c.args.files.now).created (F c.begin_journal.new.files).created c.in_err-begin_journal.field-0.0 c.in_err-begin_journal.ensures.halted)
+    (work-head-halted (memo_of c.args.setting.now) c.args.items.now c.args.journal.now (M c.args.files.now) (M c.begin_journal.new.files) (F c.args.files.now).created (F c.begin_journal.new.files).created c.in_err-begin_journal.field-0.0 c.in_err-begin_journal.ensures.halted)
 
 pub answer_batch-requires-clause-stores : goal.answer_batch-requires-clause-stores
-answer_batch-requires-clause-stores g c = λ κs w. empty-are-stores c.args.setting.now.design.now c.args.setting.now.sizes c.in_ok-stores.stores.items c.in_ok-stores.ensures
+answer_batch-requires-clause-stores g c = λ κs w. empty-are-stores c.args.setting.now c.in_ok-stores.stores.items (record { some = c.requires.shards.0; most = c.requires.shards.1; room = c.requires.cells.0 }) c.in_ok-stores.ensures
 
 pub write_section-requires-clause-unfinished : goal.write_section-requires-clause-unfinished
 write_section-requires-clause-unfinished g c = λ κs w.
@@ -36,7 +36,7 @@ returns-in_err-write_section-clause-halted g c =
     let done = c.in_ok-done.done in
     let M = g.F.Files.made in
     rw (p.1, p.2)
-    (work-stopped (setup_of c.args.setting.now.design.now c.args.setting.now.sizes) c.args.items.now c.args.journal.now c.in_ok-stores.stores.items done.stores.items
+    (work-stopped (memo_of c.args.setting.now) c.args.items.now c.args.journal.now c.in_ok-stores.stores.items done.stores.items
     (λ shard within. empty-cells c.args.setting.now.sizes.shards c.args.setting.now.sizes.cells c.in_ok-stores.stores.items shard c.in_ok-stores.ensures within) done.replies.items done.lists.items c.in_ok-done.ensures.done
     (M c.args.files.now) (M c.begin_journal.new.files) (M c.write_section.new.files) c.in_ok-begin_journal.ensures.begun
     (subst (λ l. FileGrowsPart (M c.begin_journal.new.files) (M c.write_section.new.files) 0 (section_lines (record { kind = Batch; number = 1; shards = l }))) c.deref.ensures.value c.in_err-write_section.ensures.begun))
@@ -45,7 +45,7 @@ pub returns-clause-worked : goal.returns-clause-worked
 returns-clause-worked g c =
     let done = c.in_ok-done.done in
     let M = g.F.Files.made in
-    worked (setup_of c.args.setting.now.design.now c.args.setting.now.sizes) c.args.items.now c.args.journal.now c.in_ok-stores.stores.items done.stores.items
+    worked (memo_of c.args.setting.now) c.args.items.now c.args.journal.now c.in_ok-stores.stores.items done.stores.items
     (λ shard within. empty-cells c.args.setting.now.sizes.shards c.args.setting.now.sizes.cells c.in_ok-stores.stores.items shard c.in_ok-stores.ensures within) done.replies.items done.lists.items c.in_ok-done.ensures.done
     (M c.args.files.now) (M c.begin_journal.new.files) (M c.write_section.new.files) c.in_ok-begin_journal.ensures.begun
     (subst (λ l. FileGrows (M c.begin_journal.new.files) (M c.write_section.new.files) 0 (section_lines (record { kind = Batch; number = 1; shards = l }))) c.deref.ensures.value c.in_ok-write_section.ensures.written)
