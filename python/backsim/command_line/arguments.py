@@ -82,7 +82,8 @@ def add_files(parser: argparse.ArgumentParser) -> None:
 
 def add_program(parser: argparse.ArgumentParser) -> None:
     """Adds the option --program."""
-    parser.add_argument("--program", metavar="FILE", help="the program, in place of $BACKSIM, the launcher or backsim on PATH")
+    parser.add_argument("--program", metavar="FILE", help="the program, in place of $BACKSIM, the launcher, the one that was installed with the "
+                        "package, or backsim on PATH")
 
 
 def add_memo(parser: argparse.ArgumentParser) -> None:

@@ -33,8 +33,8 @@ _MOST_TRIED = 10_000_000
 def add_arguments(parser: argparse.ArgumentParser) -> None:
     add_circuit(parser)
     add_period(parser)
-    parser.add_argument("--coverage", type=count_of(1, 100), default=100, metavar="P", help="ends when P percent of the faults are shown, 100 "
-                        "where it is left out")
+    parser.add_argument("--coverage", type=count_of(1, 100), default=100, metavar="P", help="ends when P percent of the classes of faults are "
+                        "shown, 100 where it is left out")
     parser.add_argument("--idle", type=count_of(1, _MOST_TRIED), default=4096, metavar="N", help="ends when N patterns in turn show nothing new, "
                         "4096 where it is left out")
     parser.add_argument("--most", type=count_of(1, _MOST_TRIED), default=100_000, metavar="N", help="tries at most so many patterns, 100000 where "

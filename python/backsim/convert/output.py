@@ -15,7 +15,7 @@ from ..errors import FormatError, printable, reason_of
 
 def add_output(parser: argparse.ArgumentParser, what: str) -> None:
     """The option `--output FILE` of a command that writes one text."""
-    parser.add_argument("--output", "-o", type=Path, metavar="FILE", help=f"where {what} goes; standard output where it is left out")
+    parser.add_argument("--output", "-o", type=Path, metavar="FILE", help=f"the file for {what}; standard output where it is left out")
 
 
 @contextmanager
