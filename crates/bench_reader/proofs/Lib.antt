@@ -1,9 +1,11 @@
 pub mod Forms
 pub mod Places
 pub mod Placing
+pub mod Hashing
+pub mod Vectors
 pub mod Chained
 pub mod Numbering
-pub mod Ordered
+pub mod Keying
 pub mod Keys
 pub mod Sound
 pub mod Rows

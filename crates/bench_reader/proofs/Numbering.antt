@@ -13,9 +13,9 @@ use Rattle.bench_reader.proofs.Places.{Distinct, distinct_insert, same_names, pr
 use Rattle.bench_reader.proofs.Chained.{chained-same, chained-link}
 
 -- chains of all the names
-pub chains-all : (names : List (List ℕ)) (latest earlier : List ℕ) (n count : ℕ) → IsChained (bucket_at names count) n latest earlier → n ≡ length names → length latest ≡ count → length earlier ≡ count → length names ≤ count → count < 4294967296 → AreChained names latest earlier
+pub chains-all : (names : List (List ℕ)) (latest earlier : List ℕ) (n count : ℕ) → IsChained (bucket_at (bucket_of count) names) n latest earlier → n ≡ length names → length latest ≡ count → length earlier ≡ count → length names ≤ count → count < 4294967296 → AreChained names latest earlier
 chains-all names latest earlier n count c n-is buckets same room few = record {
-  chained = subst (λ (k : ℕ). IsChained (bucket_at names k) (length names) latest earlier) (sym buckets) (subst (λ (k : ℕ). IsChained (bucket_at names count) k latest earlier) n-is c);
+  chained = subst (λ (k : ℕ). IsChained (bucket_at (bucket_of k) names) (length names) latest earlier) (sym buckets) (subst (λ (k : ℕ). IsChained (bucket_at (bucket_of count) names) k latest earlier) n-is c);
   room = omega arith;
   same = same ∙ sym buckets;
   few = omega arith;
@@ -23,8 +23,9 @@ chains-all names latest earlier n count c n-is buckets same room few = record {
 
 pub chain-begins : (names : List (List ℕ)) (latest earlier name : List ℕ) (b last : ℕ) → AreChained names latest earlier → b ≡ bucket_of (length latest) name → b < length latest → last ≡ get_or latest b 0 → BeginsChain names earlier name last
 chain-begins names latest earlier name b last c b-is lt last-is = record {
-  begins = subst (λ (k : ℕ). last ≡ last_in (bucket_at names k) (bucket_of k name) (length names)) (sym c.same) (last-is ∙ c.chained.heads b lt ∙ ap (λ (x : ℕ). last_in (bucket_at names (length latest)) x (length names)) b-is);
-  links = subst (λ (k : ℕ). (i : ℕ) → i < length names → get_or earlier i 0 ≡ last_in (bucket_at names k) (bucket_at names k i) i) (sym c.same) c.chained.links;
+  bucket = bucket_of (length latest);
+  begins = last-is ∙ c.chained.heads b lt ∙ ap (λ (x : ℕ). last_in (bucket_at (bucket_of (length latest)) names) x (length names)) b-is;
+  links = c.chained.links;
   room = omega (arith, c.room, c.same);
 }
 
@@ -89,12 +90,16 @@ pub new-place : (names new : List (List ℕ)) (name : List ℕ) (number : ℕ) �
 new-place names new name number h is number-is =
     number-is ∙ sym (absent_place name names (among-new names name h)) ∙ sym (place_new name names) ∙ ap (λ (l : List (List ℕ)). place l name) (sym (new-key names new name h is))
 
+-- the buckets of the names with a new one
+pub same-buckets : (bucket : List ℕ → ℕ) (names : List (List ℕ)) (name : List ℕ) (i : ℕ) → i < length names → bucket_at bucket names i ≡ bucket_at bucket (names ++ name ∷ []) i
+same-buckets bucket names name i lt = ap bucket (sym (get_or_append_left names (name ∷ []) [] i lt))
+
 -- all names are numbered, with a new one
 pub numbered-new : (names : List (List ℕ)) (name latest earlier new_latest new_earlier : List ℕ) (b : ℕ) → AreChained names latest earlier → Distinct names → position (bytes_eq name) names ≡ None → length names < length latest
     → b ≡ bucket_of (length latest) name → b < length latest → new_latest ≡ set latest b (length names + 1) → new_earlier ≡ set earlier (length names) (get_or latest b 0) → IsEachOnce (names ++ name ∷ []) new_latest new_earlier
 numbered-new names name latest earlier new_latest new_earlier b c d fresh room b-is lt latest-is earlier-is = record {
   chains = chains-all new new_latest new_earlier (n + 1) count
-      (subst (λ (l : List ℕ). IsChained (bucket_at new count) (n + 1) l new_earlier) (sym latest-is) (subst (λ (l : List ℕ). IsChained (bucket_at new count) (n + 1) (set latest b (n + 1)) l) (sym earlier-is) linked))
+      (subst (λ (l : List ℕ). IsChained (bucket_at (bucket_of count) new) (n + 1) l new_earlier) (sym latest-is) (subst (λ (l : List ℕ). IsChained (bucket_at (bucket_of count) new) (n + 1) (set latest b (n + 1)) l) (sym earlier-is) linked))
       (sym (length-append names (name ∷ []))) buckets (ap length earlier-is ∙ length-set earlier n (get_or latest b 0) ∙ c.same) (omega (arith, length-append names (name ∷ []))) c.few;
   distinct = subst Distinct (sym (new-key names new name fresh refl)) (distinct_insert names name d);
 }
@@ -108,14 +113,11 @@ numbered-new names name latest earlier new_latest new_earlier b c d fresh room b
     new : List (List ℕ)
     new = names ++ name ∷ []
 
-    agree : (i : ℕ) → i < n → bucket_at names count i ≡ bucket_at new count i
-    agree i h = ap (bucket_of count) (sym (get_or_append_left names (name ∷ []) [] i h))
-
-    last : bucket_at new count n ≡ b
+    last : bucket_at (bucket_of count) new n ≡ b
     last = ap (bucket_of count) (get_or_push names name [] n refl) ∙ sym b-is
 
-    linked : IsChained (bucket_at new count) (n + 1) (set latest b (n + 1)) (set earlier n (get_or latest b 0))
-    linked = chained-link (bucket_at new count) n (n + 1) b latest earlier (omega arith) (chained-same (bucket_at names count) (bucket_at new count) n latest earlier agree c.chained) (omega (arith, c.same, room)) lt last
+    linked : IsChained (bucket_at (bucket_of count) new) (n + 1) (set latest b (n + 1)) (set earlier n (get_or latest b 0))
+    linked = chained-link (bucket_at (bucket_of count) new) n (n + 1) b latest earlier (omega arith) (chained-same (bucket_at (bucket_of count) names) (bucket_at (bucket_of count) new) n latest earlier (same-buckets (bucket_of count) names name) c.chained) (omega (arith, c.same, room)) lt last
 
     buckets : length new_latest ≡ count
     buckets = ap length latest-is ∙ length-set latest b (n + 1)

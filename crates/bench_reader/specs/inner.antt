@@ -1,5 +1,7 @@
 pub mod TextLists
 pub mod Chains
+pub mod Sip
+pub mod Keyed
 pub mod Index
 pub mod KeptNetlists
 pub mod Outputs

@@ -44,7 +44,7 @@
 //! last two digits alone are looked up beside one another, so numbered names
 //! that follow one another seldom wait for memory. The hash is fixed, but no
 //! choice of names makes look-ups slow: where more than 33 have one bucket, all
-//! are from then on found in the order of names, which costs a copy of each.
+//! are from then on found by SipHash, in an ordered map of the hashes.
 //! While a file is read, a flag for each signal up to the last output tells
 //! which are outputs.
 //!
@@ -61,15 +61,14 @@ mod chains;
 mod fault;
 mod form;
 mod index;
+mod keyed;
 mod names;
 mod netlist;
 mod outputs;
 mod reader;
+mod sip;
 mod texts;
 
 pub use fault::{BenchCause, BenchFault};
 pub use netlist::{Netlist, Row};
 pub use reader::read_bench;
-
-#[cfg(test)]
-mod tests;

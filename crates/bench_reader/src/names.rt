@@ -86,7 +86,7 @@ impl Names {
     {
         self.index.make_room(alloc, &self.texts)?;
         let number = self.texts.len();
-        self.index.add(alloc, &mut self.texts, name, hash)?;
+        self.index.add(&mut self.texts, name, hash)?;
         Ok(number as u32)
     }
 

@@ -45,30 +45,35 @@ abbrev pub bucket_of : ℕ → List ℕ → ℕ
 bucket_of count name = bucket_in count (hash_of name)
 
 -- the bucket of the name with this number
-abbrev pub bucket_at : List (List ℕ) → ℕ → ℕ → ℕ
-bucket_at names count number = bucket_of count (slice_index_or names number [])
+abbrev pub bucket_at : (List ℕ → ℕ) → List (List ℕ) → ℕ → ℕ
+bucket_at bucket names number = bucket (slice_index_or names number [])
 
 -- of the first n names the last that lies in this bucket, numbered from 1; 0 where none does
 abbrev pub last_in : (ℕ → ℕ) → ℕ → ℕ → ℕ
 last_in bucket b zero = 0
 last_in bucket b (suc n) = if bucket n == b then suc n else last_in bucket b n
 
+-- for each of the first n names the one before it in its bucket
+abbrev pub AreLinked : (ℕ → ℕ) → ℕ → List ℕ → Type 0
+AreLinked bucket n earlier = (i : ℕ) → i < n → slice_index_or earlier i 0 ≡ last_in bucket (bucket i) i
+
 -- for each bucket its last name, and for each name the one before it there, of the first n
 pub record IsChained (bucket : ℕ → ℕ) (n : ℕ) (latest earlier : List ℕ) : Type 0 where
   pub heads : (b : ℕ) → b < length latest → slice_index_or latest b 0 ≡ last_in bucket b n
-  pub links : (i : ℕ) → i < n → slice_index_or earlier i 0 ≡ last_in bucket (bucket i) i
+  pub links : AreLinked bucket n earlier
 
 -- all these names are in chains
 pub record AreChained (names : List (List ℕ)) (latest earlier : List ℕ) : Type 0 where
-  pub chained : IsChained (bucket_at names (length latest)) (length names) latest earlier
+  pub chained : IsChained (bucket_at (bucket_of (length latest)) names) (length names) latest earlier
   pub room : length names ≤ length latest
   pub same : length earlier ≡ length latest
   pub few : length latest < 4294967296
 
--- the chain of a name's bucket begins here
+-- by some buckets, the chain of a name's bucket begins here
 pub record BeginsChain (names : List (List ℕ)) (earlier : List ℕ) (name : List ℕ) (last : ℕ) : Type 0 where
-  pub begins : last ≡ last_in (bucket_at names (length earlier)) (bucket_of (length earlier) name) (length names)
-  pub links : (i : ℕ) → i < length names → slice_index_or earlier i 0 ≡ last_in (bucket_at names (length earlier)) (bucket_at names (length earlier) i) i
+  pub bucket : List ℕ → ℕ
+  pub begins : last ≡ last_in (bucket_at bucket names) (bucket name) (length names)
+  pub links : AreLinked (bucket_at bucket names) (length names) earlier
   pub room : length names ≤ length earlier
 
 -- no name has this number and these bytes

@@ -15,10 +15,10 @@ returns-then-eq c = record {
 }
 
 pub loop-last-smaller : goal.loop-last-smaller
-loop-last-smaller c = followed-smaller c.args.names.now c.args.earlier.now c.args.name.now c.loop-last.last (c.loop-last.last - 1) _ c.args.last c.requires c.loop-last.invariant (omega arith) refl
+loop-last-smaller c = followed-smaller c.args.names.now c.args.earlier.now c.args.name.now c.loop-last.last (c.loop-last.last - 1) _ c.loop-last.invariant (omega arith) refl
 
 pub loop-last-preserved : goal.loop-last-preserved
-loop-last-preserved c = followed-next c.args.names.now c.args.earlier.now c.args.name.now c.loop-last.last (c.loop-last.last - 1) _ c.args.last c.requires c.loop-last.invariant (omega arith)
+loop-last-preserved c = followed-next c.args.names.now c.args.earlier.now c.args.name.now c.loop-last.last (c.loop-last.last - 1) _ c.loop-last.invariant (omega arith)
     (λ e. differs c.args.name.now c.get.result.now c.eq.result c.eq.ensures c.if-eq.false (sym (got c.args.names.now (c.loop-last.last - 1) c.get.result.now c.get.ensures) ∙ e)) refl
 
 pub returns : goal.returns
