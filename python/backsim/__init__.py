@@ -24,13 +24,12 @@ if TYPE_CHECKING:
         Gate as Gate, Netlist as Netlist, parse_netlist as parse_netlist, read_netlist as read_netlist, write_netlist as write_netlist)
     from .formats.stimulus import Stimulus as Stimulus, read_stimulus as read_stimulus, write_stimulus as write_stimulus
     from .formats.timing import Clock as Clock, Timing as Timing, read_timing as read_timing, write_timing as write_timing
-    from .session.batch import Batch as Batch, Pending as Pending
+    from .session.batch import Batch as Batch
     from .session.outcomes import Fault as Fault, Refused as Refused, SessionError as SessionError
     from .session.program import Options as Options, find_program as find_program
+    from .session.questions import Pending as Pending
     from .session.session import Session as Session
-    from .values import (
-        Answer as Answer, At as At, BadLine as BadLine, Budget as Budget, Dump as Dump, First as First, Past as Past, Proof as Proof,
-        ProofCell as ProofCell, Refusal as Refusal, Stats as Stats, Stuck as Stuck, Trimmed as Trimmed, Unknown as Unknown, Wave as Wave)
+    from .values import *
 
 _NAMES = {
     "circuit.buses": ("number_of",),
@@ -40,15 +39,13 @@ _NAMES = {
     "formats.netlist": ("Gate", "Netlist", "parse_netlist", "read_netlist", "write_netlist"),
     "formats.stimulus": ("Stimulus", "read_stimulus", "write_stimulus"),
     "formats.timing": ("Clock", "Timing", "read_timing", "write_timing"),
-    "session.batch": ("Batch", "Pending"),
+    "session.batch": ("Batch",),
     "session.outcomes": ("Fault", "Refused", "SessionError"),
     "session.program": ("Options", "find_program"),
+    "session.questions": ("Pending",),
     "session.session": ("Session",),
-    "values": ("Answer", "At", "BadLine", "Budget", "Dump", "First", "Past", "Proof", "ProofCell", "Refusal", "Stats", "Stuck", "Trimmed",
-               "Unknown", "Wave"),
 }
 _MODULES = {name: module for module, names in _NAMES.items() for name in names}
-__all__ = sorted(_MODULES)
 
 
 def __getattr__(name: str) -> Any:
@@ -56,8 +53,15 @@ def __getattr__(name: str) -> Any:
         return getattr(import_module(f".{_MODULES[name]}", __name__), name)
     if name in ("errors", "formats", "values"):
         return import_module(f".{name}", __name__)
+    # all others are those of `values`; it is not imported for a name that can't be one of its classes, as that of a module
+    if name == "__all__" or name[:1].isupper():
+        values = import_module(".values", __name__)
+        if name == "__all__":
+            return sorted((*_MODULES, *values.__all__))
+        if name in values.__all__:
+            return getattr(values, name)
     raise AttributeError(f"module {__name__!r} has no attribute {name!r}")
 
 
 def __dir__() -> list[str]:
-    return sorted({*globals(), *__all__})
+    return sorted({*globals(), *__getattr__("__all__"), "__all__"})

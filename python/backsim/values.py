@@ -2,7 +2,7 @@
 
 Times are whole numbers from 0 on, in the unit that the circuit's files have. A logic value is one of the strings `0`, `1`, `x` and
 `z`. A window from `start` to `stop` holds the times t with `start <= t < stop`. Each class is the answer to one form of line of a
-script (docs/use/FORMATS.md, Replies)."""
+script (docs/use/FORMATS.md, Replies), which `formats.lines` has."""
 from __future__ import annotations
 
 from bisect import bisect_right
@@ -18,6 +18,9 @@ if TYPE_CHECKING:
 
 from .records import dataclass
 
+# the names that the package has from here
+__all__ = ["Answer", "At", "BadLine", "Budget", "Dump", "First", "Past", "Proof", "ProofCell", "Refusal", "Stats", "Stuck", "Trimmed", "Unknown",
+           "Wave"]
 LOGIC = ("0", "1", "x", "z")
 # comes after every value, so that a search for a time with it finds what is set at this time or before
 AFTER_VALUES = "~"

@@ -17,6 +17,7 @@ from backsim.formats.stimulus import check_stimulus, parse_stimulus, write_stimu
 from backsim.formats.timing import check_timing, parse_timing, write_timing
 from backsim.formats.vcd import read_vcd
 from backsim.journal.legality import judge
+from backsim.scripts.parts import read_lines
 from sessions import sessions
 
 SESSIONS = sessions()
@@ -112,6 +113,14 @@ def test_batches_end_where_the_page_says() -> None:
     single = b"at a 1\nat b 1\nfirst a 1 0 5\nat a 2\ngo\nat a 3\nstats\nbad\n"
     assert [[str(line) for line in unit] for unit in units(parse_script(single), 100)] == [
         ["at a 1", "at b 1"], ["first a 1 0 5"], ["at a 2"], ["at a 3"], ["stats"], ["bad"]]
+
+
+def test_a_script_is_told_from_other_files_by_its_words() -> None:
+    """Its first line, or most of its lines, begin with the word of a line."""
+    for text in (b"trim 5\n", b"go\nINPUT(a)\nINPUT(b)\n", b"INPUT(a)\nvcd f\nstats\n", b""):
+        assert len(read_lines(io.BytesIO(text), "script")) == text.count(b"\n")
+    with pytest.raises(FormatError, match="this is no script: `INPUT.a.` and most other lines are no question"):
+        read_lines(io.BytesIO(b"INPUT(a)\nvcd f\n"), "script")
 
 
 @pytest.mark.parametrize("text, line", [

@@ -62,6 +62,9 @@ def test_every_name_of_the_package_is_found() -> None:
     assert {name: getattr(backsim, name).__name__ for name in backsim.__all__ if name != "Answer"} == {
         name: name for name in backsim.__all__ if name != "Answer"}
     assert backsim.values.Wave is backsim.Wave
+    all_names: dict[str, object] = {}
+    exec("from backsim import *", all_names)
+    assert {"Wave", "Session", "read_netlist"} < set(backsim.__all__) <= set(dir(backsim)) & set(all_names)
     with pytest.raises(AttributeError):
         backsim.nothing
 

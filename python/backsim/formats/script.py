@@ -3,153 +3,14 @@ from __future__ import annotations
 
 import re
 from collections.abc import Iterable, Iterator
-from typing import ClassVar, TextIO, Union
+from typing import TextIO
 
 from ..errors import FormatError, type_of_path
-from ..limits import (LINE_LIMIT, MOST_ASKED_TIME, MOST_BUDGET, MOST_BUDGETS, MOST_CELLS, MOST_ITEMS, MOST_LENGTHS, SCRIPT_LIMIT,
-                      USUAL_BUDGET)
-from ..records import dataclass
-from .text import NAME, is_name, lines_of, logic_of, number_of, read_bytes, words_of
-
-
-@dataclass(slots=True, unsafe_hash=True, kw_only=True)
-class _Line:
-    """`number` counts the lines of the script from 1, `text` is the line as it stands there, without its line feed. No line is changed
-    once it is made; it is not frozen, since that takes four times as long to make, and they are made by the ten thousand."""
-
-    number: int = 0
-    text: str = ""
-    # the line's first word; whether it has a reply, and whether it is an item of a batch (else it is served by itself)
-    word: ClassVar[str]
-    has_reply: ClassVar[bool] = True
-    is_item: ClassVar[bool] = False
-    # what `dataclass` writes: the names of what the line states, in order
-    __match_args__: ClassVar[tuple[str, ...]]
-
-    @property
-    def head(self) -> str:
-        """The line without its budget: its word, and what it states in order."""
-        stated = (str(getattr(self, name)) for name in self.__match_args__ if name != "budget")
-        return " ".join([self.word, *stated])
-
-    def __str__(self) -> str:
-        """The line as a session takes it."""
-        budget = getattr(self, "budget", None)
-        return self.head if budget is None else f"{self.head} {budget}"
-
-
-@dataclass(slots=True, unsafe_hash=True)
-class _PointLine(_Line):
-    """Asks about `name` at `time`."""
-
-    name: str
-    time: int
-    budget: int | None = None
-
-
-@dataclass(slots=True, unsafe_hash=True)
-class WaveLine(_Line):
-    """Asks for the waveform of `name` from `start` up to, and not with, `stop`."""
-
-    name: str
-    start: int
-    stop: int
-    budget: int | None = None
-    word = "wave"
-    is_item = True
-
-    # as in general, but such lines are asked by the ten thousand
-    @property
-    def head(self) -> str:
-        return f"wave {self.name} {self.start} {self.stop}"
-
-
-@dataclass(slots=True, unsafe_hash=True)
-class AtLine(_PointLine):
-    """Asks for the value of `name` at `time`."""
-
-    word = "at"
-    is_item = True
-
-    @property
-    def head(self) -> str:
-        return f"at {self.name} {self.time}"
-
-
-@dataclass(slots=True, unsafe_hash=True)
-class FirstLine(_Line):
-    """Asks for the first time from `start` up to, and not with, `stop` at which `name` has the value."""
-
-    name: str
-    value: str
-    start: int
-    stop: int
-    budget: int | None = None
-    word = "first"
-
-
-@dataclass(slots=True, unsafe_hash=True)
-class WhyLine(_PointLine):
-    """Asks why `name` has the value that it has at `time`."""
-
-    word = "why"
-
-
-@dataclass(slots=True, unsafe_hash=True)
-class StuckLine(_Line):
-    """Asks for the waveform of `name` where `site` has the value `0` or `1` at all times."""
-
-    site: str
-    value: str
-    name: str
-    start: int
-    stop: int
-    budget: int | None = None
-    word = "stuck"
-
-
-@dataclass(slots=True, unsafe_hash=True)
-class Go(_Line):
-    """Runs the pending batch."""
-
-    word = "go"
-    has_reply = False
-
-
-@dataclass(slots=True, unsafe_hash=True)
-class Trim(_Line):
-    """Evicts the least recent cells of every shard until at most `cells` are left in each."""
-
-    cells: int
-    word = "trim"
-
-
-@dataclass(slots=True, unsafe_hash=True)
-class StatsLine(_Line):
-    """Asks for the counts of the session."""
-
-    word = "stats"
-
-
-@dataclass(slots=True, unsafe_hash=True)
-class VcdLine(_Line):
-    """Asks for a dump of the last batch in this file."""
-
-    file: str
-    word = "vcd"
-
-
-@dataclass(slots=True, unsafe_hash=True)
-class BadScriptLine(_Line):
-    """A line that has none of the forms, or a number above its limit, or more than 4,096 bytes."""
-
-    is_item = True
-
-    def __str__(self) -> str:
-        return self.text
-
-
-Line = Union[WaveLine, AtLine, FirstLine, WhyLine, StuckLine, Go, Trim, StatsLine, VcdLine, BadScriptLine]
+from ..limits import LINE_LIMIT, MOST_BUDGETS, MOST_ITEMS, MOST_LENGTHS, SCRIPT_LIMIT, USUAL_BUDGET
+from .forms import ValueLine
+from .lines import *  # so that whoever reads a script has the kinds of its lines from here
+from .lines import FORMS, AtLine, BadScriptLine, Line, WaveLine
+from .text import NAME, lines_of, read_bytes, words_of
 
 
 def read_script(path: type_of_path) -> list[Line]:
@@ -186,62 +47,23 @@ def parse_line(line: bytes, number: int) -> Line | None:
     if (usual := _WAVE.fullmatch(text)) is not None:
         return WaveLine(usual[1], int(usual[2]), int(usual[3]), _number(usual[4]), number=number, text=text)
     words = words_of(line)
-    try:
-        return _form_of(words, number, text) if words else None
-    except _NoForm:
-        return BadScriptLine(number=number, text=text)
+    if not words:
+        return None
+    return _formed(words, number, text) or BadScriptLine(number=number, text=text)
 
 
-class _NoForm(Exception):
-    """A line has none of the forms, or a number above its limit."""
-
-
-# how many words each line has behind its first one, without a budget
-_STATED = {"wave": 3, "at": 2, "first": 4, "why": 2, "stuck": 5, "go": 0, "stats": 0, "vcd": 1, "trim": 1}
-
-
-def _form_of(words: tuple[str, ...], number: int, text: str) -> Line:
-    """The line of one of the forms."""
-    word, count = words[0], _STATED.get(words[0], len(words))
-    stated, more = words[1:count + 1], list(words[count + 1:])
-    if len(stated) < count or more and word in ("go", "stats", "vcd", "trim"):
-        raise _NoForm
-    if word in ("wave", "at", "why") and is_name(stated[0]):
-        if word == "wave":
-            return WaveLine(stated[0], _time(stated[1]), _time(stated[2]), _budget(more), number=number, text=text)
-        kind: type[AtLine] | type[WhyLine] = AtLine if word == "at" else WhyLine
-        return kind(stated[0], _time(stated[1]), _budget(more), number=number, text=text)
-    if word == "first" and is_name(stated[0]) and (value := logic_of(stated[1])):
-        return FirstLine(stated[0], value, _time(stated[2]), _time(stated[3]), _budget(more), number=number, text=text)
-    if word == "stuck" and is_name(stated[0]) and stated[1] in ("0", "1") and is_name(stated[2]):
-        return StuckLine(stated[0], stated[1], stated[2], _time(stated[3]), _time(stated[4]), _budget(more), number=number, text=text)
-    if word == "go":
-        return Go(number=number, text=text)
-    if word == "stats":
-        return StatsLine(number=number, text=text)
-    if word == "vcd" and is_name(stated[0]):
-        return VcdLine(stated[0], number=number, text=text)
-    if word == "trim":
-        return Trim(_at_most(stated[0], MOST_CELLS), number=number, text=text)
-    raise _NoForm
-
-
-def _at_most(word: str, most: int) -> int:
-    number = number_of(word)
-    if number is None or number > most:
-        raise _NoForm
-    return number
-
-
-def _time(word: str) -> int:
-    return _at_most(word, MOST_ASKED_TIME)
-
-
-def _budget(words: list[str]) -> int | None:
-    """The budget, or None where it is left out."""
-    if len(words) > 1:
-        raise _NoForm
-    return _at_most(words[0], MOST_BUDGET) if words else None
+def _formed(words: tuple[str, ...], number: int, text: str) -> Line | None:
+    """The line of these words, or None where they have none of the forms, or a number is above its limit."""
+    form = FORMS.get(words[0])
+    if form is None or not form.least <= len(words) - 1 <= len(form.reads):
+        return None
+    stated: list[str | int] = []
+    for read, word in zip(form.reads, words[1:]):
+        value = read(word)
+        if value is None:
+            return None
+        stated.append(value)
+    return form.make(*stated, number=number, text=text)
 
 
 def units(lines: Iterable[Line], horizon: int) -> Iterator[list[Line]]:
@@ -267,9 +89,9 @@ def units(lines: Iterable[Line], horizon: int) -> Iterator[list[Line]]:
 
 def _costs(line: Line, horizon: int) -> tuple[int, int]:
     """The budget and the length of the window of an item, which have sums that a batch does not go above."""
-    if not isinstance(line, (WaveLine, AtLine)):
+    if not isinstance(line, ValueLine) or not line.is_item:
         return 0, 0
-    start, stop = (line.start, line.stop) if isinstance(line, WaveLine) else (line.time, line.time + 1)
+    start, stop = line.window
     budget = USUAL_BUDGET if line.budget is None else line.budget
     return budget, 0 if stop > horizon + 1 else max(0, stop - start)
 

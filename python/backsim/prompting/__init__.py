@@ -1,1 +1,1 @@
-"""Questions a line at a time: `lines` reads a line, `answers` answers it by a session, `complete` completes a word of it."""
+"""Questions a line at a time: `lines` has the forms of lines and tells their answers, `answers` asks a session, `complete` completes a word."""

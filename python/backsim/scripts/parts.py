@@ -16,7 +16,8 @@ if TYPE_CHECKING:
 
 _MOST_TOLD = 20
 _MOST_SHOWN = 60
-_WORDS = frozenset(("wave", "at", "go", "trim", "stats", "first", "why", "vcd", "stuck"))
+# with such a word nearly all scripts begin
+_USUAL = ("wave", "at", "first", "why", "stuck", "go")
 
 
 class TextLine(NamedTuple):
@@ -61,9 +62,13 @@ def read_lines(stream: BinaryIO, path: type_of_path) -> list[TextLine]:
 def _check_is_script(lines: Sequence[TextLine], path: type_of_path) -> None:
     """FormatError for a binary, or a file of another format. A session answers each of its lines by `error`; a script may have such lines
     too, so only a file is refused whose first line and most others begin with no word of a script."""
-    if not lines or lines[0].words[:1] and lines[0].words[0] in _WORDS:
+    if not lines or lines[0].words and lines[0].words[0] in _USUAL:
         return
-    if 2 * sum(bool(line.words) and line.words[0] in _WORDS for line in lines) <= len(lines):
+    # imported here, since few scripts begin otherwise
+    from ..formats.lines import FORMS
+    if lines[0].words and lines[0].words[0] in FORMS:
+        return
+    if 2 * sum(bool(line.words) and line.words[0] in FORMS for line in lines) <= len(lines):
         text = ascii(lines[0].text[:_MOST_SHOWN].decode("latin-1"))[1:-1][:_MOST_SHOWN]
         which = f"`{text}` and most other lines are" if len(lines) > 1 else f"`{text}` is"
         raise FormatError(path, lines[0].number, f"this is no script: {which} no question, as `wave NAME FROM TO`")

@@ -35,8 +35,9 @@ _MOST_QUEUED = 1 << 20
 _END = b"\nend\n"
 # how replies begin that end with a line `end`; the others have one line
 _LONG = (b"wave ", b"stuck ", b"why ")
+_BEGINS = b"(?:" + b"|".join(_LONG) + b")"
 # a long reply; one that is not whole, and so the rest; another reply; and one that is not whole
-_REPLIES = re.compile(rb"(?:wave|stuck|why) [^\n]*\n(?:[^\n]*\n)*?end\n|(?s:(?:wave|stuck|why) .*)|[^\n]*\n|[^\n]+\Z")
+_REPLIES = re.compile(_BEGINS + rb"[^\n]*\n(?:[^\n]*\n)*?end\n|(?s:" + _BEGINS + rb".*)|[^\n]*\n|[^\n]+\Z")
 _NOT_BUILT = 7
 # glibc asks for large pages, where the system lets it; a long session takes a tenth less then
 LARGE_PAGES = {"GLIBC_TUNABLES": "glibc.malloc.hugetlb=1"}

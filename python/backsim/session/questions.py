@@ -1,33 +1,39 @@
-"""What a question asks: the lines of a script that it takes, and how its answer is made of theirs. A bus takes a line for each bit."""
+"""What can be asked: of each kind of question the lines of a script that it takes, how its answer is made of theirs, and how a session and a
+batch ask it. A bus takes a line for each bit."""
 from __future__ import annotations
 
-from collections.abc import Callable, Generator, Sequence
+from abc import ABC, abstractmethod
+from collections.abc import Callable, Generator, Iterable, Iterator, Sequence
 from functools import lru_cache
+from itertools import islice
 from typing import Any, Generic, TypeVar
 
 from ..circuit import buses
-from ..errors import UsageError
-from ..formats.script import AtLine, FirstLine, Line, StuckLine, WaveLine, WhyLine
+from ..errors import UsageError, type_of_path
+from ..formats.script import AtLine, FirstLine, Line, StatsLine, StuckLine, Trim, VcdLine, WaveLine, WhyLine
 from ..formats.text import is_name
-from ..limits import MOST_ASKED_TIME, MOST_BUDGET
-from ..values import Answer, At, Budget, First, Past, Proof, Stuck, Unknown, Wave
+from ..formats.units import Moment
+from ..limits import MOST_ASKED_TIME, MOST_BUDGET, MOST_CELLS
+from ..values import Answer, At, Budget, Dump, First, Past, Proof, Stats, Stuck, Trimmed, Unknown, Wave
 from .checks import whole_number
 
-T = TypeVar("T", covariant=True)
+T = TypeVar("T")
+C = TypeVar("C", covariant=True)
 # names come again and again
 _is_name = lru_cache(1 << 16)(is_name)
-Bits = Callable[[str], tuple[str, ...]]
+# questions for the bits of a bus, one after another, that cost less than the waves of all bits in a window of some length
+_MOST_STEPS = 256
 
 
-class Question(Generic[T]):
+class Question(Generic[C]):
     """Lines that are asked, and what makes the answer of their answers, where each has a value."""
 
     __slots__ = ("combine", "lines")
 
-    def __init__(self, lines: tuple[Line, ...], combine: Callable[[Sequence[Any]], T]) -> None:
+    def __init__(self, lines: tuple[Line, ...], combine: Callable[[Sequence[Any]], C]) -> None:
         self.lines, self.combine = lines, combine
 
-    def answer(self, answers: Sequence[Answer]) -> T | Unknown | Past | Budget:
+    def answer(self, answers: Sequence[Answer]) -> C | Unknown | Past | Budget:
         """The answer; the first of the lines' that is no value, where there is one."""
         for answer in answers:
             if isinstance(answer, (Unknown, Past, Budget)):
@@ -35,26 +41,58 @@ class Question(Generic[T]):
         return self.combine(answers)
 
 
+class Pending(Generic[T]):
+    """A question of a batch, and its answer once the batch was asked."""
+
+    __slots__ = ("_answers", "_question")
+
+    def __init__(self, question: Question[T]) -> None:
+        self._question = question
+        self._answers: list[T | Unknown | Past | Budget] = []  # the answer alone, once it is there
+
+    def result(self) -> T | Unknown | Past | Budget:
+        """The answer. UsageError before the batch was asked."""
+        if not self._answers:
+            raise UsageError("the batch was not asked yet: its answers are there once its `with` block has ended")
+        return self._answers[0]
+
+    def _settle(self, answers: Iterator[Answer]) -> None:
+        """Takes the answers to its lines, which come next."""
+        self._answers.append(self._question.answer(list(islice(answers, len(self._question.lines)))))
+
+
+class Names(ABC):
+    """What questions have to know of the circuit."""
+
+    @abstractmethod
+    def bits(self, name: str) -> tuple[str, ...]:
+        """The names of the bits that a name stands for, the leftmost first."""
+
+    @abstractmethod
+    def time(self, time: Moment) -> int:
+        """The time in units."""
+
+
 def _only(answers: Sequence[Any]) -> Any:
     return answers[0]
 
 
-def wave(bits_of: Bits, name: str, start: int, stop: int, budget: int | None) -> Question[Wave]:
-    """Asks for the waveform in a window; `bits_of` gives the bits that a name stands for."""
-    bits, (start, stop), budget = _checked(bits_of, name, (start, stop), budget)
+def wave(known: Names, name: str, start: Moment, stop: Moment, budget: int | None) -> Question[Wave]:
+    """Asks for the waveform in a window."""
+    bits, (begin, end), budget = _checked(known, name, (start, stop), budget)
     if bits == (name,):
-        return Question((WaveLine(name, start, stop, budget),), _only)
-    lines = tuple([WaveLine(bit, start, stop, budget) for bit in bits])
+        return Question((WaveLine(name, begin, end, budget),), _only)
+    lines = tuple([WaveLine(bit, begin, end, budget) for bit in bits])
     return Question(lines, lambda waves: buses.wave_of(name, waves))
 
 
-def at(bits_of: Bits, name: str, time: int, budget: int | None) -> Question[At]:
+def at(known: Names, name: str, time: Moment, budget: int | None) -> Question[At]:
     """Asks for the value at a time."""
-    bits, (time,), budget = _checked(bits_of, name, (time,), budget)
+    bits, (when,), budget = _checked(known, name, (time,), budget)
     if bits == (name,):
-        return Question((AtLine(name, time, budget),), _only)
-    lines = tuple([AtLine(bit, time, budget) for bit in bits])
-    return Question(lines, lambda answers: At(name, time, "".join(each.value for each in answers)))
+        return Question((AtLine(name, when, budget),), _only)
+    lines = tuple([AtLine(bit, when, budget) for bit in bits])
+    return Question(lines, lambda answers: At(name, when, "".join(each.value for each in answers)))
 
 
 def word_of(bits: Sequence[object], name: str, value: str | int) -> str:
@@ -91,45 +129,150 @@ def first_of_any(bits: Sequence[str], value: str, start: int, stop: int, budget:
     return found
 
 
-def first(bits_of: Bits, name: str, value: str | int, start: int, stop: int, budget: int | None) -> Question[First]:
+def first(known: Names, name: str, value: str | int, start: Moment, stop: Moment, budget: int | None) -> Question[First]:
     """Asks for the first time at which the name has the value; of a bus by the waves of its bits."""
-    bits, (start, stop), budget = _checked(bits_of, name, (start, stop), budget)
+    bits, (begin, end), budget = _checked(known, name, (start, stop), budget)
     word = word_of(bits, name, value)
     if bits == (name,):
-        return Question((FirstLine(name, word, start, stop, budget),), _only)
+        return Question((FirstLine(name, word, begin, end, budget),), _only)
 
     def combine(waves: Sequence[Any]) -> First:
         times = (time for time, found in buses.wave_of(name, waves).changes if found == word)
-        return First(name, word, start, stop, next(times, None))
+        return First(name, word, begin, end, next(times, None))
 
-    return Question(tuple(WaveLine(bit, start, stop, budget) for bit in bits), combine)
+    return Question(tuple(WaveLine(bit, begin, end, budget) for bit in bits), combine)
 
 
-def why(bits_of: Bits, name: str, time: int, budget: int | None) -> Question[Proof]:
+def why(known: Names, name: str, time: Moment, budget: int | None) -> Question[Proof]:
     """Asks why a signal has the value that it has at a time."""
-    bits, (time,), budget = _checked(bits_of, name, (time,), budget)
+    bits, (when,), budget = _checked(known, name, (time,), budget)
     if bits != (name,):
         raise UsageError(f"{name} is a bus: ask why of one of its bits")
-    return Question((WhyLine(name, time, budget),), _only)
+    return Question((WhyLine(name, when, budget),), _only)
 
 
-def stuck(bits_of: Bits, site: str, value: str | int, name: str, start: int, stop: int, budget: int | None) -> Question[Stuck]:
+def stuck(known: Names, site: str, value: str | int, name: str, start: Moment, stop: Moment, budget: int | None) -> Question[Stuck]:
     """Asks for the waveform of the name where the signal `site` has the value at all times."""
-    bits, (start, stop), budget = _checked(bits_of, name, (start, stop), budget)
+    bits, (begin, end), budget = _checked(known, name, (start, stop), budget)
     held = str(value)
     if not isinstance(site, str) or not is_name(site) or held not in ("0", "1"):
         raise UsageError(f"a signal is stuck at 0 or 1, and not {site!r} at {value!r}")
-    lines = tuple(StuckLine(site, held, bit, start, stop, budget) for bit in bits)
+    lines = tuple(StuckLine(site, held, bit, begin, end, budget) for bit in bits)
     if bits == (name,):
         return Question(lines, _only)
     return Question(lines, lambda answers: Stuck(site, held, buses.wave_of(name, [each.wave for each in answers])))
 
 
-def _checked(bits_of: Bits, name: str, times: tuple[int, ...], budget: int | None) -> tuple[tuple[str, ...], list[int], int | None]:
+def _checked(known: Names, name: str, times: tuple[Moment, ...], budget: int | None) -> tuple[tuple[str, ...], list[int], int | None]:
     """The bits of the name, the times and the budget, where a line can ask for it at these times with this budget; else UsageError."""
+    units = [known.time(time) for time in times]
     if not isinstance(name, str) or not _is_name(name):
         raise UsageError(f"{name!r} is no name: it may have no blank and none of (, ), comma, = and #")
-    whole = [whole_number(time, "time", 0, MOST_ASKED_TIME) for time in times]
+    whole = [whole_number(time, "time", 0, MOST_ASKED_TIME) for time in units]
     if budget is not None:
         budget = whole_number(budget, "budget", 0, MOST_BUDGET)
-    return bits_of(name) if name[-1] == "]" else (name,), whole, budget
+    return known.bits(name) if name[-1] == "]" else (name,), whole, budget
+
+
+class SessionQuestions(Names):
+    """What a session is asked, one question at a time."""
+
+    @abstractmethod
+    def ask(self, lines: Iterable[Line]) -> list[Answer]:
+        """The answers to the lines, in order."""
+
+    def _answer(self, question: Question[T]) -> T | Unknown | Past | Budget:
+        return question.answer(self.ask(question.lines))
+
+    def _one(self, line: Line, kind: type[T]) -> T:
+        answer, = self.ask((line,))
+        assert isinstance(answer, kind)
+        return answer
+
+    def wave(self, name: str, start: Moment, stop: Moment, budget: int | None = None) -> Wave | Unknown | Past | Budget:
+        """The waveform in a window; of a bus the values are words, the leftmost bit first."""
+        return self._answer(wave(self, name, start, stop, budget))
+
+    def at(self, name: str, time: Moment, budget: int | None = None) -> At | Unknown | Past | Budget:
+        """The value at a time; of a bus it is a word, the leftmost bit first."""
+        return self._answer(at(self, name, time, budget))
+
+    def first(self, name: str, value: str | int, start: Moment, stop: Moment,
+              budget: int | None = None) -> First | Unknown | Past | Budget:
+        """The first time of a window at which the signal has the value, 0, 1, x or z; `First.time` is None where there is none. Of a
+        bus the value is a word. Its bits are asked one after another, each from where the one before it has its value, within the budget;
+        where many such questions have not led to it, the waves of all bits are asked in what is left of the window."""
+        start, stop = self.time(start), self.time(stop)
+        question = first(self, name, value, start, stop, budget)
+        if len(question.lines) == 1:
+            return self._answer(question)
+        word, begin = word_of(question.lines, name, value), start
+        steps = first_of_all(self.bits(name), word, start, stop, budget)
+        line = next(steps)
+        for _ in range(_MOST_STEPS):
+            answer, = self.ask((line,))
+            if not isinstance(answer, First):
+                assert isinstance(answer, (Unknown, Past, Budget))
+                return answer
+            begin = begin if answer.time is None else answer.time
+            try:
+                line = steps.send(answer.time)
+            except StopIteration as found:
+                return First(name, word, start, stop, found.value)
+        left = self._answer(first(self, name, value, begin, stop, budget))
+        return First(name, word, start, stop, left.time) if isinstance(left, First) else left
+
+    def why(self, name: str, time: Moment, budget: int | None = None) -> Proof | Unknown | Past | Budget:
+        """Why the signal has the value that it has at the time. UsageError of a bus."""
+        return self._answer(why(self, name, time, budget))
+
+    def stuck(self, site: str, value: str | int, name: str, start: Moment, stop: Moment,
+              budget: int | None = None) -> Stuck | Unknown | Past | Budget:
+        """The waveform of `name` where the signal `site` has the value 0 or 1 at all times. `name` may be a bus."""
+        return self._answer(stuck(self, site, value, name, start, stop, budget))
+
+    def trim(self, cells: int) -> Trimmed:
+        """Evicts the least recent cells of each shard until at most so many, 0 to 65,536, are left."""
+        return self._one(Trim(whole_number(cells, "number of cells", 0, MOST_CELLS)), Trimmed)
+
+    def stats(self) -> Stats:
+        """The counts of the session so far."""
+        return self._one(StatsLine(), Stats)
+
+    def vcd(self, file: type_of_path) -> Dump:
+        """Writes the waves of the last batch to a file, as a waveform dump. At most three are written in a session; the name may have
+        no blank and none of `(`, `)`, `,`, `=` and `#`."""
+        name = str(file)
+        if not is_name(name):
+            raise UsageError(f"{name}: no line of a script can name this file")
+        return self._one(VcdLine(name), Dump)
+
+
+class BatchQuestions(ABC):
+    """What a batch takes: the questions of a session that give a value."""
+
+    _session: Names
+
+    @abstractmethod
+    def _add(self, question: Question[T]) -> Pending[T]:
+        """Takes the question."""
+
+    def wave(self, name: str, start: Moment, stop: Moment, budget: int | None = None) -> Pending[Wave]:
+        """As `Session.wave`."""
+        return self._add(wave(self._session, name, start, stop, budget))
+
+    def at(self, name: str, time: Moment, budget: int | None = None) -> Pending[At]:
+        """As `Session.at`."""
+        return self._add(at(self._session, name, time, budget))
+
+    def first(self, name: str, value: str | int, start: Moment, stop: Moment, budget: int | None = None) -> Pending[First]:
+        """As `Session.first`; of a bus by the waves of its bits in the whole window, since a batch asks without looking at answers."""
+        return self._add(first(self._session, name, value, start, stop, budget))
+
+    def why(self, name: str, time: Moment, budget: int | None = None) -> Pending[Proof]:
+        """As `Session.why`."""
+        return self._add(why(self._session, name, time, budget))
+
+    def stuck(self, site: str, value: str | int, name: str, start: Moment, stop: Moment, budget: int | None = None) -> Pending[Stuck]:
+        """As `Session.stuck`."""
+        return self._add(stuck(self._session, site, value, name, start, stop, budget))

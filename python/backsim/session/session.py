@@ -19,19 +19,17 @@ from ..circuit import buses
 from ..errors import FormatError, UsageError, type_of_path
 from ..formats.netlist import Netlist, read_netlist, write_netlist
 from ..formats.replies import Reply
-from ..formats.script import Line, StatsLine, Trim, VcdLine
+from ..formats.script import Line
 from ..formats.stimulus import Stimulus, read_horizon, read_stimulus, write_stimulus
-from ..formats.text import is_name
 from ..formats.timing import Timing, read_timing, write_timing
 from ..formats.units import Moment, check_units, unit_of_file, units_of
 from ..limits import MOST_BUDGET, MOST_CELLS
-from ..values import Answer, At, Budget, Dump, First, Past, Proof, Stats, Stuck, Trimmed, Unknown, Wave
-from . import questions
+from ..values import Answer, Budget, Past, Proof, Unknown
 from .batch import Batch
 from .checks import whole_number
 from .exchange import CHUNK, Asked, Exchange, Questions
 from .program import Conversation, Options, interrupt_held
-from .questions import Question
+from .questions import SessionQuestions
 from .scratch import Scratch
 
 if TYPE_CHECKING:
@@ -41,11 +39,9 @@ if TYPE_CHECKING:
 T = TypeVar("T")
 _NEAREST = 3
 _MOST_TRIES = 8
-# questions for the bits of a bus, one after another, that cost less than the waves of all bits in a window of some length
-_MOST_STEPS = 256
 
 
-class Session:
+class Session(SessionQuestions):
     """A session over a netlist, a timing file and a stimulus, each given by its path or as it was read.
 
     `journal` is the path of the journal, which is created, or emptied where it is a journal; where it is left out, the journal is a file
@@ -153,43 +149,6 @@ class Session:
 
     # one question
 
-    def wave(self, name: str, start: Moment, stop: Moment, budget: int | None = None) -> Wave | Unknown | Past | Budget:
-        """The waveform in a window; of a bus the values are words, the leftmost bit first."""
-        return self._answer(questions.wave(self.bits, name, self.time(start), self.time(stop), budget))
-
-    def at(self, name: str, time: Moment, budget: int | None = None) -> At | Unknown | Past | Budget:
-        """The value at a time; of a bus it is a word, the leftmost bit first."""
-        return self._answer(questions.at(self.bits, name, self.time(time), budget))
-
-    def first(self, name: str, value: str | int, start: Moment, stop: Moment,
-              budget: int | None = None) -> First | Unknown | Past | Budget:
-        """The first time of a window at which the signal has the value, 0, 1, x or z; `First.time` is None where there is none. Of a
-        bus the value is a word. Its bits are asked one after another, each from where the one before it has its value, within the budget;
-        where many such questions have not led to it, the waves of all bits are asked in what is left of the window."""
-        start, stop = self.time(start), self.time(stop)
-        question = questions.first(self.bits, name, value, start, stop, budget)
-        if len(question.lines) == 1:
-            return self._answer(question)
-        word, begin = questions.word_of(question.lines, name, value), start
-        steps = questions.first_of_all(self.bits(name), word, start, stop, budget)
-        line = next(steps)
-        for _ in range(_MOST_STEPS):
-            answer, = self.ask((line,))
-            if not isinstance(answer, First):
-                assert isinstance(answer, (Unknown, Past, Budget))
-                return answer
-            begin = begin if answer.time is None else answer.time
-            try:
-                line = steps.send(answer.time)
-            except StopIteration as found:
-                return First(name, word, start, stop, found.value)
-        left = self._answer(questions.first(self.bits, name, value, begin, stop, budget))
-        return First(name, word, start, stop, left.time) if isinstance(left, First) else left
-
-    def why(self, name: str, time: Moment, budget: int | None = None) -> Proof | Unknown | Past | Budget:
-        """Why the signal has the value that it has at the time. UsageError of a bus."""
-        return self._answer(questions.why(self.bits, name, self.time(time), budget))
-
     def explain(self, name: str, time: Moment, budget: int | None = None, *, until: Collection[str] = (), depth: int | None = None,
                 has_all: bool = False) -> Explanation | Unknown | Past | Budget:
         """Why the signal, or bus, has its value at the time: root causes, and the shortest chain to each. A budget that is left out is
@@ -220,35 +179,6 @@ class Session:
             if spent and (after.evictions > before.evictions or after.fills == before.fills):
                 return answer
             spent.append(answer.budget)
-
-    def stuck(self, site: str, value: str | int, name: str, start: Moment, stop: Moment,
-              budget: int | None = None) -> Stuck | Unknown | Past | Budget:
-        """The waveform of `name` where the signal `site` has the value 0 or 1 at all times. `name` may be a bus."""
-        return self._answer(questions.stuck(self.bits, site, value, name, self.time(start), self.time(stop), budget))
-
-    def trim(self, cells: int) -> Trimmed:
-        """Evicts the least recent cells of each shard until at most so many, 0 to 65,536, are left."""
-        return self._one(Trim(whole_number(cells, "number of cells", 0, MOST_CELLS)), Trimmed)
-
-    def stats(self) -> Stats:
-        """The counts of the session so far."""
-        return self._one(StatsLine(), Stats)
-
-    def vcd(self, file: type_of_path) -> Dump:
-        """Writes the waves of the last batch to a file, as a waveform dump. At most three are written in a session; the name may have
-        no blank and none of `(`, `)`, `,`, `=` and `#`."""
-        name = str(file)
-        if not is_name(name):
-            raise UsageError(f"{name}: no line of a script can name this file")
-        return self._one(VcdLine(name), Dump)
-
-    def _one(self, line: Line, kind: type[T]) -> T:
-        answer, = self.ask((line,))
-        assert isinstance(answer, kind)
-        return answer
-
-    def _answer(self, question: Question[T]) -> T | Unknown | Past | Budget:
-        return question.answer(self.ask(question.lines))
 
     # many questions
 
