@@ -13,8 +13,9 @@ use Rattle.journal_meaning.proofs.Grown.{grows-none}
 use Rattle.batch_meaning.specs.declared.Query.{Query}
 use Rattle.batch_meaning.specs.Batches.{Batch, Site, IsNeededBy, NeedOf}
 use Rattle.batch_meaning.specs.Lawful.{IsLawful}
-use Rattle.session_meaning.specs.Explanations.{Explains, IsWhyAnswer}
-use Rattle.reply_lines.specs.declared.reply.WhyAnswer.TheVariants.{Budget}
+use Rattle.session_meaning.specs.Explanations.{Explains, IsExplained}
+use Rattle.session_meaning.specs.declared.Verdict.TheVariants.{Ask}
+use Rattle.reply_lines.specs.declared.reply.Outcome.TheVariants.{Budget}
 use Rattle.plan_machine.specs.Shards.{Shard}
 use Rattle.plan_machine.specs.Settle.{journals_of}
 use Rattle.plan_machine.specs.inner.Settle.{IsOpen, IsStanding, Advances, Reaches}
@@ -86,7 +87,7 @@ module _ (b : Batch) (lawful : IsLawful b) (opening : ℕ → List SignalCell) (
   }
 
   -- the query was refused
-  pub answers-budget : (first : List Shard) (now : List KeptShard) → IsStanding b opening q [] first (standing now true) → IsWhyAnswer b.circuit (entries_of now) q (Budget q.budget)
+  pub answers-budget : (first : List Shard) (now : List KeptShard) → IsStanding b opening q [] first (standing now true) → IsExplained b.circuit (entries_of now) (Ask q) (Budget q.budget)
   answers-budget first now s = (refl, s.state.0)
 
   -- the journals grew

@@ -80,4 +80,4 @@ module _ (b : Batch) (lawful : IsLawful b) (opening : ℕ → List SignalCell) (
         let is : a.cell ≡ cell_at c (point_of a) = right ∙ ap (cell_at c) (sym at) in
         let covered : IsCovered c (entries_of new) (point_of a) = subst (IsCovered c (entries_of new)) (sym at) (root-covered b opening (sub_query q p) p.time charge (shards_in old) (shards_in new) h) in
         let told : IsTold c (entries_of new) a = covered-told c lawful.circuit a is (entries_of new) (right-of b lawful opening (shards_in new) h.fresh) here covered in
-        subst (λ (x : Point). Looks c (entries_of old) (entries_of new) before after (Some x ∷ [])) at (looks-told c (entries_of old) (entries_of new) h.journals.together.kept before after a told adds)
+        subst (λ (x : Point). Looks c (entries_of old) (entries_of new) before after (Some x ∷ [])) at (looks-told c (entries_of old) (entries_of new) h.journals.together.old_stay before after a told adds)

@@ -30,7 +30,7 @@ use Rattle.why_proofs.specs.inner.Known.{IsKnown}
 use Rattle.why_proofs.proofs.Sound.{AreRight, answer-right, rule-right}
 use Rattle.why_proofs.proofs.Sources.{known-all}
 use Rattle.asked_cells.proofs.Pins.{evaluable-signal}
-use Rattle.explanations.specs.declared.waiting.Place.{Place}
+use Rattle.explanations.specs.declared.waiting.LinePlace.{LinePlace}
 use Rattle.explanations.specs.declared.waiting.Asked.{Asked}
 use Rattle.explanations.specs.inner.Waiting.{Places}
 use Rattle.explanations.specs.inner.Gathered.{AreExplained, IsKept, IsSourceKept, AreSourcesKept, AreGathered}
@@ -75,7 +75,7 @@ answer-some c ok lines s t h = go (base_answer c s t) (base-answers c ok s t) h
     go None m (inr l) = line-some lines s t l
 
 module _ (b : Batch) (lawful : IsLawful b) (q : Query) (known : Contains b.queries q) (es : List Entry) (lines : List SignalCell) (now : Places)
-    (g : AreGathered b q es lines now) (none : (k : Place) → now k ≡ None) (kept : (x : SignalCell) → Contains lines x → AreSourcesKept b.circuit lines now x) where
+    (g : AreGathered b q es lines now) (none : (k : LinePlace) → now k ≡ None) (kept : (x : SignalCell) → Contains lines x → AreSourcesKept b.circuit lines now x) where
   abbrev c : Circuit
   c = b.circuit
 

@@ -24,7 +24,7 @@ use Rattle.plan_machine.proofs.Settle.{child-needed}
 use Rattle.plan_machine.proofs.Underway.{contains-one, contains-cases, contains-none}
 use Rattle.why_proofs.proofs.Sound.{steady}
 use Rattle.asked_cells.proofs.Pins.{evaluable-signal}
-use Rattle.explanations.specs.declared.waiting.Place.{Place}
+use Rattle.explanations.specs.declared.waiting.LinePlace.{LinePlace}
 use Rattle.explanations.specs.declared.waiting.Asked.{Asked}
 use Rattle.explanations.specs.inner.Waiting.{IsBelow, line_of, point_of, place_of, Places, TakesLast}
 use Rattle.explanations.specs.inner.Gathered.{IsWanted, IsSourceAdded, IsOfSource, Looks, IsKept, IsSourceKept, AreSourcesKept, AreGathered, rank}
@@ -51,7 +51,7 @@ source-on c lines more old new f None h = tt
 source-on c lines more old new f (Some p) (inl never) = inl never
 source-on c lines more old new f (Some p) (inr h) = inr (h.0, f h.0 h.1, h.2, h.3)
 
-kept-on : (lines : List SignalCell) (old new : Places) → ((k : Place) (a : Asked) → old k ≡ Some a → new k ≡ Some a) → (x : SignalCell) → IsKept lines old x → IsKept lines new x
+kept-on : (lines : List SignalCell) (old new : Places) → ((k : LinePlace) (a : Asked) → old k ≡ Some a → new k ≡ Some a) → (x : SignalCell) → IsKept lines old x → IsKept lines new x
 kept-on lines old new f x (inl h) = inl h
 kept-on lines old new f x (inr h) = inr (h.0, h.1, f h.0 h.1 h.2, h.3)
 
@@ -66,7 +66,7 @@ kept-taken lines old new a t x (inr h) = elim (t.kept h.0 h.1 h.2) [
 ]
 
 -- the sources of other lines stay kept
-pub sources-looked : (c : Circuit) (lines : List SignalCell) (old new : Places) → ((k : Place) (a : Asked) → old k ≡ Some a → new k ≡ Some a) → (x : SignalCell) → AreSourcesKept c lines old x → AreSourcesKept c lines new x
+pub sources-looked : (c : Circuit) (lines : List SignalCell) (old new : Places) → ((k : LinePlace) (a : Asked) → old k ≡ Some a → new k ≡ Some a) → (x : SignalCell) → AreSourcesKept c lines old x → AreSourcesKept c lines new x
 sources-looked c lines old new f x h = λ n. source-on c lines lines old new (kept-on lines old new f) (get_or (looked_points c x.signal x.cell.span.start) n None) (h n)
 
 pub sources-taken : (c : Circuit) (lines : List SignalCell) (old new : Places) (a : Asked) → TakesLast old a new → (x : SignalCell) → AreSourcesKept c lines old x → AreSourcesKept c (line_of a ∷ lines) new x
@@ -109,7 +109,7 @@ module _ (b : Batch) (lawful : IsLawful b) (q : Query) (known : Contains b.queri
 
   -- cells that stand in one place are the same
   one-place : (x y : Asked) → x.cell ≡ cell_at c (point_of x) → x.time ≤ c.horizon → y.cell ≡ cell_at c (point_of y) → y.time ≤ c.horizon → place_of (line_of x) ≡ place_of (line_of y) → x.cell ≡ y.cell
-  one-place x y rx lx ry ly same = from-start x rx lx ∙ ap (λ (k : Place). cell_at c (point_at k.signal k.start)) same ∙ sym (from-start y ry ly)
+  one-place x y rx lx ry ly same = from-start x rx lx ∙ ap (λ (k : LinePlace). cell_at c (point_at k.signal k.start)) same ∙ sym (from-start y ry ly)
 
   module _ (es : List Entry) (lines : List SignalCell) (old : Places) (a : Asked) where
     -- the last one that waits is taken
@@ -125,7 +125,7 @@ module _ (b : Batch) (lawful : IsLawful b) (q : Query) (known : Contains b.queri
       order = AllPairs-cons IsBefore (line_of a) lines (all-from (IsBefore (line_of a)) lines (g.below t.place a t.was)) g.order;
       below = λ k y e x h. elim (contains-cases (line_of a) lines x h) [
         | inl same ↦
-            let less : IsBelow (place_of (line_of y)) t.place = subst (λ (z : Place). IsBelow z t.place) (g.places k y (t.left k y e)) (t.last k y e) in
+            let less : IsBelow (place_of (line_of y)) t.place = subst (λ (z : LinePlace). IsBelow z t.place) (g.places k y (t.left k y e)) (t.last k y e) in
             subst (IsBefore (line_of y)) same (subst (IsBelow (place_of (line_of y))) (g.places t.place a t.was) less)
         | inr more ↦ g.below k y (t.left k y e) x more
       ];
@@ -158,7 +158,7 @@ module _ (b : Batch) (lawful : IsLawful b) (q : Query) (known : Contains b.queri
 
       module _ (fs : List Entry) (new : Places) (g : AreGathered b q es (line_of a ∷ lines) old) (l : Looks c es fs old new (looked_points c a.signal a.time)) where
         -- a cell that it comes from is wanted as well
-        source-wanted : (k : Place) (y : Asked) → IsOfSource c fs (looked_points c a.signal a.time) k y → IsWanted b q fs y
+        source-wanted : (k : LinePlace) (y : Asked) → IsOfSource c fs (looked_points c a.signal a.time) k y → IsWanted b q fs y
         source-wanted k y s = record {
           told = s.told;
           needed = child-needed b lawful q (point_of a) (point_of y) w.needed (let p = at-source y s.source in source-child c a.signal a.time p.0 (point_of y) p.1) s.told.evaluable;
@@ -204,7 +204,7 @@ module _ (b : Batch) (lawful : IsLawful b) (q : Query) (known : Contains b.queri
                 let stands : place_of (line_of x) ≡ place_of (line_of y) = gathers.places (place_of (line_of x)) y h.1 in
                 let wy = gathers.waiting (place_of (line_of x)) y h.1 in
                 let same : x.cell ≡ y.cell = one-place x y refl (omega (arith, early, in-time es a w)) wy.told.right (in-time fs y wy) stands in
-                inr (line_of y, inr (place_of (line_of x), y, h.1, refl), sym (ap (λ (k : Place). k.signal) stands) ∙ sym m.0, subst (λ (z : Cell). IsIn z.span r.time) same m.1)
+                inr (line_of y, inr (place_of (line_of x), y, h.1, refl), sym (ap (λ (k : LinePlace). k.signal) stands) ∙ sym m.0, subst (λ (z : Cell). IsIn z.span r.time) same m.1)
 
   -- one line more
   pub record IsStep (fs : List Entry) (lines : List SignalCell) (a : Asked) (new : Places) : Type 0 where
@@ -225,7 +225,7 @@ module _ (b : Batch) (lawful : IsLawful b) (q : Query) (known : Contains b.queri
       }
 
   -- before any line is taken: the query's own point was asked for
-  pub begins : (es fs : List Entry) (old new : Places) → ((k : Place) → old k ≡ None) → (IsEvaluable c q.signal q.from → IsNeededBy b q (point_at q.signal q.from)) → Looks c es fs old new (Some (point_at q.signal q.from) ∷ []) → AreGathered b q fs [] new
+  pub begins : (es fs : List Entry) (old new : Places) → ((k : LinePlace) → old k ≡ None) → (IsEvaluable c q.signal q.from → IsNeededBy b q (point_at q.signal q.from)) → Looks c es fs old new (Some (point_at q.signal q.from) ∷ []) → AreGathered b q fs [] new
   begins es fs old new none needed l = record {
     root = root l.sources.0;
     taken = λ x h. absurd (contains-none x [] refl h);
@@ -235,13 +235,13 @@ module _ (b : Batch) (lawful : IsLawful b) (q : Query) (known : Contains b.queri
     below = λ k a e x h. absurd (contains-none x [] refl h);
   }
     where
-      only : (k : Place) (a : Asked) → new k ≡ Some a → IsOfSource c fs (Some (point_at q.signal q.from) ∷ []) k a
+      only : (k : LinePlace) (a : Asked) → new k ≡ Some a → IsOfSource c fs (Some (point_at q.signal q.from) ∷ []) k a
       only k a e = elim (l.only k a e) [ inl was ↦ absurd (let n = none k in cc (n, was)) | inr s ↦ s ]
 
-      at-root : (k : Place) (a : Asked) → new k ≡ Some a → point_at q.signal q.from ≡ point_of a
+      at-root : (k : LinePlace) (a : Asked) → new k ≡ Some a → point_at q.signal q.from ≡ point_of a
       at-root k a e = let same = contains-one (Some (point_at q.signal q.from)) (Some (point_of a)) (only k a e).source in cc
 
-      wanted : (k : Place) (a : Asked) → new k ≡ Some a → IsWanted b q fs a
+      wanted : (k : LinePlace) (a : Asked) → new k ≡ Some a → IsWanted b q fs a
       wanted k a e =
           let told = (only k a e).told in
           let same = at-root k a e in
@@ -253,7 +253,7 @@ module _ (b : Batch) (lawful : IsLawful b) (q : Query) (known : Contains b.queri
       root : IsSourceAdded c new (Some (point_at q.signal q.from)) → IsSourceKept c [] new (Some (point_at q.signal q.from))
       root (inl never) = inl never
       root (inr h) =
-          let k : Place = place_of (record { signal = q.signal; cell = cell_at c (point_at q.signal q.from) }) in
+          let k : LinePlace = place_of (record { signal = q.signal; cell = cell_at c (point_at q.signal q.from) }) in
           let a = h.0 in
           let same = at-root k a h.1 in
           let w = wanted k a h.1 in

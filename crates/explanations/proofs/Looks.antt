@@ -6,7 +6,7 @@ use Rattle.valid_intervals.specs.declared.Point.{Point}
 use Rattle.circuit_meaning.specs.Circuit.{Circuit}
 use Rattle.journal_meaning.specs.declared.Entry.{Entry}
 use Rattle.journal_meaning.proofs.Lists.{each-append, each-imply}
-use Rattle.explanations.specs.declared.waiting.Place.{Place}
+use Rattle.explanations.specs.declared.waiting.LinePlace.{LinePlace}
 use Rattle.explanations.specs.declared.waiting.Asked.{Asked}
 use Rattle.explanations.specs.inner.Waiting.{point_of, place_of, Places, Adds}
 use Rattle.explanations.specs.inner.Gathered.{IsTold, IsSourceAdded, IsOfSource, Looks}
@@ -16,10 +16,10 @@ module _ (c : Circuit) where
   pub told-grows : (es fs : List Entry) → ((e : Entry) → Contains es e → Contains fs e) → (a : Asked) → IsTold c es a → IsTold c fs a
   told-grows es fs grows a h = record { evaluable = h.evaluable; right = h.right; told = (h.told.0, grows h.told.0 h.told.1, h.told.2) }
 
-  of-grows : (es fs : List Entry) → ((e : Entry) → Contains es e → Contains fs e) → (os more : List (Option Point)) → ((o : Option Point) → Contains os o → Contains more o) → (k : Place) (a : Asked) → IsOfSource c es os k a → IsOfSource c fs more k a
+  of-grows : (es fs : List Entry) → ((e : Entry) → Contains es e → Contains fs e) → (os more : List (Option Point)) → ((o : Option Point) → Contains os o → Contains more o) → (k : LinePlace) (a : Asked) → IsOfSource c es os k a → IsOfSource c fs more k a
   of-grows es fs grows os more f k a h = record { place = h.place; told = told-grows es fs grows a h.told; source = f (Some (point_of a)) h.source }
 
-  added-kept : (old new : Places) → ((k : Place) (a : Asked) → old k ≡ Some a → new k ≡ Some a) → (o : Option Point) → IsSourceAdded c old o → IsSourceAdded c new o
+  added-kept : (old new : Places) → ((k : LinePlace) (a : Asked) → old k ≡ Some a → new k ≡ Some a) → (o : Option Point) → IsSourceAdded c old o → IsSourceAdded c new o
   added-kept old new kept None h = tt
   added-kept old new kept (Some p) (inl never) = inl never
   added-kept old new kept (Some p) (inr h) = inr (h.0, kept _ h.0 h.1)

@@ -3,24 +3,24 @@ use Rattle.std.proofs.Common.{◌≡◌, ℕ, ◌&&◌, nat_eq, true, false, tru
 use Rattle.std.specs.Ordering.{is_eq, is_lt}
 use Rattle.std.proofs.lemmas.Bool.{and_parts, cases_Bool}
 use Rattle.std.proofs.lemmas.Bool.Decides.{nat_tests}
-use Rattle.explanations.specs.declared.waiting.Place.{Place}
+use Rattle.explanations.specs.declared.waiting.LinePlace.{LinePlace}
 use Rattle.explanations.specs.declared.waiting.Asked.{Asked}
 use Rattle.explanations.specs.inner.Waiting.{place_cmp, IsBelow, line_of, place_of, Places, Adds, TakesLast}
 
-place-is : (a b : Place) → a.start ≡ b.start → a.signal ≡ b.signal → a ≡ b
-place-is a b e f = let at : ℕ → ℕ → Place = λ t s. record { start = t; signal = s } in ap₂ at e f
+place-is : (a b : LinePlace) → a.start ≡ b.start → a.signal ≡ b.signal → a ≡ b
+place-is a b e f = let at : ℕ → ℕ → LinePlace = λ t s. record { start = t; signal = s } in ap₂ at e f
 
 -- the order of places
-same-place : (a b : Place) → is_eq (place_cmp a b) ≡ true → a ≡ b
+same-place : (a b : LinePlace) → is_eq (place_cmp a b) ≡ true → a ≡ b
 same-place a b h =
     let e : is_eq (place_cmp a b) ≡ (nat_eq a.start b.start && nat_eq a.signal b.signal) = grind (arith, nat_tests) in
     let k = and_parts (nat_eq a.start b.start) (nat_eq a.signal b.signal) (sym e ∙ h) in
     place-is a b (eqb-true a.start b.start k.0) (eqb-true a.signal b.signal k.1)
 
-itself : (a : Place) → is_eq (place_cmp a a) ≡ true
+itself : (a : LinePlace) → is_eq (place_cmp a a) ≡ true
 itself a = grind (arith, nat_tests)
 
-below : (a b : Place) → is_lt (place_cmp b a) ≡ false → is_eq (place_cmp b a) ≡ false → IsBelow a b
+below : (a b : LinePlace) → is_lt (place_cmp b a) ≡ false → is_eq (place_cmp b a) ≡ false → IsBelow a b
 below a b h n = grind (arith, nat_tests)
 
 some-of : {A : Type 0} (o : Option A) → is_some o ≡ true → (x : A) × (o ≡ Some x)
@@ -31,17 +31,17 @@ some-of (Some x) h = (x, refl)
 pub adds-none : (old : Places) (a : Asked) → is_some (old (place_of (line_of a))) ≡ true → Adds old a old
 adds-none old a h = record { kept = λ k x e. e; there = some-of (old (place_of (line_of a))) h; only = λ k x e. inl e }
 
-module _ (old new : Places) (p : Place) (w : Option Asked) (updates : (k : Place) → new k ≡ cond (is_eq (place_cmp p k)) w (old k)) where
-  here : (k : Place) → p ≡ k → new k ≡ w
+module _ (old new : Places) (p : LinePlace) (w : Option Asked) (updates : (k : LinePlace) → new k ≡ cond (is_eq (place_cmp p k)) w (old k)) where
+  here : (k : LinePlace) → p ≡ k → new k ≡ w
   here k e = updates k ∙ ap (λ b. cond b w (old k)) (subst (λ z. is_eq (place_cmp p z) ≡ true) e (itself p))
 
-  elsewhere : (k : Place) → is_eq (place_cmp p k) ≡ false → new k ≡ old k
+  elsewhere : (k : LinePlace) → is_eq (place_cmp p k) ≡ false → new k ≡ old k
   elsewhere k n = updates k ∙ ap (λ b. cond b w (old k)) n
 
 -- none stands there
-pub adds-one : (old new : Places) (a : Asked) → is_some (old (place_of (line_of a))) ≡ false → ((k : Place) → new k ≡ cond (is_eq (place_cmp (place_of (line_of a)) k)) (Some a) (old k)) → Adds old a new
+pub adds-one : (old new : Places) (a : Asked) → is_some (old (place_of (line_of a))) ≡ false → ((k : LinePlace) → new k ≡ cond (is_eq (place_cmp (place_of (line_of a)) k)) (Some a) (old k)) → Adds old a new
 adds-one old new a none updates =
-    let p : Place = place_of (line_of a) in
+    let p : LinePlace = place_of (line_of a) in
     record {
       kept = λ k x e. elim (cases_Bool (is_eq (place_cmp p k))) [
         | inl t ↦
@@ -61,7 +61,7 @@ adds-one old new a none updates =
     }
 
 -- the last goes
-pub takes : (old new : Places) (p : Place) (a : Asked) → old p ≡ Some a → ((k : Place) → IsSome (old k) → is_lt (place_cmp p k) ≡ false) → ((k : Place) → new k ≡ cond (is_eq (place_cmp p k)) None (old k)) → TakesLast old a new
+pub takes : (old new : Places) (p : LinePlace) (a : Asked) → old p ≡ Some a → ((k : LinePlace) → IsSome (old k) → is_lt (place_cmp p k) ≡ false) → ((k : LinePlace) → new k ≡ cond (is_eq (place_cmp p k)) None (old k)) → TakesLast old a new
 takes old new p a was greatest updates = record {
   place = p;
   was = was;
@@ -79,5 +79,5 @@ takes old new p a was greatest updates = record {
   ];
 }
   where
-    gone : (k : Place) (x : Asked) → p ≡ k → new k ≡ Some x → ⊥
+    gone : (k : LinePlace) (x : Asked) → p ≡ k → new k ≡ Some x → ⊥
     gone k x same e = let none = here old new p None updates k same in cc (none, e)

@@ -4,14 +4,15 @@ ghost use Rattle.std.specs.Prelude.{◌≡◌, ◌+◌, ◌∷◌, [], List, Non
 ghost use Rattle.batch_meaning.specs.Lawful.{IsLawful};
 ghost use Rattle.journal_meaning.specs.declared.Entry.{Entry as EntryRecord};
 ghost use Rattle.journal_meaning.specs.Grown.{AreAdded};
-ghost use Rattle.session_meaning.specs.Explanations.{IsWhyAnswer};
+ghost use Rattle.session_meaning.specs.Explanations.{IsExplained};
+ghost use Rattle.session_meaning.specs.declared.Verdict.TheVariants.{Ask};
 ghost use Rattle.plan_machine.specs.Sound.{IsFresh};
 ghost use Rattle.plan_machine.specs.Settle.{entries_in, journals_of};
 ghost use Rattle.plan_core.specs.Parts.{shards_in};
 ghost use Rattle.asked_cells.specs.Asked.{AsksOn, AsksFreed};
 ghost use Rattle.asked_cells.specs.Shards.{AreNumbered, AreUnused};
 ghost use Rattle.asked_cells.specs.Memos.{AreFreeShards, entries_of};
-ghost use Rattle.explanations.specs.Asks.{is_budget};
+ghost use Rattle.reply_lines.specs.Replies.{is_budget};
 
 use crate::children::hear;
 use crate::lines::gather;
@@ -22,7 +23,7 @@ use demand_points::BatchName;
 use design::Design;
 use memo_shards::Shard;
 use owned_text::OutOfMemory;
-use reply_lines::WhyAnswer;
+use reply_lines::{Explanation, Outcome};
 use std::alloc::Global;
 use valid_intervals::Point;
 use why_proofs::CellList;
@@ -30,7 +31,7 @@ use why_proofs::CellList;
 /// What was found, and the shards that are left.
 #[derive(Drop)]
 pub struct Explained<B: BatchName> {
-    pub answer: WhyAnswer,
+    pub outcome: Outcome<Explanation>,
     pub shards: Vec<Shard<B>>,
 }
 
@@ -40,7 +41,7 @@ fn gather_answer<B: BatchName>(
     memo: &mut Memo<B>,
     design: &Design,
     query: Query,
-) -> Result<WhyAnswer, OutOfMemory>
+) -> Result<Outcome<Explanation>, OutOfMemory>
     requires lawful { IsLawful B.batch }
     requires site { B.batch.site ≡ None }
     requires design { design.now.circuit ≡ B.batch.circuit }
@@ -51,9 +52,9 @@ fn gather_answer<B: BatchName>(
     ensures kept { OnOk result (AreFreeShards B.batch B.opening memo.new) }
     ensures journals { OnOk result ((added : List EntryRecord) ×
         AreAdded (journals_of (shards_in memo.old)) added (journals_of (shards_in memo.new))) }
-    ensures answer { IfOk result (IsWhyAnswer B.batch.circuit (entries_of memo.new) query) }
-    ensures asks { IfOk result (λ answer. AsksOn B.batch B.opening query (shards_in memo.old) false
-        (shards_in memo.new) (is_budget answer)) }
+    ensures outcome { IfOk result (IsExplained B.batch.circuit (entries_of memo.new) (Ask query)) }
+    ensures asks { IfOk result (λ outcome. AsksOn B.batch B.opening query (shards_in memo.old)
+        false (shards_in memo.new) (is_budget outcome)) }
 {
     let mut waiting = Waiting::new(alloc);
     let mut charge = 0;
@@ -62,14 +63,14 @@ fn gather_answer<B: BatchName>(
         time: query.from,
     };
     let Some(cell) = hear(memo, design, query, point, &mut waiting, &mut charge)? else {
-        return Ok(WhyAnswer::Budget(query.budget));
+        return Ok(Outcome::Budget(query.budget));
     };
     match gather(alloc, memo, design, query, waiting, charge)? {
-        None => Ok(WhyAnswer::Budget(query.budget)),
-        Some(lines) => Ok(WhyAnswer::Proof {
+        None => Ok(Outcome::Budget(query.budget)),
+        Some(lines) => Ok(Outcome::Answer(Explanation {
             cells: CellList::from_vec(lines),
             value: cell.value,
-        }),
+        })),
     }
 }
 
@@ -94,15 +95,15 @@ pub fn explain<B: BatchName>(
     ensures journals { IfOk result (λ done. (added : List EntryRecord) ×
         AreAdded (journals_of (shards_in shards.items)) added
         (journals_of (shards_in done.shards.items))) }
-    ensures answer { IfOk result (λ done. IsWhyAnswer B.batch.circuit
-        (entries_in (shards_in done.shards.items)) query done.answer) }
+    ensures outcome { IfOk result (λ done. IsExplained B.batch.circuit
+        (entries_in (shards_in done.shards.items)) (Ask query) done.outcome) }
     ensures asks { IfOk result (λ done. AsksFreed B.batch B.opening query (shards_in shards.items)
-        (shards_in done.shards.items) (is_budget done.answer)) }
+        (shards_in done.shards.items) (is_budget done.outcome)) }
 {
     let mut memo = begin(alloc, shards, &Wanted::all())?;
-    let answer = gather_answer(alloc, &mut memo, design, query)?;
+    let outcome = gather_answer(alloc, &mut memo, design, query)?;
     Ok(Explained {
-        answer,
+        outcome,
         shards: memo.into_shards(),
     })
 }

@@ -1,10 +1,10 @@
 //! The answer to a question why a signal has its value at a time, asked of the memo.
 //!
 //! [`explain`] asks for the one time of a query, over shards in which nothing is recorded yet, and answers a proof: lines, each a cell
-//! of a signal, from which the value follows line by line (`IsWhyAnswer` of `session_meaning`). The lines stand in the order of their
+//! of a signal, from which the value follows line by line (`IsExplained` of `session_meaning`). The lines stand in the order of their
 //! first times, and each follows from those above it by the rules of `why_proofs`. So whoever has the circuit can check the answer,
 //! and has to believe neither the memo nor this crate. Each line is a cell that an entry of the batch tells or fills, and the entries
-//! close the query. Where the answer would take more evaluations than the query's budget, the answer is the budget, and the entries
+//! close the query. Where the answer would take more evaluations than the query's budget, the outcome is the budget, and the entries
 //! hold the cause. Each point is asked for under the query's number, charged with what was filled so far, and none after a refusal
 //! (`AsksFreed` of `asked_cells`).
 //!
@@ -21,10 +21,9 @@
 //! besides. A call takes memory for an index of the cells that the entries say, for the lines, and for the cells that wait.
 //!
 //! ```
-//! let Explained { answer, shards } = explain(alloc, design, shards, query)?;
-//! match answer {
-//!     WhyAnswer::Proof { cells, value } => println!(rt; "{value}, by {} cells", cells.as_slice().len())?,
-//!     WhyAnswer::Budget(budget) => println!(rt; "more than {budget} evaluations")?,
+//! let Explained { outcome, shards } = explain(alloc, design, shards, query)?;
+//! if let Outcome::Answer(Explanation { cells, value }) = outcome {
+//!     println!(rt; "{value}, by {} cells", cells.as_slice().len())?;
 //! }
 //! ```
 #![tactic(auto)]
@@ -35,4 +34,3 @@ mod lines;
 mod waiting;
 
 pub use explained::{Explained, explain};
-pub use reply_lines::WhyAnswer;

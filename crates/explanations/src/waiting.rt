@@ -2,7 +2,7 @@
 
 ghost use Rattle.std.specs.Prelude.{◌≡◌, None, IfSome, IfNone, OnOk};
 ghost use Rattle.std.specs.BTreeMap.{get};
-ghost use Rattle.explanations.specs.declared.waiting.Place.{Place as PlaceRecord};
+ghost use Rattle.explanations.specs.declared.waiting.LinePlace.{LinePlace as LinePlaceRecord};
 ghost use Rattle.explanations.specs.inner.Waiting.{place_cmp, line_of, point_of, place_of, Adds, TakesLast};
 
 use owned_text::OutOfMemory;
@@ -12,7 +12,7 @@ use valid_intervals::{Cell, Point, SignalCell};
 
 /// Where a cell comes in order: by its first time, and then by its signal.
 #[derive(Clone, Copy, Debug, PartialEq, Eq, PartialOrd, Ord)]
-pub struct Place {
+pub struct LinePlace {
     pub start: u32,
     pub signal: u32,
 }
@@ -47,10 +47,10 @@ impl Asked {
     }
 
     /// Where it comes in order.
-    fn place(&self) -> Place
+    fn place(&self) -> LinePlace
         ensures { result ≡ place_of (line_of self.now) }
     {
-        Place {
+        LinePlace {
             start: self.cell.span.start(),
             signal: self.signal,
         }
@@ -60,13 +60,13 @@ impl Asked {
 /// Cells by their places. For n cells one more takes O(log n) steps, and so does the last.
 #[derive(Drop)]
 pub struct Waiting {
-    cells: BTreeMap<Place, Asked>,
+    cells: BTreeMap<LinePlace, Asked>,
 }
 
 impl Waiting {
     /// None waits.
     pub fn new(alloc: Global) -> Waiting
-        ensures { (k : PlaceRecord) → get place_cmp result.cells k ≡ None }
+        ensures { (k : LinePlaceRecord) → get place_cmp result.cells k ≡ None }
     {
         Waiting {
             cells: BTreeMap::new(alloc),
@@ -90,8 +90,8 @@ impl Waiting {
     pub fn take_last(&mut self) -> Option<Asked>
         ensures some { IfSome result (λ asked. TakesLast (get place_cmp self.old.cells) asked
             (get place_cmp self.new.cells)) }
-        ensures none { IfNone result ((k : PlaceRecord) → get place_cmp self.old.cells k ≡ None) }
-        ensures stays { IfNone result ((k : PlaceRecord) → get place_cmp self.new.cells k ≡ None) }
+        ensures none { IfNone result ((k : LinePlaceRecord) → get place_cmp self.old.cells k ≡ None) }
+        ensures stays { IfNone result ((k : LinePlaceRecord) → get place_cmp self.new.cells k ≡ None) }
     {
         let (_, asked) = self.cells.pop_last()?;
         Some(asked)

@@ -22,8 +22,9 @@ use Rattle.batch_meaning.specs.declared.Query.{Query}
 use Rattle.batch_meaning.specs.Batches.{Batch, Site, IsNeededBy, NeedOf, window_of}
 use Rattle.batch_meaning.specs.Lawful.{IsLawful}
 use Rattle.batch_meaning.specs.Pieces.{IsStart}
-use Rattle.session_meaning.specs.FirstTimes.{first_time, stop_at, up_to_first, IsFirstAnswer}
-use Rattle.reply_lines.specs.declared.reply.FirstAnswer.TheVariants.{At, Never, Budget}
+use Rattle.session_meaning.specs.FirstTimes.{first_time, stop_at, up_to_first, IsFirstOutcome}
+use Rattle.session_meaning.specs.declared.Verdict.TheVariants.{Ask}
+use Rattle.reply_lines.specs.declared.reply.Outcome.TheVariants.{Answer, Budget}
 use Rattle.plan_machine.specs.Shards.{Shard}
 use Rattle.plan_machine.specs.Sound.{IsFresh}
 use Rattle.plan_machine.specs.Settle.{sub_query, child_start, charge_of, journals_of, entries_in}
@@ -144,7 +145,7 @@ module _ (b : Batch) (lawful : IsLawful b) (opening : ℕ → List SignalCell) (
         }
 
     -- it is the first with the value
-    pub ends-here : HasAsked b opening (asked_at (sub_query until x) t charge) (shards_in old) (shards_in new) false → has b.circuit q w t ≡ true → IsFirstAnswer b.circuit (entries_of new) q w (At t)
+    pub ends-here : HasAsked b opening (asked_at (sub_query until x) t charge) (shards_in old) (shards_in new) false → has b.circuit q w t ≡ true → IsFirstOutcome b.circuit (entries_of new) w (Ask q) (Answer (Some t))
     ends-here h is =
         let one = reached false h in
         let s = window-step b lawful opening until known [] (shards_in first) (live old) (standing new false) t low (k.root low) k.covered one in
@@ -154,11 +155,11 @@ module _ (b : Batch) (lawful : IsLawful b) (opening : ℕ → List SignalCell) (
         (here, (settles-closed b lawful until within [] (entries_of new) one.0.stands.state (λ p y m. absurd (contains-none _ [] refl m)) (span b.circuit q.signal t).stop (s.covered refl) (omega arith)).0)
 
     -- the query was refused
-    pub ends-refused : HasAsked b opening (asked_at (sub_query until x) t charge) (shards_in old) (shards_in new) true → IsFirstAnswer b.circuit (entries_of new) q w (Budget q.budget)
+    pub ends-refused : HasAsked b opening (asked_at (sub_query until x) t charge) (shards_in old) (shards_in new) true → IsFirstOutcome b.circuit (entries_of new) w (Ask q) (Budget q.budget)
     ends-refused h = (refl, (reached true h).0.stands.state.0)
 
   -- no cell has the value
-  pub ends-never : (first now : List KeptShard) (t : ℕ) → Walking first now t → q.to ≤ t → IsFirstAnswer b.circuit (entries_of now) q w Never
+  pub ends-never : (first now : List KeptShard) (t : ℕ) → Walking first now t → q.to ≤ t → IsFirstOutcome b.circuit (entries_of now) w (Ask q) (Answer None)
   ends-never first now t k high =
       let here = first-none b.circuit q w t k.none high in
       let stop : until.to ≡ q.to = ap (λ o. stop_at o q.to) here in

@@ -5,14 +5,15 @@ ghost use Rattle.gate_values.specs.Gates.{same_value};
 ghost use Rattle.batch_meaning.specs.Lawful.{IsLawful};
 ghost use Rattle.journal_meaning.specs.declared.Entry.{Entry as EntryRecord};
 ghost use Rattle.journal_meaning.specs.Grown.{AreAdded};
-ghost use Rattle.session_meaning.specs.FirstTimes.{IsFirstAnswer, up_to_first};
+ghost use Rattle.session_meaning.specs.FirstTimes.{IsFirstOutcome, up_to_first};
+ghost use Rattle.session_meaning.specs.declared.Verdict.TheVariants.{Ask};
 ghost use Rattle.plan_machine.specs.Sound.{IsFresh};
 ghost use Rattle.plan_machine.specs.Settle.{entries_in, journals_of};
 ghost use Rattle.plan_core.specs.Parts.{shards_in};
 ghost use Rattle.asked_cells.specs.Asked.{AsksOn, AsksFreed};
 ghost use Rattle.asked_cells.specs.Shards.{AreNumbered, AreUnused};
 ghost use Rattle.asked_cells.specs.Memos.{AreFreeShards, entries_of};
-ghost use Rattle.first_times.specs.Asks.{is_budget};
+ghost use Rattle.reply_lines.specs.Replies.{is_budget};
 
 use asked_cells::{Memo, Wanted, begin, reach};
 use batch_meaning::Query;
@@ -21,13 +22,13 @@ use design::Design;
 use gate_values::Value;
 use memo_shards::Shard;
 use owned_text::OutOfMemory;
-use reply_lines::FirstAnswer;
+use reply_lines::Outcome;
 use std::alloc::Global;
 
-/// The answer, and the shards after it.
+/// The outcome, and the shards after it.
 #[derive(Drop)]
 pub struct FirstDone<B: BatchName> {
-    pub answer: FirstAnswer,
+    pub outcome: Outcome<Option<u32>>,
     pub shards: Vec<Shard<B>>,
 }
 
@@ -44,7 +45,7 @@ fn walk<B: BatchName>(
     design: &Design,
     query: Query,
     value: Value,
-) -> Result<FirstAnswer, OutOfMemory>
+) -> Result<Outcome<Option<u32>>, OutOfMemory>
     requires lawful { IsLawful B.batch }
     requires site { B.batch.site ≡ None }
     requires design { design.now.circuit ≡ B.batch.circuit }
@@ -54,10 +55,11 @@ fn walk<B: BatchName>(
     ensures kept { OnOk result (AreFreeShards B.batch B.opening memo.new) }
     ensures journals { OnOk result ((added : List EntryRecord) ×
         AreAdded (journals_of (shards_in memo.old)) added (journals_of (shards_in memo.new))) }
-    ensures answer { IfOk result (IsFirstAnswer B.batch.circuit (entries_of memo.new) query value) }
+    ensures outcome { IfOk result (IsFirstOutcome B.batch.circuit (entries_of memo.new) value
+        (Ask query)) }
     ensures asks { let until = up_to_first B.batch.circuit query value in
-        IfOk result (λ answer. AsksOn B.batch B.opening until (shards_in memo.old) false
-        (shards_in memo.new) (is_budget answer)) }
+        IfOk result (λ outcome. AsksOn B.batch B.opening until (shards_in memo.old) false
+        (shards_in memo.new) (is_budget outcome)) }
 {
     let mut time = query.from;
     let mut charge = 0;
@@ -70,14 +72,14 @@ fn walk<B: BatchName>(
             budget: query.budget,
         };
         let Some(cell) = reach(memo, design, instant, time, &mut charge)? else {
-            return Ok(FirstAnswer::Budget(query.budget));
+            return Ok(Outcome::Budget(query.budget));
         };
         if is_same(cell.value, value) {
-            return Ok(FirstAnswer::At(time));
+            return Ok(Outcome::Answer(Some(time)));
         }
         time = cell.span.end();
     }
-    Ok(FirstAnswer::Never)
+    Ok(Outcome::Answer(None))
 }
 
 /// The first time in the window of a query at which its signal has a value, found by asking for one cell after another up to that
@@ -101,16 +103,16 @@ pub fn first_time<B: BatchName>(
     ensures journals { IfOk result (λ done. (added : List EntryRecord) ×
         AreAdded (journals_of (shards_in shards.items)) added
         (journals_of (shards_in done.shards.items))) }
-    ensures answer { IfOk result (λ done. IsFirstAnswer B.batch.circuit
-        (entries_in (shards_in done.shards.items)) query value done.answer) }
+    ensures outcome { IfOk result (λ done. IsFirstOutcome B.batch.circuit
+        (entries_in (shards_in done.shards.items)) value (Ask query) done.outcome) }
     ensures asks { let until = up_to_first B.batch.circuit query value in
         IfOk result (λ done. AsksFreed B.batch B.opening until (shards_in shards.items)
-        (shards_in done.shards.items) (is_budget done.answer)) }
+        (shards_in done.shards.items) (is_budget done.outcome)) }
 {
     let mut memo = begin(alloc, shards, &Wanted::all())?;
-    let answer = walk(&mut memo, design, query, value)?;
+    let outcome = walk(&mut memo, design, query, value)?;
     Ok(FirstDone {
-        answer,
+        outcome,
         shards: memo.into_shards(),
     })
 }

@@ -3,8 +3,8 @@
 //! [`first_time`] returns the time in a query's window at which its signal first has a given value, over shards without entries. It asks
 //! for one cell after another, each by its first time, from the start of the window (`reach` of `asked_cells`). It stops at the first
 //! cell that has the value, and asks for nothing after it. The entries then close the query up to the returned time, and no further
-//! (`IsFirstAnswer` of `session_meaning`). If the value does not occur, they close the whole window. If the answer would take more
-//! evaluations than the query's budget, the answer is the budget, and the entries hold the cause. Each cell is asked for under the
+//! (`IsFirstOutcome` of `session_meaning`). If the value does not occur, they close the whole window. If the answer would take more
+//! evaluations than the query's budget, the outcome is the budget, and the entries hold the cause. Each cell is asked for under the
 //! query's number, charged with the fills so far, and none is asked for after a refusal (`AsksFreed` of `asked_cells`).
 //!
 //! The batch that B names has one query: that of the caller, with its window cut after the first time (`up_to_first`). The caller does
@@ -15,11 +15,9 @@
 //! to read each of its entries. The call allocates an index of the cells that the entries say.
 //!
 //! ```
-//! let FirstDone { answer, shards } = first_time(alloc, design, shards, query, Value::One)?;
-//! match answer {
-//!     FirstAnswer::At(time) => println!(rt; "at {time}")?,
-//!     FirstAnswer::Never => println!(rt; "never")?,
-//!     FirstAnswer::Budget(budget) => println!(rt; "more than {budget} evaluations")?,
+//! let FirstDone { outcome, shards } = first_time(alloc, design, shards, query, Value::One)?;
+//! if let Outcome::Answer(Some(time)) = outcome {
+//!     println!(rt; "at {time}")?;
 //! }
 //! ```
 #![tactic(auto)]
@@ -27,4 +25,3 @@
 mod firsts;
 
 pub use firsts::{FirstDone, first_time};
-pub use reply_lines::FirstAnswer;

@@ -1,5 +1,6 @@
 pub mod Feeding
 pub mod Requests
+pub mod Forms
 pub mod Limits
 pub mod Names
 pub mod OwnLines

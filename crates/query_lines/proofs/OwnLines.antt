@@ -9,7 +9,6 @@ use Rattle.query_lines.specs.declared.line.Line.{Line}
 use Rattle.query_lines.specs.declared.line.Line.TheVariants.{Blank, Ask, Go, Bad, Stats}
 use Rattle.query_lines.specs.declared.line.Line.TheVariants as lines
 use Rattle.query_lines.specs.declared.line.What.TheVariants as whats
-use Rattle.query_lines.specs.declared.unit.Asks.TheVariants as kinds
 use Rattle.query_lines.specs.declared.unit.Item.{Item}
 use Rattle.query_lines.specs.declared.unit.Unit.{Unit as ScriptUnit}
 use Rattle.query_lines.specs.declared.unit.Unit.TheVariants as units
@@ -78,10 +77,8 @@ step-own horizon number pending Bad p = with_item-own horizon number pending (re
 step-own horizon number pending Go p = record { given = closed-own pending p.own; pending = none-pending (number + 1) }
 step-own horizon number pending (lines.Trim cells) p = with_unit-own number pending (units.Trim cells) tt p
 step-own horizon number pending Stats p = with_unit-own number pending units.Stats tt p
-step-own horizon number pending (lines.First first) p = with_unit-own number pending (units.Question (record { line = number; asks = kinds.First first })) tt p
-step-own horizon number pending (lines.Why why) p = with_unit-own number pending (units.Question (record { line = number; asks = kinds.Why why })) tt p
+step-own horizon number pending (lines.Question window asks) p = with_unit-own number pending (units.Question (record { line = number; window = window; asks = asks })) tt p
 step-own horizon number pending (lines.Vcd file) p = with_unit-own number pending (units.Vcd file) tt p
-step-own horizon number pending (lines.Stuck stuck) p = with_unit-own number pending (units.Question (record { line = number; asks = kinds.Stuck stuck })) tt p
 
 units_from-own : (horizon first : ℕ) (pending : List Item) (texts : List Line) → ArePending first pending → All HasOwnLines (units_from horizon pending (enumerate_from first texts))
 units_from-own horizon first pending [] p = closed-own pending p.own

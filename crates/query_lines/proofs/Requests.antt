@@ -7,7 +7,6 @@ use Rattle.query_lines.specs.declared.line.Line.{Line}
 use Rattle.query_lines.specs.declared.line.Line.TheVariants.{Blank, Ask, Go, Bad}
 use Rattle.query_lines.specs.declared.line.Line.TheVariants as lines
 use Rattle.query_lines.specs.declared.line.What.TheVariants as whats
-use Rattle.query_lines.specs.declared.unit.Asks.TheVariants as kinds
 use Rattle.query_lines.specs.declared.unit.Item.{Item}
 use Rattle.query_lines.specs.declared.unit.Unit.{Unit as ScriptUnit}
 use Rattle.query_lines.specs.declared.unit.Unit.TheVariants.{Trim, Stats, Question, Vcd}
@@ -58,10 +57,8 @@ kept-step horizon pending number Bad = kept-item horizon pending (record { line 
 kept-step horizon pending number Go = kept-whole pending ∙ sym (append-nil (map Answer pending))
 kept-step horizon pending number (lines.Trim cells) = kept-after pending (Trim cells)
 kept-step horizon pending number lines.Stats = kept-after pending Stats
-kept-step horizon pending number (lines.First first) = kept-after pending (Question (record { line = number; asks = kinds.First first }))
-kept-step horizon pending number (lines.Why why) = kept-after pending (Question (record { line = number; asks = kinds.Why why }))
+kept-step horizon pending number (lines.Question window asks) = kept-after pending (Question (record { line = number; window = window; asks = asks }))
 kept-step horizon pending number (lines.Vcd file) = kept-after pending (Vcd file)
-kept-step horizon pending number (lines.Stuck stuck) = kept-after pending (Question (record { line = number; asks = kinds.Stuck stuck }))
 
 pub told-units : (horizon : ℕ) (pending : List Item) (numbered : List (ℕ × Line)) → told (units_from horizon pending numbered) ≡ map Answer pending ++ flat_map (λ line. requests_on line.0 line.1) numbered
 told-units horizon pending [] = told-closed pending ∙ sym (append-nil (map Answer pending))

@@ -2,7 +2,8 @@
 use Rattle.std.proofs.Common.{◌≡◌, ℕ, List, [], ◌∷◌, ◌++◌, refl}
 use Rattle.std.specs.Prelude.{codes}
 use Rattle.text_rules.specs.Text.{words}
-use Rattle.query_lines.specs.declared.line.What.TheVariants.{At, Bad}
+use Rattle.query_lines.specs.declared.line.What.TheVariants.{Window, Bad}
+use Rattle.query_lines.specs.declared.line.Tell.TheVariants.{At}
 use Rattle.query_lines.specs.declared.unit.Unit.TheVariants.{Batch, Trim, Stats}
 use Rattle.query_lines.specs.Lines.{line_of}
 use Rattle.query_lines.specs.Reading.{ended_lines, completed_units}
@@ -23,10 +24,10 @@ ended = refl
 three-lines : List ℕ
 three-lines = codes "at y 5" ++ 10 ∷ codes "stats" ++ 10 ∷ codes "hello" ++ 10 ∷ codes "trim 7"
 
-before-trim : completed_units 100 three-lines ≡ Batch (record { line = 1; what = At (codes "y") 5 50000 } ∷ []) ∷ Stats ∷ []
+before-trim : completed_units 100 three-lines ≡ Batch (record { line = 1; what = Window (record { name = codes "y"; from = 5; to = 6; budget = 50000 }) At } ∷ []) ∷ Stats ∷ []
 unfolding three-lines completed_units ended_lines line_of words
 before-trim = refl
 
-behind-trim : completed_units 100 (three-lines ++ 10 ∷ []) ≡ Batch (record { line = 1; what = At (codes "y") 5 50000 } ∷ []) ∷ Stats ∷ Batch (record { line = 3; what = Bad } ∷ []) ∷ Trim 7 ∷ []
+behind-trim : completed_units 100 (three-lines ++ 10 ∷ []) ≡ Batch (record { line = 1; what = Window (record { name = codes "y"; from = 5; to = 6; budget = 50000 }) At } ∷ []) ∷ Stats ∷ Batch (record { line = 3; what = Bad } ∷ []) ∷ Trim 7 ∷ []
 unfolding three-lines completed_units ended_lines line_of words
 behind-trim = refl

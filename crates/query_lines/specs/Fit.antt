@@ -3,8 +3,8 @@ use Rattle.std.specs.Prelude.{◌≡◌, ◌≢◌, ⊤, ℕ, ◌≤◌, IsTrue,
 use Rattle.text_rules.specs.Text.{is_name}
 use Rattle.query_lines.specs.declared.line.What.{What}
 use Rattle.query_lines.specs.declared.line.What.TheVariants as whats
-use Rattle.query_lines.specs.declared.unit.Asks.{Asks}
-use Rattle.query_lines.specs.declared.unit.Asks.TheVariants.{First, Why, Stuck}
+use Rattle.query_lines.specs.declared.line.Asks.{Asks}
+use Rattle.query_lines.specs.declared.line.Asks.TheVariants.{First, Why, Stuck}
 use Rattle.query_lines.specs.declared.unit.Item.{Item}
 use Rattle.query_lines.specs.declared.unit.Unit.{Unit as ScriptUnit}
 use Rattle.query_lines.specs.declared.unit.Unit.TheVariants.{Batch, Trim, Stats, Question, Vcd}
@@ -30,22 +30,21 @@ UnitsHaveOwnLines = (horizon : ℕ) (script : List ℕ) → All HasOwnLines (scr
 
 -- the name in an item follows the rules
 abbrev pub AsksByName : What → Type 0
-AsksByName (whats.Wave name from to budget) = IsTrue (is_name name)
-AsksByName (whats.At name time budget) = IsTrue (is_name name)
+AsksByName (whats.Window window tell) = IsTrue (is_name window.name)
 AsksByName whats.Bad = ⊤
 
--- every name in a question follows the rules
-abbrev pub NamesByRules : Asks → Type 0
-NamesByRules (First first) = IsTrue (is_name first.name)
-NamesByRules (Why why) = IsTrue (is_name why.name)
-NamesByRules (Stuck stuck) = IsTrue (is_name stuck.site) × IsTrue (is_name stuck.name)
+-- the name of a stuck signal follows the rules
+abbrev pub NamesSite : Asks → Type 0
+NamesSite (First value) = ⊤
+NamesSite Why = ⊤
+NamesSite (Stuck site value) = IsTrue (is_name site)
 
 -- Every name in a unit follows the rules.
 abbrev pub HasNames : ScriptUnit → Type 0
 HasNames (Batch items) = All (λ item. AsksByName item.what) items
 HasNames (Trim cells) = ⊤
 HasNames Stats = ⊤
-HasNames (Question question) = NamesByRules question.asks
+HasNames (Question question) = IsTrue (is_name question.window.name) × NamesSite question.asks
 HasNames (Vcd file) = IsTrue (is_name file)
 
 -- a unit within its limits, whose items are on different lines, and whose names follow the rules

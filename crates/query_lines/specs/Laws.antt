@@ -1,12 +1,13 @@
 -- Laws of the units of every script.
-use Rattle.std.specs.Prelude.{◌≡◌, ⊤, ℕ, ◌<◌, ◌≤◌, List, [], ◌∷◌, length, map, flat_map, All}
+use Rattle.std.specs.Prelude.{◌≡◌, ⊤, ℕ, ◌+◌, ◌<◌, ◌≤◌, List, [], ◌∷◌, length, map, flat_map, All}
 use Rattle.query_lines.specs.declared.line.Line.{Line}
 use Rattle.query_lines.specs.declared.line.Line.TheVariants.{Blank, Ask, Go, Bad}
 use Rattle.query_lines.specs.declared.line.Line.TheVariants as lines
 use Rattle.query_lines.specs.declared.line.What.TheVariants as whats
+use Rattle.query_lines.specs.declared.line.Asks.{Asks}
+use Rattle.query_lines.specs.declared.line.Asks.TheVariants.{Why}
+use Rattle.query_lines.specs.declared.line.Window.{Window}
 use Rattle.query_lines.specs.declared.unit.Item.{Item}
-use Rattle.query_lines.specs.declared.unit.Asks.{Asks}
-use Rattle.query_lines.specs.declared.unit.Asks.TheVariants.{First, Why, Stuck}
 use Rattle.query_lines.specs.declared.unit.Question.{Question as ScriptQuestion}
 use Rattle.query_lines.specs.declared.unit.Unit.{Unit as ScriptUnit}
 use Rattle.query_lines.specs.declared.unit.Unit.TheVariants.{Batch, Trim, Stats, Question, Vcd}
@@ -35,10 +36,8 @@ requests_on number Bad = Answer (record { line = number; what = whats.Bad }) ∷
 requests_on number Go = []
 requests_on number (lines.Trim cells) = Leave cells ∷ []
 requests_on number lines.Stats = Counts ∷ []
-requests_on number (lines.First first) = Resolve (record { line = number; asks = First first }) ∷ []
-requests_on number (lines.Why why) = Resolve (record { line = number; asks = Why why }) ∷ []
+requests_on number (lines.Question window asks) = Resolve (record { line = number; window = window; asks = asks }) ∷ []
 requests_on number (lines.Vcd file) = Dump file ∷ []
-requests_on number (lines.Stuck stuck) = Resolve (record { line = number; asks = Stuck stuck }) ∷ []
 
 -- The units are the lines' requests in order: each comes exactly once.
 abbrev pub UnitsKeepRequests : Type 0
@@ -52,17 +51,16 @@ pub record IsWithin (horizon : ℕ) (items : List Item) : Type 0 where
   pub budgets_fit : budgets items ≤ 1000000
   pub lengths_fit : lengths horizon items ≤ 4000000
 
--- the budget of a question
-abbrev pub budget_asked : Asks → ℕ
-budget_asked (First first) = first.budget
-budget_asked (Why why) = why.budget
-budget_asked (Stuck stuck) = stuck.budget
+-- what is asked suits the window: `why` asks for one time
+abbrev pub SuitsWindow : Asks → Window → Type 0
+SuitsWindow Why window = window.to ≡ window.from + 1
+SuitsWindow asks window = ⊤
 
 abbrev pub IsWithinLimits : ℕ → ScriptUnit → Type 0
 IsWithinLimits horizon (Batch items) = IsWithin horizon items
 IsWithinLimits horizon (Trim cells) = cells ≤ 65536
 IsWithinLimits horizon Stats = ⊤
-IsWithinLimits horizon (Question question) = budget_asked question.asks ≤ 500000
+IsWithinLimits horizon (Question question) = (question.window.budget ≤ 500000) × SuitsWindow question.asks question.window
 IsWithinLimits horizon (Vcd file) = ⊤
 
 -- The units of a script are within their limits.

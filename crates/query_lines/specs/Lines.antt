@@ -1,5 +1,5 @@
 -- The forms of a script's lines.
-use Rattle.std.specs.Prelude.{ℕ, nat_le, ◌&&◌, List, [], ◌∷◌, length, Option, Some, None, if◌then◌else◌, codes}
+use Rattle.std.specs.Prelude.{ℕ, ◌+◌, nat_le, List, [], ◌∷◌, length, Option, Some, None, option_map, if◌then◌else◌, codes}
 use Rattle.std.specs.Str.{bytes_eq}
 use Rattle.gate_values.specs.declared.Value.{Value}
 use Rattle.gate_values.specs.declared.Value.TheVariants.{Zero, One}
@@ -8,8 +8,13 @@ use Rattle.text_rules.specs.declared.Amount.{Amount}
 use Rattle.text_rules.specs.declared.Amount.TheVariants as amounts
 use Rattle.text_rules.specs.Text.{amount, content, is_name, words}
 use Rattle.query_lines.specs.declared.line.Line.{Line}
-use Rattle.query_lines.specs.declared.line.Line.TheVariants.{Blank, Ask, Go, Trim, Stats, First, Why, Vcd, Stuck, Bad}
-use Rattle.query_lines.specs.declared.line.What.TheVariants.{Wave, At}
+use Rattle.query_lines.specs.declared.line.Line.TheVariants.{Blank, Ask, Go, Trim, Stats, Question, Vcd, Bad}
+use Rattle.query_lines.specs.declared.line.What.TheVariants as whats
+use Rattle.query_lines.specs.declared.line.Tell.{Tell}
+use Rattle.query_lines.specs.declared.line.Tell.TheVariants.{Wave, At}
+use Rattle.query_lines.specs.declared.line.Asks.{Asks}
+use Rattle.query_lines.specs.declared.line.Asks.TheVariants.{First, Why, Stuck}
+use Rattle.query_lines.specs.declared.line.Window.{Window}
 
 abbrev pub within : Amount → Option ℕ
 within amounts.NoNumber = None
@@ -31,59 +36,56 @@ budget_of (budget ∷ []) = number_up_to 500000 budget
 budget_of (budget ∷ word ∷ words) = None
 
 -- NAME FROM TO BUDGET
-abbrev pub wave_of_parts : List ℕ → Option ℕ → Option ℕ → Option ℕ → Line
-wave_of_parts name (Some from) (Some to) (Some budget) = if is_name name then Ask (Wave name from to budget) else Bad
-wave_of_parts name (Some from) (Some to) None = Bad
-wave_of_parts name (Some from) None budget = Bad
-wave_of_parts name None to budget = Bad
+abbrev pub window_of_parts : List ℕ → Option ℕ → Option ℕ → Option ℕ → Option Window
+window_of_parts name (Some from) (Some to) (Some budget) =
+    if is_name name then Some (record { name = name; from = from; to = to; budget = budget }) else None
+window_of_parts name (Some from) (Some to) None = None
+window_of_parts name (Some from) None budget = None
+window_of_parts name None to budget = None
 
--- after `wave`: NAME FROM TO or NAME FROM TO BUDGET
+-- after NAME: FROM TO or FROM TO BUDGET
+abbrev pub window_of : List ℕ → List (List ℕ) → Option Window
+window_of name [] = None
+window_of name (from ∷ []) = None
+window_of name (from ∷ to ∷ budget) = window_of_parts name (instant from) (instant to) (budget_of budget)
+
+-- after NAME: T or T BUDGET, for the window from T to T + 1
+abbrev pub instant_of : List ℕ → List (List ℕ) → Option Window
+instant_of name [] = None
+instant_of name (time ∷ budget) =
+    window_of_parts name (instant time) (option_map (λ t. t + 1) (instant time)) (budget_of budget)
+
+-- an item that asks for the window, if there is one, and tells the answer in this way
+abbrev pub item_line : Tell → Option Window → Line
+item_line tell (Some window) = Ask (whats.Window window tell)
+item_line tell None = Bad
+
+-- a question that asks this of the window, if there are both
+abbrev pub question_line : Option Asks → Option Window → Line
+question_line (Some asks) (Some window) = Question window asks
+question_line (Some asks) None = Bad
+question_line None window = Bad
+
+-- after `wave`: NAME and its window
 abbrev pub wave_of : List (List ℕ) → Line
 wave_of [] = Bad
-wave_of (name ∷ []) = Bad
-wave_of (name ∷ from ∷ []) = Bad
-wave_of (name ∷ from ∷ to ∷ budget) = wave_of_parts name (instant from) (instant to) (budget_of budget)
+wave_of (name ∷ words) = item_line Wave (window_of name words)
 
--- NAME T BUDGET
-abbrev pub at_of_parts : List ℕ → Option ℕ → Option ℕ → Line
-at_of_parts name (Some time) (Some budget) = if is_name name then Ask (At name time budget) else Bad
-at_of_parts name (Some time) None = Bad
-at_of_parts name None budget = Bad
-
--- after `at`: NAME T or NAME T BUDGET
+-- after `at`: NAME and its instant
 abbrev pub at_of : List (List ℕ) → Line
 at_of [] = Bad
-at_of (name ∷ []) = Bad
-at_of (name ∷ time ∷ budget) = at_of_parts name (instant time) (budget_of budget)
+at_of (name ∷ words) = item_line At (instant_of name words)
 
--- NAME VALUE FROM TO BUDGET
-abbrev pub first_of_parts : List ℕ → Option Value → Option ℕ → Option ℕ → Option ℕ → Line
-first_of_parts name (Some value) (Some from) (Some to) (Some budget) =
-    if is_name name then First (record { name = name; value = value; from = from; to = to; budget = budget }) else Bad
-first_of_parts name (Some value) (Some from) (Some to) None = Bad
-first_of_parts name (Some value) (Some from) None budget = Bad
-first_of_parts name (Some value) None to budget = Bad
-first_of_parts name None from to budget = Bad
-
--- after `first`: NAME VALUE FROM TO or NAME VALUE FROM TO BUDGET
+-- after `first`: NAME VALUE and the window of the name
 abbrev pub first_of : List (List ℕ) → Line
 first_of [] = Bad
 first_of (name ∷ []) = Bad
-first_of (name ∷ value ∷ []) = Bad
-first_of (name ∷ value ∷ from ∷ []) = Bad
-first_of (name ∷ value ∷ from ∷ to ∷ budget) = first_of_parts name (value_of_word value) (instant from) (instant to) (budget_of budget)
+first_of (name ∷ value ∷ words) = question_line (option_map First (value_of_word value)) (window_of name words)
 
--- NAME T BUDGET
-abbrev pub why_of_parts : List ℕ → Option ℕ → Option ℕ → Line
-why_of_parts name (Some time) (Some budget) = if is_name name then Why (record { name = name; time = time; budget = budget }) else Bad
-why_of_parts name (Some time) None = Bad
-why_of_parts name None budget = Bad
-
--- after `why`: NAME T or NAME T BUDGET
+-- after `why`: NAME and its instant
 abbrev pub why_of : List (List ℕ) → Line
 why_of [] = Bad
-why_of (name ∷ []) = Bad
-why_of (name ∷ time ∷ budget) = why_of_parts name (instant time) (budget_of budget)
+why_of (name ∷ words) = question_line (Some Why) (instant_of name words)
 
 -- after `vcd`: FILE
 abbrev pub dump_of : List (List ℕ) → Line
@@ -95,29 +97,17 @@ dump_of (file ∷ word ∷ words) = Bad
 abbrev pub level_of : List ℕ → Option Value
 level_of word = if bytes_eq word (codes "0") then Some Zero else (if bytes_eq word (codes "1") then Some One else None)
 
--- SITE V NAME FROM TO BUDGET
-abbrev pub stuck_of_parts : List ℕ → Option Value → List ℕ → Option ℕ → Option ℕ → Option ℕ → Line
-stuck_of_parts site (Some value) name (Some from) (Some to) (Some budget) =
-    if is_name site && is_name name
-    then Stuck (record { site = site; value = value; name = name; from = from; to = to; budget = budget })
-    else Bad
-stuck_of_parts site (Some value) name (Some from) (Some to) None = Bad
-stuck_of_parts site (Some value) name (Some from) None budget = Bad
-stuck_of_parts site (Some value) name None to budget = Bad
-stuck_of_parts site None name from to budget = Bad
+-- SITE V
+abbrev pub stuck_at : List ℕ → Option Value → Option Asks
+stuck_at site (Some value) = if is_name site then Some (Stuck site value) else None
+stuck_at site None = None
 
--- after `stuck SITE V`: NAME FROM TO or NAME FROM TO BUDGET
-abbrev pub stuck_at : List ℕ → Option Value → List (List ℕ) → Line
-stuck_at site value [] = Bad
-stuck_at site value (name ∷ []) = Bad
-stuck_at site value (name ∷ from ∷ []) = Bad
-stuck_at site value (name ∷ from ∷ to ∷ budget) = stuck_of_parts site value name (instant from) (instant to) (budget_of budget)
-
--- after `stuck`: SITE V and the rest
+-- after `stuck`: SITE V NAME and the window of the name
 abbrev pub stuck_of : List (List ℕ) → Line
 stuck_of [] = Bad
 stuck_of (site ∷ []) = Bad
-stuck_of (site ∷ value ∷ rest) = stuck_at site (level_of value) rest
+stuck_of (site ∷ value ∷ []) = Bad
+stuck_of (site ∷ value ∷ name ∷ words) = question_line (stuck_at site (level_of value)) (window_of name words)
 
 abbrev pub trim_of_part : Option ℕ → Line
 trim_of_part (Some n) = Trim n

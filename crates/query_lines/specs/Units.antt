@@ -1,31 +1,35 @@
 -- The units of a script: batches of items, trims, requests for the counts, questions, and dumps.
-use Rattle.std.specs.Prelude.{ℕ, ◌+◌, ◌-◌, Bool, false, ◌&&◌, ◌||◌, nat_lt, nat_le, List, [], ◌∷◌, ◌++◌, length, sum_by, if◌then◌else◌}
+use Rattle.std.specs.Prelude.{ℕ, ◌+◌, ◌-◌, Bool, false, ◌&&◌, ◌||◌, nat_lt, nat_le, List, [], ◌∷◌, ◌++◌, length, sum_by, Option, Some, None, if◌then◌else◌}
 use Rattle.query_lines.specs.declared.line.Line.{Line}
 use Rattle.query_lines.specs.declared.line.Line.TheVariants.{Blank, Ask, Go}
 use Rattle.query_lines.specs.declared.line.Line.TheVariants as lines
 use Rattle.query_lines.specs.declared.line.What.{What}
-use Rattle.query_lines.specs.declared.line.What.TheVariants.{Wave, At, Bad}
-use Rattle.query_lines.specs.declared.unit.Asks.{Asks}
-use Rattle.query_lines.specs.declared.unit.Asks.TheVariants.{First, Why, Stuck}
+use Rattle.query_lines.specs.declared.line.What.TheVariants as whats
+use Rattle.query_lines.specs.declared.line.Asks.{Asks}
+use Rattle.query_lines.specs.declared.line.Window.{Window}
 use Rattle.query_lines.specs.declared.unit.Item.{Item}
 use Rattle.query_lines.specs.declared.unit.Unit.{Unit as ScriptUnit}
 use Rattle.query_lines.specs.declared.unit.Unit.TheVariants.{Batch, Trim, Stats, Question, Vcd}
 
+-- the window of an item; a bad line has none
+abbrev pub asked_window : What → Option Window
+asked_window (whats.Window window tell) = Some window
+asked_window whats.Bad = None
+
 -- what an item adds to the budgets of its batch
 abbrev pub budget_weight : What → ℕ
-budget_weight (Wave name from to budget) = budget
-budget_weight (At name time budget) = budget
-budget_weight Bad = 0
+budget_weight (whats.Window window tell) = window.budget
+budget_weight whats.Bad = 0
 
 -- the length of a window that is not empty and ends no later than the horizon; 0 for any other
-abbrev pub window_length : ℕ → ℕ → ℕ → ℕ
-window_length horizon from to = if nat_lt from to && nat_le to (horizon + 1) then to - from else 0
+abbrev pub window_length : ℕ → Window → ℕ
+window_length horizon window =
+    if nat_lt window.from window.to && nat_le window.to (horizon + 1) then window.to - window.from else 0
 
 -- what an item adds to the window lengths of its batch
 abbrev pub length_weight : ℕ → What → ℕ
-length_weight horizon (Wave name from to budget) = window_length horizon from to
-length_weight horizon (At name time budget) = window_length horizon time (time + 1)
-length_weight horizon Bad = 0
+length_weight horizon (whats.Window window tell) = window_length horizon window
+length_weight horizon whats.Bad = 0
 
 abbrev pub budgets : List Item → ℕ
 budgets items = sum_by (λ item. budget_weight item.what) items
@@ -65,24 +69,24 @@ with_item horizon pending item =
     else pending_up_to_64 (pending ++ item ∷ [])
 
 -- the question of this line is a unit, after the pending items
-abbrev pub with_question : List Item → ℕ → Asks → LineStep
-with_question pending number asks =
-    record { units = closed_unit pending ++ Question (record { line = number; asks = asks }) ∷ []; pending = [] }
+abbrev pub with_question : List Item → ℕ → Window → Asks → LineStep
+with_question pending number window asks = record {
+  units = closed_unit pending ++ Question (record { line = number; window = window; asks = asks }) ∷ [];
+  pending = [];
+}
 
 -- the line of this number, after these pending items
 abbrev pub line_step : ℕ → List Item → ℕ → Line → LineStep
 line_step horizon pending number Blank = record { units = []; pending = pending }
 line_step horizon pending number (Ask what) = with_item horizon pending (record { line = number; what = what })
-line_step horizon pending number lines.Bad = with_item horizon pending (record { line = number; what = Bad })
+line_step horizon pending number lines.Bad = with_item horizon pending (record { line = number; what = whats.Bad })
 line_step horizon pending number Go = record { units = closed_unit pending; pending = [] }
 line_step horizon pending number (lines.Trim cells) =
     record { units = closed_unit pending ++ Trim cells ∷ []; pending = [] }
 line_step horizon pending number lines.Stats = record { units = closed_unit pending ++ Stats ∷ []; pending = [] }
-line_step horizon pending number (lines.First first) = with_question pending number (First first)
-line_step horizon pending number (lines.Why why) = with_question pending number (Why why)
+line_step horizon pending number (lines.Question window asks) = with_question pending number window asks
 line_step horizon pending number (lines.Vcd file) =
     record { units = closed_unit pending ++ Vcd file ∷ []; pending = [] }
-line_step horizon pending number (lines.Stuck stuck) = with_question pending number (Stuck stuck)
 
 -- the state of a batcher: the horizon, and the pending items
 pub record Pending : Type 0 where

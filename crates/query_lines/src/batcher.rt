@@ -1,12 +1,11 @@
 //! Items gathered into batches.
 
 ghost use Rattle.std.specs.Prelude.{◌≡◌, ◌<◌, ◌^◌, ◌++◌, [], ◌∷◌, false, length, OnOk, OnErr, IfOk, IsNone, ◌↔◌, option_to_list};
-ghost use Rattle.query_lines.specs.declared.unit.Unit.TheVariants.{Question as QuestionUnit};
 ghost use Rattle.query_lines.specs.Units as units;
 ghost use Rattle.query_lines.specs.Units.{closed_unit, given_by, left_by, with_item};
 
-use crate::line::{Line, What};
-use crate::unit::{Asks, Item, ItemList, Question, Unit, UnitList};
+use crate::line::{Line, What, Window};
+use crate::unit::{Item, ItemList, Question, Unit, UnitList};
 use owned_text::OutOfMemory;
 use std::alloc::Global;
 use std::marker::Model;
@@ -23,17 +22,17 @@ fn budget_weight(what: &What) -> u64
     ensures bound { result < 2 ^ 32 }
 {
     match what {
-        What::Wave { budget, .. } | What::At { budget, .. } => *budget as u64,
+        What::Window(window, _) => window.budget as u64,
         What::Bad => 0,
     }
 }
 
-fn window_length(horizon: u32, from: u32, to: u64) -> u64
-    ensures length { result ≡ units.window_length horizon from to }
-    ensures bound { result < 2 ^ 33 }
+fn window_length(horizon: u32, window: &Window) -> u64
+    ensures length { result ≡ units.window_length horizon window.now }
+    ensures bound { result < 2 ^ 32 }
 {
-    if (from as u64) < to && to <= horizon as u64 + 1 {
-        to - from as u64
+    if window.from < window.to && window.to as u64 <= horizon as u64 + 1 {
+        (window.to - window.from) as u64
     } else {
         0
     }
@@ -41,11 +40,10 @@ fn window_length(horizon: u32, from: u32, to: u64) -> u64
 
 fn length_weight(horizon: u32, what: &What) -> u64
     ensures weight { result ≡ units.length_weight horizon what.now }
-    ensures bound { result < 2 ^ 33 }
+    ensures bound { result < 2 ^ 32 }
 {
     match what {
-        What::Wave { from, to, .. } => window_length(horizon, *from, *to as u64),
-        What::At { time, .. } => window_length(horizon, *time, *time as u64 + 1),
+        What::Window(window, _) => window_length(horizon, window),
         What::Bad => 0,
     }
 }
@@ -109,10 +107,12 @@ impl Batcher {
             Line::Go => self.close(None),
             Line::Trim(cells) => self.close(Some(Unit::Trim(cells))),
             Line::Stats => self.close(Some(Unit::Stats)),
-            Line::First(first) => self.ask(number, Asks::First(first)),
-            Line::Why(why) => self.ask(number, Asks::Why(why)),
+            Line::Question(window, asks) => self.close(Some(Unit::Question(Question {
+                line: number,
+                window,
+                asks,
+            }))),
             Line::Vcd(file) => self.close(Some(Unit::Vcd(file))),
-            Line::Stuck(stuck) => self.ask(number, Asks::Stuck(stuck)),
         }
     }
 
@@ -146,16 +146,6 @@ impl Batcher {
             units.push_reserved(unit);
         }
         Ok(UnitList::from_vec(units))
-    }
-
-    // Closes the pending batch, and gives the question of this line after it.
-    fn ask(&mut self, line: u32, asks: Asks) -> Result<UnitList, OutOfMemory>
-        ensures units { IfOk result (λ units. units ≡ closed_unit self.old.items
-            ++ QuestionUnit (record { line = line; asks = asks }) ∷ []) }
-        ensures pending { OnOk result (self.new ≡ record self.old { items = [] }) }
-        ensures err { OnErr result (self.new ≡ self.old) }
-    {
-        self.close(Some(Unit::Question(Question { line, asks })))
     }
 
     // Whether this item would take the pending batch over a limit.

@@ -44,6 +44,6 @@ pub use laws::{
     read_units_are_completed, read_units_are_determined, read_units_are_fit, script_units_are_fit,
     units_are_within_limits, units_have_own_lines, units_keep_requests,
 };
-pub use line::{First, Line, Stuck, What, Why, read_line};
+pub use line::{Asks, Line, Tell, What, Window, read_line};
 pub use script::{ScriptReader, read_script};
-pub use unit::{Asks, Item, ItemList, Question, Unit, UnitList};
+pub use unit::{Item, ItemList, Question, Unit, UnitList};

@@ -1,9 +1,10 @@
 //! The forms of a script's lines.
 
-ghost use Rattle.std.specs.Prelude.{◌≡◌, IfOk};
+ghost use Rattle.std.specs.Prelude.{◌≡◌, ◌≤◌, Some, IfOk, IfSome};
 ghost use Rattle.text_rules.specs.Text.{words};
 ghost use Rattle.query_lines.specs.Lines as lines;
 ghost use Rattle.query_lines.specs.Lines.{line_of};
+ghost use Rattle.query_lines.specs.declared.line.Asks.TheVariants.{Stuck};
 
 use gate_values::Value;
 use owned_text::{OutOfMemory, Text};
@@ -21,55 +22,43 @@ const DEFAULT_BUDGET: u32 = 50_000;
 
 const MOST_CELLS: u32 = 65_536;
 
-/// What an item of a batch asks. If `read_line` gave it, times are at most 4,294,967,294 and
-/// budgets at most 500,000.
+/// What is asked of a signal: a half-open window of times, and the most evaluations that it may take. If
+/// `read_line` gave it, its budget is at most 500,000.
+#[derive(Drop)]
+pub struct Window {
+    pub name: Text,
+    pub from: u32,
+    pub to: u32,
+    pub budget: u32,
+}
+
+/// How the answer to an item, the waveform of its window, is told.
+#[derive(Clone, Copy, Debug, PartialEq, Eq)]
+pub enum Tell {
+    /// As the waveform.
+    Wave,
+    /// As the value at one time T. If `read_line` gave it, the window is [T, T + 1).
+    At,
+}
+
+/// What an item of a batch asks.
 #[derive(Drop)]
 pub enum What {
-    /// The waveform of a signal in a half-open window.
-    Wave {
-        name: Text,
-        from: u32,
-        to: u32,
-        budget: u32,
-    },
-    /// The value of a signal at one time.
-    At {
-        name: Text,
-        time: u32,
-        budget: u32,
-    },
+    /// The waveform of a signal in this window, told in this way.
+    Window(Window, Tell),
     /// Nothing: the line has none of the forms.
     Bad,
 }
 
-/// What `first` asks: when a signal first has a value in a half-open window.
+/// What a question asks of its window.
 #[derive(Drop)]
-pub struct First {
-    pub name: Text,
-    pub value: Value,
-    pub from: u32,
-    pub to: u32,
-    pub budget: u32,
-}
-
-/// What `why` asks: why a signal has its value at one time.
-#[derive(Drop)]
-pub struct Why {
-    pub name: Text,
-    pub time: u32,
-    pub budget: u32,
-}
-
-/// What `stuck` asks: the waveform of a signal in a half-open window, if the signal `site` has
-/// a value, 0 or 1, at all times.
-#[derive(Drop)]
-pub struct Stuck {
-    pub site: Text,
-    pub value: Value,
-    pub name: Text,
-    pub from: u32,
-    pub to: u32,
-    pub budget: u32,
+pub enum Asks {
+    /// When the signal first has this value.
+    First(Value),
+    /// Why the signal has its value at one time T. If `read_line` gave it, the window is [T, T + 1).
+    Why,
+    /// The waveform of the signal if the signal `site` has this value, 0 or 1, at all times.
+    Stuck { site: Text, value: Value },
 }
 
 /// What a line of a script says.
@@ -86,20 +75,19 @@ pub enum Line {
     /// `stats`: report the session's counts.
     Stats,
     /// `first NAME VALUE FROM TO [BUDGET]`: report when a signal first has a value.
-    First(First),
     /// `why NAME T [BUDGET]`: report why a signal has its value at a time.
-    Why(Why),
+    /// `stuck SITE V NAME FROM TO [BUDGET]`: report the waveform of a signal if another is stuck at
+    /// 0 or 1.
+    Question(Window, Asks),
     /// `vcd FILE`: write the waves of the last batch to this file.
     Vcd(Text),
-    /// `stuck SITE V NAME FROM TO [BUDGET]`: report the waveform of a signal if another is
-    /// stuck at 0 or 1.
-    Stuck(Stuck),
     /// None of these, a number above its limit, or more than 4,096 bytes.
     Bad,
 }
 
 fn number_up_to(limit: u32, word: &[u8]) -> Option<u32>
-    ensures { result ≡ lines.number_up_to limit word.now }
+    ensures number { result ≡ lines.number_up_to limit word.now }
+    ensures bound { IfSome result (λ number. number ≤ limit) }
 {
     match read_amount(word, limit) {
         Amount::Within(number) => Some(number),
@@ -108,7 +96,8 @@ fn number_up_to(limit: u32, word: &[u8]) -> Option<u32>
 }
 
 fn instant(word: &[u8]) -> Option<u32>
-    ensures { result ≡ lines.instant word.now }
+    ensures time { result ≡ lines.instant word.now }
+    ensures bound { IfSome result (λ time. time ≤ 4294967294) }
 {
     number_up_to(LAST_INSTANT, word)
 }
@@ -125,161 +114,107 @@ fn budget_of(rest: &[u8]) -> Option<u32>
     }
 }
 
-fn wave_of_parts(
+fn window_of_parts(
     alloc: Global,
     name: &[u8],
     from: Option<u32>,
     to: Option<u32>,
     budget: Option<u32>,
-) -> Result<Line, OutOfMemory>
-    ensures { IfOk result (λ line. line ≡ lines.wave_of_parts name.now from to budget) }
+) -> Result<Option<Window>, OutOfMemory>
+    ensures { IfOk result (λ window. window ≡ lines.window_of_parts name.now from to budget) }
 {
     match (from, to, budget) {
         (Some(from), Some(to), Some(budget)) if is_name(name) => {
             let name = Text::from_bytes(alloc, name)?;
-            Ok(Line::Ask(What::Wave {
+            Ok(Some(Window {
                 name,
                 from,
                 to,
                 budget,
             }))
         }
-        _ => Ok(Line::Bad),
+        _ => Ok(None),
     }
+}
+
+/// The window of a name, of which FROM TO [BUDGET] is left to be read.
+fn window_of(alloc: Global, name: &[u8], rest: &[u8]) -> Result<Option<Window>, OutOfMemory>
+    ensures { IfOk result (λ window. window ≡ lines.window_of name.now (words rest.now)) }
+{
+    let Some((from, rest)) = next_word(rest) else {
+        return Ok(None);
+    };
+    let Some((to, rest)) = next_word(rest) else {
+        return Ok(None);
+    };
+    window_of_parts(alloc, name, instant(from), instant(to), budget_of(rest))
+}
+
+/// The window of a name that has one time, of which T [BUDGET] is left to be read.
+fn instant_of(alloc: Global, name: &[u8], rest: &[u8]) -> Result<Option<Window>, OutOfMemory>
+    ensures { IfOk result (λ window. window ≡ lines.instant_of name.now (words rest.now)) }
+{
+    let Some((time, rest)) = next_word(rest) else {
+        return Ok(None);
+    };
+    let Some(time) = instant(time) else {
+        return Ok(None);
+    };
+    window_of_parts(alloc, name, Some(time), Some(time + 1), budget_of(rest))
 }
 
 fn wave_of(alloc: Global, rest: &[u8]) -> Result<Line, OutOfMemory>
     ensures { IfOk result (λ line. line ≡ lines.wave_of (words rest.now)) }
 {
-    let (name, rest) = match next_word(rest) {
-        None => return Ok(Line::Bad),
-        Some(found) => found,
+    let Some((name, rest)) = next_word(rest) else {
+        return Ok(Line::Bad);
     };
-    let (from, rest) = match next_word(rest) {
-        None => return Ok(Line::Bad),
-        Some(found) => found,
-    };
-    let (to, rest) = match next_word(rest) {
-        None => return Ok(Line::Bad),
-        Some(found) => found,
-    };
-    wave_of_parts(alloc, name, instant(from), instant(to), budget_of(rest))
-}
-
-fn at_of_parts(
-    alloc: Global,
-    name: &[u8],
-    time: Option<u32>,
-    budget: Option<u32>,
-) -> Result<Line, OutOfMemory>
-    ensures { IfOk result (λ line. line ≡ lines.at_of_parts name.now time budget) }
-{
-    match (time, budget) {
-        (Some(time), Some(budget)) if is_name(name) => {
-            let name = Text::from_bytes(alloc, name)?;
-            Ok(Line::Ask(What::At { name, time, budget }))
-        }
-        _ => Ok(Line::Bad),
+    match window_of(alloc, name, rest)? {
+        Some(window) => Ok(Line::Ask(What::Window(window, Tell::Wave))),
+        None => Ok(Line::Bad),
     }
 }
 
 fn at_of(alloc: Global, rest: &[u8]) -> Result<Line, OutOfMemory>
     ensures { IfOk result (λ line. line ≡ lines.at_of (words rest.now)) }
 {
-    let (name, rest) = match next_word(rest) {
-        None => return Ok(Line::Bad),
-        Some(found) => found,
+    let Some((name, rest)) = next_word(rest) else {
+        return Ok(Line::Bad);
     };
-    let (time, rest) = match next_word(rest) {
-        None => return Ok(Line::Bad),
-        Some(found) => found,
-    };
-    at_of_parts(alloc, name, instant(time), budget_of(rest))
-}
-
-fn first_of_parts(
-    alloc: Global,
-    name: &[u8],
-    value: Option<Value>,
-    from: Option<u32>,
-    to: Option<u32>,
-    budget: Option<u32>,
-) -> Result<Line, OutOfMemory>
-    ensures { IfOk result (λ line. line ≡ lines.first_of_parts name.now value from to budget) }
-{
-    match (value, from, to, budget) {
-        (Some(value), Some(from), Some(to), Some(budget)) if is_name(name) => {
-            let name = Text::from_bytes(alloc, name)?;
-            Ok(Line::First(First {
-                name,
-                value,
-                from,
-                to,
-                budget,
-            }))
-        }
-        _ => Ok(Line::Bad),
+    match instant_of(alloc, name, rest)? {
+        Some(window) => Ok(Line::Ask(What::Window(window, Tell::At))),
+        None => Ok(Line::Bad),
     }
 }
 
 fn first_of(alloc: Global, rest: &[u8]) -> Result<Line, OutOfMemory>
     ensures { IfOk result (λ line. line ≡ lines.first_of (words rest.now)) }
 {
-    let (name, rest) = match next_word(rest) {
-        None => return Ok(Line::Bad),
-        Some(found) => found,
+    let Some((name, rest)) = next_word(rest) else {
+        return Ok(Line::Bad);
     };
-    let (value, rest) = match next_word(rest) {
-        None => return Ok(Line::Bad),
-        Some(found) => found,
+    let Some((value, rest)) = next_word(rest) else {
+        return Ok(Line::Bad);
     };
-    let (from, rest) = match next_word(rest) {
-        None => return Ok(Line::Bad),
-        Some(found) => found,
+    let Some(value) = Value::from_word(value) else {
+        return Ok(Line::Bad);
     };
-    let (to, rest) = match next_word(rest) {
-        None => return Ok(Line::Bad),
-        Some(found) => found,
-    };
-    first_of_parts(
-        alloc,
-        name,
-        Value::from_word(value),
-        instant(from),
-        instant(to),
-        budget_of(rest),
-    )
-}
-
-fn why_of_parts(
-    alloc: Global,
-    name: &[u8],
-    time: Option<u32>,
-    budget: Option<u32>,
-) -> Result<Line, OutOfMemory>
-    ensures { IfOk result (λ line. line ≡ lines.why_of_parts name.now time budget) }
-{
-    match (time, budget) {
-        (Some(time), Some(budget)) if is_name(name) => {
-            let name = Text::from_bytes(alloc, name)?;
-            Ok(Line::Why(Why { name, time, budget }))
-        }
-        _ => Ok(Line::Bad),
+    match window_of(alloc, name, rest)? {
+        Some(window) => Ok(Line::Question(window, Asks::First(value))),
+        None => Ok(Line::Bad),
     }
 }
 
 fn why_of(alloc: Global, rest: &[u8]) -> Result<Line, OutOfMemory>
     ensures { IfOk result (λ line. line ≡ lines.why_of (words rest.now)) }
 {
-    let (name, rest) = match next_word(rest) {
-        None => return Ok(Line::Bad),
-        Some(found) => found,
+    let Some((name, rest)) = next_word(rest) else {
+        return Ok(Line::Bad);
     };
-    let (time, rest) = match next_word(rest) {
-        None => return Ok(Line::Bad),
-        Some(found) => found,
-    };
-    why_of_parts(alloc, name, instant(time), budget_of(rest))
+    match instant_of(alloc, name, rest)? {
+        Some(window) => Ok(Line::Question(window, Asks::Why)),
+        None => Ok(Line::Bad),
+    }
 }
 
 fn dump_of(alloc: Global, rest: &[u8]) -> Result<Line, OutOfMemory>
@@ -305,31 +240,20 @@ fn level_of(word: &[u8]) -> Option<Value>
     }
 }
 
-fn stuck_of_parts(
-    alloc: Global,
-    site: &[u8],
-    value: Option<Value>,
-    name: &[u8],
-    from: Option<u32>,
-    to: Option<u32>,
-    budget: Option<u32>,
-) -> Result<Line, OutOfMemory>
-    ensures { IfOk result (λ line. line ≡ lines.stuck_of_parts site.now value name.now from to
-        budget) }
+fn stuck_of(alloc: Global, rest: &[u8]) -> Result<Line, OutOfMemory>
+    ensures { IfOk result (λ line. line ≡ lines.stuck_of (words rest.now)) }
 {
-    match (value, from, to, budget) {
-        (Some(value), Some(from), Some(to), Some(budget)) if is_name(site) && is_name(name) => {
-            let site = Text::from_bytes(alloc, site)?;
-            let name = Text::from_bytes(alloc, name)?;
-            Ok(Line::Stuck(Stuck {
-                site,
-                value,
-                name,
-                from,
-                to,
-                budget,
-            }))
-        }
+    let Some((site, rest)) = next_word(rest) else {
+        return Ok(Line::Bad);
+    };
+    let Some((value, rest)) = next_word(rest) else {
+        return Ok(Line::Bad);
+    };
+    let Some((name, rest)) = next_word(rest) else {
+        return Ok(Line::Bad);
+    };
+    match level_of(value) {
+        Some(value) if is_name(site) => stuck_at(alloc, site, value, name, rest),
         _ => Ok(Line::Bad),
     }
 }
@@ -337,54 +261,25 @@ fn stuck_of_parts(
 fn stuck_at(
     alloc: Global,
     site: &[u8],
-    value: Option<Value>,
+    value: Value,
+    name: &[u8],
     rest: &[u8],
 ) -> Result<Line, OutOfMemory>
-    ensures { IfOk result (λ line. line ≡ lines.stuck_at site.now value (words rest.now)) }
+    ensures { IfOk result (λ line. line ≡ lines.question_line
+        (Some (Stuck site.now value)) (lines.window_of name.now (words rest.now))) }
 {
-    let (name, rest) = match next_word(rest) {
-        None => return Ok(Line::Bad),
-        Some(found) => found,
+    let Some(window) = window_of(alloc, name, rest)? else {
+        return Ok(Line::Bad);
     };
-    let (from, rest) = match next_word(rest) {
-        None => return Ok(Line::Bad),
-        Some(found) => found,
-    };
-    let (to, rest) = match next_word(rest) {
-        None => return Ok(Line::Bad),
-        Some(found) => found,
-    };
-    stuck_of_parts(
-        alloc,
-        site,
-        value,
-        name,
-        instant(from),
-        instant(to),
-        budget_of(rest),
-    )
-}
-
-fn stuck_of(alloc: Global, rest: &[u8]) -> Result<Line, OutOfMemory>
-    ensures { IfOk result (λ line. line ≡ lines.stuck_of (words rest.now)) }
-{
-    let (site, rest) = match next_word(rest) {
-        None => return Ok(Line::Bad),
-        Some(found) => found,
-    };
-    let (value, rest) = match next_word(rest) {
-        None => return Ok(Line::Bad),
-        Some(found) => found,
-    };
-    stuck_at(alloc, site, level_of(value), rest)
+    let site = Text::from_bytes(alloc, site)?;
+    Ok(Line::Question(window, Asks::Stuck { site, value }))
 }
 
 fn trim_of(rest: &[u8]) -> Line
     ensures { result ≡ lines.trim_of (words rest.now) }
 {
-    let (number, rest) = match next_word(rest) {
-        None => return Line::Bad,
-        Some(found) => found,
+    let Some((number, rest)) = next_word(rest) else {
+        return Line::Bad;
     };
     match (number_up_to(MOST_CELLS, number), next_word(rest)) {
         (Some(cells), None) => Line::Trim(cells),

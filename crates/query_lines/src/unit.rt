@@ -2,7 +2,7 @@
 
 ghost use Rattle.std.specs.Prelude.{◌≡◌};
 
-use crate::line::{First, Stuck, What, Why};
+use crate::line::{Asks, What, Window};
 use owned_text::Text;
 use std::marker::Model;
 
@@ -52,21 +52,11 @@ impl ItemList {
     }
 }
 
-/// What a question asks.
-#[derive(Drop)]
-pub enum Asks {
-    /// When a signal first has a value.
-    First(First),
-    /// Why a signal has its value at a time.
-    Why(Why),
-    /// The waveform of a signal if another is stuck.
-    Stuck(Stuck),
-}
-
-/// A question, and the number of its line, counted from 1.
+/// A question: the number of its line, counted from 1, a window, and what is asked of it.
 #[derive(Drop)]
 pub struct Question {
     pub line: u32,
+    pub window: Window,
     pub asks: Asks,
 }
 

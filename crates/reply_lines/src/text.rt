@@ -3,20 +3,17 @@
 ghost use Rattle.std.specs.Prelude.{◌≡◌, ◌++◌, ◌∷◌, [], flat_map, OnOk, IfOk, codes};
 ghost use Rattle.std.specs.Fmt.{decimal};
 ghost use Rattle.gate_values.specs.Spelling.{byte_of_value};
-ghost use Rattle.reply_lines.specs.Replies as replies;
-ghost use Rattle.reply_lines.specs.Replies.{Suits, text_of, text_line, run_line, first_line, first_found, why_lines, stuck_head, stuck_lines, question_lines, vcd_line, trimmed_line, stats_line};
+ghost use Rattle.reply_lines.specs.Replies.{text_of, text_line, run_line, end_line, unknown_line, window_line, outcome_text, wave_lines, value_line, answer_lines, first_line, explanation_lines, stuck_head, stuck_lines, question_lines, vcd_line, trimmed_line, stats_line};
 
-use crate::reply::{
-    FirstAnswer, FirstReply, QuestionReply, Reply, StuckAnswer, StuckReply, VcdReply, WhyAnswer,
-    WhyReply,
-};
+use crate::reply::{Explanation, Outcome, QuestionReply, Reply, VcdReply};
 use circuit_meaning::Run;
 use gate_values::Value;
 use itoa::Buffer;
 use owned_text::{OutOfMemory, Text};
-use query_lines::{Asks, First, Item, Stuck, What, Why};
+use query_lines::{Asks, Item, Question, Tell, What, Window};
 use std::alloc::Global;
 use why_proofs::proof_text;
+use window_walks::Runs;
 
 // Appends a word and the byte after it.
 fn put(text: &mut Vec<u8>, word: &[u8], behind: u8) -> Result<(), OutOfMemory>
@@ -51,58 +48,33 @@ fn put_runs(text: &mut Vec<u8>, runs: &[Run]) -> Result<(), OutOfMemory>
     Ok(())
 }
 
-// Appends a line that begins with this keyword and names a window.
-fn put_window(
-    text: &mut Vec<u8>,
-    keyword: &[u8],
-    name: &[u8],
-    start: u64,
-    stop: u64,
-) -> Result<(), OutOfMemory>
-    ensures { OnOk result (text.new.items ≡ text.old.items
-        ++ text_line (keyword.now ∷ name.now ∷ decimal start ∷ decimal stop ∷ [])) }
+// Appends the line that ends the runs of a wave.
+fn put_end(text: &mut Vec<u8>) -> Result<(), OutOfMemory>
+    ensures { OnOk result (text.new.items ≡ text.old.items ++ end_line) }
 {
-    put(text, keyword, b' ')?;
-    put(text, name, b' ')?;
-    put_times(text, start, stop)
-}
-
-fn put_times(text: &mut Vec<u8>, start: u64, stop: u64) -> Result<(), OutOfMemory>
-    ensures { OnOk result (text.new.items ≡ text.old.items ++ text_line
-        (decimal start ∷ decimal stop ∷ [])) }
-{
-    put_number(text, start, b' ')?;
-    put_number(text, stop, b'\n')
-}
-
-fn put_wave(
-    text: &mut Vec<u8>,
-    name: &[u8],
-    from: u32,
-    to: u32,
-    runs: &[Run],
-) -> Result<(), OutOfMemory>
-    ensures { OnOk result (text.new.items ≡ text.old.items
-        ++ (text_line (codes "wave" ∷ name.now ∷ decimal from ∷ decimal to ∷ [])
-        ++ flat_map run_line runs.now ++ text_line (codes "end" ∷ []))) }
-{
-    put_window(text, b"wave", name, from as u64, to as u64)?;
-    put_runs(text, runs)?;
     put(text, b"end", b'\n')
 }
 
-fn put_value(text: &mut Vec<u8>, name: &[u8], time: u32, value: Value) -> Result<(), OutOfMemory>
+// Appends a window's name and times as the end of a line.
+fn put_bounds(text: &mut Vec<u8>, window: &Window) -> Result<(), OutOfMemory>
     ensures { OnOk result (text.new.items ≡ text.old.items
-        ++ text_line (codes "at" ∷ name.now ∷ decimal time ∷ (byte_of_value value ∷ []) ∷ [])) }
+        ++ text_line (window.now.name ∷ decimal window.now.from ∷ decimal window.now.to ∷ [])) }
 {
-    put(text, b"at", b' ')?;
-    put(text, name, b' ')?;
-    put_run(text, Run { time, value })
+    put(text, window.name.bytes(), b' ')?;
+    put_number(text, window.from as u64, b' ')?;
+    put_number(text, window.to as u64, b'\n')
+}
+
+// Appends a line that begins with this keyword and names a window.
+fn put_window(text: &mut Vec<u8>, keyword: &[u8], window: &Window) -> Result<(), OutOfMemory>
+    ensures { OnOk result (text.new.items ≡ text.old.items ++ window_line keyword.now window.now) }
+{
+    put(text, keyword, b' ')?;
+    put_bounds(text, window)
 }
 
 fn put_unknown(text: &mut Vec<u8>, name: &[u8]) -> Result<(), OutOfMemory>
-    ensures { OnOk result (text.new.items ≡ text.old.items ++ text_line
-        (codes "unknown" ∷ name.now ∷ [])) }
+    ensures { OnOk result (text.new.items ≡ text.old.items ++ unknown_line name.now) }
 {
     put(text, b"unknown", b' ')?;
     put(text, name, b'\n')
@@ -117,6 +89,67 @@ fn put_budget(text: &mut Vec<u8>, name: &[u8], budget: u32) -> Result<(), OutOfM
     put_number(text, budget as u64, b'\n')
 }
 
+// Appends the line that says why a window has no answer. An answer has none.
+fn put_refusal<T>(
+    text: &mut Vec<u8>,
+    window: &Window,
+    outcome: &Outcome<T>,
+) -> Result<(), OutOfMemory>
+    ensures { OnOk result (text.new.items ≡ text.old.items ++ outcome_text (λ answer. []) window.now
+        outcome.now) }
+{
+    match outcome {
+        Outcome::Answer(_) => Ok(()),
+        Outcome::Budget(budget) => put_budget(text, window.name.bytes(), *budget),
+        Outcome::Unknown => put_unknown(text, window.name.bytes()),
+        Outcome::Past => put_window(text, b"past", window),
+    }
+}
+
+fn put_wave(text: &mut Vec<u8>, window: &Window, runs: &[Run]) -> Result<(), OutOfMemory>
+    ensures { OnOk result (text.new.items ≡ text.old.items ++ wave_lines window.now runs.now) }
+{
+    put_window(text, b"wave", window)?;
+    put_runs(text, runs)?;
+    put_end(text)
+}
+
+fn put_value(text: &mut Vec<u8>, window: &Window, runs: &[Run]) -> Result<(), OutOfMemory>
+    ensures { OnOk result (text.new.items ≡ text.old.items ++ value_line window.now runs.now) }
+{
+    let Some(run) = runs.first() else {
+        return Ok(());
+    };
+    put(text, b"at", b' ')?;
+    put(text, window.name.bytes(), b' ')?;
+    put_run(
+        text,
+        Run {
+            time: window.from,
+            value: run.value,
+        },
+    )
+}
+
+// Appends what became of the window of an item.
+fn put_outcome(
+    text: &mut Vec<u8>,
+    window: &Window,
+    tell: Tell,
+    outcome: &Outcome<Runs>,
+) -> Result<(), OutOfMemory>
+    ensures { OnOk result (text.new.items ≡ text.old.items
+        ++ outcome_text (answer_lines tell window.now) window.now outcome.now) }
+{
+    let Outcome::Answer(runs) = outcome else {
+        return put_refusal(text, window, outcome);
+    };
+    match tell {
+        Tell::Wave => put_wave(text, window, runs.as_slice()),
+        Tell::At => put_value(text, window, runs.as_slice()),
+    }
+}
+
 fn put_error(text: &mut Vec<u8>, line: u32) -> Result<(), OutOfMemory>
     ensures { OnOk result (text.new.items ≡ text.old.items
         ++ text_line (codes "error" ∷ codes "line" ∷ decimal line ∷ [])) }
@@ -127,36 +160,19 @@ fn put_error(text: &mut Vec<u8>, line: u32) -> Result<(), OutOfMemory>
 }
 
 fn put_reply(text: &mut Vec<u8>, item: &Item, reply: &Reply) -> Result<(), OutOfMemory>
-    requires { Suits item.now.what reply.now }
     ensures { OnOk result (text.new.items ≡ text.old.items ++ text_of item.now reply.now) }
 {
     match (&item.what, reply) {
-        (What::Bad, _) => put_error(text, item.line),
-        (What::Wave { name, .. } | What::At { name, .. }, Reply::Unknown) => {
-            put_unknown(text, name.bytes())
+        (What::Window(window, tell), Reply::Window(outcome)) => {
+            put_outcome(text, window, *tell, outcome)
         }
-        (What::Wave { name, .. } | What::At { name, .. }, Reply::Budget(budget)) => {
-            put_budget(text, name.bytes(), *budget)
-        }
-        (What::Wave { name, from, to, .. }, Reply::Past) => {
-            put_window(text, b"past", name.bytes(), *from as u64, *to as u64)
-        }
-        (What::At { name, time, .. }, Reply::Past) => {
-            put_window(text, b"past", name.bytes(), *time as u64, *time as u64 + 1)
-        }
-        (What::Wave { name, from, to, .. }, Reply::Wave(runs)) => {
-            put_wave(text, name.bytes(), *from, *to, runs.as_slice())
-        }
-        (What::At { name, time, .. }, Reply::Wave(runs)) => {
-            put_value(text, name.bytes(), *time, runs.as_slice()[0].value)
-        }
-        (What::Wave { .. } | What::At { .. }, Reply::BadLine) => unreachable!(),
+        (What::Bad, _) | (_, Reply::BadLine) => put_error(text, item.line),
     }
 }
 
-/// The text of a reply to an item: one line, or for a waveform a line with its window, a line for each run, and `end`.
+/// The text of a reply to an item: one line, or for a waveform a line with its window, a line for each run, and `end`. A bad line and a
+/// reply to one have the text of an error.
 pub fn reply_text(alloc: Global, item: &Item, reply: &Reply) -> Result<Vec<u8>, OutOfMemory>
-    requires { Suits item.now.what reply.now }
     ensures { IfOk result (λ text. text.items ≡ text_of item.now reply.now) }
 {
     let mut text = Vec::new(alloc);
@@ -164,118 +180,90 @@ pub fn reply_text(alloc: Global, item: &Item, reply: &Reply) -> Result<Vec<u8>, 
     Ok(text)
 }
 
-// Appends the end of the window, and what was found in it.
-fn put_end(text: &mut Vec<u8>, to: u32, found: &[u8]) -> Result<(), OutOfMemory>
-    ensures { OnOk result (text.new.items ≡ text.old.items ++ text_line
-        (decimal to ∷ found.now ∷ [])) }
+// Appends the window in which a value was looked for, and what was found.
+fn put_found(text: &mut Vec<u8>, window: &Window, found: &[u8]) -> Result<(), OutOfMemory>
+    ensures { OnOk result (text.new.items ≡ text.old.items
+        ++ text_line (decimal window.now.from ∷ decimal window.now.to ∷ found.now ∷ [])) }
 {
-    put_number(text, to as u64, b' ')?;
+    put_number(text, window.from as u64, b' ')?;
+    put_number(text, window.to as u64, b' ')?;
     put(text, found, b'\n')
 }
 
-// Appends the value that is looked for, the window, and what was found in it.
-fn put_sought(text: &mut Vec<u8>, first: &First, found: &[u8]) -> Result<(), OutOfMemory>
+// Appends the line that reports a first time: the time, or `none`.
+fn put_first(
+    text: &mut Vec<u8>,
+    window: &Window,
+    value: Value,
+    outcome: &Outcome<Option<u32>>,
+) -> Result<(), OutOfMemory>
     ensures { OnOk result (text.new.items ≡ text.old.items
-        ++ text_line ((byte_of_value first.now.value ∷ []) ∷ decimal first.now.from ∷ decimal
-        first.now.to ∷ found.now ∷ [])) }
+        ++ outcome_text (first_line window.now value) window.now outcome.now) }
 {
-    put(text, &[first.value.byte()], b' ')?;
-    put_number(text, first.from as u64, b' ')?;
-    put_end(text, first.to, found)
-}
-
-// Appends the line that reports a first time.
-fn put_found(text: &mut Vec<u8>, first: &First, found: &[u8]) -> Result<(), OutOfMemory>
-    ensures { OnOk result (text.new.items ≡ text.old.items ++ first_found first.now found.now) }
-{
+    let Outcome::Answer(found) = outcome else {
+        return put_refusal(text, window, outcome);
+    };
     put(text, b"first", b' ')?;
-    put(text, first.name.bytes(), b' ')?;
-    put_sought(text, first, found)
-}
-
-fn put_first(text: &mut Vec<u8>, first: &First, reply: FirstReply) -> Result<(), OutOfMemory>
-    ensures { OnOk result (text.new.items ≡ text.old.items ++ first_line first.now reply) }
-{
-    match reply {
-        FirstReply::Unknown => put_unknown(text, first.name.bytes()),
-        FirstReply::Past => put_window(
-            text,
-            b"past",
-            first.name.bytes(),
-            first.from as u64,
-            first.to as u64,
-        ),
-        FirstReply::Answer(FirstAnswer::At(time)) => {
+    put(text, window.name.bytes(), b' ')?;
+    put(text, &[value.byte()], b' ')?;
+    match found {
+        Some(time) => {
             let mut buffer = Buffer::new();
-            put_found(text, first, buffer.format(time as u64).as_bytes())
+            put_found(text, window, buffer.format(*time as u64).as_bytes())
         }
-        FirstReply::Answer(FirstAnswer::Never) => put_found(text, first, b"none"),
-        FirstReply::Answer(FirstAnswer::Budget(budget)) => {
-            put_budget(text, first.name.bytes(), budget)
-        }
+        None => put_found(text, window, b"none"),
     }
-}
-
-// The text of the reply to a question for a first time: one line.
-fn first_text(alloc: Global, first: &First, reply: FirstReply) -> Result<Vec<u8>, OutOfMemory>
-    ensures { IfOk result (λ text. text.items ≡ first_line first.now reply) }
-{
-    let mut text = Vec::new(alloc);
-    put_first(&mut text, first, reply)?;
-    Ok(text)
-}
-
-// The text of the reply to a question for an explanation: a proof, or one line that says why there is none.
-fn why_text(alloc: Global, why: &Why, reply: &WhyReply) -> Result<Vec<u8>, OutOfMemory>
-    ensures { IfOk result (λ text. text.items ≡ why_lines why.now reply.now) }
-{
-    let name = why.name.bytes();
-    let mut text = Vec::new(alloc);
-    match reply {
-        WhyReply::Unknown => put_unknown(&mut text, name)?,
-        WhyReply::Past => {
-            let time = why.time as u64;
-            put_window(&mut text, b"past", name, time, time + 1)?;
-        }
-        WhyReply::Answer(WhyAnswer::Budget(budget)) => put_budget(&mut text, name, *budget)?,
-        WhyReply::Answer(WhyAnswer::Proof { cells, value }) => {
-            return proof_text(alloc, name, why.time, *value, cells);
-        }
-    }
-    Ok(text)
 }
 
 // Appends the line that repeats a question for a wave with a stuck signal.
-fn put_stuck(text: &mut Vec<u8>, stuck: &Stuck) -> Result<(), OutOfMemory>
-    ensures { OnOk result (text.new.items ≡ text.old.items ++ stuck_head stuck.now) }
+fn put_stuck_head(
+    text: &mut Vec<u8>,
+    window: &Window,
+    site: &[u8],
+    value: Value,
+) -> Result<(), OutOfMemory>
+    ensures { OnOk result (text.new.items ≡ text.old.items
+        ++ stuck_head window.now site.now value) }
 {
     put(text, b"stuck", b' ')?;
-    put(text, stuck.site.bytes(), b' ')?;
-    put(text, &[stuck.value.byte()], b' ')?;
-    put(text, stuck.name.bytes(), b' ')?;
-    put_times(text, stuck.from as u64, stuck.to as u64)
+    put(text, site, b' ')?;
+    put(text, &[value.byte()], b' ')?;
+    put_bounds(text, window)
 }
 
-// The text of the reply to a question for a wave with a stuck signal: a line that repeats the question, a line for each run, and `end`; or
-// one line that says why there is none.
-fn stuck_text(alloc: Global, stuck: &Stuck, reply: &StuckReply) -> Result<Vec<u8>, OutOfMemory>
-    ensures { IfOk result (λ text. text.items ≡ stuck_lines stuck.now reply.now) }
+// Appends a wave with a stuck signal.
+fn put_stuck(
+    text: &mut Vec<u8>,
+    window: &Window,
+    site: &[u8],
+    value: Value,
+    outcome: &Outcome<Runs>,
+) -> Result<(), OutOfMemory>
+    ensures { OnOk result (text.new.items ≡ text.old.items
+        ++ outcome_text (stuck_lines window.now site.now value) window.now outcome.now) }
 {
-    let name = stuck.name.bytes();
-    let mut text = Vec::new(alloc);
-    match reply {
-        StuckReply::UnknownSite => put_unknown(&mut text, stuck.site.bytes())?,
-        StuckReply::Unknown => put_unknown(&mut text, name)?,
-        StuckReply::Past => {
-            put_window(&mut text, b"past", name, stuck.from as u64, stuck.to as u64)?;
-        }
-        StuckReply::Answer(StuckAnswer::Budget(budget)) => put_budget(&mut text, name, *budget)?,
-        StuckReply::Answer(StuckAnswer::Wave(runs)) => {
-            put_stuck(&mut text, stuck)?;
-            put_runs(&mut text, runs.as_slice())?;
-            put(&mut text, b"end", b'\n')?;
-        }
+    let Outcome::Answer(runs) = outcome else {
+        return put_refusal(text, window, outcome);
+    };
+    put_stuck_head(text, window, site, value)?;
+    put_runs(text, runs.as_slice())?;
+    put_end(text)
+}
+
+// The text of the reply to a question for an explanation: a proof, or one line that says why there is none.
+fn why_text(
+    alloc: Global,
+    window: &Window,
+    outcome: &Outcome<Explanation>,
+) -> Result<Vec<u8>, OutOfMemory>
+    ensures { IfOk result (λ text. text.items ≡ outcome_text (explanation_lines window.now)
+        window.now outcome.now) }
+{
+    if let Outcome::Answer(Explanation { cells, value }) = outcome {
+        return proof_text(alloc, window.name.bytes(), window.from, *value, cells);
     }
+    let mut text = Vec::new(alloc);
+    put_refusal(&mut text, window, outcome)?;
     Ok(text)
 }
 
@@ -284,17 +272,27 @@ fn stuck_text(alloc: Global, stuck: &Stuck, reply: &StuckReply) -> Result<Vec<u8
 /// kind has no text.
 pub fn question_text(
     alloc: Global,
-    asks: &Asks,
+    question: &Question,
     reply: &QuestionReply,
 ) -> Result<Vec<u8>, OutOfMemory>
-    ensures { IfOk result (λ text. text.items ≡ question_lines asks.now reply.now) }
+    ensures { IfOk result (λ text. text.items ≡ question_lines question.now reply.now) }
 {
-    match (asks, reply) {
-        (Asks::First(first), QuestionReply::First(reply)) => first_text(alloc, first, *reply),
-        (Asks::Why(why), QuestionReply::Why(reply)) => why_text(alloc, why, reply),
-        (Asks::Stuck(stuck), QuestionReply::Stuck(reply)) => stuck_text(alloc, stuck, reply),
-        _ => Ok(Vec::new(alloc)),
+    let window = &question.window;
+    let mut text = Vec::new(alloc);
+    match (&question.asks, reply) {
+        (Asks::First(value), QuestionReply::First(outcome)) => {
+            put_first(&mut text, window, *value, outcome)?;
+        }
+        (Asks::Why, QuestionReply::Why(outcome)) => return why_text(alloc, window, outcome),
+        (Asks::Stuck { site, value }, QuestionReply::Stuck(outcome)) => {
+            put_stuck(&mut text, window, site.bytes(), *value, outcome)?;
+        }
+        (Asks::Stuck { site, .. }, QuestionReply::UnknownSite) => {
+            put_unknown(&mut text, site.bytes())?;
+        }
+        _ => {}
     }
+    Ok(text)
 }
 
 /// The text of the reply to a request for a dump under this name: one line.

@@ -7,19 +7,20 @@ use Rattle.valid_intervals.specs.declared.SignalCell.{SignalCell}
 use Rattle.circuit_meaning.specs.Circuit.{Circuit, IsCircuit, AreLimits}
 use Rattle.circuit_meaning.proofs.Cover.{cell-covers}
 use Rattle.text_rules.specs.Text.{is_name}
-use Rattle.query_lines.specs.declared.line.Why.{Why}
-use Rattle.query_lines.specs.declared.unit.Asks.{Asks}
-use Rattle.query_lines.specs.declared.unit.Asks.TheVariants as kinds
+use Rattle.query_lines.specs.declared.line.Asks.{Asks}
+use Rattle.query_lines.specs.declared.line.Asks.TheVariants as kinds
+use Rattle.query_lines.specs.declared.line.Window.{Window}
 use Rattle.query_lines.specs.declared.unit.Unit.{Unit as ScriptUnit}
 use Rattle.query_lines.specs.declared.unit.Unit.TheVariants as units
-use Rattle.query_lines.specs.Fit.{NamesByRules, IsFit}
+use Rattle.query_lines.specs.Fit.{IsFit}
 use Rattle.query_lines.proofs.OwnLines.{first-part, later-part}
 use Rattle.design.specs.Joined.{Joined, IsDesign}
 use Rattle.reply_lines.specs.declared.reply.QuestionReply.{QuestionReply}
 use Rattle.reply_lines.specs.declared.reply.QuestionReply.TheVariants as told
-use Rattle.reply_lines.specs.declared.reply.WhyAnswer.TheVariants as explained
-use Rattle.reply_lines.specs.declared.reply.WhyReply.{WhyReply}
-use Rattle.reply_lines.specs.declared.reply.WhyReply.TheVariants as whys
+use Rattle.reply_lines.specs.declared.reply.Explanation.{Explanation}
+use Rattle.reply_lines.specs.declared.reply.Outcome.{Outcome}
+use Rattle.reply_lines.specs.declared.reply.Outcome.TheVariants as outcomes
+use Rattle.reply_lines.specs.declared.reply.Outcome.TheVariants.{Answer, Budget}
 use Rattle.why_proofs.specs.Spelling.{Proof, text_of, IsProof, IsLine}
 use Rattle.why_proofs.specs.Justified.{IsJustified, AreJustified, IsJustifiedProof}
 use Rattle.why_proofs.specs.Laws.{IsTrueLine}
@@ -30,13 +31,14 @@ use Rattle.why_proofs.proofs.Fixed.{verdict-fixed}
 use Rattle.journal_meaning.specs.declared.Entry.{Entry}
 use Rattle.journal_meaning.specs.Sections.{of_batch}
 use Rattle.session_meaning.specs.declared.Verdict.{Verdict}
-use Rattle.session_meaning.specs.declared.Verdict.TheVariants.{Ask, Unknown, Past, Bad as BadLine}
-use Rattle.session_meaning.specs.Verdicts.{why_verdict}
-use Rattle.session_meaning.specs.Explanations.{IsWhyReply}
-use Rattle.session_meaning.specs.Questions.{IsRightReply}
+use Rattle.session_meaning.specs.declared.Verdict.TheVariants.{Ask, Unknown, Past}
+use Rattle.session_meaning.specs.Verdicts.{question_verdict, site_of}
+use Rattle.session_meaning.specs.Explanations.{proof_of, IsWhyOutcome}
+use Rattle.session_meaning.specs.Questions.{IsRightBy}
 use Rattle.session_meaning.specs.Session.{Setup, Course, IsServed, Opened, Served}
-use Rattle.session_meaning.specs.Accepted.{proof_of, IsAccepted, IsAcceptedReply, IsAcceptedQuestion, IsAcceptedUnit}
+use Rattle.session_meaning.specs.Accepted.{IsAccepted, IsAcceptedReply, IsAcceptedUnit}
 use Rattle.session_meaning.specs.Laws.{ExplanationsAreAccepted}
+use Rattle.session_meaning.proofs.StuckReplies.{no-why}
 
 -- ---- the numbers of justified lines
 
@@ -86,29 +88,29 @@ module _ (d : Joined) (facts : IsDesign d) (p : Proof) (signal : ℕ) (named : i
 
 -- ---- the replies of a session
 
-module _ (d : Joined) (facts : IsDesign d) (es : List Entry) (why : Why) (named : is_name why.name ≡ true) where
-  reply-accepted : (verdict : Verdict) (reply : WhyReply) → IsWhyReply d es verdict why reply → IsAcceptedReply d why reply
-  reply-accepted verdict whys.Unknown right = tt
-  reply-accepted verdict whys.Past right = tt
-  reply-accepted verdict (whys.Answer (explained.Budget budget)) right = tt
-  reply-accepted (Ask query) (whys.Answer (explained.Proof cells v)) right = accepted d facts (proof_of why cells v) query.signal named right.1
-  reply-accepted Unknown (whys.Answer (explained.Proof cells v)) right = absurd right
-  reply-accepted Past (whys.Answer (explained.Proof cells v)) right = absurd right
-  reply-accepted BadLine (whys.Answer (explained.Proof cells v)) right = absurd right
+module _ (d : Joined) (facts : IsDesign d) (es own : List Entry) (window : Window) (named : is_name window.name ≡ true) where
+  why-accepted : (verdict : Verdict) (outcome : Outcome Explanation) → IsWhyOutcome d es window verdict outcome → IsAcceptedReply d window (told.Why outcome)
+  why-accepted (Ask query) (Answer found) right = accepted d facts (proof_of window found) query.signal named right.justified
+  why-accepted Unknown (Answer found) right = absurd right
+  why-accepted Past (Answer found) right = absurd right
+  why-accepted verdict (Budget budget) right = tt
+  why-accepted verdict outcomes.Unknown right = tt
+  why-accepted verdict outcomes.Past right = tt
 
-question-accepted : (d : Joined) → IsDesign d → (line : ℕ) (asks : Asks) (es own : List Entry) (reply : QuestionReply) → NamesByRules asks → IsRightReply d line asks es own reply → IsAcceptedQuestion d asks reply
-question-accepted d facts line (kinds.First first) es own reply named right = tt
-question-accepted d facts line (kinds.Why why) es own (told.First reply) named right = tt
-question-accepted d facts line (kinds.Why why) es own (told.Why reply) named right = reply-accepted d facts es why named (why_verdict d line why) reply right
-question-accepted d facts line (kinds.Why why) es own (told.Stuck reply) named right = tt
-question-accepted d facts line (kinds.Stuck stuck) es own reply named right = tt
+  reply-accepted : (verdict : Verdict) (asks : Asks) (reply : QuestionReply) → IsRightBy d es own window verdict asks reply → IsAcceptedReply d window reply
+  reply-accepted verdict asks (told.First outcome) right = tt
+  reply-accepted verdict (kinds.First value) (told.Why outcome) right = absurd right
+  reply-accepted verdict kinds.Why (told.Why outcome) right = why-accepted verdict outcome right
+  reply-accepted verdict (kinds.Stuck site value) (told.Why outcome) right = no-why d.circuit es own verdict (site_of d (kinds.Stuck site value)) outcome right
+  reply-accepted verdict asks (told.Stuck outcome) right = tt
+  reply-accepted verdict asks told.UnknownSite right = tt
 
 unit-accepted : (setup : Setup) → IsDesign setup.design → (now next : Course) (unit : ScriptUnit) → IsFit setup.design.circuit.horizon unit → (served : IsServed setup now unit next) → IsAcceptedUnit setup now next unit served
 unit-accepted setup facts now next (units.Batch items) fit served = tt
 unit-accepted setup facts now next (units.Trim most) fit served = tt
 unit-accepted setup facts now next units.Stats fit served = tt
 unit-accepted setup facts now next (units.Question question) fit served =
-    question-accepted setup.design facts question.line question.asks (of_batch served.lists) (of_batch served.own_lists) served.reply fit.named served.right
+    reply-accepted setup.design facts (of_batch served.lists) (of_batch served.own_lists) question.window fit.named.0 (question_verdict setup.design question) question.asks served.reply served.right
 unit-accepted setup facts now next (units.Vcd file) fit served = tt
 
 pub explanations-accepted : ExplanationsAreAccepted

@@ -9,17 +9,14 @@ use Rattle.journal_meaning.specs.Replay.{IsLegalBatch}
 use Rattle.journal_meaning.specs.Sections.{Asks, Trims, Forces, SectionEntries, AreLegal, joined_entries}
 use Rattle.journal_meaning.specs.Laws.{OfCircuit}
 use Rattle.journal_meaning.proofs.Counted.{counts-add}
-use Rattle.journal_meaning.proofs.Kept as kept
-use Rattle.query_lines.specs.declared.unit.Asks.{Asks as QuestionAsks}
-use Rattle.query_lines.specs.declared.unit.Asks.TheVariants as kinds
+use Rattle.journal_meaning.proofs.BetweenFills as kept
 use Rattle.query_lines.specs.declared.unit.Unit.{Unit as ScriptUnit}
 use Rattle.query_lines.specs.declared.unit.Unit.TheVariants as units
 use Rattle.session_meaning.specs.declared.Verdict.{Verdict}
-use Rattle.session_meaning.specs.declared.Verdict.TheVariants.{Ask, Unknown, Past, Bad}
+use Rattle.session_meaning.specs.declared.Verdict.TheVariants.{Ask, Unknown, Past}
 use Rattle.session_meaning.specs.StuckSignals.{held_batch, IsHeldMemo}
-use Rattle.session_meaning.specs.Questions.{IsOwnMemo}
-use Rattle.session_meaning.specs.Verdicts.{site_of, stuck_verdict}
-use Rattle.session_meaning.specs.Session.{Setup, Course, IsServed, Session, Opened, Served, batch_of, question_batch, held_sections, own_sections}
+use Rattle.session_meaning.specs.Verdicts.{question_verdict, site_of}
+use Rattle.session_meaning.specs.Session.{Setup, Course, IsServed, Session, Opened, Served, batch_of, question_batch, held_sections}
 use Rattle.session_meaning.specs.Again.{IsFrugal, IsFrugalMemo}
 use Rattle.session_meaning.specs.Laws.{SessionsAreFrugal}
 use Rattle.session_meaning.proofs.Dumps.{vcd-sections}
@@ -78,17 +75,9 @@ module _ (setup : Setup) (sections : List SectionEntries) (fine : AreFine setup 
       (fine-forced batch memo.0 (held-fits setup.design.circuit site.signal site.value ok) memo.2.legal)
   fine-held ok (Some site) Unknown lists memo = fine-none
   fine-held ok (Some site) Past lists memo = fine-none
-  fine-held ok (Some site) Bad lists memo = fine-none
   fine-held ok None (Ask query) lists memo = fine-none
   fine-held ok None Unknown lists memo = fine-none
   fine-held ok None Past lists memo = fine-none
-  fine-held ok None Bad lists memo = fine-none
-
-  -- of a question of any kind
-  fine-own : IsCircuit setup.design.circuit → (line : ℕ) (asks : QuestionAsks) (held : List (List Entry)) → IsOwnMemo setup.design line asks held → AreFine setup (sections ++ own_sections setup line asks held)
-  fine-own ok line (kinds.First first) held memo = fine-none
-  fine-own ok line (kinds.Why why) held memo = fine-none
-  fine-own ok line (kinds.Stuck stuck) held memo = fine-held ok (site_of setup.design stuck) (stuck_verdict setup.design line stuck) held memo
 
 abbrev FineIn : Setup → Course → Type 0
 FineIn setup course = AreFine setup course.sections
@@ -100,9 +89,10 @@ module _ (setup : Setup) (ok : IsCircuit setup.design.circuit) where
   unit-fine now next units.Stats served fine = subst (FineIn setup) (sym served) fine
   unit-fine now next (units.Vcd file) served fine = subst (AreFine setup) (sym (ap (λ (c : Course). c.sections) served ∙ vcd-sections setup now file)) fine
   unit-fine now next (units.Question question) served fine =
-      let batch = question_batch setup question.line question.asks in
+      let batch = question_batch setup question in
       subst (FineIn setup) (sym served.leads)
-      (fine-own setup _ (fine-asked setup now.sections fine batch served.lists refl refl served.count) ok question.line question.asks served.own_lists served.memo)
+      (fine-held setup _ (fine-asked setup now.sections fine batch served.lists refl refl served.count) ok
+      (site_of setup.design question.asks) (question_verdict setup.design question) served.own_lists served.memo)
 
   session-fine : (us : List ScriptUnit) (course : Course) → Session setup us course → FineIn setup course
   session-fine us course Opened = All-nil (IsFine setup)

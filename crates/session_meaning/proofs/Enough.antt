@@ -15,41 +15,35 @@ use Rattle.journal_meaning.specs.Replay.{IsLegalBatch}
 use Rattle.journal_meaning.specs.Sections.{of_batch, cells_after}
 use Rattle.journal_meaning.specs.Answers.{IsAnswer, IsSpent}
 use Rattle.journal_meaning.proofs.Budgets.{enough-budget}
-use Rattle.query_lines.specs.declared.line.First.{First}
-use Rattle.query_lines.specs.declared.line.Why.{Why}
-use Rattle.query_lines.specs.declared.line.Stuck.{Stuck}
-use Rattle.query_lines.specs.declared.unit.Asks.{Asks}
-use Rattle.query_lines.specs.declared.unit.Asks.TheVariants as kinds
+use Rattle.gate_values.specs.declared.Value.{Value}
+use Rattle.query_lines.specs.declared.line.Asks.{Asks}
+use Rattle.query_lines.specs.declared.line.Asks.TheVariants as kinds
 use Rattle.query_lines.specs.declared.unit.Item.{Item}
+use Rattle.query_lines.specs.declared.unit.Question.{Question}
 use Rattle.query_lines.specs.declared.unit.Unit.{Unit as ScriptUnit}
 use Rattle.query_lines.specs.declared.unit.Unit.TheVariants as units
 use Rattle.query_lines.specs.Reading.{script_units}
 use Rattle.query_lines.specs.Fit.{HasOwnLines, UnitsHaveOwnLines}
-use Rattle.reply_lines.specs.declared.reply.FirstAnswer.TheVariants as answers
-use Rattle.reply_lines.specs.declared.reply.FirstReply.{FirstReply}
-use Rattle.reply_lines.specs.declared.reply.FirstReply.TheVariants as firsts
+use Rattle.reply_lines.specs.declared.reply.Explanation.{Explanation}
+use Rattle.reply_lines.specs.declared.reply.Outcome.{Outcome}
+use Rattle.reply_lines.specs.declared.reply.Outcome.TheVariants as outcomes
+use Rattle.reply_lines.specs.declared.reply.Outcome.TheVariants.{Answer, Budget}
 use Rattle.reply_lines.specs.declared.reply.QuestionReply.{QuestionReply}
-use Rattle.reply_lines.specs.declared.reply.QuestionReply.TheVariants as questions
+use Rattle.reply_lines.specs.declared.reply.QuestionReply.TheVariants as told
 use Rattle.reply_lines.specs.declared.reply.Reply.{Reply}
 use Rattle.reply_lines.specs.declared.reply.Reply.TheVariants as replies
-use Rattle.reply_lines.specs.declared.reply.WhyAnswer.TheVariants as explained
-use Rattle.reply_lines.specs.declared.reply.WhyReply.{WhyReply}
-use Rattle.reply_lines.specs.declared.reply.WhyReply.TheVariants as whys
-use Rattle.reply_lines.specs.declared.reply.StuckAnswer.TheVariants as waves
-use Rattle.reply_lines.specs.declared.reply.StuckReply.{StuckReply}
-use Rattle.reply_lines.specs.declared.reply.StuckReply.TheVariants as stucks
-use Rattle.session_meaning.specs.declared.Verdict.{Verdict}
-use Rattle.session_meaning.specs.declared.Verdict.TheVariants.{Ask, Unknown, Past, Bad}
-use Rattle.session_meaning.specs.Verdicts.{verdict_of, first_verdict, why_verdict, site_of, stuck_verdict, asked_queries, asked_at}
-use Rattle.session_meaning.specs.FirstTimes.{first_time, up_to_first, IsFirstReply}
-use Rattle.session_meaning.specs.Explanations.{IsWhyReply}
+use Rattle.session_meaning.specs.declared.Verdict.TheVariants.{Ask}
+use Rattle.session_meaning.specs.Verdicts.{verdict_of, question_verdict, site_of, asked_queries}
+use Rattle.session_meaning.specs.FirstTimes.{first_time, up_to_first, IsFirstOutcome}
+use Rattle.session_meaning.specs.Explanations.{IsWhyOutcome}
 use Rattle.session_meaning.specs.StuckSignals.{stuck_circuit, held_batch, IsStuckReply, IsHeldMemo}
-use Rattle.session_meaning.specs.Questions.{IsRightReply, IsOwnMemo}
+use Rattle.session_meaning.specs.Questions.{queries_at, kind_queries, IsRightBy, IsOwnMemo}
 use Rattle.query_lines.proofs.OwnLines.{first-part, later-part}
 use Rattle.session_meaning.proofs.Asked.{asks-line, asked-in, in-asked}
+use Rattle.session_meaning.proofs.StuckReplies.{no-first, no-why}
 use Rattle.session_meaning.specs.Replies.{IsReply}
 use Rattle.session_meaning.specs.Session.{Setup, Course, batch_of, question_batch, IsServed, Session, Opened, Served}
-use Rattle.session_meaning.specs.Ample.{answer_of, IsAmpleFirst, IsAmpleWhy, IsAmpleStuck, IsAmpleQuestion, IsAmpleUnit, IsAmple}
+use Rattle.session_meaning.specs.Ample.{IsAmpleFirst, IsAmpleWhy, IsAmpleStuck, IsAmpleBy, IsAmpleUnit, IsAmple}
 use Rattle.session_meaning.specs.Laws.{EnoughBudgetIsServed, EnoughBudgetsAreServed}
 
 zip-at : {A B : Type 0} (P Q : A → B → Type 0) (xs : List A) (ys : List B)
@@ -60,7 +54,7 @@ zip-at P Q [] (y ∷ ys) f h = absurd h
 zip-at P Q (x ∷ xs) (y ∷ ys) f h = (f 0 x y (omega arith) (λ z. refl) h.0, zip-at P Q xs ys (λ k x y l at p. f (suc k) x y (omega (arith, l)) at p) h.1)
 
 module _ (setup : Setup) (items : List Item) (apart : AllPairs (λ a b. a.line ≢ b.line) items) where
-  own : (k : ℕ) (item : Item) (q : Query) → k < length items → ((z : Item) → slice_index_or items k z ≡ item) → verdict_of setup.design item ≡ Ask q → IsOwnQuery (batch_of setup items) q
+  own : (k : ℕ) (item : Item) (q : Query) → k < length items → ((z : Item) → slice_index_or items k z ≡ item) → verdict_of setup.design item ≡ Some (Ask q) → IsOwnQuery (batch_of setup items) q
   own k item q l at is = record {
     known = in-asked setup.design items k item q l at is;
     single = λ r has same.
@@ -68,7 +62,7 @@ module _ (setup : Setup) (items : List Item) (apart : AllPairs (λ a b. a.line �
         let j = f.place in
         let lines : (slice_index_or items j item).line ≡ (slice_index_or items k item).line = ap (λ (x : Item). x.line) (f.there item) ∙ sym (asks-line setup.design f.item r f.asks) ∙ same ∙ asks-line setup.design item q is ∙ ap (λ (x : Item). x.line) (sym (at item)) in
         let met : j ≡ k = places j k f.low l (apart j k item) (apart k j item) lines in
-        let e : Ask r ≡ Ask q = sym f.asks ∙ ap (verdict_of setup.design) (sym (f.there item) ∙ ap (λ n. slice_index_or items n item) met ∙ at item) ∙ is in
+        let e : Some (Ask r) ≡ Some (Ask q) = sym f.asks ∙ ap (verdict_of setup.design) (sym (f.there item) ∙ ap (λ n. slice_index_or items n item) met ∙ at item) ∙ is in
         cc;
   }
     where
@@ -97,7 +91,7 @@ none-some runs a none h = absurd cc
 pub enough : EnoughBudgetIsServed
 enough setup circuit now next items apart served room =
     zip-at (λ item reply. IsReply setup.design.circuit (of_batch served.lists) (verdict_of setup.design item) reply)
-    (λ item reply. (q : Query) → verdict_of setup.design item ≡ Ask q → NeedsAtMost (batch_of setup items) q q.budget → reply ≡ replies.Wave (wave setup.design.circuit q.signal q.from q.to))
+    (λ item reply. (q : Query) → verdict_of setup.design item ≡ Some (Ask q) → NeedsAtMost (batch_of setup items) q q.budget → reply ≡ replies.Window (Answer (wave setup.design.circuit q.signal q.from q.to)))
     items served.replies
     (λ k item reply l at right q is most. replied q reply (own setup items apart k item q l at is) most (subst (λ v. IsReply setup.design.circuit (of_batch served.lists) v reply) is right))
     served.right
@@ -107,12 +101,12 @@ enough setup circuit now next items apart served room =
     answered q answer mine most h =
         enough-budget (batch_of setup items) circuit (λ shard. cells_after shard now.sections) served.lists (record { count = served.count; legal = served.legal }) room q mine most answer h
 
-    replied : (q : Query) (reply : Reply) → IsOwnQuery (batch_of setup items) q → NeedsAtMost (batch_of setup items) q q.budget → IsReply setup.design.circuit (of_batch served.lists) (Ask q) reply
-        → reply ≡ replies.Wave (wave setup.design.circuit q.signal q.from q.to)
-    replied q (replies.Wave runs) mine most h = ap replies.Wave (some-inj runs _ (answered q (Some runs) mine most h))
-    replied q (replies.Budget budget) mine most h = none-some None _ refl (answered q None mine most h.1)
-    replied q replies.Unknown mine most h = absurd h
-    replied q replies.Past mine most h = absurd h
+    replied : (q : Query) (reply : Reply) → IsOwnQuery (batch_of setup items) q → NeedsAtMost (batch_of setup items) q q.budget → IsReply setup.design.circuit (of_batch served.lists) (Some (Ask q)) reply
+        → reply ≡ replies.Window (Answer (wave setup.design.circuit q.signal q.from q.to))
+    replied q (replies.Window (Answer runs)) mine most h = ap (λ r. replies.Window (Answer r)) (some-inj runs _ (answered q (Some runs) mine most h))
+    replied q (replies.Window (Budget budget)) mine most h = none-some None _ refl (answered q None mine most h.1)
+    replied q (replies.Window outcomes.Unknown) mine most h = absurd h
+    replied q (replies.Window outcomes.Past) mine most h = absurd h
     replied q replies.BadLine mine most h = absurd h
 
 only-one : (query r : Query) → Contains (query ∷ []) r → r ≡ query
@@ -126,120 +120,96 @@ one-query b query are = record {
   single = λ r has same. only-one query r (subst (λ qs. Contains qs r) are has);
 }
 
--- Of a question for a first time.
-module _ (setup : Setup) (circuit : IsCircuit setup.design.circuit) (line : ℕ) (first : First) where
-  abbrev first-batch : Batch
-  first-batch = question_batch setup line (kinds.First first)
-
-  module _ (cells : ℕ → List SignalCell) (lists : List (List Entry)) (legal : IsLegalFrom first-batch cells lists) (room : IsRoomy first-batch lists) where
-    own-query : (query : Query) → first_verdict setup.design line first ≡ Ask query → IsOwnQuery first-batch (up_to_first setup.design.circuit query first.value)
-    own-query query is =
-        one-query first-batch (up_to_first setup.design.circuit query first.value) (ap (λ v. map (λ q. up_to_first setup.design.circuit q first.value) (asked_queries v)) is)
-
-    told : (query : Query) (verdict : Verdict) (reply : FirstReply) → first_verdict setup.design line first ≡ Ask query → verdict ≡ Ask query
-        → NeedsAtMost first-batch (up_to_first setup.design.circuit query first.value) query.budget
-        → IsFirstReply setup.design.circuit (of_batch lists) verdict first.value reply
-        → reply ≡ firsts.Answer (answer_of (first_time setup.design.circuit query.signal first.value query.from query.to))
-    told query (Ask q) (firsts.Answer (answers.At t)) is same most right = let e : q ≡ query = cc in cc
-    told query (Ask q) (firsts.Answer answers.Never) is same most right = let e : q ≡ query = cc in cc
-    told query (Ask q) (firsts.Answer (answers.Budget b)) is same most right = let e : q ≡ query = cc in
-        none-some None _ refl (enough-budget first-batch circuit cells lists legal room
-        (up_to_first setup.design.circuit query first.value) (own-query query is) most None (subst (λ x. IsSpent (of_batch lists) (up_to_first setup.design.circuit x first.value)) e right.1))
-    told query (Ask q) firsts.Unknown is same most right = absurd right
-    told query (Ask q) firsts.Past is same most right = absurd right
-    told query Unknown reply is same most right = absurd cc
-    told query Past reply is same most right = absurd cc
-    told query Bad reply is same most right = absurd cc
-
-  enough-first : (cells : ℕ → List SignalCell) (lists : List (List Entry)) → IsLegalFrom first-batch cells lists → (reply : FirstReply)
-      → IsFirstReply setup.design.circuit (of_batch lists) (first_verdict setup.design line first) first.value reply → IsAmpleFirst setup line first lists reply
-  enough-first cells lists legal reply right room query is most = told cells lists legal room query (first_verdict setup.design line first) reply is is most right
-
--- Of a question for an explanation.
-module _ (setup : Setup) (circuit : IsCircuit setup.design.circuit) (line : ℕ) (why : Why) where
-  abbrev why-batch : Batch
-  why-batch = question_batch setup line (kinds.Why why)
-
-  module _ (cells : ℕ → List SignalCell) (lists : List (List Entry)) (legal : IsLegalFrom why-batch cells lists) (room : IsRoomy why-batch lists) where
-    unspent : (query : Query) (verdict : Verdict) (reply : WhyReply) → why_verdict setup.design line why ≡ Ask query → verdict ≡ Ask query
-        → NeedsAtMost why-batch query query.budget
-        → IsWhyReply setup.design (of_batch lists) verdict why reply
-        → (budget : ℕ) → reply ≢ whys.Answer (explained.Budget budget)
-    unspent query (Ask q) (whys.Answer (explained.Proof cells v)) is same most right budget = λ e. cc
-    unspent query (Ask q) (whys.Answer (explained.Budget b)) is same most right budget = λ _. let e : q ≡ query = cc in
-        none-some None _ refl (enough-budget why-batch circuit cells lists legal room
-        query (one-query why-batch query (ap asked_queries is)) most None (subst (λ x. IsSpent (of_batch lists) x) e right.0.1))
-    unspent query (Ask q) whys.Unknown is same most right budget = absurd right
-    unspent query (Ask q) whys.Past is same most right budget = absurd right
-    unspent query Unknown reply is same most right budget = absurd cc
-    unspent query Past reply is same most right budget = absurd cc
-    unspent query Bad reply is same most right budget = absurd cc
-
-  enough-why : (cells : ℕ → List SignalCell) (lists : List (List Entry)) → IsLegalFrom why-batch cells lists → (reply : WhyReply)
-      → IsWhyReply setup.design (of_batch lists) (why_verdict setup.design line why) why reply → IsAmpleWhy setup line why lists reply
-  enough-why cells lists legal reply right room query is most = unspent cells lists legal room query (why_verdict setup.design line why) reply is is most right
-
--- Of a question for a wave where a signal is stuck.
-module _ (setup : Setup) (circuit : IsCircuit setup.design.circuit) (line : ℕ) (stuck : Stuck) where
+-- Of a question.
+module _ (setup : Setup) (circuit : IsCircuit setup.design.circuit) (question : Question) where
   abbrev c : Circuit
   c = setup.design.circuit
 
-  abbrev stuck-batch : Batch
-  stuck-batch = question_batch setup line (kinds.Stuck stuck)
+  abbrev batch : Batch
+  batch = question_batch setup question
 
-  module _ (cells : ℕ → List SignalCell) (lists held : List (List Entry)) (legal : IsLegalFrom stuck-batch cells lists)
-      (own-memo : IsHeldMemo c (site_of setup.design stuck) (stuck_verdict setup.design line stuck) held)
-      (site : Site) (query : Query) (known : site_of setup.design stuck ≡ Some site) (asks : stuck_verdict setup.design line stuck ≡ Ask query) where
-    stuck-queries : stuck-batch.queries ≡ query ∷ []
-    stuck-queries = ap (λ s. asked_at s (stuck_verdict setup.design line stuck)) known ∙ ap asked_queries asks
+  module _ (cells : ℕ → List SignalCell) (lists : List (List Entry)) (legal : IsLegalFrom batch cells lists) where
+    -- no query of the batch is refused where its budget is at least its need
+    unspent : {A : Type 0} → IsRoomy batch lists → (query : Query) → batch.queries ≡ query ∷ [] → NeedsAtMost batch query query.budget → IsSpent (of_batch lists) query → A
+    unspent room query are most spent = none-some None _ refl (enough-budget batch circuit cells lists legal room query (one-query batch query are) most None spent)
 
-    -- what is free and needed is needed
-    fewer : NeedsAtMost (held_batch c site query) query query.budget → NeedsAtMost stuck-batch query query.budget
-    fewer most points apart all = most points apart (λ k d l. (subst (λ (s : Option Site). NeedOf c s query (slice_index_or points k d)) known (all k d l)).0)
-
-    memo : IsHeldMemo c (Some site) (Ask query) held
-    memo = subst (λ s. IsHeldMemo c s (Ask query) held) known (subst (λ v. IsHeldMemo c (site_of setup.design stuck) v held) asks own-memo)
-
-    own-legal : IsLegalFrom (held_batch c site query) (λ shard. []) held
-    own-legal = subst (IsLegalFrom (held_batch c site query) (λ shard. [])) (sym memo.1) (record { count = refl; legal = λ shard l. one shard l })
+    enough-first : (value : Value) → question.asks ≡ kinds.First value → (outcome : Outcome (Option ℕ)) → IsFirstOutcome c (of_batch lists) value (question_verdict setup.design question) outcome → IsAmpleFirst setup question value lists outcome
+    enough-first value asks outcome right room query is most = by outcome (subst (λ v. IsFirstOutcome c (of_batch lists) value v outcome) is right)
       where
-        one : (shard : ℕ) → shard < 1 → IsLegalBatch (held_batch c site query) shard [] (get_or (memo.0 ∷ []) shard [])
-        one zero l = memo.2.legal
-        one (suc n) l = absurd (omega (arith, l))
+        queries : batch.queries ≡ up_to_first c query value ∷ []
+        queries = ap (λ a. kind_queries setup.design a (asked_queries (question_verdict setup.design question))) asks ∙ ap (λ v. map (λ q. up_to_first c q value) (asked_queries v)) is
 
-    served-wave : IsRoomy stuck-batch lists → IsRoomy (held_batch c site query) held → NeedsAtMost (held_batch c site query) query query.budget
-        → (reply : StuckReply) → IsStuckReply c (Some site) (Ask query) (of_batch lists) (of_batch held) reply
-        → reply ≡ stucks.Answer (waves.Wave (wave (stuck_circuit c site) query.signal query.from query.to))
-    served-wave room own_room most (stucks.Answer (waves.Wave runs)) right = ap (λ r. stucks.Answer (waves.Wave r)) right.0
-    served-wave room own_room most (stucks.Answer (waves.Budget budget)) right = elim right.1 [
-      | inl spent ↦ none-some None _ refl (enough-budget stuck-batch circuit cells lists legal room query (one-query stuck-batch query stuck-queries) (fewer most) None spent)
-      | inr spent ↦ none-some None _ refl (enough-budget (held_batch c site query) (held-fits c site.signal site.value circuit) (λ shard. []) held own-legal own_room query
-          (one-query (held_batch c site query) query refl) most None spent)
-    ]
-    served-wave room own_room most stucks.UnknownSite right = absurd right
-    served-wave room own_room most stucks.Unknown right = absurd right
-    served-wave room own_room most stucks.Past right = absurd right
+        by : (outcome : Outcome (Option ℕ)) → IsFirstOutcome c (of_batch lists) value (Ask query) outcome → outcome ≡ Answer (first_time c query.signal value query.from query.to)
+        by (Answer found) right = ap (λ f. Answer f) (sym right.0)
+        by (Budget budget) right = unspent room (up_to_first c query value) queries most right.1
+        by outcomes.Unknown right = absurd right
+        by outcomes.Past right = absurd right
 
-  enough-stuck : (cells : ℕ → List SignalCell) (lists held : List (List Entry)) → IsLegalFrom stuck-batch cells lists → IsHeldMemo c (site_of setup.design stuck) (stuck_verdict setup.design line stuck) held
-      → (reply : StuckReply) → IsStuckReply c (site_of setup.design stuck) (stuck_verdict setup.design line stuck) (of_batch lists) (of_batch held) reply → IsAmpleStuck setup line stuck lists held reply
-  enough-stuck cells lists held legal own-memo reply right site query known asks room own_room most =
-      served-wave cells lists held legal own-memo site query known asks room own_room most reply
-      (subst (λ s. IsStuckReply c s (Ask query) (of_batch lists) (of_batch held) reply) known
-      (subst (λ v. IsStuckReply c (site_of setup.design stuck) v (of_batch lists) (of_batch held) reply) asks right))
+    enough-why : question.asks ≡ kinds.Why → (outcome : Outcome Explanation) → IsWhyOutcome setup.design (of_batch lists) question.window (question_verdict setup.design question) outcome → IsAmpleWhy setup question lists outcome
+    enough-why asks outcome right room query is most budget refused =
+        unspent room query queries most (subst (IsWhyOutcome setup.design (of_batch lists) question.window (Ask query)) refused (subst (λ v. IsWhyOutcome setup.design (of_batch lists) question.window v outcome) is right)).1
+      where
+        queries : batch.queries ≡ query ∷ []
+        queries = ap (λ a. kind_queries setup.design a (asked_queries (question_verdict setup.design question))) asks ∙ ap asked_queries is
 
--- Of a question of any kind.
-enough-question : (setup : Setup) → IsCircuit setup.design.circuit → (line : ℕ) (asks : Asks) (cells : ℕ → List SignalCell) (lists held : List (List Entry)) (reply : QuestionReply)
-    → IsLegalFrom (question_batch setup line asks) cells lists → IsOwnMemo setup.design line asks held → IsRightReply setup.design line asks (of_batch lists) (of_batch held) reply
-    → IsAmpleQuestion setup line asks lists held reply
-enough-question setup circuit line (kinds.First first) cells lists held (questions.First reply) legal kept right = enough-first setup circuit line first cells lists legal reply right
-enough-question setup circuit line (kinds.First first) cells lists held (questions.Why reply) legal kept right = right
-enough-question setup circuit line (kinds.First first) cells lists held (questions.Stuck reply) legal kept right = right
-enough-question setup circuit line (kinds.Why why) cells lists held (questions.First reply) legal kept right = right
-enough-question setup circuit line (kinds.Why why) cells lists held (questions.Why reply) legal kept right = enough-why setup circuit line why cells lists legal reply right
-enough-question setup circuit line (kinds.Why why) cells lists held (questions.Stuck reply) legal kept right = right
-enough-question setup circuit line (kinds.Stuck stuck) cells lists held (questions.First reply) legal kept right = right
-enough-question setup circuit line (kinds.Stuck stuck) cells lists held (questions.Why reply) legal kept right = right
-enough-question setup circuit line (kinds.Stuck stuck) cells lists held (questions.Stuck reply) legal kept right = enough-stuck setup circuit line stuck cells lists held legal kept reply right
+    module _ (held : List (List Entry)) (own-memo : IsOwnMemo setup.design question held) (named : List ℕ) (value : Value) (asks : question.asks ≡ kinds.Stuck named value)
+        (site : Site) (query : Query) (known : site_of setup.design question.asks ≡ Some site) (is : question_verdict setup.design question ≡ Ask query) where
+      stuck-queries : batch.queries ≡ query ∷ []
+      stuck-queries =
+          ap (λ a. kind_queries setup.design a (asked_queries (question_verdict setup.design question))) asks
+          ∙ ap (λ s. queries_at s (asked_queries (question_verdict setup.design question))) (ap (site_of setup.design) (sym asks) ∙ known) ∙ ap asked_queries is
+
+      -- what is free and needed is needed
+      fewer : NeedsAtMost (held_batch c site query) query query.budget → NeedsAtMost batch query query.budget
+      fewer most points apart all = most points apart (λ k d l. (subst (λ (s : Option Site). NeedOf c s query (slice_index_or points k d)) known (all k d l)).0)
+
+      memo : IsHeldMemo c (Some site) (Ask query) held
+      memo = subst (λ s. IsHeldMemo c s (Ask query) held) known (subst (λ v. IsHeldMemo c (site_of setup.design question.asks) v held) is own-memo)
+
+      own-legal : IsLegalFrom (held_batch c site query) (λ shard. []) held
+      own-legal = subst (IsLegalFrom (held_batch c site query) (λ shard. [])) (sym memo.1) (record { count = refl; legal = λ shard l. one shard l })
+        where
+          one : (shard : ℕ) → shard < 1 → IsLegalBatch (held_batch c site query) shard [] (get_or (memo.0 ∷ []) shard [])
+          one zero l = memo.2.legal
+          one (suc n) l = absurd (omega (arith, l))
+
+      stuck-served : IsRoomy batch lists → IsRoomy (held_batch c site query) held → NeedsAtMost (held_batch c site query) query query.budget
+          → (reply : QuestionReply) → IsStuckReply c (of_batch lists) (of_batch held) (Ask query) (Some site) reply
+          → reply ≡ told.Stuck (Answer (wave (stuck_circuit c site) query.signal query.from query.to))
+      stuck-served room own_room most (told.Stuck (Answer runs)) right = ap (λ r. told.Stuck (Answer r)) right.0
+      stuck-served room own_room most (told.Stuck (Budget budget)) right = elim right.1 [
+        | inl spent ↦ unspent room query stuck-queries (fewer most) spent
+        | inr spent ↦ none-some None _ refl (enough-budget (held_batch c site query) (held-fits c site.signal site.value circuit) (λ shard. []) held own-legal own_room query
+            (one-query (held_batch c site query) query refl) most None spent)
+      ]
+      stuck-served room own_room most (told.Stuck outcomes.Unknown) right = absurd right
+      stuck-served room own_room most (told.Stuck outcomes.Past) right = absurd right
+      stuck-served room own_room most (told.First outcome) right = absurd right
+      stuck-served room own_room most (told.Why outcome) right = absurd right
+      stuck-served room own_room most told.UnknownSite right = absurd right
+
+    enough-stuck : (held : List (List Entry)) → IsOwnMemo setup.design question held → (named : List ℕ) (value : Value) → question.asks ≡ kinds.Stuck named value → (reply : QuestionReply)
+        → IsStuckReply c (of_batch lists) (of_batch held) (question_verdict setup.design question) (site_of setup.design (kinds.Stuck named value)) reply → IsAmpleStuck setup question lists held reply
+    enough-stuck held own-memo named value asks reply right site query known is room own_room most =
+        stuck-served held own-memo named value asks site query known is room own_room most reply
+        (subst (λ s. IsStuckReply c (of_batch lists) (of_batch held) (Ask query) s reply) (ap (site_of setup.design) (sym asks) ∙ known)
+        (subst (λ v. IsStuckReply c (of_batch lists) (of_batch held) v (site_of setup.design (kinds.Stuck named value)) reply) is right))
+
+    -- of any kind
+    enough-question : (held : List (List Entry)) (reply : QuestionReply) → IsOwnMemo setup.design question held → (asks : Asks) → question.asks ≡ asks
+        → IsRightBy setup.design (of_batch lists) (of_batch held) question.window (question_verdict setup.design question) asks reply → IsAmpleBy setup question lists held asks reply
+    enough-question held (told.First outcome) kept (kinds.First value) is right = enough-first value is outcome right
+    enough-question held (told.Why outcome) kept (kinds.First value) is right = right
+    enough-question held (told.Stuck outcome) kept (kinds.First value) is right = right
+    enough-question held told.UnknownSite kept (kinds.First value) is right = right
+    enough-question held (told.First outcome) kept kinds.Why is right = right
+    enough-question held (told.Why outcome) kept kinds.Why is right = enough-why is outcome right
+    enough-question held (told.Stuck outcome) kept kinds.Why is right = right
+    enough-question held told.UnknownSite kept kinds.Why is right = right
+    enough-question held (told.First outcome) kept (kinds.Stuck named value) is right = no-first c (of_batch lists) (of_batch held) (question_verdict setup.design question) (site_of setup.design (kinds.Stuck named value)) outcome right
+    enough-question held (told.Why outcome) kept (kinds.Stuck named value) is right = no-why c (of_batch lists) (of_batch held) (question_verdict setup.design question) (site_of setup.design (kinds.Stuck named value)) outcome right
+    enough-question held (told.Stuck outcome) kept (kinds.Stuck named value) is right = enough-stuck held kept named value is (told.Stuck outcome) right
+    enough-question held told.UnknownSite kept (kinds.Stuck named value) is right = enough-stuck held kept named value is told.UnknownSite right
 
 -- so it is in each unit of a session
 unit-ample : (setup : Setup) → IsCircuit setup.design.circuit → (now next : Course) (unit : ScriptUnit) (served : IsServed setup now unit next) → HasOwnLines unit → IsAmpleUnit setup now next unit served
@@ -247,8 +217,8 @@ unit-ample setup circuit now next (units.Batch items) served own = enough setup 
 unit-ample setup circuit now next (units.Trim most) served own = tt
 unit-ample setup circuit now next units.Stats served own = tt
 unit-ample setup circuit now next (units.Question question) served own =
-    enough-question setup circuit question.line question.asks (λ shard. cells_after shard now.sections) served.lists served.own_lists served.reply
-    (record { count = served.count; legal = served.legal }) served.memo served.right
+    enough-question setup circuit question (λ shard. cells_after shard now.sections) served.lists (record { count = served.count; legal = served.legal })
+    served.own_lists served.reply served.memo question.asks refl served.right
 unit-ample setup circuit now next (units.Vcd file) served own = tt
 
 pub session-ample : (setup : Setup) → IsCircuit setup.design.circuit → (us : List ScriptUnit) (course : Course) → All HasOwnLines us → (session : Session setup us course) → IsAmple setup us course session

@@ -12,21 +12,25 @@ use Rattle.design.specs.Joined.{Joined}
 use Rattle.text_rules.specs.Text.{is_name}
 use Rattle.query_lines.specs.declared.line.What.{What}
 use Rattle.query_lines.specs.declared.line.What.TheVariants as whats
+use Rattle.query_lines.specs.declared.line.Window.{Window}
 use Rattle.query_lines.specs.declared.unit.Item.{Item}
 use Rattle.query_lines.specs.declared.unit.Unit.{Unit as ScriptUnit}
 use Rattle.query_lines.specs.declared.unit.Unit.TheVariants as units
+use Rattle.query_lines.specs.Units.{asked_window}
 use Rattle.query_lines.specs.Fit.{AsksByName, IsFit}
+use Rattle.reply_lines.specs.declared.reply.Outcome.TheVariants as outcomes
+use Rattle.reply_lines.specs.declared.reply.Outcome.TheVariants.{Answer, Budget}
 use Rattle.reply_lines.specs.declared.reply.Reply.{Reply}
 use Rattle.reply_lines.specs.declared.reply.Reply.TheVariants as replies
 use Rattle.reply_lines.specs.declared.reply.VcdReply.TheVariants as dumps
-use Rattle.reply_lines.specs.Replies.{name_of, vcd_line}
+use Rattle.reply_lines.specs.Replies.{vcd_line}
 use Rattle.vcd_answers.specs.Wires.{Wire, AreWires, is_wire, wire_of_query, shown_value}
 use Rattle.vcd_answers.specs.Dumps.{vcd_of}
 use Rattle.vcd_answers.proofs.Sound.{are_sound}
 use Rattle.session_meaning.specs.declared.Verdict.{Verdict}
-use Rattle.session_meaning.specs.declared.Verdict.TheVariants.{Ask, Unknown, Past, Bad}
-use Rattle.session_meaning.specs.Verdicts.{verdict_of}
-use Rattle.session_meaning.specs.Dumps.{wire_of, wires_of}
+use Rattle.session_meaning.specs.declared.Verdict.TheVariants.{Ask, Unknown, Past}
+use Rattle.session_meaning.specs.Verdicts.{verdict}
+use Rattle.session_meaning.specs.Dumps.{wire_of, item_wire, wires_of}
 use Rattle.session_meaning.specs.Session.{Setup, Course, IsServed, Session, Opened, Served, is_taken, with_reply, with_dump, with_last}
 use Rattle.query_lines.proofs.OwnLines.{first-part, later-part}
 
@@ -36,45 +40,45 @@ module _ (c : Circuit) (short : c.horizon ≤ 1000000) where
   answered-sound : (name : List ℕ) (s a b : ℕ) → is_name name ≡ true → is_wire (wire_of_query name c s a b) ≡ true
   answered-sound name s a b named = and_from _ _ named (are_sound (shown_value (value c s) a b) (c.horizon + 1) (omega (arith, short)))
 
-  wire-sound : (name : List ℕ) (verdict : Verdict) (reply : Reply) → is_name name ≡ true → list_all is_wire (wire_of c name verdict reply) ≡ true
-  wire-sound name (Ask q) (replies.Wave runs) named = and_from _ _ (answered-sound name q.signal q.from q.to named) refl
-  wire-sound name (Ask q) replies.Unknown named = refl
-  wire-sound name (Ask q) replies.Past named = refl
-  wire-sound name (Ask q) (replies.Budget budget) named = refl
-  wire-sound name (Ask q) replies.BadLine named = refl
-  wire-sound name Unknown reply named = refl
-  wire-sound name Past reply named = refl
-  wire-sound name Bad reply named = refl
+  wire-sound : (window : Window) (verdict : Verdict) (reply : Reply) → is_name window.name ≡ true → list_all is_wire (wire_of c window verdict reply) ≡ true
+  wire-sound window (Ask q) (replies.Window (Answer runs)) named = and_from _ _ (answered-sound window.name q.signal q.from q.to named) refl
+  wire-sound window (Ask q) (replies.Window (Budget budget)) named = refl
+  wire-sound window (Ask q) (replies.Window outcomes.Unknown) named = refl
+  wire-sound window (Ask q) (replies.Window outcomes.Past) named = refl
+  wire-sound window (Ask q) replies.BadLine named = refl
+  wire-sound window Unknown reply named = refl
+  wire-sound window Past reply named = refl
 
-wire-few : (c : Circuit) (name : List ℕ) (verdict : Verdict) (reply : Reply) → length (wire_of c name verdict reply) ≤ 1
-wire-few c name (Ask q) (replies.Wave runs) = omega arith
-wire-few c name (Ask q) replies.Unknown = omega arith
-wire-few c name (Ask q) replies.Past = omega arith
-wire-few c name (Ask q) (replies.Budget budget) = omega arith
-wire-few c name (Ask q) replies.BadLine = omega arith
-wire-few c name Unknown reply = omega arith
-wire-few c name Past reply = omega arith
-wire-few c name Bad reply = omega arith
+wire-few : (c : Circuit) (window : Window) (verdict : Verdict) (reply : Reply) → length (wire_of c window verdict reply) ≤ 1
+wire-few c window (Ask q) (replies.Window (Answer runs)) = omega arith
+wire-few c window (Ask q) (replies.Window (Budget budget)) = omega arith
+wire-few c window (Ask q) (replies.Window outcomes.Unknown) = omega arith
+wire-few c window (Ask q) (replies.Window outcomes.Past) = omega arith
+wire-few c window (Ask q) replies.BadLine = omega arith
+wire-few c window Unknown reply = omega arith
+wire-few c window Past reply = omega arith
 
 module _ (d : Joined) where
-  item-sound : (line : ℕ) (what : What) (reply : Reply) → d.circuit.horizon ≤ 1000000 → AsksByName what
-      → list_all is_wire (wire_of d.circuit (name_of what) (verdict_of d (record { line = line; what = what })) reply) ≡ true
-  item-sound line (whats.Wave name from to budget) reply short named = wire-sound d.circuit short name (verdict_of d (record { line = line; what = whats.Wave name from to budget })) reply named
-  item-sound line (whats.At name time budget) reply short named = wire-sound d.circuit short name (verdict_of d (record { line = line; what = whats.At name time budget })) reply named
+  item-sound : (line : ℕ) (what : What) (reply : Reply) → d.circuit.horizon ≤ 1000000 → AsksByName what → list_all is_wire (item_wire d line (asked_window what) reply) ≡ true
+  item-sound line (whats.Window window tell) reply short named = wire-sound d.circuit short window (verdict d line window) reply named
   item-sound line whats.Bad reply short named = refl
+
+  item-few : (line : ℕ) (window : Option Window) (reply : Reply) → length (item_wire d line window reply) ≤ 1
+  item-few line None reply = omega arith
+  item-few line (Some window) reply = wire-few d.circuit window (verdict d line window) reply
 
   wires-few : (items : List Item) (answers : List Reply) → length (wires_of d items answers) ≤ length items
   wires-few [] answers = omega arith
   wires-few (item ∷ items) [] = omega arith
   wires-few (item ∷ items) (reply ∷ answers) =
-      let wire = wire_of d.circuit (name_of item.what) (verdict_of d item) reply in
-      omega (arith, length-append wire (wires_of d items answers), wire-few d.circuit (name_of item.what) (verdict_of d item) reply, wires-few items answers)
+      let wire = item_wire d item.line (asked_window item.what) reply in
+      omega (arith, length-append wire (wires_of d items answers), item-few item.line (asked_window item.what) reply, wires-few items answers)
 
   wires-sound : (items : List Item) (answers : List Reply) → d.circuit.horizon ≤ 1000000 → All (λ item. AsksByName item.what) items → list_all is_wire (wires_of d items answers) ≡ true
   wires-sound [] answers short named = refl
   wires-sound (item ∷ items) [] short named = refl
   wires-sound (item ∷ items) (reply ∷ answers) short named =
-      let wire = wire_of d.circuit (name_of item.what) (verdict_of d item) reply in
+      let wire = item_wire d item.line (asked_window item.what) reply in
       list_all-append is_wire wire (wires_of d items answers)
       ∙ and_from _ _ (item-sound item.line item.what reply short (All-head (λ item. AsksByName item.what) item items named))
       (wires-sound items answers short (All-tail (λ item. AsksByName item.what) item items named))

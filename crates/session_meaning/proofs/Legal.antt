@@ -6,16 +6,13 @@ use Rattle.batch_meaning.specs.Batches.{Site}
 use Rattle.journal_meaning.specs.declared.Entry.{Entry}
 use Rattle.journal_meaning.specs.Replay.{IsLegalBatch}
 use Rattle.journal_meaning.specs.Sections.{SectionEntries, Asks, Trims, Forces, IsLegalIn, list_of, cells_left, AreLegal}
-use Rattle.query_lines.specs.declared.unit.Asks.{Asks as QuestionAsks}
-use Rattle.query_lines.specs.declared.unit.Asks.TheVariants as kinds
 use Rattle.query_lines.specs.declared.unit.Unit.{Unit as ScriptUnit}
 use Rattle.query_lines.specs.declared.unit.Unit.TheVariants as units
 use Rattle.session_meaning.specs.declared.Verdict.{Verdict}
-use Rattle.session_meaning.specs.declared.Verdict.TheVariants.{Ask, Unknown, Past, Bad}
+use Rattle.session_meaning.specs.declared.Verdict.TheVariants.{Ask, Unknown, Past}
 use Rattle.session_meaning.specs.StuckSignals.{held_batch, IsHeldMemo}
-use Rattle.session_meaning.specs.Questions.{IsOwnMemo}
-use Rattle.session_meaning.specs.Verdicts.{site_of, stuck_verdict}
-use Rattle.session_meaning.specs.Session.{Setup, Course, IsServed, Session, Opened, Served, batch_of, question_batch, held_sections, own_sections}
+use Rattle.session_meaning.specs.Verdicts.{question_verdict, site_of}
+use Rattle.session_meaning.specs.Session.{Setup, Course, IsServed, Session, Opened, Served, batch_of, question_batch, held_sections}
 use Rattle.session_meaning.proofs.Dumps.{vcd-sections}
 
 -- one section more
@@ -39,17 +36,9 @@ module _ (setup : Setup) (shard : ℕ) (sections : List SectionEntries) (legal :
       (subst (λ lists. IsLegalBatch (held_batch setup.design.circuit site query) shard [] (get_or lists shard [])) (sym memo.1) (one-list site query memo.0 memo.2.legal shard))
   with-held (Some site) Unknown own memo = with-none
   with-held (Some site) Past own memo = with-none
-  with-held (Some site) Bad own memo = with-none
   with-held None (Ask query) own memo = with-none
   with-held None Unknown own memo = with-none
   with-held None Past own memo = with-none
-  with-held None Bad own memo = with-none
-
-  -- of a question of any kind
-  with-own : (line : ℕ) (asks : QuestionAsks) (own : List (List Entry)) → IsOwnMemo setup.design line asks own → AreLegal shard [] (sections ++ own_sections setup line asks own)
-  with-own line (kinds.First first) own memo = with-none
-  with-own line (kinds.Why why) own memo = with-none
-  with-own line (kinds.Stuck stuck) own memo = with-held (site_of setup.design stuck) (stuck_verdict setup.design line stuck) own memo
 
 unit-legal : (setup : Setup) (now next : Course) (unit : ScriptUnit) → IsServed setup now unit next → (shard : ℕ) → shard < setup.shards → AreLegal shard [] now.sections → AreLegal shard [] next.sections
 unit-legal setup now next (units.Batch items) served shard h legal =
@@ -57,10 +46,10 @@ unit-legal setup now next (units.Batch items) served shard h legal =
 unit-legal setup now next (units.Trim most) served shard h legal =
     subst (λ (c : Course). AreLegal shard [] c.sections) (sym served.leads) (legal-more shard [] now.sections (record { purpose = Trims; lists = served.lists }) legal (served.legal shard h))
 unit-legal setup now next (units.Question question) served shard h legal =
-    let batch = question_batch setup question.line question.asks in
+    let batch = question_batch setup question in
     subst (λ (c : Course). AreLegal shard [] c.sections) (sym served.leads)
-    (with-own setup shard _ (legal-more shard [] now.sections (record { purpose = Asks batch; lists = served.lists }) legal (served.legal shard h))
-    question.line question.asks served.own_lists served.memo)
+    (with-held setup shard _ (legal-more shard [] now.sections (record { purpose = Asks batch; lists = served.lists }) legal (served.legal shard h))
+    (site_of setup.design question.asks) (question_verdict setup.design question) served.own_lists served.memo)
 unit-legal setup now next units.Stats served shard h legal = subst (λ (c : Course). AreLegal shard [] c.sections) (sym served) legal
 unit-legal setup now next (units.Vcd file) served shard h legal =
     subst (λ s. AreLegal shard [] s) (sym (ap (λ (c : Course). c.sections) served ∙ vcd-sections setup now file)) legal

@@ -1,4 +1,5 @@
 pub mod Asked
+pub mod StuckReplies
 pub mod Dumps
 pub mod Held
 pub mod Legal

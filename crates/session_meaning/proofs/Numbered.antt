@@ -9,7 +9,7 @@ use Rattle.std.proofs.lemmas.List.Elements.{recursion_from_All}
 use Rattle.text_rules.specs.Text.{is_feed, less_empty_last, lines}
 use Rattle.journal_meaning.proofs.Lists.{Each, each-append, each-left, each-right}
 use Rattle.query_lines.specs.declared.line.Line.{Line}
-use Rattle.query_lines.specs.declared.line.Line.TheVariants.{Blank, Ask, Go, Bad, Trim, Stats, First, Why, Vcd, Stuck}
+use Rattle.query_lines.specs.declared.line.Line.TheVariants.{Blank, Ask, Go, Bad, Trim, Stats, Question, Vcd}
 use Rattle.query_lines.specs.declared.unit.Item.{Item}
 use Rattle.query_lines.specs.declared.unit.Unit.{Unit as ScriptUnit}
 use Rattle.query_lines.specs.declared.unit.Unit.TheVariants as units
@@ -46,10 +46,8 @@ line-to k n Go h = (tt, omega arith)
 line-to k n Bad h = ((h, tt), omega arith)
 line-to k n (Trim cells) h = ((tt, tt), omega arith)
 line-to k n Stats h = ((tt, tt), omega arith)
-line-to k n (First first) h = ((h, tt), omega arith)
-line-to k n (Why why) h = ((h, tt), omega arith)
+line-to k n (Question window asks) h = ((h, tt), omega arith)
 line-to k n (Vcd file) h = ((tt, tt), omega arith)
-line-to k n (Stuck stuck) h = ((h, tt), omega arith)
 
 lines-to : (k n : ℕ) (xs : List Line) → k + length xs ≤ n + 1 → Each (IsRequestTo n) (told_on (enumerate_from k xs)) × (length (told_on (enumerate_from k xs)) ≤ length xs)
 lines-to k n [] h = (tt, omega arith)

@@ -1,5 +1,5 @@
 -- The journal of a session is the text of its sections alone.
-use Rattle.std.proofs.Common.{◌≡◌, ℕ, ◌+◌, ◌*◌, ◌<◌, ◌≤◌, Bool, true, false, cond, nat_le, List, [], ◌∷◌, ◌++◌, length, map, get_or, All, Contains, Option, Some, None, length-set, refl, sym, ap, subst, ◌∙◌, length-append, arith}
+use Rattle.std.proofs.Common.{◌≡◌, ℕ, ◌+◌, ◌*◌, ◌<◌, ◌≤◌, List, [], ◌∷◌, ◌++◌, length, map, get_or, All, Contains, Option, Some, None, length-set, refl, sym, ap, subst, ◌∙◌, length-append, arith}
 use Rattle.std.specs.Prelude.{sum_by}
 use Rattle.std.specs.List.{AllByRecursion}
 use Rattle.std.proofs.lemmas.List.Elements.{All-get_or, All-from_get_or, All-from_recursion, All-weaker, All-contains_itself, recursion_from_All}
@@ -21,26 +21,27 @@ use Rattle.journal_text.proofs.WholeSections.{one_journal}
 use Rattle.query_lines.specs.declared.line.What.{What}
 use Rattle.query_lines.specs.declared.line.What.TheVariants as whats
 use Rattle.query_lines.specs.declared.unit.Item.{Item}
-use Rattle.query_lines.specs.declared.unit.Asks.{Asks as QuestionAsks}
-use Rattle.query_lines.specs.declared.unit.Asks.TheVariants as kinds
+use Rattle.query_lines.specs.declared.line.Asks.{Asks as QuestionAsks}
+use Rattle.query_lines.specs.declared.line.Asks.TheVariants as kinds
+use Rattle.query_lines.specs.declared.line.Window.{Window}
+use Rattle.query_lines.specs.declared.unit.Question.{Question}
 use Rattle.query_lines.specs.declared.unit.Unit.{Unit as ScriptUnit}
 use Rattle.query_lines.specs.declared.unit.Unit.TheVariants as units
-use Rattle.query_lines.specs.Units.{budget_weight}
-use Rattle.query_lines.specs.Laws.{IsWithinLimits, budget_asked}
+use Rattle.query_lines.specs.Units.{asked_window, budget_weight}
+use Rattle.query_lines.specs.Laws.{IsWithinLimits}
 use Rattle.query_lines.specs.Fit.{IsFit, ScriptUnitsAreFit}
 use Rattle.query_lines.specs.Reading.{script_units}
 use Rattle.design.specs.Joined.{Joined, IsDesign}
-use Rattle.design.specs.Join.{number}
 use Rattle.session_meaning.specs.declared.Verdict.{Verdict}
-use Rattle.session_meaning.specs.declared.Verdict.TheVariants.{Ask, Unknown, Past, Bad}
-use Rattle.session_meaning.specs.Verdicts.{window_verdict, what_verdict, first_verdict, why_verdict, stuck_verdict, site_of, asked_queries, asked_at, queries_of}
+use Rattle.session_meaning.specs.declared.Verdict.TheVariants.{Ask, Unknown, Past}
+use Rattle.session_meaning.specs.Verdicts.{question_verdict, site_of, asked_queries, queries_of}
 use Rattle.session_meaning.specs.FirstTimes.{up_to_first}
 use Rattle.session_meaning.specs.StuckSignals.{held_batch, IsHeldMemo}
-use Rattle.session_meaning.specs.Questions.{question_queries, IsOwnMemo}
+use Rattle.session_meaning.specs.Questions.{queries_at, kind_queries, question_queries, IsOwnMemo}
 use Rattle.session_meaning.specs.Session.{Setup, Course, IsServed, Session, Opened, Served, batch_of, question_batch, held_sections, own_sections}
 use Rattle.session_meaning.specs.Written.{kind_of, numbered_from}
 use Rattle.session_meaning.specs.Laws.{SessionsHaveOneJournal}
-use Rattle.session_meaning.proofs.Asked.{asked-in}
+use Rattle.session_meaning.proofs.Asked.{IsOfWindow, window-asks, item-asks, asked-in}
 use Rattle.session_meaning.proofs.Dumps.{vcd-sections}
 use Rattle.session_meaning.proofs.Legal.{session-legal}
 use Rattle.session_meaning.proofs.Narrow.{IsStored, IsNarrow, batch-narrow, trim-narrow}
@@ -51,43 +52,37 @@ use Rattle.session_meaning.proofs.Numbered.{HasLinesTo, script-to}
 abbrev IsSmall : Query → Type 0
 IsSmall q = IsNumber q.number × IsNumber q.budget
 
-window-small : (horizon line from to budget : ℕ) (signal : Option ℕ) (q : Query) → IsNumber line → IsNumber budget → window_verdict horizon line from to budget signal ≡ Ask q → IsSmall q
-window-small horizon line from to budget None q l b is = absurd cc
-window-small horizon line from to budget (Some s) q l b is = cases (nat_le to (horizon + 1)) is
-  where
-    cases : (t : Bool) → cond t (Ask (record { number = line; signal = s; from = from; to = to; budget = budget })) Past ≡ Ask q → IsSmall q
-    cases true h =
-        let same : record { number = line; signal = s; from = from; to = to; budget = budget } ≡ q = cc in
-        subst IsSmall same (l, b)
-    cases false h = absurd cc
+window-small : (d : Joined) (line : ℕ) (window : Window) (q : Query) → IsNumber line → IsNumber window.budget → IsOfWindow d line window q → IsSmall q
+window-small d line window q l b of = (omega (arith, of.line_is, l), omega (arith, of.budget_is, b))
 
-what-small : (d : Joined) (line : ℕ) (what : What) (q : Query) → IsNumber line → IsNumber (budget_weight what) → what_verdict d line what ≡ Ask q → IsSmall q
-what-small d line (whats.Wave name from to budget) q l b is = window-small d.circuit.horizon line from to budget (number d.netlist name) q l b is
-what-small d line (whats.At name time budget) q l b is = window-small d.circuit.horizon line time (time + 1) budget (number d.netlist name) q l b is
-what-small d line whats.Bad q l b is = absurd cc
+weight-is : (what : What) (window : Window) → asked_window what ≡ Some window → budget_weight what ≡ window.budget
+weight-is (whats.Window other tell) window is = let same : other ≡ window = cc in ap (λ (w : Window). w.budget) same
+weight-is whats.Bad window is = absurd cc
 
 asked-small : (verdict : Verdict) → ((q : Query) → verdict ≡ Ask q → IsSmall q) → Each IsSmall (asked_queries verdict)
 asked-small (Ask q) f = (f q refl, tt)
 asked-small Unknown f = tt
 asked-small Past f = tt
-asked-small Bad f = tt
 
-site-small : (site : Option Site) (verdict : Verdict) → ((q : Query) → verdict ≡ Ask q → IsSmall q) → Each IsSmall (asked_at site verdict)
-site-small None verdict f = tt
-site-small (Some site) verdict f = asked-small verdict f
+site-small : (site : Option Site) (qs : List Query) → Each IsSmall qs → Each IsSmall (queries_at site qs)
+site-small None qs h = tt
+site-small (Some site) qs h = h
 
 first-small : (c : Circuit) (value : Value) (qs : List Query) → Each IsSmall qs → Each IsSmall (map (λ query. up_to_first c query value) qs)
 first-small c value [] h = tt
 first-small c value (q ∷ qs) h = (h.0, first-small c value qs h.1)
 
-question-small : (d : Joined) (line : ℕ) (asks : QuestionAsks) → IsNumber line → budget_asked asks ≤ 500000 → Each IsSmall (question_queries d line asks)
-question-small d line (kinds.First first) l b =
-    first-small d.circuit first.value (asked_queries (first_verdict d line first))
-    (asked-small (first_verdict d line first) (λ q is. window-small d.circuit.horizon line first.from first.to first.budget (number d.netlist first.name) q l (omega (arith, b)) is))
-question-small d line (kinds.Why why) l b =
-    asked-small (why_verdict d line why) (λ q is. window-small d.circuit.horizon line why.time (why.time + 1) why.budget (number d.netlist why.name) q l (omega (arith, b)) is)
-question-small d line (kinds.Stuck stuck) l b =
-    site-small (site_of d stuck) (stuck_verdict d line stuck) (λ q is. window-small d.circuit.horizon line stuck.from stuck.to stuck.budget (number d.netlist stuck.name) q l (omega (arith, b)) is)
+kind-small : (d : Joined) (asks : QuestionAsks) (qs : List Query) → Each IsSmall qs → Each IsSmall (kind_queries d asks qs)
+kind-small d (kinds.First value) qs h = first-small d.circuit value qs h
+kind-small d kinds.Why qs h = h
+kind-small d (kinds.Stuck site value) qs h = site-small (site_of d (kinds.Stuck site value)) qs h
+
+module _ (d : Joined) (question : Question) (l : IsNumber question.line) (b : question.window.budget ≤ 500000) where
+  verdict-small : (q : Query) → question_verdict d question ≡ Ask q → IsSmall q
+  verdict-small q is = window-small d question.line question.window q l (omega (arith, b)) (window-asks d question.line question.window q is)
+
+  question-small : Each IsSmall (question_queries d question)
+  question-small = kind-small d question.asks (asked_queries (question_verdict d question)) (asked-small (question_verdict d question) verdict-small)
 
 module _ (d : Joined) (n : ℕ) (small : IsNumber n) (items : List Item) (lines : Each (λ (item : Item). item.line ≤ n) items) (fit : sum_by (λ (item : Item). budget_weight item.what) items ≤ 1000000) where
   items-small : All IsSmall (queries_of d items)
@@ -100,7 +95,8 @@ module _ (d : Joined) (n : ℕ) (small : IsNumber n) (items : List Item) (lines 
           let to : Item → Type 0 = λ item. item.line ≤ n in
           let line : f.item.line ≤ n = subst to (f.there f.item) (All-get_or to items f.place f.item f.low (All-from_recursion to items lines)) in
           let budget : budget_weight f.item.what ≤ 1000000 = omega (arith, fit, get_or-le-sum_by weight items f.place f.item f.low, ap weight (f.there f.item)) in
-          what-small d f.item.line f.item.what q (omega (arith, line, small)) (omega (arith, budget)) f.asks
+          let of = item-asks d f.item.line (asked_window f.item.what) q f.asks in
+          window-small d f.item.line of.0 q (omega (arith, line, small)) (omega (arith, budget, weight-is f.item.what of.0 of.1)) of.2
 
 -- ---- sections
 
@@ -191,20 +187,14 @@ module _ (setup : Setup) (design : IsDesign setup.design) (n : ℕ) (small : IsN
   held-fine-all (Some site) (Ask query) lists f memo = (((ap length memo.1, held-fine site query (f query refl)), tt), omega arith)
   held-fine-all (Some site) Unknown lists f memo = (tt, omega arith)
   held-fine-all (Some site) Past lists f memo = (tt, omega arith)
-  held-fine-all (Some site) Bad lists f memo = (tt, omega arith)
   held-fine-all None (Ask query) lists f memo = (tt, omega arith)
   held-fine-all None Unknown lists f memo = (tt, omega arith)
   held-fine-all None Past lists f memo = (tt, omega arith)
-  held-fine-all None Bad lists f memo = (tt, omega arith)
 
-  own-fine : (line : ℕ) (asks : QuestionAsks) (lists : List (List Entry)) → IsNumber line → budget_asked asks ≤ 500000 → IsOwnMemo setup.design line asks lists
-      → AreFine setup.shards (own_sections setup line asks lists) × (length (own_sections setup line asks lists) ≤ 1)
-  own-fine line (kinds.First first) lists l b memo = (tt, omega arith)
-  own-fine line (kinds.Why why) lists l b memo = (tt, omega arith)
-  own-fine line (kinds.Stuck stuck) lists l b memo =
-      let d = setup.design in
-      held-fine-all (site_of d stuck) (stuck_verdict d line stuck) lists
-      (λ q is. window-small d.circuit.horizon line stuck.from stuck.to stuck.budget (number d.netlist stuck.name) q l (omega (arith, b)) is) memo
+  own-fine : (question : Question) (lists : List (List Entry)) → IsNumber question.line → question.window.budget ≤ 500000 → IsOwnMemo setup.design question lists
+      → AreFine setup.shards (own_sections setup question lists) × (length (own_sections setup question lists) ≤ 1)
+  own-fine question lists l b memo =
+      held-fine-all (site_of setup.design question.asks) (question_verdict setup.design question) lists (verdict-small setup.design question l b) memo
 
   unit-fine : (count : ℕ) (now next : Course) (unit : ScriptUnit) → HasLinesTo n unit → IsWithinLimits setup.design.circuit.horizon unit → IsServed setup now unit next → IsFineTo setup count now → IsFineTo setup (count + 1) next
   unit-fine count now next (units.Batch items) lines within served so =
@@ -223,18 +213,18 @@ module _ (setup : Setup) (design : IsDesign setup.design) (n : ℕ) (small : IsN
       record { fine = subst (AreFine setup.shards) (sym same) so.fine; few = omega (arith, so.few, ap length same) }
   unit-fine count now next (units.Question question) lines within served so =
       let d = setup.design in
-      let batch = question_batch setup question.line question.asks in
+      let batch = question_batch setup question in
       let line : IsNumber question.line = omega (arith, lines, small) in
       let narrow : IsNarrow batch = record {
         circuit = design.circuit;
         horizon = design.limits.horizon;
         signals = design.limits.signals;
-        queries = All-from_recursion IsSmall batch.queries (question-small d question.line question.asks line within);
+        queries = All-from_recursion IsSmall batch.queries (question-small d question line within.0);
       } in
       let section : SectionEntries = record { purpose = Asks batch; lists = served.lists } in
       let first = now.sections ++ section ∷ [] in
-      let own = own_sections setup question.line question.asks served.own_lists in
-      let more = own-fine question.line question.asks served.own_lists line within served.memo in
+      let own = own_sections setup question served.own_lists in
+      let more = own-fine question served.own_lists line within.0 served.memo in
       subst (IsFineTo setup (count + 1)) (sym served.leads) (record {
         fine = each-append (λ (section : SectionEntries). IsFine setup.shards section.purpose section.lists) first own (with-one now.sections (Asks batch) served.lists so.fine (served.count, narrow)) more.0;
         few = omega (arith, so.few, more.1, length-append now.sections (section ∷ []), length-append first own);

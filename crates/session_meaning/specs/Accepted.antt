@@ -1,29 +1,20 @@
 -- An explanation in a reply is a proof that the checker accepts.
 use Rattle.std.specs.Prelude.{◌≡◌, ⊤, ℕ, ◌≤◌, List, length}
-use Rattle.gate_values.specs.declared.Value.{Value}
-use Rattle.valid_intervals.specs.declared.SignalCell.{SignalCell}
 use Rattle.design.specs.Joined.{Joined}
-use Rattle.query_lines.specs.declared.line.Why.{Why}
-use Rattle.query_lines.specs.declared.unit.Asks.{Asks}
-use Rattle.query_lines.specs.declared.unit.Asks.TheVariants as kinds
+use Rattle.query_lines.specs.declared.line.Window.{Window}
 use Rattle.query_lines.specs.declared.unit.Unit.{Unit as ScriptUnit}
 use Rattle.query_lines.specs.declared.unit.Unit.TheVariants as units
-use Rattle.reply_lines.specs.Replies.{why_lines}
+use Rattle.reply_lines.specs.Replies.{explanation_lines}
+use Rattle.reply_lines.specs.declared.reply.Outcome.TheVariants.{Answer}
 use Rattle.reply_lines.specs.declared.reply.QuestionReply.{QuestionReply}
 use Rattle.reply_lines.specs.declared.reply.QuestionReply.TheVariants as told
-use Rattle.reply_lines.specs.declared.reply.WhyAnswer.TheVariants as explained
-use Rattle.reply_lines.specs.declared.reply.WhyReply.{WhyReply}
-use Rattle.reply_lines.specs.declared.reply.WhyReply.TheVariants as whys
 use Rattle.why_proofs.specs.Spelling.{Proof}
 use Rattle.why_proofs.specs.Justified.{IsJustifiedProof}
 use Rattle.why_proofs.specs.Verdicts.{IsTextOf, IsVerdict}
 use Rattle.why_proofs.specs.declared.checker.Checked.{Checked}
 use Rattle.why_proofs.specs.declared.checker.Checked.TheVariants.{Yes}
+use Rattle.session_meaning.specs.Explanations.{proof_of}
 use Rattle.session_meaning.specs.Session.{Setup, Course, IsServed, Session, Opened, Served}
-
--- what the reply claims of the signal in the question, at its time
-abbrev pub proof_of : Why → List SignalCell → Value → Proof
-proof_of why cells v = record { name = why.name; time = why.time; value = v; cells = cells }
 
 -- The text is that of this proof, and the proof is justified. If the text is not too long for
 -- the checker, every verdict that the checker may give is yes, with the proof's claim.
@@ -35,17 +26,9 @@ pub record IsAccepted (d : Joined) (text : List ℕ) (p : Proof) : Type 0 where
       → (answer : Checked) → IsVerdict d text answer → answer ≡ Yes signal p.time p.value
 
 -- the same for a reply that is an explanation
-abbrev pub IsAcceptedReply : Joined → Why → WhyReply → Type 0
-IsAcceptedReply d why whys.Unknown = ⊤
-IsAcceptedReply d why whys.Past = ⊤
-IsAcceptedReply d why (whys.Answer (explained.Budget budget)) = ⊤
-IsAcceptedReply d why (whys.Answer (explained.Proof cells v)) =
-    IsAccepted d (why_lines why (whys.Answer (explained.Proof cells v))) (proof_of why cells v)
-
--- the same for a question that asks for an explanation
-abbrev pub IsAcceptedQuestion : Joined → Asks → QuestionReply → Type 0
-IsAcceptedQuestion d (kinds.Why why) (told.Why reply) = IsAcceptedReply d why reply
-IsAcceptedQuestion d asks reply = ⊤
+abbrev pub IsAcceptedReply : Joined → Window → QuestionReply → Type 0
+IsAcceptedReply d window (told.Why (Answer found)) = IsAccepted d (explanation_lines window found) (proof_of window found)
+IsAcceptedReply d window reply = ⊤
 
 -- the same for a unit that asks for an explanation
 abbrev pub IsAcceptedUnit : (setup : Setup) (now next : Course) (unit : ScriptUnit)
@@ -54,7 +37,7 @@ IsAcceptedUnit setup now next (units.Batch items) served = ⊤
 IsAcceptedUnit setup now next (units.Trim most) served = ⊤
 IsAcceptedUnit setup now next units.Stats served = ⊤
 IsAcceptedUnit setup now next (units.Question question) served =
-    IsAcceptedQuestion setup.design question.asks served.reply
+    IsAcceptedReply setup.design question.window served.reply
 IsAcceptedUnit setup now next (units.Vcd file) served = ⊤
 
 -- the same for every unit of a session

@@ -1,5 +1,5 @@
 -- What explains why a signal has its value at a time, and which reply to the question is right.
-use Rattle.std.specs.Prelude.{◌≡◌, ⊤, ◌<◌, ◌⊎◌, List, length, All, AllPairs, Contains, Some, option_map}
+use Rattle.std.specs.Prelude.{◌≡◌, ◌<◌, ◌⊎◌, List, length, All, AllPairs, Contains, Some, option_map}
 use Rattle.gate_values.specs.declared.Value.{Value}
 use Rattle.valid_intervals.specs.declared.SignalCell.{SignalCell}
 use Rattle.circuit_meaning.specs.Circuit.{Circuit}
@@ -7,15 +7,14 @@ use Rattle.batch_meaning.specs.declared.Query.{Query}
 use Rattle.journal_meaning.specs.declared.Entry.{Entry}
 use Rattle.journal_meaning.specs.declared.Entry.TheVariants.{Told, Claimed, Filled, Evicted, Dropped, Spent}
 use Rattle.journal_meaning.specs.Answers.{IsClosed, IsSpent}
-use Rattle.query_lines.specs.declared.line.Why.{Why}
+use Rattle.query_lines.specs.declared.line.Window.{Window}
+use Rattle.why_proofs.specs.Spelling.{Proof}
 use Rattle.why_proofs.specs.Justified.{answer, AreJustified, IsJustifiedProof}
 use Rattle.design.specs.Joined.{Joined}
-use Rattle.reply_lines.specs.declared.reply.WhyAnswer.{WhyAnswer}
-use Rattle.reply_lines.specs.declared.reply.WhyAnswer.TheVariants.{Proof, Budget}
-use Rattle.reply_lines.specs.declared.reply.WhyReply.{WhyReply}
-use Rattle.reply_lines.specs.declared.reply.WhyReply.TheVariants as replies
+use Rattle.reply_lines.specs.declared.reply.Explanation.{Explanation}
+use Rattle.reply_lines.specs.declared.reply.Outcome.{Outcome}
 use Rattle.session_meaning.specs.declared.Verdict.{Verdict}
-use Rattle.session_meaning.specs.declared.Verdict.TheVariants.{Ask, Unknown, Past}
+use Rattle.session_meaning.specs.Replies.{IsOutcome}
 
 -- the entry tells or fills this cell of this signal
 abbrev pub Tells : SignalCell → Entry → Type 0
@@ -39,19 +38,19 @@ pub record Explains (c : Circuit) (es : List Entry) (q : Query) (cells : List Si
   pub told : All (λ x. (e : Entry) × Contains es e × Tells x e) cells
   pub closed : IsClosed c es q
 
--- The answer, over the entries of its batch: an explanation; or the query's budget, and the entries hold the cause.
-abbrev pub IsWhyAnswer : Circuit → List Entry → Query → WhyAnswer → Type 0
-IsWhyAnswer c es q (Proof cells v) = Explains c es q cells v
-IsWhyAnswer c es q (Budget budget) = (budget ≡ q.budget) × IsSpent es q
+-- The outcome of a query for one time, over the entries of its batch: an explanation; or the entries hold the cause of its refusal.
+abbrev pub IsExplained : Circuit → List Entry → Verdict → Outcome Explanation → Type 0
+IsExplained c es verdict outcome = IsOutcome (λ q found. Explains c es q found.cells found.value) (IsSpent es) verdict outcome
 
--- A proof in a reply is justified, so its checker need trust neither the session nor its memo.
-abbrev pub IsChecked : Joined → Why → Query → WhyAnswer → Type 0
-IsChecked d why q (Proof cells v) = IsJustifiedProof d (record { name = why.name; time = why.time; value = v; cells = cells }) q.signal
-IsChecked d why q (Budget budget) = ⊤
+-- what an explanation claims of the signal in the question, at its time
+abbrev pub proof_of : Window → Explanation → Proof
+proof_of window found = record { name = window.name; time = window.from; value = found.value; cells = found.cells }
 
--- The reply to a question for an explanation, by the verdict on its time.
-abbrev pub IsWhyReply : Joined → List Entry → Verdict → Why → WhyReply → Type 0
-IsWhyReply d es (Ask query) why (replies.Answer answer) = IsWhyAnswer d.circuit es query answer × IsChecked d why query answer
-IsWhyReply d es Unknown why replies.Unknown = ⊤
-IsWhyReply d es Past why replies.Past = ⊤
-IsWhyReply d es verdict why reply = ⊥
+-- The answer is an explanation and a justified proof, so its checker need trust neither the session nor its memo.
+pub record IsExplanation (d : Joined) (es : List Entry) (window : Window) (q : Query) (found : Explanation) : Type 0 where
+  pub explains : Explains d.circuit es q found.cells found.value
+  pub justified : IsJustifiedProof d (proof_of window found) q.signal
+
+-- The outcome of a question for an explanation, by the verdict on its window.
+abbrev pub IsWhyOutcome : Joined → List Entry → Window → Verdict → Outcome Explanation → Type 0
+IsWhyOutcome d es window verdict outcome = IsOutcome (IsExplanation d es window) (IsSpent es) verdict outcome

@@ -1,40 +1,49 @@
--- Questions, by their kinds: the queries of their batches, the right replies, and what a second memo records.
-use Rattle.std.specs.Prelude.{◌≡◌, ℕ, List, [], map, Option, None}
+-- Questions, by what they ask: the queries of their batches, the right replies, and what a second memo records.
+use Rattle.std.specs.Prelude.{List, [], map, Option, Some, None}
 use Rattle.batch_meaning.specs.declared.Query.{Query}
 use Rattle.batch_meaning.specs.Batches.{Site}
 use Rattle.journal_meaning.specs.declared.Entry.{Entry}
-use Rattle.query_lines.specs.declared.unit.Asks.{Asks}
-use Rattle.query_lines.specs.declared.unit.Asks.TheVariants as kinds
+use Rattle.query_lines.specs.declared.line.Asks.{Asks}
+use Rattle.query_lines.specs.declared.line.Asks.TheVariants as kinds
+use Rattle.query_lines.specs.declared.line.Window.{Window}
+use Rattle.query_lines.specs.declared.unit.Question.{Question}
 use Rattle.reply_lines.specs.declared.reply.QuestionReply.{QuestionReply}
 use Rattle.reply_lines.specs.declared.reply.QuestionReply.TheVariants as told
 use Rattle.design.specs.Joined.{Joined}
-use Rattle.session_meaning.specs.Verdicts.{first_verdict, why_verdict, site_of, stuck_verdict, asked_queries, asked_at}
-use Rattle.session_meaning.specs.FirstTimes.{up_to_first, IsFirstReply}
-use Rattle.session_meaning.specs.Explanations.{IsWhyReply}
+use Rattle.session_meaning.specs.declared.Verdict.{Verdict}
+use Rattle.session_meaning.specs.Verdicts.{question_verdict, site_of, asked_queries}
+use Rattle.session_meaning.specs.FirstTimes.{up_to_first, IsFirstOutcome}
+use Rattle.session_meaning.specs.Explanations.{IsWhyOutcome}
 use Rattle.session_meaning.specs.StuckSignals.{IsStuckReply, IsHeldMemo}
 
--- The queries of the batch: for a first time the query up to that time, for an explanation that of the one time, and for a stuck signal
--- that of the window, if the site is known.
-abbrev pub question_queries : Joined → ℕ → Asks → List Query
-question_queries d line (kinds.First first) = map (λ query. up_to_first d.circuit query first.value) (asked_queries (first_verdict d line first))
-question_queries d line (kinds.Why why) = asked_queries (why_verdict d line why)
-question_queries d line (kinds.Stuck stuck) = asked_at (site_of d stuck) (stuck_verdict d line stuck)
+-- none if the site is unknown
+abbrev pub queries_at : Option Site → List Query → List Query
+queries_at None queries = []
+queries_at (Some site) queries = queries
 
--- the site of the batch: with a stuck signal, the batch asks only for what is free of it
-abbrev pub question_site : Joined → Asks → Option Site
-question_site d (kinds.First first) = None
-question_site d (kinds.Why why) = None
-question_site d (kinds.Stuck stuck) = site_of d stuck
+-- The queries of the batch, given the query of the window: for a first time the query up to that time, and for a stuck signal none if the
+-- site is unknown.
+abbrev pub kind_queries : Joined → Asks → List Query → List Query
+kind_queries d (kinds.First value) queries = map (λ query. up_to_first d.circuit query value) queries
+kind_queries d kinds.Why queries = queries
+kind_queries d (kinds.Stuck site value) queries = queries_at (site_of d (kinds.Stuck site value)) queries
 
--- The reply to the question of this line, over the entries of its batch and of a second memo, is of its kind, and right.
-abbrev pub IsRightReply : Joined → ℕ → Asks → List Entry → List Entry → QuestionReply → Type 0
-IsRightReply d line (kinds.First first) es own (told.First reply) = IsFirstReply d.circuit es (first_verdict d line first) first.value reply
-IsRightReply d line (kinds.Why why) es own (told.Why reply) = IsWhyReply d es (why_verdict d line why) why reply
-IsRightReply d line (kinds.Stuck stuck) es own (told.Stuck reply) = IsStuckReply d.circuit (site_of d stuck) (stuck_verdict d line stuck) es own reply
-IsRightReply d line asks es own reply = ⊥
+abbrev pub question_queries : Joined → Question → List Query
+question_queries d question = kind_queries d question.asks (asked_queries (question_verdict d question))
 
--- The lists of a second memo: a question for a wave with a stuck signal has them, and other questions have none.
-abbrev pub IsOwnMemo : Joined → ℕ → Asks → List (List Entry) → Type 0
-IsOwnMemo d line (kinds.First first) own_lists = own_lists ≡ []
-IsOwnMemo d line (kinds.Why why) own_lists = own_lists ≡ []
-IsOwnMemo d line (kinds.Stuck stuck) own_lists = IsHeldMemo d.circuit (site_of d stuck) (stuck_verdict d line stuck) own_lists
+-- The reply, by the verdict on the window, is of the kind of what is asked, and right.
+abbrev pub IsRightBy : Joined → List Entry → List Entry → Window → Verdict → Asks → QuestionReply → Type 0
+IsRightBy d es own window verdict (kinds.First value) (told.First outcome) = IsFirstOutcome d.circuit es value verdict outcome
+IsRightBy d es own window verdict kinds.Why (told.Why outcome) = IsWhyOutcome d es window verdict outcome
+IsRightBy d es own window verdict (kinds.Stuck site value) reply =
+    IsStuckReply d.circuit es own verdict (site_of d (kinds.Stuck site value)) reply
+IsRightBy d es own window verdict asks reply = ⊥
+
+-- the same of the reply to a question, over the entries of its batch and of a second memo
+abbrev pub IsRightReply : Joined → Question → List Entry → List Entry → QuestionReply → Type 0
+IsRightReply d question es own reply =
+    IsRightBy d es own question.window (question_verdict d question) question.asks reply
+
+-- The lists of a second memo: a question for a wave with a stuck signal has them, and other questions, which have no site, have none.
+abbrev pub IsOwnMemo : Joined → Question → List (List Entry) → Type 0
+IsOwnMemo d question own_lists = IsHeldMemo d.circuit (site_of d question.asks) (question_verdict d question) own_lists

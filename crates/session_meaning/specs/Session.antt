@@ -11,8 +11,6 @@ use Rattle.batch_meaning.specs.Batches.{Batch, Site}
 use Rattle.journal_meaning.specs.Replay.{IsLegalBatch, IsLegalTrim}
 use Rattle.journal_meaning.specs.Sections.{Purpose, Asks, Trims, Forces, SectionEntries, own_entries, cells_after, of_batch}
 use Rattle.journal_meaning.specs.Counts.{count}
-use Rattle.query_lines.specs.declared.unit.Asks.{Asks as QuestionAsks}
-use Rattle.query_lines.specs.declared.unit.Asks.TheVariants as kinds
 use Rattle.query_lines.specs.declared.unit.Question.{Question}
 use Rattle.query_lines.specs.declared.unit.Item.{Item}
 use Rattle.query_lines.specs.declared.unit.Unit.{Unit as ScriptUnit}
@@ -25,10 +23,10 @@ use Rattle.reply_lines.specs.Replies.{question_lines, vcd_line, trimmed_line, st
 use Rattle.design.specs.Joined.{Joined}
 use Rattle.vcd_answers.specs.Wires.{Wire}
 use Rattle.vcd_answers.specs.Dumps.{vcd_of}
-use Rattle.session_meaning.specs.Verdicts.{verdict_of, queries_of, site_of, stuck_verdict}
+use Rattle.session_meaning.specs.Verdicts.{verdict_of, queries_of, question_verdict, site_of}
 use Rattle.session_meaning.specs.Replies.{IsReply, replies_text}
 use Rattle.session_meaning.specs.Dumps.{wires_of}
-use Rattle.session_meaning.specs.Questions.{question_queries, question_site, IsRightReply, IsOwnMemo}
+use Rattle.session_meaning.specs.Questions.{question_queries, IsRightReply, IsOwnMemo}
 use Rattle.session_meaning.specs.StuckSignals.{held_batch}
 use Rattle.session_meaning.specs.declared.Verdict.{Verdict}
 use Rattle.session_meaning.specs.declared.Verdict.TheVariants.{Ask}
@@ -94,14 +92,14 @@ pub record IsBatchServed (setup : Setup) (now next : Course) (items : List Item)
 
 -- A question.
 
--- the batch of a question, given its line and what it asks
-abbrev pub question_batch : Setup → ℕ → QuestionAsks → Batch
-question_batch setup line asks = record {
+-- its batch: with a stuck signal, it asks only for what is free of that
+abbrev pub question_batch : Setup → Question → Batch
+question_batch setup question = record {
   circuit = setup.design.circuit;
   shards = setup.shards;
   capacity = setup.capacity;
-  queries = question_queries setup.design line asks;
-  site = question_site setup.design asks;
+  queries = question_queries setup.design question;
+  site = site_of setup.design question.asks;
 }
 
 -- the section of the second memo for a stuck signal, if a query is asked
@@ -109,12 +107,10 @@ abbrev pub held_sections : Setup → Option Site → Verdict → List (List Entr
 held_sections setup (Some site) (Ask query) lists = record { purpose = Forces (held_batch setup.design.circuit site query); lists = lists } ∷ []
 held_sections setup site verdict lists = []
 
--- the sections of a second memo; a question of another kind has none
-abbrev pub own_sections : Setup → ℕ → QuestionAsks → List (List Entry) → List SectionEntries
-own_sections setup line (kinds.First first) own_lists = []
-own_sections setup line (kinds.Why why) own_lists = []
-own_sections setup line (kinds.Stuck stuck) own_lists =
-    held_sections setup (site_of setup.design stuck) (stuck_verdict setup.design line stuck) own_lists
+-- the sections of a second memo; a question without a stuck signal has none
+abbrev pub own_sections : Setup → Question → List (List Entry) → List SectionEntries
+own_sections setup question own_lists =
+    held_sections setup (site_of setup.design question.asks) (question_verdict setup.design question) own_lists
 
 -- Each shard has a list of entries, legal from the cells that the earlier sections leave, and so has the second memo, if there is one. The
 -- reply is right.
@@ -124,12 +120,12 @@ pub record IsQuestionServed (setup : Setup) (now next : Course) (question : Ques
   pub reply : QuestionReply
   pub count : length lists ≡ setup.shards
   pub legal : (shard : ℕ) → shard < setup.shards
-      → IsLegalBatch (question_batch setup question.line question.asks) shard (cells_after shard now.sections) (slice_index_or lists shard [])
-  pub memo : IsOwnMemo setup.design question.line question.asks own_lists
-  pub right : IsRightReply setup.design question.line question.asks (of_batch lists) (of_batch own_lists) reply
+      → IsLegalBatch (question_batch setup question) shard (cells_after shard now.sections) (slice_index_or lists shard [])
+  pub memo : IsOwnMemo setup.design question own_lists
+  pub right : IsRightReply setup.design question (of_batch lists) (of_batch own_lists) reply
   pub leads : next ≡ with_sections
-      (with_section now (Asks (question_batch setup question.line question.asks)) lists (question_lines question.asks reply))
-      (own_sections setup question.line question.asks own_lists)
+      (with_section now (Asks (question_batch setup question)) lists (question_lines question reply))
+      (own_sections setup question own_lists)
 
 -- A trim.
 

@@ -13,12 +13,13 @@ use Rattle.journal_meaning.specs.declared.Entry.TheVariants.{Claimed, Filled}
 use Rattle.journal_meaning.specs.Answers.{IsCovered, ChildrenCovered, IsSpent}
 use Rattle.journal_meaning.specs.Grown.{IsSaid}
 use Rattle.journal_meaning.specs.Replay.{IsLegalBatch}
-use Rattle.reply_lines.specs.declared.reply.StuckAnswer.{StuckAnswer}
-use Rattle.reply_lines.specs.declared.reply.StuckAnswer.TheVariants.{Wave, Budget}
-use Rattle.reply_lines.specs.declared.reply.StuckReply.{StuckReply}
-use Rattle.reply_lines.specs.declared.reply.StuckReply.TheVariants as replies
+use Rattle.circuit_meaning.specs.declared.Run.{Run}
+use Rattle.reply_lines.specs.declared.reply.Outcome.{Outcome}
+use Rattle.reply_lines.specs.declared.reply.QuestionReply.{QuestionReply}
+use Rattle.reply_lines.specs.declared.reply.QuestionReply.TheVariants as told
 use Rattle.session_meaning.specs.declared.Verdict.{Verdict}
-use Rattle.session_meaning.specs.declared.Verdict.TheVariants.{Ask, Unknown, Past}
+use Rattle.session_meaning.specs.declared.Verdict.TheVariants.{Ask}
+use Rattle.session_meaning.specs.Replies.{IsOutcome}
 
 -- The question is asked of two memos: the session's memo for what is free of the site, and a second memo for all else. The second memo is
 -- one shard. It begins empty and ends with the question.
@@ -42,11 +43,13 @@ pub record IsClosedBy (c : Circuit) (site : Site) (es own : List Entry) (q : Que
   pub children : (p : Point) (x : Cell) → Contains own (Filled q.number p x) → All (IsCoveredBy c site es own) (children (stuck_circuit c site) p.signal p.time)
   pub free : ChildrenCovered c es q.number
 
--- The answer, over the entries of both memos: the wave in the stuck circuit, and the query is closed; or the query's budget, and the
--- entries of one memo hold the cause.
-abbrev pub IsStuckAnswer : Circuit → Site → List Entry → List Entry → Query → StuckAnswer → Type 0
-IsStuckAnswer c site es own q (Wave runs) = (runs ≡ wave (stuck_circuit c site) q.signal q.from q.to) × IsClosedBy c site es own q
-IsStuckAnswer c site es own q (Budget budget) = (budget ≡ q.budget) × (IsSpent es q ⊎ IsSpent own q)
+-- The answer, over the entries of both memos: the wave in the stuck circuit, and the query is closed.
+abbrev pub IsStuckWave : Circuit → Site → List Entry → List Entry → Query → List Run → Type 0
+IsStuckWave c site es own q runs = (runs ≡ wave (stuck_circuit c site) q.signal q.from q.to) × IsClosedBy c site es own q
+
+-- The outcome, by the verdict on the window: the answer; or the entries of one memo hold the cause of its refusal.
+abbrev pub IsStuckOutcome : Circuit → Site → List Entry → List Entry → Verdict → Outcome (List Run) → Type 0
+IsStuckOutcome c site es own verdict outcome = IsOutcome (IsStuckWave c site es own) (λ q. IsSpent es q ⊎ IsSpent own q) verdict outcome
 
 -- the second memo evaluates nothing that is free of the site
 abbrev pub NoneIsFree : Circuit → Site → List Entry → Type 0
@@ -57,13 +60,11 @@ pub record IsHeldJournal (c : Circuit) (site : Site) (query : Query) (own : List
   pub legal : IsLegalBatch (held_batch c site query) 0 [] own
   pub reached : NoneIsFree c site own
 
--- The reply to the question, by its site and the verdict on its window.
-abbrev pub IsStuckReply : Circuit → Option Site → Verdict → List Entry → List Entry → StuckReply → Type 0
-IsStuckReply c None verdict es own replies.UnknownSite = ⊤
-IsStuckReply c (Some site) (Ask query) es own (replies.Answer answer) = IsStuckAnswer c site es own query answer
-IsStuckReply c (Some site) Unknown es own replies.Unknown = ⊤
-IsStuckReply c (Some site) Past es own replies.Past = ⊤
-IsStuckReply c site verdict es own reply = ⊥
+-- The reply to the question, by its site.
+abbrev pub IsStuckReply : Circuit → List Entry → List Entry → Verdict → Option Site → QuestionReply → Type 0
+IsStuckReply c es own verdict (Some site) (told.Stuck outcome) = IsStuckOutcome c site es own verdict outcome
+IsStuckReply c es own verdict None told.UnknownSite = ⊤
+IsStuckReply c es own verdict site reply = ⊥
 
 -- The lists of the second memo: that of its one shard if a query is asked, and none otherwise.
 abbrev pub IsHeldMemo : Circuit → Option Site → Verdict → List (List Entry) → Type 0

@@ -1,62 +1,54 @@
--- What becomes of an item of a batch: the query of its line, or why there is none.
+-- What becomes of the window that a line asks for: a query, or why there is none.
 use Rattle.std.specs.Prelude.{ℕ, ◌+◌, nat_le, List, [], ◌∷◌, flat_map, Option, Some, None, option_map, if◌then◌else◌}
 use Rattle.batch_meaning.specs.declared.Query.{Query}
 use Rattle.batch_meaning.specs.Batches.{Site}
-use Rattle.query_lines.specs.declared.line.What.{What}
-use Rattle.query_lines.specs.declared.line.What.TheVariants as whats
-use Rattle.query_lines.specs.declared.line.First.{First}
-use Rattle.query_lines.specs.declared.line.Why.{Why}
-use Rattle.query_lines.specs.declared.line.Stuck.{Stuck}
+use Rattle.query_lines.specs.declared.line.Asks.{Asks}
+use Rattle.query_lines.specs.declared.line.Asks.TheVariants.{Stuck}
+use Rattle.query_lines.specs.declared.line.Window.{Window}
 use Rattle.query_lines.specs.declared.unit.Item.{Item}
+use Rattle.query_lines.specs.declared.unit.Question.{Question}
+use Rattle.query_lines.specs.Units.{asked_window}
 use Rattle.design.specs.Joined.{Joined}
 use Rattle.design.specs.Join.{number}
 use Rattle.session_meaning.specs.declared.Verdict.{Verdict}
-use Rattle.session_meaning.specs.declared.Verdict.TheVariants.{Ask, Unknown, Past, Bad}
+use Rattle.session_meaning.specs.declared.Verdict.TheVariants.{Ask, Unknown, Past}
 
 -- the verdict on a window of the signal, if there is one: it is asked if it ends no later than the horizon, and past otherwise
-abbrev pub window_verdict : ℕ → ℕ → ℕ → ℕ → ℕ → Option ℕ → Verdict
-window_verdict horizon line from to budget None = Unknown
-window_verdict horizon line from to budget (Some signal) =
-    if nat_le to (horizon + 1)
-    then Ask (record { number = line; signal = signal; from = from; to = to; budget = budget })
+abbrev pub window_verdict : ℕ → ℕ → Window → Option ℕ → Verdict
+window_verdict horizon line window None = Unknown
+window_verdict horizon line window (Some signal) =
+    if nat_le window.to (horizon + 1)
+    then Ask (record { number = line; signal = signal; from = window.from; to = window.to; budget = window.budget })
     else Past
 
--- the verdict on what a line asks; an instant t is the window from t to t + 1
-abbrev pub what_verdict : Joined → ℕ → What → Verdict
-what_verdict d line (whats.Wave name from to budget) = window_verdict d.circuit.horizon line from to budget (number d.netlist name)
-what_verdict d line (whats.At name time budget) = window_verdict d.circuit.horizon line time (time + 1) budget (number d.netlist name)
-what_verdict d line whats.Bad = Bad
+-- the verdict on the window that the line of this number asks for
+abbrev pub verdict : Joined → ℕ → Window → Verdict
+verdict d line window = window_verdict d.circuit.horizon line window (number d.netlist window.name)
 
-abbrev pub verdict_of : Joined → Item → Verdict
-verdict_of d item = what_verdict d item.line item.what
+-- that on an item; a bad line asks for no window
+abbrev pub verdict_of : Joined → Item → Option Verdict
+verdict_of d item = option_map (verdict d item.line) (asked_window item.what)
 
--- the verdict on a question for a first time, given the number of its line
-abbrev pub first_verdict : Joined → ℕ → First → Verdict
-first_verdict d line first = window_verdict d.circuit.horizon line first.from first.to first.budget (number d.netlist first.name)
+-- that on a question
+abbrev pub question_verdict : Joined → Question → Verdict
+question_verdict d question = verdict d question.line question.window
 
--- the verdict on a question for an explanation, which asks for one time
-abbrev pub why_verdict : Joined → ℕ → Why → Verdict
-why_verdict d line why = window_verdict d.circuit.horizon line why.time (why.time + 1) why.budget (number d.netlist why.name)
-
--- the verdict on a question for a wave with a stuck signal: the stuck signal, if there is one of that name, and the query
-abbrev pub site_of : Joined → Stuck → Option Site
-site_of d stuck = option_map (λ signal. record { signal = signal; value = stuck.value }) (number d.netlist stuck.site)
-
-abbrev pub stuck_verdict : Joined → ℕ → Stuck → Verdict
-stuck_verdict d line stuck = window_verdict d.circuit.horizon line stuck.from stuck.to stuck.budget (number d.netlist stuck.name)
+-- the stuck signal that is asked for, if there is one of that name
+abbrev pub site_of : Joined → Asks → Option Site
+site_of d (Stuck site value) = option_map (λ signal. record { signal = signal; value = value }) (number d.netlist site)
+site_of d asks = None
 
 -- the query that is asked, if there is one
 abbrev pub asked_queries : Verdict → List Query
 asked_queries (Ask query) = query ∷ []
 asked_queries Unknown = []
 asked_queries Past = []
-asked_queries Bad = []
 
--- the same, but none if the site is unknown
-abbrev pub asked_at : Option Site → Verdict → List Query
-asked_at None verdict = []
-asked_at (Some site) verdict = asked_queries verdict
+-- the same of an item
+abbrev pub item_queries : Option Verdict → List Query
+item_queries None = []
+item_queries (Some verdict) = asked_queries verdict
 
 -- the queries of a batch with these items
 abbrev pub queries_of : Joined → List Item → List Query
-queries_of d items = flat_map (λ item. asked_queries (verdict_of d item)) items
+queries_of d items = flat_map (λ item. item_queries (verdict_of d item)) items

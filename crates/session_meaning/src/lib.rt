@@ -3,8 +3,8 @@
 //! A session serves the units of a script one after another, over a memo whose shards keep cells from unit to unit. It writes two texts
 //! that only grow, the replies and the journal, and up to three files, its dumps. A dump has the waves of the last batch before it.
 //!
-//! - [`Verdict`] is what becomes of an item of a batch, and `specs/Verdicts` gives that of each item. `specs/Replies` says which reply is
-//!   right, over the entries of the item's batch.
+//! - [`Verdict`] is what becomes of a window that a line asks for, and `specs/Verdicts` gives that of each item and question.
+//!   `specs/Replies` says which outcome of a window is right, and which reply to an item, over the entries of its batch.
 //! - `specs/Written` is how sections are written into the journal: numbered, each by its kind.
 //! - `specs/Dumps` is what a dump shows of a batch: a wire, as `vcd_answers` defines it, for each wave in the replies.
 //! - `specs/Questions` says what a question asks and which reply to it is right, by its kind: `specs/FirstTimes`, `specs/Explanations`, and
@@ -32,17 +32,15 @@ ghost use Rattle.session_meaning.specs.Laws.{DumpsShowOwnWaves, SessionsAreFruga
 use batch_meaning::Query;
 use query_lines::{script_units_are_fit, units_have_own_lines};
 
-/// What becomes of an item: a query is asked, or none.
+/// What becomes of a window that a line asks for: a query is asked, or none.
 #[derive(Clone, Copy, Debug, PartialEq, Eq)]
 pub enum Verdict {
-    /// The query of a line. Its window ends no later than the horizon.
+    /// The query of the line. Its window ends no later than the horizon.
     Ask(Query),
     /// No signal has the name.
     Unknown,
     /// A signal has the name, but the window ends after the horizon.
     Past,
-    /// The line has none of the forms.
-    Bad,
 }
 
 /// In a session each shard's lists are legal, each from the cells that the earlier lists leave.

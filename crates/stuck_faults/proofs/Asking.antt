@@ -46,9 +46,9 @@ use Rattle.asked_cells.specs.inner.Standings.{live}
 use Rattle.asked_cells.proofs.Lists.{each-from}
 use Rattle.session_meaning.specs.StuckSignals.{held_batch, NoneIsFree}
 use Rattle.stuck_faults.specs.Asks.{Session, Own}
-use Rattle.stuck_faults.specs.declared.both.Question.{Question}
+use Rattle.stuck_faults.specs.declared.both.StuckQuery.{StuckQuery}
 use Rattle.stuck_faults.specs.inner.Both.{site_in, circuit_of, start_at, nothing, Mirrors, Asks, GivesUp, AreKept}
-use Rattle.stuck_faults.specs.inner.Turns.{AsksFurther, IsNotFree}
+use Rattle.stuck_faults.specs.inner.Steps.{AsksFurther, IsNotFree}
 use Rattle.stuck_faults.proofs.Holding.{Holds, holds-heard, holds-claimed, holds-rest}
 use Rattle.stuck_faults.proofs.Held.{held-lawful}
 use Rattle.stuck_faults.proofs.Mirrors.{mirrors-more, mirrors-kept, mirrors-heard}
@@ -93,7 +93,7 @@ pub nothing-fed : (es : List Entry) → AreFed nothing es
 unfolding asked_children children
 nothing-fed es = λ q p x h. All-nil (IsSaid es)
 
-module _ (b : Batch) (opening : ℕ → List SignalCell) (question : Question) (time : ℕ) where
+module _ (b : Batch) (opening : ℕ → List SignalCell) (question : StuckQuery) (time : ℕ) where
   abbrev q : Query
   q = question.query
 

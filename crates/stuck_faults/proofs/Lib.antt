@@ -3,7 +3,7 @@ mod Lawful
 mod Mirrors
 mod Holding
 mod Asking
-mod Turns
+mod Steps
 mod Resting
 mod Walks
 mod Sites

@@ -38,7 +38,7 @@ use Rattle.asked_cells.specs.Memos.{AreFreeShards, at_time, entries_of}
 use Rattle.asked_cells.proofs.Lists.{each-from}
 use Rattle.session_meaning.specs.StuckSignals.{NoneIsFree, IsCoveredBy}
 use Rattle.stuck_faults.specs.Asks.{RefusedBy, Neither, Session, Own, is_refused, is_session, IsOutcomeOf, HearsRoot}
-use Rattle.stuck_faults.specs.declared.both.Question.{Question}
+use Rattle.stuck_faults.specs.declared.both.StuckQuery.{StuckQuery}
 use Rattle.stuck_faults.specs.inner.Both.{site_in, circuit_of, start_at, nothing, AreAllFed, Rests, LeavesOwn, IsRefused, Asks, IsGivingUpBy, GivesUp, Extends}
 use Rattle.stuck_faults.proofs.Holding.{Holds, holds-rest, holds-none}
 use Rattle.stuck_faults.proofs.Mirrors.{mirrors-covered, mirrors-all}
@@ -58,7 +58,7 @@ some-root d q time e is =
     let there : roots_left d (record { signal = q.signal; start = time; stop = time + 1 }) time ≡ at_time q time ∷ [] = rw (one, low, ev) refl in
     cc (there, is)
 
-module _ (b : Batch) (opening : ℕ → List SignalCell) (question : Question) where
+module _ (b : Batch) (opening : ℕ → List SignalCell) (question : StuckQuery) where
   abbrev q : Query
   q = question.query
 

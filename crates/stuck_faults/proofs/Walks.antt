@@ -21,7 +21,7 @@ use Rattle.plan_machine.proofs.Underway.{each-contains}
 use Rattle.memo_shards.specs.KeptShards.{KeptShard, IsKnownShard}
 use Rattle.window_walks.specs.Walks.{Walk, IsWalked}
 use Rattle.asked_cells.specs.Memos.{at_time}
-use Rattle.stuck_faults.specs.declared.both.Question.{Question}
+use Rattle.stuck_faults.specs.declared.both.StuckQuery.{StuckQuery}
 use Rattle.stuck_faults.specs.inner.Both.{AreAllFed, AreKept, site_in}
 
 -- what the entries say is right
@@ -62,14 +62,14 @@ module _ (c : Circuit) (ok : IsCircuit c) (site : Site) (es own : List Entry) (r
       by (inr k) = inr (h.0, k)
 
 -- Between two cells: the walk is that of the window, it stands at a root, and the times before it are covered.
-pub record IsWalking (c : Circuit) (question : Question) (es own : List Entry) (walk : Walk) : Type 0 where
+pub record IsWalking (c : Circuit) (question : StuckQuery) (es own : List Entry) (walk : Walk) : Type 0 where
   pub start : walk.start ≡ question.query.from
   pub stop : walk.stop ≡ question.query.to
   pub walked : IsWalked (stuck_circuit c (site_in question)) question.query.signal walk
   pub root : walk.time < question.query.to → IsRoot (stuck_circuit c (site_in question)) (window_of question.query) walk.time
   pub covered : (u : ℕ) → question.query.from ≤ u → u < walk.time → IsCoveredBy c (site_in question) es own (at_time question.query u)
 
-module _ (c : Circuit) (ok : IsCircuit c) (question : Question) (within : question.query.to ≤ c.horizon + 1) where
+module _ (c : Circuit) (ok : IsCircuit c) (question : StuckQuery) (within : question.query.to ≤ c.horizon + 1) where
   abbrev q : Query
   q = question.query
 

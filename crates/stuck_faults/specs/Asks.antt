@@ -15,14 +15,7 @@ use Rattle.plan_machine.specs.Shards.{Shard}
 use Rattle.plan_machine.specs.Alone.{IsRefusedAlone}
 use Rattle.plan_machine.specs.Settle.{AreFreed, entries_in, charge_of, root_start}
 use Rattle.asked_cells.specs.Asked.{AsksOn}
-use Rattle.reply_lines.specs.declared.reply.StuckAnswer.{StuckAnswer}
-use Rattle.reply_lines.specs.declared.reply.StuckAnswer.TheVariants.{Wave, Budget}
 use Rattle.session_meaning.specs.StuckSignals.{stuck_circuit, IsCoveredBy}
-
--- whether the answer says that the budget was spent
-abbrev pub is_budget : StuckAnswer → Bool
-is_budget (Wave runs) = false
-is_budget (Budget n) = true
 
 -- which of the two memos refused a strand: its own did at a point
 pub data RefusedBy : Type 0 where

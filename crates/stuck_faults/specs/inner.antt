@@ -1,3 +1,3 @@
 pub mod Both
 pub mod Sites
-pub mod Turns
+pub mod Steps

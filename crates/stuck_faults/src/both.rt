@@ -8,7 +8,7 @@ use memo_shards::Shard;
 
 /// A query, where the signal `site` is stuck at a value.
 #[derive(Clone, Copy)]
-pub struct Question {
+pub struct StuckQuery {
     pub query: Query,
     pub site: u32,
     pub value: Value,

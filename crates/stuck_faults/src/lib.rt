@@ -21,7 +21,7 @@
 mod asked;
 mod both;
 mod root;
-mod turn;
+mod step;
 mod wave;
 
 pub use asked::{AskedDesign, LastSite};

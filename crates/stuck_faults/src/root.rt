@@ -12,8 +12,8 @@ ghost use Rattle.stuck_faults.specs.Asks.{RefusedBy, HearsRoot};
 ghost use Rattle.stuck_faults.specs.inner.Both.{IsAsked, Rests, GivesUp, LeavesOwn, IsRefused, AreKept, Extends, circuit_of, site_in};
 
 use crate::asked::AskedDesign;
-use crate::both::{Memos, Question};
-use crate::turn::{Turn, take_turn};
+use crate::both::{Memos, StuckQuery};
+use crate::step::{AfterStep, take_step};
 use demand_points::{BatchName, Strand};
 use design::Design;
 use memo_shards::Step;
@@ -28,7 +28,7 @@ fn drop_all<B: BatchName, H: BatchName>(
     strand: &mut Strand<H>,
     design: &Design,
     held: &Design,
-    question: Question,
+    question: StuckQuery,
     time: u32,
 )
     requires asked { IsAsked B.batch H.batch question design.now.circuit held.now.circuit }
@@ -65,7 +65,7 @@ pub fn hear_root<B: BatchName, H: BatchName>(
     memos: &mut Memos<B, H>,
     design: &mut AskedDesign<'_>,
     held: &Design,
-    question: Question,
+    question: StuckQuery,
     time: u32,
 ) -> Result<Option<Cell>, OutOfMemory>
     requires asked { IsAsked B.batch H.batch question design.old.circuit held.now.circuit }
@@ -109,10 +109,10 @@ pub fn hear_root<B: BatchName, H: BatchName>(
         query.budget,
         memos.filled,
     );
-    'turns: loop {
-        match take_turn(alloc, memos, &mut strand, design, held, question, time)? {
-            Turn::GoesOn => {}
-            Turn::Ended => {
+    'steps: loop {
+        match take_step(alloc, memos, &mut strand, design, held, question, time)? {
+            AfterStep::GoesOn => {}
+            AfterStep::Ended => {
                 strand.facts();
                 memos.filled = strand.charge();
                 let Some(cell) = strand.last() else {
@@ -120,7 +120,7 @@ pub fn hear_root<B: BatchName, H: BatchName>(
                 };
                 return Ok(Some(cell));
             }
-            Turn::Refused => {
+            AfterStep::Refused => {
                 drop_all(memos, &mut strand, design.design(), held, question, time);
                 return Ok(None);
             }

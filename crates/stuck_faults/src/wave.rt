@@ -2,17 +2,19 @@
 
 ghost use Rattle.std.specs.Prelude.{◌≡◌, ◌<◌, ◌∷◌, [], Some, length, IfOk, OnOk};
 ghost use Rattle.batch_meaning.specs.Lawful.{IsLawful};
-ghost use Rattle.session_meaning.specs.StuckSignals.{IsHeldJournal, IsStuckAnswer, NoneIsFree};
+ghost use Rattle.session_meaning.specs.StuckSignals.{IsHeldJournal, IsStuckOutcome, NoneIsFree};
+ghost use Rattle.session_meaning.specs.declared.Verdict.TheVariants.{Ask};
+ghost use Rattle.reply_lines.specs.Replies.{is_budget};
 ghost use Rattle.plan_machine.specs.Sound.{IsFresh};
 ghost use Rattle.plan_machine.specs.Settle.{entries_in};
 ghost use Rattle.plan_core.specs.Parts.{shards_in};
 ghost use Rattle.asked_cells.specs.Shards.{AreNumbered, AreUnused};
 ghost use Rattle.asked_cells.specs.Memos.{AreFreeShards, IsChargedMemo, entries_of};
-ghost use Rattle.stuck_faults.specs.Asks.{AsksRoots, AsksBoth, is_budget};
+ghost use Rattle.stuck_faults.specs.Asks.{AsksRoots, AsksBoth};
 ghost use Rattle.stuck_faults.specs.inner.Both.{IsAsked, Rests, site_in};
 
 use crate::asked::AskedDesign;
-use crate::both::{Memos, Question};
+use crate::both::{Memos, StuckQuery};
 use crate::root::hear_root;
 use asked_cells::{Memo, Wanted, begin};
 use batch_meaning::Query;
@@ -23,18 +25,18 @@ use gate_values::Value;
 use journal_meaning::Entry;
 use memo_shards::Shard;
 use owned_text::OutOfMemory;
-use reply_lines::StuckAnswer;
+use reply_lines::Outcome;
 use std::alloc::Global;
 use std::marker::Brand;
-use window_walks::WindowWalk;
+use window_walks::{Runs, WindowWalk};
 
 /// How many cells the memo of its own has room for.
 const OWN_CELLS: u32 = 65_536;
 
-/// The answer, the session's shards, and the journal of the memo of its own.
+/// The outcome, the session's shards, and the journal of the memo of its own.
 #[derive(Drop)]
 pub struct StuckWave<B: BatchName> {
-    pub answer: StuckAnswer,
+    pub outcome: Outcome<Runs>,
     pub shards: Vec<Shard<B>>,
     pub held: Vec<Entry>,
 }
@@ -45,8 +47,8 @@ fn walk<B: BatchName, H: BatchName>(
     memos: &mut Memos<B, H>,
     design: &mut AskedDesign<'_>,
     held: &Design,
-    question: Question,
-) -> Result<StuckAnswer, OutOfMemory>
+    question: StuckQuery,
+) -> Result<Outcome<Runs>, OutOfMemory>
     requires asked { IsAsked B.batch H.batch question design.old.circuit held.now.circuit }
     requires session { IsChargedMemo B.batch B.opening memos.old.session question.query
         memos.old.charge }
@@ -57,25 +59,25 @@ fn walk<B: BatchName, H: BatchName>(
     ensures idle { OnOk result (memos.new.own.shard.state.claims ≡ []) }
     ensures reached { OnOk result (NoneIsFree B.batch.circuit (site_in question)
         memos.new.own.shard.journal) }
-    ensures answer { IfOk result (IsStuckAnswer B.batch.circuit (site_in question)
-        (entries_of memos.new.session) memos.new.own.shard.journal question.query) }
+    ensures outcome { IfOk result (IsStuckOutcome B.batch.circuit (site_in question)
+        (entries_of memos.new.session) memos.new.own.shard.journal (Ask question.query)) }
     ensures asks { let site = site_in question in
-        IfOk result (λ answer. AsksRoots B.batch B.opening site question.query
+        IfOk result (λ outcome. AsksRoots B.batch B.opening site question.query
         (shards_in memos.old.session) memos.old.own.shard.journal
-        (shards_in memos.new.session) memos.new.own.shard.journal (is_budget answer)) }
+        (shards_in memos.new.session) memos.new.own.shard.journal (is_budget outcome)) }
     ensures design { design.new ≡ design.old }
 {
     let query = question.query;
     let mut walk = WindowWalk::new(alloc, query.from, query.to);
     'cells: while let Some(time) = walk.next() {
         let Some(cell) = hear_root(alloc, memos, design, held, question, time)? else {
-            return Ok(StuckAnswer::Budget(query.budget));
+            return Ok(Outcome::Budget(query.budget));
         };
         // they say that the cells of its journal are right
         memos.own.facts();
         walk.push(cell)?;
     }
-    Ok(StuckAnswer::Wave(walk.into_runs()))
+    Ok(Outcome::Answer(walk.into_runs()))
 }
 
 /// Answers the question, with a memo of its own for the batch that H names.
@@ -83,7 +85,7 @@ fn answer<B: BatchName, H: BatchName>(
     alloc: Global,
     design: &mut AskedDesign<'_>,
     held: &Design,
-    question: Question,
+    question: StuckQuery,
     session: Memo<B>,
 ) -> Result<StuckWave<B>, OutOfMemory>
     requires asked { IsAsked B.batch H.batch question design.old.circuit held.now.circuit }
@@ -94,11 +96,12 @@ fn answer<B: BatchName, H: BatchName>(
     ensures fresh { IfOk result (λ done. IsFresh B.batch B.opening (shards_in done.shards.items)) }
     ensures held { IfOk result (λ done. IsHeldJournal B.batch.circuit (site_in question)
         question.query done.held.items) }
-    ensures answer { IfOk result (λ done. IsStuckAnswer B.batch.circuit (site_in question)
-        (entries_in (shards_in done.shards.items)) done.held.items question.query done.answer) }
+    ensures outcome { IfOk result (λ done. IsStuckOutcome B.batch.circuit (site_in question)
+        (entries_in (shards_in done.shards.items)) done.held.items (Ask question.query)
+        done.outcome) }
     ensures asks { let site = site_in question in
         IfOk result (λ done. AsksRoots B.batch B.opening site question.query (shards_in session) []
-        (shards_in done.shards.items) done.held.items (is_budget done.answer)) }
+        (shards_in done.shards.items) done.held.items (is_budget done.outcome)) }
     ensures design { design.new ≡ design.old }
 {
     let store = CellStore::new(alloc, OWN_CELLS, 1, 0)?;
@@ -108,12 +111,12 @@ fn answer<B: BatchName, H: BatchName>(
         own: Shard::begin(alloc, 0, store),
         filled: 0,
     };
-    let answer = walk(alloc, &mut memos, design, held, question)?;
+    let outcome = walk(alloc, &mut memos, design, held, question)?;
     // they say that its journal is legal
     memos.own.facts();
     let (_, journal) = memos.own.end_batch();
     Ok(StuckWave {
-        answer,
+        outcome,
         shards: memos.session.into_shards(),
         held: journal,
     })
@@ -141,16 +144,16 @@ pub fn stuck_wave<B: BatchName>(
     ensures fresh { IfOk result (λ done. IsFresh B.batch B.opening (shards_in done.shards.items)) }
     ensures held { IfOk result (λ done. IsHeldJournal B.batch.circuit
         (record { signal = site; value = value }) query done.held.items) }
-    ensures answer { IfOk result (λ done. IsStuckAnswer B.batch.circuit
+    ensures outcome { IfOk result (λ done. IsStuckOutcome B.batch.circuit
         (record { signal = site; value = value }) (entries_in (shards_in done.shards.items))
-        done.held.items query done.answer) }
+        done.held.items (Ask query) done.outcome) }
     ensures asks { IfOk result (λ done. AsksBoth B.batch B.opening
         (record { signal = site; value = value }) query (shards_in shards.items)
-        (shards_in done.shards.items) done.held.items (is_budget done.answer)) }
+        (shards_in done.shards.items) done.held.items (is_budget done.outcome)) }
     ensures design { design.new ≡ design.old }
 {
     let held = design.design().hold(alloc, site, value)?;
-    let question = Question { query, site, value };
+    let question = StuckQuery { query, site, value };
     let session = begin(alloc, shards, &Wanted::all())?;
     answer::<B, Brand>(alloc, design, &held, question, session)
 }

@@ -12,7 +12,8 @@ use Rattle.batch_meaning.specs.Pieces.{Start}
 use Rattle.strand_meaning.specs.Strands.{Strand, started_strand}
 use Rattle.plan_machine.specs.Shards.{Shard}
 use Rattle.plan_machine.specs.Settle.{journals_of}
-use Rattle.reply_lines.specs.declared.reply.Reply.{Reply}
+use Rattle.circuit_meaning.specs.declared.Run.{Run}
+use Rattle.reply_lines.specs.declared.reply.Outcome.{Outcome}
 use Rattle.demand_points.specs.declared.strand.Task.{Task}
 use Rattle.demand_points.specs.Demands.{Demand}
 use Rattle.memo_shards.specs.KeptShards.{KeptShard}
@@ -63,9 +64,9 @@ module _ (c : Circuit) (starts : List Start) (strands : List Demand) (same : str
   strands-many = sym (length-map strands (λ (s : Demand). s.strand)) ∙ ap length same ∙ length-map starts (started_strand c)
 
   -- the batch was run by a crew, and then settled
-  pub has-crewed : (b : Batch) (opening : ℕ → List SignalCell) (handed ms : List KeptShard) (rs : List Reply) (lists : List (List Entry)) (is_open : Bool) → HasSettled b opening handed ms rs → lists ≡ map (λ m. m.shard.journal) ms
+  pub has-crewed : (b : Batch) (opening : ℕ → List SignalCell) (handed ms : List KeptShard) (os : List (Outcome (List Run))) (lists : List (List Entry)) (is_open : Bool) → HasSettled b opening handed ms os → lists ≡ map (λ m. m.shard.journal) ms
       → sum counts ≡ sum_by booked_in handed → length places ≡ length strands → length counts ≡ length strands → (is_open ≡ true → AreFilled places) → HasCrewed starts is_open lists
-  has-crewed b opening handed ms rs lists is_open settled journals counted many amounts filled = record {
+  has-crewed b opening handed ms os lists is_open settled journals counted many amounts filled = record {
     left = journals_of (shards_in handed);
     added = settled.settled.added;
     journals = subst (λ l. AreAdded (journals_of (shards_in handed)) settled.settled.added l) (sym (journals ∙ map-twice (λ (x : Shard). x.journal) (λ (m : KeptShard). m.shard) ms)) settled.settled.journals;

@@ -12,8 +12,9 @@ use Rattle.journal_meaning.specs.Sections.{of_batch}
 use Rattle.plan_machine.specs.Settle.{IsAnswered, AreAnswered, journals_of}
 use Rattle.plan_machine.proofs.Freed.{settled-answered}
 use Rattle.query_lines.specs.declared.unit.Item.{Item}
+use Rattle.circuit_meaning.specs.declared.Run.{Run}
+use Rattle.reply_lines.specs.declared.reply.Outcome.{Outcome}
 use Rattle.reply_lines.specs.declared.reply.Reply.{Reply}
-use Rattle.reply_lines.specs.Replies.{Suits}
 use Rattle.window_answers.specs.Phases.{refused_of}
 use Rattle.session_meaning.specs.Verdicts.{verdict_of, queries_of}
 use Rattle.session_meaning.specs.Replies.{IsReply}
@@ -23,28 +24,27 @@ use Rattle.unit_answers.specs.Done.{IsBatchDone, IsTrimDone}
 use Rattle.unit_answers.specs.inner.Placed.{placed_replies}
 use Rattle.unit_answers.specs.inner.Trims.{trimmed_store, entries_at}
 use Rattle.unit_answers.specs.inner.Runs.{asks, HasRun}
-use Rattle.unit_answers.proofs.Answering.{items-right, items-suit}
+use Rattle.unit_answers.proofs.Answering.{items-right}
 use Rattle.unit_answers.proofs.Left.{lists-many, lists-legal, stores-left, stores-leave}
 use Rattle.unit_answers.proofs.Trimming.{trims-legal, trims-leave}
 
-module _ (setup : Setup) (items : List Item) (opening : List Contents) (rs : List Reply) (lists : List (List Entry)) (left : List Contents) (run : HasRun (asks setup (queries_of setup.design items)) (cells_of opening) rs lists left) where
-  answered : IsAnswered (batch_of setup items) (cells_of opening) run.shards (refused_of rs)
-  answered = settled-answered (batch_of setup items) (cells_of opening) run.handed run.shards (refused_of rs) run.settled
+module _ (setup : Setup) (items : List Item) (opening : List Contents) (os : List (Outcome (List Run))) (lists : List (List Entry)) (left : List Contents) (run : HasRun (asks setup (queries_of setup.design items)) (cells_of opening) os lists left) where
+  answered : IsAnswered (batch_of setup items) (cells_of opening) run.shards (refused_of os)
+  answered = settled-answered (batch_of setup items) (cells_of opening) run.handed run.shards (refused_of os) run.settled
 
   -- the batch is done once the replies stand at the places of the items
-  pub batch-done : IsSized setup → (replies : List Reply) → replies ≡ placed_replies (map (verdict_of setup.design) items) rs → IsBatchDone setup items opening replies lists left
+  pub batch-done : IsSized setup → (replies : List Reply) → replies ≡ placed_replies (map (verdict_of setup.design) items) os → IsBatchDone setup items opening replies lists left
   batch-done sized replies at =
       let c = setup.design.circuit in
       let queries = queries_of setup.design items in
       let free = run.settled.fresh in
       let lists_are : journals_of run.shards ≡ lists = sym run.lists_are in
-      let answers : AreAnswered c (of_batch lists) (queries_of setup.design items) (refused_of rs) =
-      subst (λ (l : List (List Entry)). AreAnswered c (of_batch l) (queries_of setup.design items) (refused_of rs)) lists_are answered.answers in
+      let answers : AreAnswered c (of_batch lists) (queries_of setup.design items) (refused_of os) =
+      subst (λ (l : List (List Entry)). AreAnswered c (of_batch l) (queries_of setup.design items) (refused_of os)) lists_are answered.answers in
       record {
         count = lists-many setup None queries opening run.shards lists left free run.lists_are run.stores_are;
         legal = lists-legal setup None queries opening run.shards lists left free run.lists_are run.stores_are;
-        right = subst (AllZip (λ item reply. IsReply c (of_batch lists) (verdict_of setup.design item) reply) items) (sym at) (items-right c (of_batch lists) setup.design items rs run.replies_are answers);
-        suits = subst (AllZip (λ (item : Item) reply. Suits item.what reply) items) (sym at) (items-suit c (of_batch lists) setup.design items rs run.replies_are answers);
+        right = subst (AllZip (λ item reply. IsReply c (of_batch lists) (verdict_of setup.design item) reply) items) (sym at) (items-right c (of_batch lists) setup.design items os run.outcomes_are answers);
         stores = stores-left setup None queries opening run.shards lists left free run.lists_are run.stores_are sized;
         leaves = stores-leave setup None queries opening run.shards lists left free run.lists_are run.stores_are;
       }

@@ -1,65 +1,63 @@
 -- The waves of a batch, as a dump shows them.
-use Rattle.std.proofs.Common.{◌≡◌, ℕ, zero, suc, ◌+◌, ◌<◌, ◌≤◌, Bool, true, false, cond, nat_le, List, [], ◌∷◌, ◌++◌, length, length-append, get_or, take, Option, Some, None, refl, sym, ap, subst, ◌∙◌, append_assoc, append-nil, arith, IsTrue}
+use Rattle.std.proofs.Common.{◌≡◌, ℕ, zero, suc, ◌+◌, ◌<◌, ◌≤◌, List, [], ◌∷◌, ◌++◌, length, length-append, get_or, take, Option, Some, None, option_map, refl, sym, ap, ap₂, subst, ◌∙◌, append_assoc, append-nil, arith, IsTrue}
 use Rattle.std.specs.List.{AllZip, list_all}
-use Rattle.std.proofs.lemmas.Bool.{leb-true}
 use Rattle.std.proofs.lemmas.List.{take_all}
 use Rattle.cell_store.specs.Recency.{Contents}
 use Rattle.circuit_meaning.specs.declared.Run.{Run}
 use Rattle.circuit_meaning.specs.Circuit.{Circuit}
 use Rattle.circuit_meaning.specs.Forward.{wave}
-use Rattle.batch_meaning.specs.declared.Query.{Query}
 use Rattle.journal_meaning.specs.declared.Entry.{Entry}
 use Rattle.journal_meaning.specs.Sections.{of_batch}
-use Rattle.query_lines.specs.declared.line.What.{What}
-use Rattle.query_lines.specs.declared.line.What.TheVariants as whats
+use Rattle.query_lines.specs.declared.line.Window.{Window}
 use Rattle.query_lines.specs.declared.unit.Item.{Item}
+use Rattle.query_lines.specs.Units.{asked_window}
 use Rattle.reply_lines.specs.declared.reply.Reply.{Reply}
 use Rattle.reply_lines.specs.declared.reply.Reply.TheVariants as replies
-use Rattle.reply_lines.specs.Replies.{name_of, start_of, stop_of}
+use Rattle.reply_lines.specs.declared.reply.Outcome.TheVariants as outcomes
+use Rattle.reply_lines.specs.declared.reply.Outcome.TheVariants.{Answer, Budget}
 use Rattle.design.specs.Joined.{Joined}
-use Rattle.design.specs.Join.{number}
 use Rattle.vcd_answers.specs.Wires.{Wire, wire_of_query, is_wire, AreWires}
-use Rattle.session_meaning.specs.Dumps.{wire_of, wires_of}
+use Rattle.session_meaning.specs.Dumps.{wire_of, item_wire, wires_of}
 use Rattle.session_meaning.specs.declared.Verdict.{Verdict}
-use Rattle.session_meaning.specs.declared.Verdict.TheVariants.{Ask, Unknown, Past, Bad}
-use Rattle.session_meaning.specs.Verdicts.{window_verdict, what_verdict, verdict_of}
+use Rattle.session_meaning.specs.declared.Verdict.TheVariants.{Ask, Unknown, Past}
+use Rattle.session_meaning.specs.Verdicts.{verdict, verdict_of}
 use Rattle.session_meaning.specs.Replies.{IsReply}
 use Rattle.session_meaning.specs.Session.{Setup}
+use Rattle.session_meaning.proofs.Asked.{window-asks}
 use Rattle.unit_answers.specs.Done.{IsBatchDone}
-use Rattle.unit_answers.specs.Dumps.{IsOwnWave, AreReplied}
+use Rattle.unit_answers.specs.Dumps.{AreRunsOf, IsOwnWave, AreReplied}
+use Rattle.unit_answers.proofs.Windows.{query-times}
 use Rattle.unit_answers.proofs.Zips.{zip-length, zip-get, zip-weaker}
 
--- the wave of a window that is asked under this name
-pub record IsAskedWave (c : Circuit) (name : List ℕ) (start stop : ℕ) (v : Verdict) (runs : List Run) : Type 0 where
+-- the wave of a window that is asked
+pub record IsAskedWave (c : Circuit) (window : Window) (v : Verdict) (runs : List Run) : Type 0 where
   pub signal : ℕ
-  pub within : stop ≤ c.horizon + 1
-  pub shows : runs ≡ wave c signal start stop
-  pub wire : wire_of c name v (replies.Wave runs) ≡ wire_of_query name c signal start stop ∷ []
+  pub within : window.to ≤ c.horizon + 1
+  pub shows : runs ≡ wave c signal window.from window.to
+  pub wire : wire_of c window v (replies.Window (Answer runs)) ≡ wire_of_query window.name c signal window.from window.to ∷ []
 
-module _ (c : Circuit) (name : List ℕ) (runs : List Run) where
-  asked-window : (line start stop budget : ℕ) (signal : Option ℕ) → IsOwnWave c (window_verdict c.horizon line start stop budget signal) (replies.Wave runs)
-      → IsAskedWave c name start stop (window_verdict c.horizon line start stop budget signal) runs
-  asked-window line start stop budget None h = absurd h
-  asked-window line start stop budget (Some s) h = cases (record { number = line; signal = s; from = start; to = stop; budget = budget }) (nat_le stop (c.horizon + 1)) (leb-true stop (c.horizon + 1)) h
-    where
-      cases : (q : Query) (b : Bool) → (b ≡ true → q.to ≤ c.horizon + 1) → IsOwnWave c (cond b (Ask q) Past) (replies.Wave runs) → IsAskedWave c name q.from q.to (cond b (Ask q) Past) runs
-      cases q true low k = record { signal = q.signal; within = low refl; shows = k; wire = refl }
-      cases q false low k = absurd k
-
-asked-what : (d : Joined) (line : ℕ) (what : What) (runs : List Run) → IsOwnWave d.circuit (what_verdict d line what) (replies.Wave runs)
-    → IsAskedWave d.circuit (name_of what) (start_of what) (stop_of what) (what_verdict d line what) runs
-asked-what d line (whats.Wave name from to budget) runs h = asked-window d.circuit name runs line from to budget (number d.netlist name) h
-asked-what d line (whats.At name time budget) runs h = asked-window d.circuit name runs line time (time + 1) budget (number d.netlist name) h
-asked-what d line whats.Bad runs h = absurd h
+asked-by : (d : Joined) (line : ℕ) (window : Window) (runs : List Run) (v : Verdict) → verdict d line window ≡ v → AreRunsOf d.circuit (Some v) runs → IsAskedWave d.circuit window v runs
+asked-by d line window runs (Ask q) is h =
+    let w = query-times d line window q is in
+    record {
+      signal = q.signal;
+      within = (let low = (window-asks d line window q is).within in let to = w.to_is in omega arith);
+      shows = h ∙ ap₂ (wave d.circuit q.signal) w.from_is w.to_is;
+      wire = ap₂ (λ from to. wire_of_query window.name d.circuit q.signal from to ∷ []) w.from_is w.to_is;
+    }
+asked-by d line window runs Unknown is h = absurd h
+asked-by d line window runs Past is h = absurd h
 
 -- a wave that was replied to an item is that of the item's window
-pub asked-wave : (d : Joined) (item : Item) (reply : Reply) (runs : List Run) → reply ≡ replies.Wave runs → IsOwnWave d.circuit (verdict_of d item) reply
-    → IsAskedWave d.circuit (name_of item.what) (start_of item.what) (stop_of item.what) (verdict_of d item) runs
-asked-wave d item reply runs is h = asked-what d item.line item.what runs (subst (IsOwnWave d.circuit (verdict_of d item)) is h)
+pub asked-wave : (d : Joined) (item : Item) (window : Window) (reply : Reply) (runs : List Run) → asked_window item.what ≡ Some window → reply ≡ replies.Window (Answer runs) → IsOwnWave d.circuit (verdict_of d item) reply
+    → IsAskedWave d.circuit window (verdict d item.line window) runs
+asked-wave d item window reply runs at is h =
+    asked-by d item.line window runs (verdict d item.line window) refl
+    (subst (λ w. AreRunsOf d.circuit (option_map (verdict d item.line) w) runs) at (subst (IsOwnWave d.circuit (verdict_of d item)) is h))
 
--- one item more of two lists
+-- the wires of one item
 abbrev wires-at : Joined → Item → Reply → List Wire
-wires-at d item reply = wire_of d.circuit (name_of item.what) (verdict_of d item) reply
+wires-at d item reply = item_wire d item.line (asked_window item.what) reply
 
 -- the wires of the first items, and of one more
 pub wires-more : (d : Joined) (items : List Item) (replies : List Reply) (i : ℕ) (a : Item) (b : Reply) → i < length items → i < length replies
@@ -74,47 +72,38 @@ wires-more d (x ∷ items) (y ∷ replies) (suc i) a b l m =
     ∙ sym (append_assoc (wires-at d x y) (wires_of d (take i items) (take i replies)) (wires-at d (get_or items i a) (get_or replies i b)))
 
 -- a reply has one wire at most
-one-wire : (c : Circuit) (name : List ℕ) (v : Verdict) (reply : Reply) → length (wire_of c name v reply) ≤ 1
-one-wire c name (Ask q) (replies.Wave runs) = omega arith
-one-wire c name (Ask q) (replies.Budget budget) = omega arith
-one-wire c name (Ask q) replies.Unknown = omega arith
-one-wire c name (Ask q) replies.Past = omega arith
-one-wire c name (Ask q) replies.BadLine = omega arith
-one-wire c name Unknown reply = omega arith
-one-wire c name Past reply = omega arith
-one-wire c name Bad reply = omega arith
+one-wire : (d : Joined) (line : ℕ) (window : Option Window) (reply : Reply) → length (item_wire d line window reply) ≤ 1
+one-wire d line None reply = omega arith
+one-wire d line (Some window) reply = by (verdict d line window) reply
+  where
+    by : (v : Verdict) (reply : Reply) → length (wire_of d.circuit window v reply) ≤ 1
+    by (Ask q) (replies.Window (Answer runs)) = omega arith
+    by (Ask q) (replies.Window (Budget budget)) = omega arith
+    by (Ask q) (replies.Window outcomes.Unknown) = omega arith
+    by (Ask q) (replies.Window outcomes.Past) = omega arith
+    by (Ask q) replies.BadLine = omega arith
+    by Unknown reply = omega arith
+    by Past reply = omega arith
 
 -- a batch has as many wires as items at most
 pub wires-few : (d : Joined) (items : List Item) (replies : List Reply) → length (wires_of d items replies) ≤ length items
 wires-few d [] replies = omega arith
 wires-few d (x ∷ items) [] = omega arith
 wires-few d (x ∷ items) (y ∷ replies) =
-    let one = one-wire d.circuit (name_of x.what) (verdict_of d x) y in
+    let one = one-wire d x.line (asked_window x.what) y in
     let rest = wires-few d items replies in
     omega (arith, length-append (wires-at d x y) (wires_of d items replies))
 
 -- a right reply that is a wave is that of what is asked
-own-wave : (c : Circuit) (es : List Entry) (v : Verdict) (reply : Reply) → IsReply c es v reply → IsOwnWave c v reply
-own-wave c es (Ask q) (replies.Wave runs) h = h.0
-own-wave c es (Ask q) (replies.Budget budget) h = tt
-own-wave c es (Ask q) replies.Unknown h = tt
-own-wave c es (Ask q) replies.Past h = tt
-own-wave c es (Ask q) replies.BadLine h = tt
-own-wave c es Unknown (replies.Wave runs) h = absurd h
-own-wave c es Unknown (replies.Budget budget) h = tt
-own-wave c es Unknown replies.Unknown h = tt
-own-wave c es Unknown replies.Past h = tt
-own-wave c es Unknown replies.BadLine h = tt
-own-wave c es Past (replies.Wave runs) h = absurd h
-own-wave c es Past (replies.Budget budget) h = tt
-own-wave c es Past replies.Unknown h = tt
-own-wave c es Past replies.Past h = tt
-own-wave c es Past replies.BadLine h = tt
-own-wave c es Bad (replies.Wave runs) h = absurd h
-own-wave c es Bad (replies.Budget budget) h = tt
-own-wave c es Bad replies.Unknown h = tt
-own-wave c es Bad replies.Past h = tt
-own-wave c es Bad replies.BadLine h = tt
+own-wave : (c : Circuit) (es : List Entry) (v : Option Verdict) (reply : Reply) → IsReply c es v reply → IsOwnWave c v reply
+own-wave c es (Some (Ask q)) (replies.Window (Answer runs)) h = h.0
+own-wave c es (Some Unknown) (replies.Window (Answer runs)) h = absurd h
+own-wave c es (Some Past) (replies.Window (Answer runs)) h = absurd h
+own-wave c es None (replies.Window (Answer runs)) h = absurd h
+own-wave c es v (replies.Window (Budget budget)) h = tt
+own-wave c es v (replies.Window outcomes.Unknown) h = tt
+own-wave c es v (replies.Window outcomes.Past) h = tt
+own-wave c es v replies.BadLine h = tt
 
 -- the waves that a batch was replied are those of what its items ask
 pub done-waves : (setup : Setup) (items : List Item) (opening : List Contents) (replies : List Reply) (lists : List (List Entry)) (left : List Contents) → IsBatchDone setup items opening replies lists left
@@ -149,7 +138,7 @@ module _ (d : Joined) (items : List Item) (replies : List Reply) where
 
   -- with the wires of one more item they are those of one item more
   pub more-shown : (i : ℕ) (x : Item) (y : Reply) (wires next : List Wire) → AreReplied d items replies → i < length items → x ≡ get_or items i x → y ≡ get_or replies i y
-      → AreShown d items replies i wires → next ≡ wires ++ wire_of d.circuit (name_of x.what) (verdict_of d x) y → IsTrue (list_all is_wire next) → AreShown d items replies (i + 1) next
+      → AreShown d items replies i wires → next ≡ wires ++ wires-at d x y → IsTrue (list_all is_wire next) → AreShown d items replies (i + 1) next
   more-shown i x y wires next h low at also shown is sound =
       let many = as-many h in
       let here : wires-at d x y ≡ wires-at d (get_or items i x) (get_or replies i y) =

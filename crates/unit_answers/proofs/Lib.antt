@@ -1,10 +1,10 @@
 pub mod Few
 pub mod Trimming
-pub mod Suiting
 pub mod Answering
 pub mod Left
 pub mod Done
 pub mod Questions
+pub mod Windows
 pub mod Asking
 pub mod Zips
 pub mod Opening

@@ -16,7 +16,8 @@ use Rattle.plan_machine.specs.Shards.{Shard}
 use Rattle.plan_machine.specs.Plans.{no_shard}
 use Rattle.plan_machine.specs.Sound.{IsFresh}
 use Rattle.query_lines.specs.declared.unit.Item.{Item}
-use Rattle.reply_lines.specs.declared.reply.Reply.{Reply}
+use Rattle.circuit_meaning.specs.declared.Run.{Run}
+use Rattle.reply_lines.specs.declared.reply.Outcome.{Outcome}
 use Rattle.design.specs.Joined.{IsDesign}
 use Rattle.demand_points.specs.Demands.{Demand}
 use Rattle.memo_shards.specs.KeptShards.{KeptShard}
@@ -121,21 +122,21 @@ fresh-free b opening ms fresh k d low =
     subst (λ (x : Shard). x.state.claims ≡ []) (get_or-map (λ (m : KeptShard). m.shard) ms k d no_shard low) (fresh.free k (omega arith))
 
 -- so has what settlement leaves
-pub settled-free : (b : Batch) (opening : ℕ → List SignalCell) (handed ms : List KeptShard) (rs : List Reply) → HasSettled b opening handed ms rs → All (λ m. m.shard.state.claims ≡ []) ms
-settled-free b opening handed ms rs h = fresh-free b opening ms h.settled.fresh
+pub settled-free : (b : Batch) (opening : ℕ → List SignalCell) (handed ms : List KeptShard) (os : List (Outcome (List Run))) → HasSettled b opening handed ms os → All (λ m. m.shard.state.claims ≡ []) ms
+settled-free b opening handed ms os h = fresh-free b opening ms h.settled.fresh
 
 pub map-twice : {A B C : Type 0} (g : B → C) (f : A → B) (xs : List A) → map (λ x. g (f x)) xs ≡ map g (map f xs)
 map-twice g f [] = refl
 map-twice g f (x ∷ xs) = ap (λ l. g (f x) ∷ l) (map-twice g f xs)
 
 -- the batch has run
-pub has-run : (b : Batch) (opening : ℕ → List SignalCell) (handed ms : List KeptShard) (rs : List Reply) (lists : List (List Entry)) (left : List Contents) → HasSettled b opening handed ms rs
-    → AreEnded b.capacity ms lists left → HasRun b opening rs lists left
-has-run b opening handed ms rs lists left h ended = record {
+pub has-run : (b : Batch) (opening : ℕ → List SignalCell) (handed ms : List KeptShard) (os : List (Outcome (List Run))) (lists : List (List Entry)) (left : List Contents) → HasSettled b opening handed ms os
+    → AreEnded b.capacity ms lists left → HasRun b opening os lists left
+has-run b opening handed ms os lists left h ended = record {
   handed = shards_in handed;
   shards = shards_in ms;
   settled = h.settled;
-  replies_are = h.replies_are;
+  outcomes_are = h.outcomes_are;
   lists_are = ended.lists_are ∙ map-twice (λ (x : Shard). x.journal) (λ (m : KeptShard). m.shard) ms;
   stores_are = ended.stores_are ∙ map-twice (store_of b.capacity) (λ (m : KeptShard). m.shard) ms;
 }

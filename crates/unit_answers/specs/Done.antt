@@ -6,12 +6,10 @@ use Rattle.journal_meaning.specs.declared.Entry.{Entry}
 use Rattle.journal_meaning.specs.States.{fresh}
 use Rattle.journal_meaning.specs.Replay.{IsLegalBatch, IsLegalTrim, replay}
 use Rattle.journal_meaning.specs.Sections.{of_batch}
-use Rattle.query_lines.specs.declared.unit.Asks.{Asks}
 use Rattle.query_lines.specs.declared.unit.Item.{Item}
 use Rattle.query_lines.specs.declared.unit.Question.{Question}
 use Rattle.reply_lines.specs.declared.reply.QuestionReply.{QuestionReply}
 use Rattle.reply_lines.specs.declared.reply.Reply.{Reply}
-use Rattle.reply_lines.specs.Replies.{Suits}
 use Rattle.session_meaning.specs.Questions.{IsRightReply, IsOwnMemo}
 use Rattle.session_meaning.specs.Verdicts.{verdict_of}
 use Rattle.session_meaning.specs.Replies.{IsReply}
@@ -25,19 +23,18 @@ pub record IsBatchDone (setup : Setup) (items : List Item) (opening : List Conte
   pub legal : (shard : ℕ) → shard < setup.shards
       → IsLegalBatch (batch_of setup items) shard (cells_of opening shard) (slice_index_or lists shard [])
   pub right : AllZip (λ item reply. IsReply setup.design.circuit (of_batch lists) (verdict_of setup.design item) reply) items replies
-  pub suits : AllZip (λ item reply. Suits item.what reply) items replies
   pub stores : AreStores setup left
   pub leaves : (shard : ℕ) → shard < setup.shards
       → cells_of left shard ≡ (replay (fresh (cells_of opening shard)) (slice_index_or lists shard [])).cells
 
--- A question, given the number of its line and what it asks: journals that are legal from the cells in the stores, the lists of a second
--- memo, if there is one, a right reply, and the stores as the journals leave them.
-pub record IsQuestionDone (setup : Setup) (line : ℕ) (asks : Asks) (opening : List Contents) (reply : QuestionReply) (lists own_lists : List (List Entry)) (left : List Contents) : Type 0 where
+-- A question: journals that are legal from the cells in the stores, the lists of a second memo, if there is one, a right reply, and the
+-- stores as the journals leave them.
+pub record IsQuestionDone (setup : Setup) (question : Question) (opening : List Contents) (reply : QuestionReply) (lists own_lists : List (List Entry)) (left : List Contents) : Type 0 where
   pub count : length lists ≡ setup.shards
   pub legal : (shard : ℕ) → shard < setup.shards
-      → IsLegalBatch (question_batch setup line asks) shard (cells_of opening shard) (slice_index_or lists shard [])
-  pub memo : IsOwnMemo setup.design line asks own_lists
-  pub right : IsRightReply setup.design line asks (of_batch lists) (of_batch own_lists) reply
+      → IsLegalBatch (question_batch setup question) shard (cells_of opening shard) (slice_index_or lists shard [])
+  pub memo : IsOwnMemo setup.design question own_lists
+  pub right : IsRightReply setup.design question (of_batch lists) (of_batch own_lists) reply
   pub stores : AreStores setup left
   pub leaves : (shard : ℕ) → shard < setup.shards
       → cells_of left shard ≡ (replay (fresh (cells_of opening shard)) (slice_index_or lists shard [])).cells
@@ -45,7 +42,7 @@ pub record IsQuestionDone (setup : Setup) (line : ℕ) (asks : Asks) (opening : 
 -- the same for a result, unless memory ran out
 abbrev pub AnswersQuestion : {E : Type 0} → Setup → Question → List Contents → Result QuestionDone E → Type 0
 AnswersQuestion setup question opening result = IfOk result (λ done.
-    IsQuestionDone setup question.line question.asks opening done.reply done.lists.items done.own_lists.items done.stores.items)
+    IsQuestionDone setup question opening done.reply done.lists.items done.own_lists.items done.stores.items)
 
 -- A trim: in each shard the last cells are evicted until few enough are left, and the stores are as the lists leave them.
 pub record IsTrimDone (setup : Setup) (most : ℕ) (opening : List Contents) (lists : List (List Entry)) (left : List Contents) : Type 0 where

@@ -1,12 +1,15 @@
 //! What a question asks.
 
-ghost use Rattle.unit_answers.specs.inner.Asked.{Prepares};
+ghost use Rattle.std.specs.Prelude.{◌≡◌, None};
+ghost use Rattle.unit_answers.specs.inner.Asked.{IsSiteOf, Prepares, unasked_reply};
 
+use crate::replies::no_answer;
 use batch_meaning::Query;
 use design::Design;
 use query_lines::{Asks, Question};
-use reply_lines::{FirstReply, QuestionReply, StuckReply, WhyReply};
-use window_answers::{Verdict, first_verdict_of, stuck_site_of, stuck_verdict_of, why_verdict_of};
+use reply_lines::QuestionReply;
+use session_meaning::Verdict;
+use window_answers::verdict_of;
 
 /// The query of a question, and the number of the stuck signal if it has one.
 #[derive(Clone, Copy)]
@@ -22,37 +25,39 @@ pub enum Prepared {
     Tell(QuestionReply),
 }
 
+/// The reply to a question of this kind that asks nothing of its window.
+fn unasked_reply(asks: &Asks, verdict: Verdict) -> QuestionReply
+    ensures { result ≡ unasked_reply asks.now verdict }
+{
+    match asks {
+        Asks::First(_) => QuestionReply::First(no_answer(verdict)),
+        Asks::Why => QuestionReply::Why(no_answer(verdict)),
+        Asks::Stuck { .. } => QuestionReply::Stuck(no_answer(verdict)),
+    }
+}
+
+/// What a question comes to with this stuck signal, if it has one.
+fn prepare_at(design: &Design, question: &Question, site: Option<u32>) -> Prepared
+    requires { IsSiteOf design.now question.now.asks site }
+    ensures { Prepares design.now question.now result }
+{
+    let verdict = verdict_of(design, question.line, &question.window);
+    match verdict {
+        Verdict::Ask(query) => Prepared::Ask(Asked { query, site }),
+        Verdict::Unknown => Prepared::Tell(unasked_reply(&question.asks, verdict)),
+        Verdict::Past => Prepared::Tell(unasked_reply(&question.asks, verdict)),
+    }
+}
+
 /// Looks up the names of a question, and whether its window ends within the horizon.
 pub fn prepare(design: &Design, question: &Question) -> Prepared
-    ensures { Prepares design.now question.now.line question.now.asks result }
+    ensures { Prepares design.now question.now result }
 {
-    let line = question.line;
-    match &question.asks {
-        Asks::First(first) => match first_verdict_of(design, line, first) {
-            Verdict::Ask(query) => Prepared::Ask(Asked { query, site: None }),
-            Verdict::Unknown => Prepared::Tell(QuestionReply::First(FirstReply::Unknown)),
-            Verdict::Past => Prepared::Tell(QuestionReply::First(FirstReply::Past)),
-            Verdict::Bad => unreachable!(),
-        },
-        Asks::Why(why) => match why_verdict_of(design, line, why) {
-            Verdict::Ask(query) => Prepared::Ask(Asked { query, site: None }),
-            Verdict::Unknown => Prepared::Tell(QuestionReply::Why(WhyReply::Unknown)),
-            Verdict::Past => Prepared::Tell(QuestionReply::Why(WhyReply::Past)),
-            Verdict::Bad => unreachable!(),
-        },
-        Asks::Stuck(stuck) => {
-            let Some(site) = stuck_site_of(design, stuck) else {
-                return Prepared::Tell(QuestionReply::Stuck(StuckReply::UnknownSite));
-            };
-            match stuck_verdict_of(design, line, stuck) {
-                Verdict::Ask(query) => Prepared::Ask(Asked {
-                    query,
-                    site: Some(site),
-                }),
-                Verdict::Unknown => Prepared::Tell(QuestionReply::Stuck(StuckReply::Unknown)),
-                Verdict::Past => Prepared::Tell(QuestionReply::Stuck(StuckReply::Past)),
-                Verdict::Bad => unreachable!(),
-            }
-        }
+    let Asks::Stuck { site, .. } = &question.asks else {
+        return prepare_at(design, question, None);
+    };
+    match design.netlist().id_of(site.bytes()) {
+        Some(site) => prepare_at(design, question, Some(site)),
+        None => Prepared::Tell(QuestionReply::UnknownSite),
     }
 }

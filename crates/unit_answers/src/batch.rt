@@ -53,7 +53,7 @@ pub fn answer_batch<C: Crew>(
     let verdicts = verdicts_of(alloc, design, items)?;
     let queries = queries_of(alloc, &verdicts)?;
     let ran = run_batch::<Brand, C>(crew, alloc, design, &queries, sizes, stores)?;
-    let replies = place_replies(alloc, &verdicts, ran.replies)?;
+    let replies = place_replies(alloc, &verdicts, ran.outcomes)?;
     Ok(BatchDone {
         replies,
         lists: ran.lists,

@@ -3,8 +3,8 @@
 ghost use Rattle.std.specs.Prelude.{◌≡◌, length, IsTrue, IfOk, OnOk, ◌++◌};
 ghost use Rattle.std.specs.List.{list_all};
 ghost use Rattle.query_lines.specs.Fit.{AsksByName};
-ghost use Rattle.reply_lines.specs.Replies as texts;
-ghost use Rattle.session_meaning.specs.Dumps.{wire_of as shown_of, wires_of};
+ghost use Rattle.query_lines.specs.Units.{asked_window};
+ghost use Rattle.session_meaning.specs.Dumps.{item_wire, wires_of};
 ghost use Rattle.session_meaning.specs.Verdicts.{verdict_of};
 ghost use Rattle.unit_answers.specs.Dumps.{IsOwnWave, AreReplied};
 ghost use Rattle.vcd_answers.specs.Dumps.{vcd_of};
@@ -13,7 +13,7 @@ ghost use Rattle.vcd_answers.specs.Wires.{is_wire};
 use design::Design;
 use owned_text::OutOfMemory;
 use query_lines::{Item, What};
-use reply_lines::Reply;
+use reply_lines::{Outcome, Reply};
 use std::alloc::Global;
 use vcd_answers::{Wire, WireList, vcd_text, wire_of};
 
@@ -35,21 +35,19 @@ fn push_wire(
     requires named { AsksByName item.now.what }
     requires wave { IsOwnWave design.now.circuit (verdict_of design.now item.now) reply.now }
     ensures wire { OnOk result (wires.new.items ≡ wires.old.items
-        ++ shown_of design.now.circuit (texts.name_of item.now.what)
-        (verdict_of design.now item.now) reply.now) }
+        ++ item_wire design.now item.now.line (asked_window item.now.what) reply.now) }
     ensures sound { IsTrue (list_all is_wire wires.old.items)
         → OnOk result (IsTrue (list_all is_wire wires.new.items)) }
 {
     let horizon = design.horizon();
-    let Reply::Wave(runs) = reply else {
+    let Reply::Window(Outcome::Answer(runs)) = reply else {
         return Ok(());
     };
-    let (name, start, stop) = match &item.what {
-        What::Wave { name, from, to, .. } => (name, *from, *to),
-        What::At { name, time, .. } => (name, *time, *time + 1),
-        What::Bad => unreachable!(),
+    let What::Window(window, _) = &item.what else {
+        return Ok(());
     };
-    wires.push(wire_of(alloc, name.bytes(), start, stop, runs, horizon)?)?;
+    let name = window.name.bytes();
+    wires.push(wire_of(alloc, name, window.from, window.to, runs, horizon)?)?;
     Ok(())
 }
 

@@ -15,15 +15,16 @@ use design::Design;
 use journal_text::EntryList;
 use memo_shards::Shard;
 use owned_text::OutOfMemory;
-use reply_lines::Reply;
+use reply_lines::Outcome;
 use std::alloc::Global;
 use window_answers::{Settled, settle, strands_of};
+use window_walks::Runs;
 use worker_gate::Crew;
 
-/// The result of the queries of a batch: the reply to each, the journal of each shard, and the stores after it.
+/// The result of the queries of a batch: the outcome of each, the journal of each shard, and the stores after it.
 #[derive(Drop)]
 pub struct BatchRun {
-    pub replies: Vec<Reply>,
+    pub outcomes: Vec<Outcome<Runs>>,
     pub lists: Vec<EntryList>,
     pub stores: Vec<CellStore>,
 }
@@ -77,7 +78,7 @@ pub fn run_batch<B: BatchName + Send + Sync, C: Crew>(
     requires stores { AreStores (setup_of design.now sizes) stores.items }
     requires few { length (flat_map pieces queries.now) ≤ 256 }
     ensures run { IfOk result (λ run. HasRun (asks (setup_of design.now sizes) queries.now)
-        (cells_of stores.items) run.replies.items run.lists.items run.stores.items) }
+        (cells_of stores.items) run.outcomes.items run.lists.items run.stores.items) }
     ensures crewed { IfOk result (λ run. HasCrewed (flat_map pieces queries.now)
         (C.is_open crew.now) run.lists.items) }
 {
@@ -87,10 +88,10 @@ pub fn run_batch<B: BatchName + Send + Sync, C: Crew>(
     let heard = ran.heard;
     let said = ran.said;
     let handed = ran.shards.into_vec();
-    let Settled { replies, shards } = settle(alloc, design, handed, queries, heard, said)?;
+    let Settled { outcomes, shards } = settle(alloc, design, handed, queries, heard, said)?;
     let (lists, stores) = end_all(alloc, shards)?;
     Ok(BatchRun {
-        replies,
+        outcomes,
         lists,
         stores,
     })

@@ -8,7 +8,8 @@ use Rattle.plan_machine.specs.Settle.{AreShards, AreFreed, journals_of}
 use Rattle.plan_machine.proofs.Freed.{all-freed, all-before}
 use Rattle.memo_shards.specs.KeptShards.{KeptShard}
 use Rattle.plan_core.specs.Parts.{shards_in}
-use Rattle.reply_lines.specs.declared.reply.Reply.{Reply}
+use Rattle.circuit_meaning.specs.declared.Run.{Run}
+use Rattle.reply_lines.specs.declared.reply.Outcome.{Outcome}
 use Rattle.asked_cells.specs.Memos.{AreFreeShards, entries_of}
 use Rattle.window_answers.specs.inner.Phases.{IsWalking}
 use Rattle.window_answers.specs.Phases.{refused_of}
@@ -16,9 +17,9 @@ use Rattle.window_answers.specs.Settlement.{AsksTwice, HasSettled}
 
 -- the claims were freed, and both phases are done
 pub has-settled : (b : Batch) → IsLawful b → (opening : ℕ → List SignalCell) (handed begun : List KeptShard) → AreShards b opening (shards_in handed) → AreFreed (shards_in handed) (shards_in begun)
-    → (new : List KeptShard) (replies : List Reply) → AreFreeShards b opening new → IsWalking b (entries_of begun) (shards_in begun) (shards_in new) b.queries replies [] []
-    → AsksTwice b opening (shards_in handed) (shards_in new) (refused_of replies) → HasSettled b opening handed new replies
-has-settled b lawful opening handed begun are f new replies kept w asks =
+    → (new : List KeptShard) (outcomes : List (Outcome (List Run))) → AreFreeShards b opening new → IsWalking b (entries_of begun) (shards_in begun) (shards_in new) b.queries outcomes [] []
+    → AsksTwice b opening (shards_in handed) (shards_in new) (refused_of outcomes) → HasSettled b opening handed new outcomes
+has-settled b lawful opening handed begun are f new outcomes kept w asks =
     let r = all-freed b lawful opening (shards_in handed) (shards_in begun) are f in
     record {
       numbers = kept.numbers;
@@ -26,8 +27,8 @@ has-settled b lawful opening handed begun are f new replies kept w asks =
         fresh = kept.fresh;
         added = r.added ++ w.added;
         journals = added-more (journals_of (shards_in handed)) r.added (journals_of (shards_in begun)) w.added (journals_of (shards_in new)) r.journals w.journals;
-        queries = all-before b lawful opening b.circuit (entries_of handed) r.added (entries_of begun) (entries_of new) r.journals.together r.drops b.queries (refused_of replies) w.settled;
+        queries = all-before b lawful opening b.circuit (entries_of handed) r.added (entries_of begun) (entries_of new) r.journals.together r.drops b.queries (refused_of outcomes) w.settled;
       };
-      replies_are = w.answers;
+      outcomes_are = w.answers;
       asks = asks;
     }

@@ -24,7 +24,9 @@ use Rattle.plan_machine.specs.Settling.{fills_of}
 use Rattle.plan_machine.proofs.Underway.{contains-none}
 use Rattle.plan_machine.proofs.Settle.{begins-query, stays, ends-query, open-kept, visited-kept, settled-kept, opens-kept, all-kept}
 use Rattle.plan_machine.proofs.Settling.{fills-has, fills-each, needed-by}
-use Rattle.reply_lines.specs.declared.reply.Reply.{Reply}
+use Rattle.circuit_meaning.specs.declared.Run.{Run}
+use Rattle.reply_lines.specs.declared.reply.Outcome.{Outcome}
+use Rattle.reply_lines.specs.Replies.{is_budget}
 use Rattle.memo_shards.specs.KeptShards.{KeptShard}
 use Rattle.plan_core.specs.InTurn.{AllChildrenCovered}
 use Rattle.plan_core.specs.Parts.{shards_in}
@@ -32,7 +34,7 @@ use Rattle.window_answers.specs.declared.answers.Fed.{Fed}
 use Rattle.asked_cells.specs.Memos.{entries_of}
 use Rattle.asked_cells.specs.inner.Standings.{live, standing}
 use Rattle.window_answers.specs.inner.Phases.{IsFed, IsFedWith, AreAllFed, FeedsQuery, IsFeeding, IsWalking}
-use Rattle.window_answers.specs.Phases.{IsReplyTo, AreReplies, is_budget, refused_of}
+use Rattle.window_answers.specs.Phases.{IsOutcomeFor, AreOutcomes, refused_of}
 use Rattle.window_answers.proofs.Filled.{fills-count}
 use Rattle.window_answers.proofs.Heard.{fills-heard}
 
@@ -110,11 +112,11 @@ settled-push c start now [] (f ∷ fs) q r h k = absurd h
 settled-push c start now (x ∷ done) [] q r h k = absurd h
 settled-push c start now (x ∷ done) (f ∷ fs) q r h k = (h.0, settled-push c start now done fs q r h.1 k)
 
-replies-push : (c : Circuit) (done : List Query) (rs : List Reply) (q : Query) (r : Reply) → AreReplies c done rs → IsReplyTo c q r → AreReplies c (done ++ q ∷ []) (rs ++ r ∷ [])
-replies-push c [] [] q r h k = (k, tt)
-replies-push c [] (f ∷ fs) q r h k = absurd h
-replies-push c (x ∷ done) [] q r h k = absurd h
-replies-push c (x ∷ done) (f ∷ fs) q r h k = (h.0, replies-push c done fs q r h.1 k)
+outcomes-push : (c : Circuit) (done : List Query) (rs : List (Outcome (List Run))) (q : Query) (r : Outcome (List Run)) → AreOutcomes c done rs → IsOutcomeFor c q r → AreOutcomes c (done ++ q ∷ []) (rs ++ r ∷ [])
+outcomes-push c [] [] q r h k = (k, tt)
+outcomes-push c [] (f ∷ fs) q r h k = absurd h
+outcomes-push c (x ∷ done) [] q r h k = absurd h
+outcomes-push c (x ∷ done) (f ∷ fs) q r h k = (h.0, outcomes-push c done fs q r h.1 k)
 
 module _ (b : Batch) (start : List Entry) (first now : List Shard) (q : Query) where
   -- one query more is fed
@@ -129,14 +131,14 @@ module _ (b : Batch) (start : List Entry) (first now : List Shard) (q : Query) w
   }
 
   -- one query more is answered
-  pub walking-step : (opening : ℕ → List SignalCell) (done : List Query) (rs : List Reply) (left : List Query) (f : Fed) (fs : List Fed) → AllPairs Apart (done ++ q ∷ left) → IsWalking b start first now done rs (q ∷ left) (f ∷ fs)
-      → (new : List Shard) (r : Reply) → SettlesQuery b opening q start now (record { shards = new; refused = is_budget r }) → IsReplyTo b.circuit q r → IsWalking b start first new (done ++ q ∷ []) (rs ++ r ∷ []) left fs
-  walking-step opening done rs left f fs apart h new r k reply = record {
+  pub walking-step : (opening : ℕ → List SignalCell) (done : List Query) (rs : List (Outcome (List Run))) (left : List Query) (f : Fed) (fs : List Fed) → AllPairs Apart (done ++ q ∷ left) → IsWalking b start first now done rs (q ∷ left) (f ∷ fs)
+      → (new : List Shard) (r : Outcome (List Run)) → SettlesQuery b opening q start now (record { shards = new; refused = is_budget r }) → IsOutcomeFor b.circuit q r → IsWalking b start first new (done ++ q ∷ []) (rs ++ r ∷ []) left fs
+  walking-step opening done rs left f fs apart h new r k outcome = record {
     added = h.added ++ k.added;
     journals = added-more (journals_of first) h.added (journals_of now) k.added (journals_of new) h.journals k.journals;
     settled = subst (AreAllSettled b.circuit start (entries_in new) (done ++ q ∷ [])) (sym (map-append is_budget rs (r ∷ [])))
         (settled-push b.circuit start (entries_in new) done (refused_of rs) q (is_budget r) (all-kept b opening start q k.added k.own (entries_in now) (entries_in new) k.journals.together done (refused_of rs) (before-apart done q left apart) h.settled) k.settled);
-    answers = replies-push b.circuit done rs q r h.answers reply;
+    answers = outcomes-push b.circuit done rs q r h.answers outcome;
     all = all-fed-kept b.circuit start (entries_in now) k.added (entries_in new) k.journals.together q k.own left fs (after-apart done q left apart) h.all.1;
   }
 
@@ -198,7 +200,7 @@ module _ (b : Batch) (lawful : IsLawful b) (start : List Entry) (first : List Sh
   FedTo now i fs = IsFeeding b start first now (take i qs) fs (drop i qs)
 
   -- the first of them are answered
-  abbrev pub WalkedTo : List Shard → ℕ → List Reply → List Fed → Type 0
+  abbrev pub WalkedTo : List Shard → ℕ → List (Outcome (List Run)) → List Fed → Type 0
   WalkedTo now i rs all = IsWalking b start first now (take i qs) rs (drop i qs) (drop i all)
 
   module _ (i : ℕ) (low : i < length qs) (d : Query) where
@@ -237,19 +239,19 @@ module _ (b : Batch) (lawful : IsLawful b) (start : List Entry) (first : List Sh
         (subst (λ n. IsFeeding b start first new (take i qs ++ get_or qs i d ∷ []) (fs ++ f ∷ []) (drop n qs)) (sym one) is)
 
     module _ (all : List Fed) (high : i < length all) (e : Fed) where
-      walk-rest : (now : List Shard) (rs : List Reply) → WalkedTo now i rs all → IsWalking b start first now (take i qs) rs (get_or qs i d ∷ drop (suc i) qs) (get_or all i e ∷ drop (suc i) all)
+      walk-rest : (now : List Shard) (rs : List (Outcome (List Run))) → WalkedTo now i rs all → IsWalking b start first now (take i qs) rs (get_or qs i d ∷ drop (suc i) qs) (get_or all i e ∷ drop (suc i) all)
       walk-rest now rs h = subst (λ l. IsWalking b start first now (take i qs) rs l (get_or all i e ∷ drop (suc i) all)) rest (subst (λ l. IsWalking b start first now (take i qs) rs (drop i qs) l) (drop-cons all i e high) h)
 
       -- the next one is fed
-      pub walk-fed : (now : List Shard) (rs : List Reply) → WalkedTo now i rs all → IsFedWith b.circuit (get_or qs i d) start (entries_in now) (get_or all i e)
+      pub walk-fed : (now : List Shard) (rs : List (Outcome (List Run))) → WalkedTo now i rs all → IsFedWith b.circuit (get_or qs i d) start (entries_in now) (get_or all i e)
       walk-fed now rs h = (walk-rest now rs h).all.0
 
       -- it is answered
-      pub walk-next : (opening : ℕ → List SignalCell) (now new : List Shard) (rs : List Reply) (r : Reply) → WalkedTo now i rs all → SettlesQuery b opening (get_or qs i d) start now (record { shards = new; refused = is_budget r }) → IsReplyTo b.circuit (get_or qs i d) r
+      pub walk-next : (opening : ℕ → List SignalCell) (now new : List Shard) (rs : List (Outcome (List Run))) (r : Outcome (List Run)) → WalkedTo now i rs all → SettlesQuery b opening (get_or qs i d) start now (record { shards = new; refused = is_budget r }) → IsOutcomeFor b.circuit (get_or qs i d) r
           → WalkedTo new (i + 1) (rs ++ r ∷ []) all
-      walk-next opening now new rs r h k reply =
+      walk-next opening now new rs r h k outcome =
           let one : i + 1 ≡ suc i = omega arith in
-          let is = walking-step b start first now (get_or qs i d) opening (take i qs) rs (drop (suc i) qs) (get_or all i e) (drop (suc i) all) apart (walk-rest now rs h) new r k reply in
+          let is = walking-step b start first now (get_or qs i d) opening (take i qs) rs (drop (suc i) qs) (get_or all i e) (drop (suc i) all) apart (walk-rest now rs h) new r k outcome in
           subst (λ l. IsWalking b start first new l (rs ++ r ∷ []) (drop (i + 1) qs) (drop (i + 1) all)) (sym (take_more qs i d low))
           (subst (λ n. IsWalking b start first new (take i qs ++ get_or qs i d ∷ []) (rs ++ r ∷ []) (drop n qs) (drop n all)) (sym one) is)
 
@@ -258,7 +260,7 @@ module _ (b : Batch) (lawful : IsLawful b) (start : List Entry) (first : List Sh
   fed-last now i fs l h = subst (λ z. IsFeeding b start first now z fs []) (take_all i qs l ∙ same) (subst (λ z. IsFeeding b start first now (take i qs) fs z) (drop_of_length-le qs l) h)
 
   -- all are answered
-  pub walk-last : (now : List Shard) (i : ℕ) (rs : List Reply) (all : List Fed) → length qs ≤ i → length all ≤ i → WalkedTo now i rs all → IsWalking b start first now b.queries rs [] []
+  pub walk-last : (now : List Shard) (i : ℕ) (rs : List (Outcome (List Run))) (all : List Fed) → length qs ≤ i → length all ≤ i → WalkedTo now i rs all → IsWalking b start first now b.queries rs [] []
   walk-last now i rs all l m h = subst (λ z. IsWalking b start first now z rs [] []) (take_all i qs l ∙ same)
       (subst (λ z. IsWalking b start first now (take i qs) rs z []) (drop_of_length-le qs l) (subst (λ z. IsWalking b start first now (take i qs) rs (drop i qs) z) (drop_of_length-le all m) h))
 

@@ -5,10 +5,12 @@ use Rattle.valid_intervals.specs.declared.SignalCell.{SignalCell}
 use Rattle.batch_meaning.specs.declared.Query.{Query}
 use Rattle.batch_meaning.specs.Batches.{Batch}
 use Rattle.plan_machine.specs.Shards.{Shard}
-use Rattle.reply_lines.specs.declared.reply.Reply.{Reply}
+use Rattle.circuit_meaning.specs.declared.Run.{Run}
+use Rattle.reply_lines.specs.declared.reply.Outcome.{Outcome}
+use Rattle.reply_lines.specs.Replies.{is_budget}
 use Rattle.asked_cells.specs.Asked.{AsksOn}
 use Rattle.window_answers.specs.declared.answers.Fed.{Fed}
-use Rattle.window_answers.specs.Phases.{is_budget, refused_of}
+use Rattle.window_answers.specs.Phases.{refused_of}
 use Rattle.window_answers.specs.Settlement.{AskInTurn, none_refused}
 use Rattle.window_answers.specs.inner.Phases.{refused_in}
 
@@ -44,10 +46,10 @@ module _ (b : Batch) (opening : ℕ → List SignalCell) where
 
     module _ (all : List Fed) where
       -- the windows of the first queries are walked
-      abbrev pub WalksTo : List Shard → ℕ → List Reply → Type 0
+      abbrev pub WalksTo : List Shard → ℕ → List (Outcome (List Run)) → Type 0
       WalksTo now i rs = AskInTurn b opening (take i qs) old (refused_in (take i all)) now (refused_of rs)
 
-      pub turn-next : (now new : List Shard) (i : ℕ) (d : Query) (e : Fed) (rs : List Reply) (r : Reply) → i < length qs → i < length all → WalksTo now i rs → AsksOn b opening (get_or qs i d) now (get_or all i e).refused new (is_budget r) → WalksTo new (i + 1) (rs ++ r ∷ [])
+      pub turn-next : (now new : List Shard) (i : ℕ) (d : Query) (e : Fed) (rs : List (Outcome (List Run))) (r : Outcome (List Run)) → i < length qs → i < length all → WalksTo now i rs → AsksOn b opening (get_or qs i d) now (get_or all i e).refused new (is_budget r) → WalksTo new (i + 1) (rs ++ r ∷ [])
       turn-next now new i d e rs r low high h k =
           let q = get_or qs i d in
           let f = get_or all i e in
@@ -60,5 +62,5 @@ module _ (b : Batch) (opening : ℕ → List SignalCell) where
           (subst (λ l. AskInTurn b opening (first ++ q ∷ []) old (refused_in fed ++ f.refused ∷ []) new l) (sym (map-append is_budget rs (r ∷ []))) one)))
 
       -- those of all queries are
-      pub turn-last : (now : List Shard) (i : ℕ) (rs : List Reply) → length qs ≤ i → length all ≤ i → WalksTo now i rs → AskInTurn b opening qs old (refused_in all) now (refused_of rs)
+      pub turn-last : (now : List Shard) (i : ℕ) (rs : List (Outcome (List Run))) → length qs ≤ i → length all ≤ i → WalksTo now i rs → AskInTurn b opening qs old (refused_in all) now (refused_of rs)
       turn-last now i rs l m h = subst (λ z. AskInTurn b opening qs old (refused_in z) now (refused_of rs)) (take_all i all m) (subst (λ z. AskInTurn b opening z old (refused_in (take i all)) now (refused_of rs)) (take_all i qs l) h)

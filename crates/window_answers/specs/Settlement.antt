@@ -1,16 +1,17 @@
--- What settlement asks for, leaves and replies.
+-- What settlement asks for, leaves and outcomes.
 use Rattle.std.specs.Prelude.{◌≡◌, ℕ, Bool, false, List, [], ◌∷◌, map}
 use Rattle.valid_intervals.specs.declared.SignalCell.{SignalCell}
 use Rattle.batch_meaning.specs.declared.Query.{Query}
 use Rattle.batch_meaning.specs.Batches.{Batch}
 use Rattle.plan_machine.specs.Shards.{Shard}
 use Rattle.plan_machine.specs.Settle.{AreFreed, AreSettled}
-use Rattle.reply_lines.specs.declared.reply.Reply.{Reply}
+use Rattle.circuit_meaning.specs.declared.Run.{Run}
+use Rattle.reply_lines.specs.declared.reply.Outcome.{Outcome}
 use Rattle.memo_shards.specs.KeptShards.{KeptShard}
 use Rattle.plan_core.specs.Parts.{shards_in}
 use Rattle.asked_cells.specs.Asked.{AsksOn}
 use Rattle.asked_cells.specs.Shards.{AreNumbered}
-use Rattle.window_answers.specs.Phases.{AreReplies, refused_of}
+use Rattle.window_answers.specs.Phases.{AreOutcomes, refused_of}
 
 -- The queries ask one after another, from shards to shards. The flags say whether each query was refused before, and after.
 abbrev pub AskInTurn : Batch → (ℕ → List SignalCell) → List Query → List Shard → List Bool → List Shard → List Bool → Type 0
@@ -32,9 +33,9 @@ pub record AsksTwice (b : Batch) (opening : ℕ → List SignalCell) (old new : 
   pub walks : AskInTurn b opening b.queries visited refused_then new refused
 
 -- The shards are in order, each old journal is a prefix of its new one, and no claim is left. If settlement recorded no refusal of a query,
--- the reply is its waveform, and it is closed. Otherwise the reply is its budget, with one refusal, which has its cause.
-pub record HasSettled (b : Batch) (opening : ℕ → List SignalCell) (old new : List KeptShard) (replies : List Reply) : Type 0 where
+-- the outcome is its waveform, and it is closed. Otherwise the outcome is its budget, with one refusal, which has its cause.
+pub record HasSettled (b : Batch) (opening : ℕ → List SignalCell) (old new : List KeptShard) (outcomes : List (Outcome (List Run))) : Type 0 where
   pub numbers : AreNumbered new
-  pub settled : AreSettled b opening (shards_in old) (shards_in new) (refused_of replies)
-  pub replies_are : AreReplies b.circuit b.queries replies
-  pub asks : AsksTwice b opening (shards_in old) (shards_in new) (refused_of replies)
+  pub settled : AreSettled b opening (shards_in old) (shards_in new) (refused_of outcomes)
+  pub outcomes_are : AreOutcomes b.circuit b.queries outcomes
+  pub asks : AsksTwice b opening (shards_in old) (shards_in new) (refused_of outcomes)

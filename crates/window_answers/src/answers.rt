@@ -15,9 +15,10 @@ ghost use Rattle.plan_core.specs.InTurn.{AllChildrenCovered};
 ghost use Rattle.asked_cells.specs.Asked.{AsksOn};
 ghost use Rattle.asked_cells.specs.FillCounts.{HaveCounted};
 ghost use Rattle.asked_cells.specs.Memos.{AreFreeShards, entries_of};
+ghost use Rattle.reply_lines.specs.Replies.{is_budget};
 ghost use Rattle.asked_cells.specs.inner.Standings.{standing};
 ghost use Rattle.window_answers.specs.inner.Phases.{IsFedWith, FeedsQuery, IsFeeding, IsWalking, refused_in};
-ghost use Rattle.window_answers.specs.Phases.{IsReplyTo, is_budget, refused_of};
+ghost use Rattle.window_answers.specs.Phases.{IsOutcomeFor, refused_of};
 ghost use Rattle.window_answers.specs.Settlement.{AskInTurn, none_refused};
 
 use crate::fills::FilledPoints;
@@ -28,9 +29,10 @@ use demand_points::BatchName;
 use design::Design;
 use memo_shards::Shard;
 use owned_text::OutOfMemory;
-use reply_lines::Reply;
+use reply_lines::Outcome;
 use std::alloc::Global;
 use valid_intervals::Point;
+use window_walks::Runs;
 
 /// The charge of a query after its fills are visited, and whether it was refused.
 #[derive(Clone, Copy)]
@@ -197,7 +199,7 @@ fn answer_one<B: BatchName>(
     design: &Design,
     q: Query,
     fed: Fed,
-) -> Result<Reply, OutOfMemory>
+) -> Result<Outcome<Runs>, OutOfMemory>
     requires lawful { IsLawful B.batch }
     requires site { B.batch.site ≡ None }
     requires design { design.now.circuit ≡ B.batch.circuit }
@@ -205,7 +207,7 @@ fn answer_one<B: BatchName>(
     requires counts { fed.charge ≡ charge_of (entries_of memo.old) q }
     requires kept { AreFreeShards B.batch B.opening memo.old }
     ensures kept { OnOk result (AreFreeShards B.batch B.opening memo.new) }
-    ensures reply { IfOk result (IsReplyTo B.batch.circuit q) }
+    ensures outcome { IfOk result (IsOutcomeFor B.batch.circuit q) }
     ensures settles { (start : List EntryRecord)
         → IsFedWith B.batch.circuit q start (entries_of memo.old) fed
         → IfOk result (λ r. SettlesQuery B.batch B.opening q start (shards_in memo.old)
@@ -214,12 +216,12 @@ fn answer_one<B: BatchName>(
         (shards_in memo.new) (is_budget r)) }
 {
     if fed.refused {
-        return Ok(Reply::Budget(q.budget));
+        return Ok(Outcome::Budget(q.budget));
     }
     let mut charge = fed.charge;
     match settle_window(alloc, memo, design, q, &mut charge)? {
-        Some(runs) => Ok(Reply::Wave(runs)),
-        None => Ok(Reply::Budget(q.budget)),
+        Some(runs) => Ok(Outcome::Answer(runs)),
+        None => Ok(Outcome::Budget(q.budget)),
     }
 }
 
@@ -230,7 +232,7 @@ pub fn answer_all<B: BatchName>(
     design: &Design,
     queries: &[Query],
     fed: &[Fed],
-) -> Result<Vec<Reply>, OutOfMemory>
+) -> Result<Vec<Outcome<Runs>>, OutOfMemory>
     requires lawful { IsLawful B.batch }
     requires site { B.batch.site ≡ None }
     requires design { design.now.circuit ≡ B.batch.circuit }
@@ -243,16 +245,16 @@ pub fn answer_all<B: BatchName>(
     ensures kept { OnOk result (AreFreeShards B.batch B.opening memo.new) }
     ensures settled { (start : List EntryRecord) (first : List ShardRecord)
         → IsWalking B.batch start first (shards_in memo.old) [] [] queries.now fed.now
-        → IfOk result (λ replies. IsWalking B.batch start first (shards_in memo.new) B.batch.queries
-        replies.items [] []) }
+        → IfOk result (λ outcomes. IsWalking B.batch start first (shards_in memo.new) B.batch.queries
+        outcomes.items [] []) }
     ensures asks { let qs = queries.now in let was = refused_in fed.now in
-        IfOk result (λ replies. AskInTurn B.batch B.opening qs (shards_in memo.old) was
-        (shards_in memo.new) (refused_of replies.items)) }
+        IfOk result (λ outcomes. AskInTurn B.batch B.opening qs (shards_in memo.old) was
+        (shards_in memo.new) (refused_of outcomes.items)) }
 {
-    let mut replies = Vec::new(alloc);
+    let mut outcomes = Vec::new(alloc);
     for k in 0..queries.len() {
-        let reply = answer_one(alloc, memo, design, queries[k], fed[k])?;
-        replies.push(reply)?;
+        let outcome = answer_one(alloc, memo, design, queries[k], fed[k])?;
+        outcomes.push(outcome)?;
     }
-    Ok(replies)
+    Ok(outcomes)
 }

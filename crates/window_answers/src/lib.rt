@@ -1,9 +1,8 @@
 //! Answers to the queries of a batch: verdicts, strands for the pieces of windows, and settlement.
 //!
-//! [`verdicts_of`] returns what becomes of each item of a batch. [`first_verdict_of`], [`why_verdict_of`], and [`stuck_site_of`] with
-//! [`stuck_verdict_of`] do the same for a question for a first time, for an explanation, and for a wave with a stuck signal. [`strands_of`]
-//! makes the strands of a batch's queries, one for each piece of each window. A caller runs these over the shards (`plan_core`,
-//! `worker_gate`), completely or in part. Then [`settle`] alone answers every query:
+//! [`verdict_of`] returns what becomes of a window that a line asks for, and [`verdicts_of`] of the window of each item of a batch.
+//! [`strands_of`] makes the strands of a batch's queries, one for each piece of each window. A caller runs these over the shards
+//! (`plan_core`, `worker_gate`), completely or in part. Then [`settle`] alone answers every query:
 //! - It frees the claims that are left.
 //! - For each query in order it visits the points that the query had filled before settlement. `asked_cells` finds the cell of each looked
 //!   pin among the base answers and the cells that entries of the batch say, or asks for it by a strand that runs alone.
@@ -12,7 +11,7 @@
 //!   Where the caller hands over what was noted of the entries (`Said` of `asked_cells`), it is not noted and counted again.
 //! - For each query in order it walks the window from cell to cell in the same way, and gathers its runs.
 //!
-//! The reply to a query that is refused meanwhile is its budget, and that to any other its waveform (`specs/Settlement`). The charge of a
+//! The outcome of a query that is refused meanwhile is its budget, and that of any other its waveform (`specs/Settlement`). The charge of a
 //! strand at its start is the number of the query's fills in the batch so far, at most its budget. No strand is started for a query that
 //! was refused (`AsksOn` of `asked_cells`). If memory runs out, the shards are dropped.
 //!
@@ -40,7 +39,7 @@
 //! ```
 //! let strands = strands_of::<B>(alloc, queries)?;
 //! let shards = crew.run(alloc, design, shards, strands)?;
-//! let Settled { replies, shards } = settle(alloc, design, shards, queries, false, None)?;
+//! let Settled { outcomes, shards } = settle(alloc, design, shards, queries, false, None)?;
 //! ```
 #![tactic(auto)]
 
@@ -54,6 +53,4 @@ mod visits;
 pub use session_meaning::Verdict;
 pub use settlement::{Settled, settle};
 pub use strands::strands_of;
-pub use verdicts::{
-    first_verdict_of, stuck_site_of, stuck_verdict_of, verdicts_of, why_verdict_of,
-};
+pub use verdicts::{verdict_of, verdicts_of};

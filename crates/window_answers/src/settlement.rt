@@ -18,13 +18,14 @@ use demand_points::BatchName;
 use design::Design;
 use memo_shards::Shard;
 use owned_text::OutOfMemory;
-use reply_lines::Reply;
+use reply_lines::Outcome;
 use std::alloc::Global;
+use window_walks::Runs;
 
-/// The replies of settlement to the queries, and the shards after it.
+/// The outcomes of the queries, and the shards after it.
 #[derive(Drop)]
 pub struct Settled<B: BatchName> {
-    pub replies: Vec<Reply>,
+    pub outcomes: Vec<Outcome<Runs>>,
     pub shards: Vec<Shard<B>>,
 }
 
@@ -95,13 +96,13 @@ pub fn settle<B: BatchName>(
     requires heard { heard ≡ true → AllChildrenCovered B.batch.circuit (entries_of shards.items) }
     requires said { ForSome said (λ said. HaveCounted (entries_of shards.items) said.fills.items) }
     ensures { IfOk result (λ settled. HasSettled B.batch B.opening shards.items settled.shards.items
-        settled.replies.items) }
+        settled.outcomes.items) }
 {
     let Begun { mut memo, fills } = begin_settlement(alloc, shards, queries, heard, said)?;
     let fed = feed_all(alloc, &mut memo, design, queries, heard, fills)?;
-    let replies = answer_all(alloc, &mut memo, design, queries, &fed)?;
+    let outcomes = answer_all(alloc, &mut memo, design, queries, &fed)?;
     Ok(Settled {
-        replies,
+        outcomes,
         shards: memo.into_shards(),
     })
 }

@@ -27,8 +27,6 @@ ghost use Rattle.workload.specs.Workload.{IsWork};
 mod draws;
 mod lines;
 mod read;
-#[cfg(test)]
-mod tests;
 mod texts;
 mod words;
 

@@ -14,7 +14,7 @@ use Rattle.batch_meaning.specs.Batches.{Batch, IsNeededBy}
 use Rattle.journal_meaning.specs.declared.Entry.{Entry}
 use Rattle.why_proofs.specs.Justified.{answer, AreJustified}
 use Rattle.session_meaning.specs.Explanations.{Tells, IsBefore}
-use Rattle.explanations.specs.declared.waiting.Place.{Place}
+use Rattle.explanations.specs.declared.waiting.LinePlace.{LinePlace}
 use Rattle.explanations.specs.declared.waiting.Asked.{Asked}
 use Rattle.explanations.specs.inner.Waiting.{line_of, point_of, place_of, Places}
 
@@ -35,7 +35,7 @@ IsSourceAdded c now None = Unit {0}
 IsSourceAdded c now (Some p) = (IsEvaluable c p.signal p.time → ⊥) ⊎ ((a : Asked) × (now (place_of (record { signal = p.signal; cell = cell_at c p })) ≡ Some a))
 
 -- a cell that waits is of one of the sources
-pub record IsOfSource (c : Circuit) (es : List Entry) (os : List (Option Point)) (k : Place) (a : Asked) : Type 0 where
+pub record IsOfSource (c : Circuit) (es : List Entry) (os : List (Option Point)) (k : LinePlace) (a : Asked) : Type 0 where
   pub place : k ≡ place_of (line_of a)
   pub told : IsTold c es a
   pub source : Contains os (Some (point_of a))
@@ -43,13 +43,13 @@ pub record IsOfSource (c : Circuit) (es : List Entry) (os : List (Option Point))
 -- Sources of pins were asked for: entries were added, and nothing but their cells.
 pub record Looks (c : Circuit) (es fs : List Entry) (old new : Places) (os : List (Option Point)) : Type 0 where
   pub grows : (e : Entry) → Contains es e → Contains fs e
-  pub kept : (k : Place) (a : Asked) → old k ≡ Some a → new k ≡ Some a
-  pub only : (k : Place) (a : Asked) → new k ≡ Some a → (old k ≡ Some a) ⊎ IsOfSource c fs os k a
+  pub kept : (k : LinePlace) (a : Asked) → old k ≡ Some a → new k ≡ Some a
+  pub only : (k : LinePlace) (a : Asked) → new k ≡ Some a → (old k ≡ Some a) ⊎ IsOfSource c fs os k a
   pub sources : AllByRecursion (IsSourceAdded c new) os
 
 -- a line was taken, or its cell waits
 abbrev pub IsKept : List SignalCell → Places → SignalCell → Type 0
-IsKept lines now x = Contains lines x ⊎ ((k : Place) × (a : Asked) × (now k ≡ Some a) × (line_of a ≡ x))
+IsKept lines now x = Contains lines x ⊎ ((k : LinePlace) × (a : Asked) × (now k ≡ Some a) × (line_of a ≡ x))
 
 -- the source of a pin, where there is one: it has a base answer, or its cell is such a line
 abbrev pub IsSourceKept : Circuit → List SignalCell → Places → Option Point → Type 0
@@ -64,10 +64,10 @@ AreSourcesKept c lines now x = (n : ℕ) → IsSourceKept c lines now (slice_ind
 pub record AreGathered (b : Batch) (q : Query) (es : List Entry) (lines : List SignalCell) (now : Places) : Type 0 where
   pub root : IsSourceKept b.circuit lines now (Some (record { signal = q.signal; time = q.from }))
   pub taken : (x : SignalCell) → Contains lines x → (t : ℕ) × IsWanted b q es (record { signal = x.signal; time = t; cell = x.cell })
-  pub places : (k : Place) (a : Asked) → now k ≡ Some a → k ≡ place_of (line_of a)
-  pub waiting : (k : Place) (a : Asked) → now k ≡ Some a → IsWanted b q es a
+  pub places : (k : LinePlace) (a : Asked) → now k ≡ Some a → k ≡ place_of (line_of a)
+  pub waiting : (k : LinePlace) (a : Asked) → now k ≡ Some a → IsWanted b q es a
   pub order : AllPairs IsBefore lines
-  pub below : (k : Place) (a : Asked) → now k ≡ Some a → (x : SignalCell) → Contains lines x → IsBefore (line_of a) x
+  pub below : (k : LinePlace) (a : Asked) → now k ≡ Some a → (x : SignalCell) → Contains lines x → IsBefore (line_of a) x
 
 -- a number that gets less with each line that is taken
 abbrev pub rank : ℕ → List SignalCell → ℕ

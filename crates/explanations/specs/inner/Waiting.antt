@@ -4,18 +4,18 @@ use Rattle.std.specs.declared.cmp.Ordering.{Ordering}
 use Rattle.std.specs.Ordering.{ordering_then, nat_cmp}
 use Rattle.valid_intervals.specs.declared.Point.{Point}
 use Rattle.valid_intervals.specs.declared.SignalCell.{SignalCell}
-use Rattle.explanations.specs.declared.waiting.Place.{Place}
+use Rattle.explanations.specs.declared.waiting.LinePlace.{LinePlace}
 use Rattle.explanations.specs.declared.waiting.Asked.{Asked}
 
 -- by first times, and then by signals
-abbrev pub place_cmp : Place → Place → Ordering
+abbrev pub place_cmp : LinePlace → LinePlace → Ordering
 place_cmp a b = ordering_then (nat_cmp a.start b.start) (nat_cmp a.signal b.signal)
 
-abbrev pub IsBelow : Place → Place → Type 0
+abbrev pub IsBelow : LinePlace → LinePlace → Type 0
 IsBelow a b = (a.start < b.start) ⊎ ((a.start ≡ b.start) × (a.signal < b.signal))
 
 -- where a line stands, and the line and the point of a cell that was asked for
-abbrev pub place_of : SignalCell → Place
+abbrev pub place_of : SignalCell → LinePlace
 place_of x = record { start = x.cell.span.start; signal = x.signal }
 
 abbrev pub line_of : Asked → SignalCell
@@ -26,18 +26,18 @@ point_of a = record { signal = a.signal; time = a.time }
 
 -- what waits at each place
 abbrev pub Places : Type 0
-Places = Place → Option Asked
+Places = LinePlace → Option Asked
 
 -- the cell was added, unless one stood in its place
 pub record Adds (old : Places) (a : Asked) (new : Places) : Type 0 where
-  pub kept : (k : Place) (x : Asked) → old k ≡ Some x → new k ≡ Some x
+  pub kept : (k : LinePlace) (x : Asked) → old k ≡ Some x → new k ≡ Some x
   pub there : (x : Asked) × (new (place_of (line_of a)) ≡ Some x)
-  pub only : (k : Place) (x : Asked) → new k ≡ Some x → (old k ≡ Some x) ⊎ ((k ≡ place_of (line_of a)) × (x ≡ a))
+  pub only : (k : LinePlace) (x : Asked) → new k ≡ Some x → (old k ≡ Some x) ⊎ ((k ≡ place_of (line_of a)) × (x ≡ a))
 
 -- the cell stood in the last place, and was taken
 pub record TakesLast (old : Places) (a : Asked) (new : Places) : Type 0 where
-  pub place : Place
+  pub place : LinePlace
   pub was : old place ≡ Some a
-  pub last : (k : Place) (x : Asked) → new k ≡ Some x → IsBelow k place
-  pub left : (k : Place) (x : Asked) → new k ≡ Some x → old k ≡ Some x
-  pub kept : (k : Place) (x : Asked) → old k ≡ Some x → (k ≡ place) ⊎ (new k ≡ Some x)
+  pub last : (k : LinePlace) (x : Asked) → new k ≡ Some x → IsBelow k place
+  pub left : (k : LinePlace) (x : Asked) → new k ≡ Some x → old k ≡ Some x
+  pub kept : (k : LinePlace) (x : Asked) → old k ≡ Some x → (k ≡ place) ⊎ (new k ≡ Some x)

@@ -26,17 +26,17 @@ use Rattle.session_meaning.specs.StuckSignals.{stuck_circuit, held_batch, IsCove
 use Rattle.asked_cells.specs.Memos.{entries_of}
 use Rattle.asked_cells.specs.inner.Standings.{live}
 use Rattle.stuck_faults.specs.Asks.{RefusedBy, Neither, Session, Own, IsOutcomeOf}
-use Rattle.stuck_faults.specs.declared.both.Question.{Question}
+use Rattle.stuck_faults.specs.declared.both.StuckQuery.{StuckQuery}
 
-abbrev pub site_in : Question → Site
+abbrev pub site_in : StuckQuery → Site
 site_in question = record { signal = question.site; value = question.value }
 
 -- the circuit in which the site of the question is stuck
-abbrev pub circuit_of : Batch → Question → Circuit
+abbrev pub circuit_of : Batch → StuckQuery → Circuit
 circuit_of b question = stuck_circuit b.circuit (site_in question)
 
 -- The batch of the session's memo and that of the memo of its own, the circuit and the one in which the site is stuck.
-pub record IsAsked (b own : Batch) (question : Question) (c d : Circuit) : Type 0 where
+pub record IsAsked (b own : Batch) (question : StuckQuery) (c d : Circuit) : Type 0 where
   pub lawful : IsLawful b
   pub circuit : c ≡ b.circuit
   pub stuck : d ≡ circuit_of b question
@@ -62,7 +62,7 @@ pub record AreAllFed (c : Circuit) (site : Site) (q : Query) (es own : List Entr
   pub free : ChildrenCovered c es q.number
 
 -- Between two times: nothing is claimed in the memo of its own, no budget was spent, and it has filled so many points.
-pub record Rests (b : Batch) (opening : ℕ → List SignalCell) (question : Question) (ms : List KeptShard) (m : KeptShard) (charge : ℕ) : Type 0 where
+pub record Rests (b : Batch) (opening : ℕ → List SignalCell) (question : StuckQuery) (ms : List KeptShard) (m : KeptShard) (charge : ℕ) : Type 0 where
   pub first : List Shard
   pub stands : IsStanding b opening question.query [] first (live ms)
   pub mirror : List Entry
@@ -77,23 +77,23 @@ pub record Rests (b : Batch) (opening : ℕ → List SignalCell) (question : Que
   pub reached : NoneIsFree b.circuit (site_in question) m.shard.journal
 
 -- it was refused: nothing is claimed any more, and one of the two memos holds the cause
-pub record IsRefused (b : Batch) (question : Question) (ms : List KeptShard) (m : KeptShard) : Type 0 where
+pub record IsRefused (b : Batch) (question : StuckQuery) (ms : List KeptShard) (m : KeptShard) : Type 0 where
   pub number : m.number ≡ 0
   pub idle : m.shard.state.claims ≡ []
   pub reached : NoneIsFree b.circuit (site_in question) m.shard.journal
   pub cause : IsSpent (entries_of ms) question.query ⊎ IsSpent m.shard.journal question.query
 
 -- what is claimed is what the strand holds
-pub record HoldsAll (question : Question) (m : KeptShard) (s : Demand) : Type 0 where
+pub record HoldsAll (question : StuckQuery) (m : KeptShard) (s : Demand) : Type 0 where
   pub held : (p : Point) → IsOnStack s.strand.stack p → holder m.shard.state.claims p ≡ Some question.query.number
   pub holder : (p : Point) (q : ℕ) → holder m.shard.state.claims p ≡ Some q → IsOnStack s.strand.stack p
 
 -- a strand of the question for this one time
-abbrev pub start_at : Question → ℕ → Start
+abbrev pub start_at : StuckQuery → ℕ → Start
 start_at question time = record { query = question.query; start = time; stop = time + 1; budget = question.query.budget; charged = 0 }
 
 -- While a strand asks for one time, the entries before it counted as its own.
-pub record Asks (b : Batch) (opening : ℕ → List SignalCell) (question : Question) (time : ℕ) (ms : List KeptShard) (m : KeptShard) (s : Demand) : Type 0 where
+pub record Asks (b : Batch) (opening : ℕ → List SignalCell) (question : StuckQuery) (time : ℕ) (ms : List KeptShard) (m : KeptShard) (s : Demand) : Type 0 where
   pub first : List Shard
   pub stands : IsStanding b opening question.query [] first (live ms)
   pub mirror : List Entry
@@ -111,19 +111,19 @@ nothing = record { horizon = 0; drivers = [] }
 
 -- What a strand leaves in the memo of its own, over the entries since the question began: they are the query's, and its fills are at
 -- most its budget.
-pub record LeavesOwn (c : Circuit) (question : Question) (time : ℕ) (es own : List Entry) (who : RefusedBy) : Type 0 where
+pub record LeavesOwn (c : Circuit) (question : StuckQuery) (time : ℕ) (es own : List Entry) (who : RefusedBy) : Type 0 where
   pub ours : AllByRecursion (IsFor question.query.number) own
   pub few : fill_count own question.query.number ≤ question.query.budget
   pub outcome : IsOutcomeOf c (site_in question) (start_at question time) es own own who
 
 -- why a strand gives up: the session's memo refused it, or its own did at a point
-abbrev pub IsGivingUpBy : Circuit → Question → ℕ → List Entry → List Entry → Strand → RefusedBy → Type 0
+abbrev pub IsGivingUpBy : Circuit → StuckQuery → ℕ → List Entry → List Entry → Strand → RefusedBy → Type 0
 IsGivingUpBy c question time es own s Neither = ⊥
 IsGivingUpBy c question time es own s Session = IsSpent es question.query × LeavesOwn c question time es own Session
 IsGivingUpBy c question time es own s (Own p) = IsGivingUp nothing (start_at question time) p own s
 
 -- It was refused, and holds claims still.
-pub record GivesUp (b : Batch) (question : Question) (time : ℕ) (ms : List KeptShard) (m : KeptShard) (s : Demand) (who : RefusedBy) : Type 0 where
+pub record GivesUp (b : Batch) (question : StuckQuery) (time : ℕ) (ms : List KeptShard) (m : KeptShard) (s : Demand) (who : RefusedBy) : Type 0 where
   pub holds : HoldsAll question m s
   pub query : s.strand.query ≡ question.query
   pub number : m.number ≡ 0

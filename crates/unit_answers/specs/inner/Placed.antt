@@ -1,26 +1,30 @@
--- The replies to the queries of a batch, at the places of its items.
-use Rattle.std.specs.Prelude.{List, [], ◌∷◌}
+-- The outcomes of the queries of a batch, at the places of its items.
+use Rattle.std.specs.Prelude.{List, [], ◌∷◌, Option, Some, None}
+use Rattle.circuit_meaning.specs.declared.Run.{Run}
+use Rattle.reply_lines.specs.declared.reply.Outcome.{Outcome}
+use Rattle.reply_lines.specs.declared.reply.Outcome.TheVariants as outcomes
 use Rattle.reply_lines.specs.declared.reply.Reply.{Reply}
-use Rattle.reply_lines.specs.declared.reply.Reply.TheVariants as replies
+use Rattle.reply_lines.specs.declared.reply.Reply.TheVariants.{Window, BadLine}
 use Rattle.session_meaning.specs.declared.Verdict.{Verdict}
-use Rattle.session_meaning.specs.declared.Verdict.TheVariants.{Ask, Unknown, Past, Bad}
+use Rattle.session_meaning.specs.declared.Verdict.TheVariants.{Ask, Unknown, Past}
 
--- The reply to an item. If the item asks, this is the next reply to the queries.
-abbrev pub reply_to : Verdict → List Reply → Reply
-reply_to (Ask query) [] = replies.Budget query.budget
-reply_to (Ask query) (reply ∷ rest) = reply
-reply_to Unknown answers = replies.Unknown
-reply_to Past answers = replies.Past
-reply_to Bad answers = replies.BadLine
+-- the outcome of a window that has no answer
+abbrev pub no_answer : {T : Type 0} → Verdict → Outcome T
+no_answer (Ask query) = outcomes.Budget query.budget
+no_answer Unknown = outcomes.Unknown
+no_answer Past = outcomes.Past
 
--- the replies that are left for the items after it
-abbrev pub left_by : Verdict → List Reply → List Reply
-left_by (Ask query) [] = []
-left_by (Ask query) (reply ∷ rest) = rest
-left_by Unknown answers = answers
-left_by Past answers = answers
-left_by Bad answers = answers
+-- The reply to an item. If the item asks, this is the next outcome of the queries.
+abbrev pub reply_to : Option Verdict → List (Outcome (List Run)) → Reply
+reply_to (Some (Ask query)) (outcome ∷ rest) = Window outcome
+reply_to (Some verdict) rest = Window (no_answer verdict)
+reply_to None rest = BadLine
 
-abbrev pub placed_replies : List Verdict → List Reply → List Reply
-placed_replies [] answers = []
-placed_replies (verdict ∷ verdicts) answers = reply_to verdict answers ∷ placed_replies verdicts (left_by verdict answers)
+-- the outcomes that are left for the items after it
+abbrev pub left_by : Option Verdict → List (Outcome (List Run)) → List (Outcome (List Run))
+left_by (Some (Ask query)) (outcome ∷ rest) = rest
+left_by verdict rest = rest
+
+abbrev pub placed_replies : List (Option Verdict) → List (Outcome (List Run)) → List Reply
+placed_replies [] rest = []
+placed_replies (verdict ∷ verdicts) rest = reply_to verdict rest ∷ placed_replies verdicts (left_by verdict rest)

@@ -10,9 +10,10 @@ use Rattle.batch_meaning.specs.Lawful.{IsLawful}
 use Rattle.journal_meaning.specs.Allowed.{IsRight}
 use Rattle.plan_machine.specs.Shards.{Shard}
 use Rattle.plan_machine.specs.Settle.{AreSettled, journals_of}
-use Rattle.reply_lines.specs.declared.reply.Reply.{Reply}
+use Rattle.circuit_meaning.specs.declared.Run.{Run}
+use Rattle.reply_lines.specs.declared.reply.Outcome.{Outcome}
 use Rattle.memo_shards.specs.KeptShards.{KeptShard}
-use Rattle.window_answers.specs.Phases.{AreReplies, refused_of}
+use Rattle.window_answers.specs.Phases.{AreOutcomes, refused_of}
 use Rattle.session_meaning.specs.Session.{Setup}
 use Rattle.worker_gate.specs.Ends.{AreInOrder}
 use Rattle.unit_answers.specs.Stores.{cells_of}
@@ -60,11 +61,11 @@ pub record AreEnded (capacity : ℕ) (shards : List KeptShard) (lists : List (Li
   pub lists_are : lists ≡ map (λ m. m.shard.journal) shards
   pub stores_are : stores ≡ map (λ m. store_of capacity m.shard) shards
 
--- The shards of the batch are settled, each query has its reply, and the journals and the stores are those of the shards.
-pub record HasRun (b : Batch) (opening : ℕ → List SignalCell) (replies : List Reply) (lists : List (List Entry)) (left : List Contents) : Type 0 where
+-- The shards of the batch are settled, each query has its outcome, and the journals and the stores are those of the shards.
+pub record HasRun (b : Batch) (opening : ℕ → List SignalCell) (outcomes : List (Outcome (List Run))) (lists : List (List Entry)) (left : List Contents) : Type 0 where
   pub handed : List Shard
   pub shards : List Shard
-  pub settled : AreSettled b opening handed shards (refused_of replies)
-  pub replies_are : AreReplies b.circuit b.queries replies
+  pub settled : AreSettled b opening handed shards (refused_of outcomes)
+  pub outcomes_are : AreOutcomes b.circuit b.queries outcomes
   pub lists_are : lists ≡ journals_of shards
   pub stores_are : left ≡ map (store_of b.capacity) shards

@@ -10,9 +10,10 @@ use Rattle.journal_meaning.specs.Grown.{IsFor, AreAdded}
 use Rattle.plan_machine.specs.Shards.{Shard}
 use Rattle.plan_machine.specs.inner.Settle.{IsOpen, AreVisited}
 use Rattle.plan_machine.specs.Settle.{IsSettled, AreAllSettled, journals_of, entries_in, charge_of}
-use Rattle.reply_lines.specs.declared.reply.Reply.{Reply}
+use Rattle.circuit_meaning.specs.declared.Run.{Run}
+use Rattle.reply_lines.specs.declared.reply.Outcome.{Outcome}
 use Rattle.window_answers.specs.declared.answers.Fed.{Fed}
-use Rattle.window_answers.specs.Phases.{AreReplies, refused_of}
+use Rattle.window_answers.specs.Phases.{AreOutcomes, refused_of}
 
 -- which queries were refused while their fills were visited
 abbrev pub refused_in : List Fed → List Bool
@@ -49,9 +50,9 @@ pub record IsFeeding (b : Batch) (start : List Entry) (first now : List Shard) (
   pub fills : AllByRecursion (λ q. fill_count (entries_in now) q.number ≡ fill_count start q.number) left
 
 -- between two queries of the second phase
-pub record IsWalking (b : Batch) (start : List Entry) (first now : List Shard) (done : List Query) (replies : List Reply) (left : List Query) (fed : List Fed) : Type 0 where
+pub record IsWalking (b : Batch) (start : List Entry) (first now : List Shard) (done : List Query) (outcomes : List (Outcome (List Run))) (left : List Query) (fed : List Fed) : Type 0 where
   pub added : List Entry
   pub journals : AreAdded (journals_of first) added (journals_of now)
-  pub settled : AreAllSettled b.circuit start (entries_in now) done (refused_of replies)
-  pub answers : AreReplies b.circuit done replies
+  pub settled : AreAllSettled b.circuit start (entries_in now) done (refused_of outcomes)
+  pub answers : AreOutcomes b.circuit done outcomes
   pub all : AreAllFed b.circuit start (entries_in now) left fed

@@ -8,7 +8,7 @@ use Rattle.memo_shards.specs.KeptShards.{KeptShard}
 use Rattle.plan_core.specs.Parts.{shards_in}
 use Rattle.asked_cells.specs.Asked.{AsksFreed}
 use Rattle.asked_cells.proofs.Unused.{unused-freed}
-use Rattle.explanations.specs.Asks.{is_budget}
+use Rattle.reply_lines.specs.Replies.{is_budget}
 use Rattle.explanations.proofs.explained.explain.Goals as goal
 
 pub gather_answer-requires-clause-unused : goal.gather_answer-requires-clause-unused
@@ -21,11 +21,11 @@ returns-clause-journals g c =
     let begun = c.in_ok-memo.memo in
     let new = c.gather_answer.new.memo in
     let r = all-freed b c.requires.lawful g.B.BatchName.opening (shards_in old) (shards_in begun) c.in_ok-memo.ensures.shards c.in_ok-memo.ensures.freed in
-    let w = c.in_ok-answer.ensures.journals in
+    let w = c.in_ok-outcome.ensures.journals in
     subst (λ (ms : List KeptShard). (added : List Entry) × AreAdded (journals_of (shards_in old)) added (journals_of (shards_in ms))) (sym c.into_shards.ensures)
     (r.added ++ w.0, added-more (journals_of (shards_in old)) r.added (journals_of (shards_in begun)) w.0 (journals_of (shards_in new)) r.journals w.1)
 
 pub returns-clause-asks : goal.returns-clause-asks
 returns-clause-asks g c =
-    subst (λ (ms : List KeptShard). AsksFreed g.B.BatchName.batch g.B.BatchName.opening c.args.query (shards_in c.args.shards.items) (shards_in ms) (is_budget c.in_ok-answer.answer)) (sym c.into_shards.ensures)
-    (record { freed = shards_in c.in_ok-memo.memo; frees = c.in_ok-memo.ensures.freed; asks = c.in_ok-answer.ensures.asks })
+    subst (λ (ms : List KeptShard). AsksFreed g.B.BatchName.batch g.B.BatchName.opening c.args.query (shards_in c.args.shards.items) (shards_in ms) (is_budget c.in_ok-outcome.outcome)) (sym c.into_shards.ensures)
+    (record { freed = shards_in c.in_ok-memo.memo; frees = c.in_ok-memo.ensures.freed; asks = c.in_ok-outcome.ensures.asks })

@@ -30,8 +30,8 @@ returns-in_default-clause-journals g c =
     let start = begins-standing b c.requires.lawful opening q c.requires.queries c.requires.window old c.requires.kept c.requires.unused in
     journals-grown b c.requires.lawful opening q c.requires.queries c.requires.window (shards_in old) c.hear.new.memo (is_missing c.in_ok-cell.field-0) (c.in_ok-cell.ensures.reaches (shards_in old) start).0.stands
 
-pub returns-in_default-clause-answer : goal.returns-in_default-clause-answer
-returns-in_default-clause-answer g c =
+pub returns-in_default-clause-outcome : goal.returns-in_default-clause-outcome
+returns-in_default-clause-outcome g c =
     let b = g.B.BatchName.batch in
     let opening = g.B.BatchName.opening in
     let q = c.args.query in
@@ -65,8 +65,8 @@ returns-in-None-clause-journals g c =
     let h = is-heard b lawful opening q c.requires.queries c.requires.window first old c.hear.new.memo c.in_ok-cell.field-0 c.in-Some.cell c.in-Some.is (c.in_ok-cell.ensures.reaches first start) in
     journals-grown b lawful opening q c.requires.queries c.requires.window first c.gather.new.memo (is_missing c.in_ok-gather.field-0) (c.in_ok-gather.ensures.advances first h.stands).stands
 
-pub returns-in-None-clause-answer : goal.returns-in-None-clause-answer
-returns-in-None-clause-answer g c =
+pub returns-in-None-clause-outcome : goal.returns-in-None-clause-outcome
+returns-in-None-clause-outcome g c =
     let b = g.B.BatchName.batch in
     let opening = g.B.BatchName.opening in
     let q = c.args.query in
@@ -90,8 +90,8 @@ returns-in-Some-2-clause-journals g c =
     let h = is-heard b lawful opening q c.requires.queries c.requires.window first old c.hear.new.memo c.in_ok-cell.field-0 c.in-Some.cell c.in-Some.is (c.in_ok-cell.ensures.reaches first start) in
     journals-grown b lawful opening q c.requires.queries c.requires.window first c.gather.new.memo (is_missing c.in_ok-gather.field-0) (c.in_ok-gather.ensures.advances first h.stands).stands
 
-pub returns-in-Some-2-clause-answer : goal.returns-in-Some-2-clause-answer
-returns-in-Some-2-clause-answer g c =
+pub returns-in-Some-2-clause-outcome : goal.returns-in-Some-2-clause-outcome
+returns-in-Some-2-clause-outcome g c =
     let b = g.B.BatchName.batch in
     let opening = g.B.BatchName.opening in
     let q = c.args.query in

@@ -37,8 +37,8 @@ pub returns-then-is_same-clause-journals : goal.returns-then-is_same-clause-jour
 returns-then-is_same-clause-journals g c =
     journals-of-reach g.B.BatchName.batch c.requires.lawful g.B.BatchName.opening c.args.query c.args.value c.requires.queries c.args.memo.now c.cells.memo c.reach.new.memo c.cells.time c.cells.charge c.cells.invariant.walking c.cells-test.true c.cells.invariant.asking.counts (is_missing c.in_ok-cell.field-0) c.in_ok-cell.ensures.asked
 
-pub returns-then-is_same-clause-answer : goal.returns-then-is_same-clause-answer
-returns-then-is_same-clause-answer g c =
+pub returns-then-is_same-clause-outcome : goal.returns-then-is_same-clause-outcome
+returns-then-is_same-clause-outcome g c =
     let b = g.B.BatchName.batch in
     let t = c.cells.time in
     let q = c.args.query in
@@ -102,6 +102,6 @@ cells-preserved g c =
           (c.cells.invariant.walking.root (goes-on b.circuit q w t c.cells.invariant.walking.none c.cells-test.true)) c.cells.invariant.asking.counts c.cells.invariant.asks h;
     }
 
-pub returns-clause-answer : goal.returns-clause-answer
-returns-clause-answer g c =
+pub returns-clause-outcome : goal.returns-clause-outcome
+returns-clause-outcome g c =
     ends-never g.B.BatchName.batch c.requires.lawful g.B.BatchName.opening c.args.query c.args.value c.requires.queries c.args.memo.now c.cells.memo c.cells.time c.cells.invariant.walking (let n = c.cells-test.false in omega arith)

@@ -5,7 +5,7 @@ use Rattle.plan_machine.proofs.Ready.{has-ended}
 use Rattle.stuck_faults.proofs.Held.{held-lawful}
 use Rattle.stuck_faults.specs.Asks.{RefusedBy}
 use Rattle.stuck_faults.specs.inner.Both.{GivesUp, site_in}
-use Rattle.stuck_faults.proofs.Turns.{of-drop, gives-same, chain-of, extends-none, extends-then}
+use Rattle.stuck_faults.proofs.Steps.{of-drop, gives-same, chain-of, extends-none, extends-then}
 use Rattle.stuck_faults.proofs.Resting.{drops-on, drops-leave, drops-end}
 use Rattle.stuck_faults.proofs.root.drop_all.Goals as goal
 

@@ -6,8 +6,8 @@ use Rattle.asked_cells.specs.Memos.{IsChargedMemo, entries_of}
 use Rattle.stuck_faults.specs.inner.Both.{Asks, AreKept, Extends}
 use Rattle.stuck_faults.proofs.root.hear_root.Given as goal
 
-abbrev pub invariant-turns : goal.invariant-turns
-invariant-turns g l = record {
+abbrev pub invariant-steps : goal.invariant-steps
+invariant-steps g l = record {
   session : IsChargedMemo g.B.BatchName.batch g.B.BatchName.opening l.memos.session l.question.query l.memos.charge;
   asks : Asks g.B.BatchName.batch g.B.BatchName.opening l.question l.time l.memos.session l.memos.own l.strand;
   kept_session : AreKept (entries_of l.initial.memos.session) (entries_of l.memos.session);
@@ -16,5 +16,5 @@ invariant-turns g l = record {
   design : l.design ≡ l.initial.design;
 }
 
-abbrev pub decreases-turns : goal.decreases-turns
-decreases-turns g l = turns_left g.H.BatchName.batch 1 l.strand.strand
+abbrev pub decreases-steps : goal.decreases-steps
+decreases-steps g l = turns_left g.H.BatchName.batch 1 l.strand.strand

@@ -2,8 +2,9 @@ use Rattle.std.proofs.Common.{List, [], sym, ap, subst}
 use Rattle.journal_meaning.specs.declared.Entry.{Entry}
 use Rattle.batch_meaning.specs.Lawful.{IsLawful}
 use Rattle.session_meaning.specs.StuckSignals.{IsHeldJournal}
+use Rattle.reply_lines.specs.Replies.{is_budget}
 use Rattle.plan_core.specs.Parts.{shards_in}
-use Rattle.stuck_faults.specs.Asks.{AsksRoots, is_budget}
+use Rattle.stuck_faults.specs.Asks.{AsksRoots}
 use Rattle.stuck_faults.specs.inner.Both.{site_in}
 use Rattle.memo_shards.specs.KeptShards.{KeptShard}
 use Rattle.stuck_faults.proofs.Held.{held-lawful, ends-held}
@@ -20,7 +21,7 @@ returns-clause-held g c =
     let circuit = g.B.BatchName.batch.circuit in
     let site = site_in c.args.question in
     let q = c.args.question.query in
-    let left = c.in_ok-answer.ensures in
+    let left = c.in_ok-outcome.ensures in
     subst (λ (own : List Entry). IsHeldJournal circuit site q own) (sym c.end_batch-journal.ensures.journal)
     (ends-held circuit site q g.H.BatchName.batch g.H.BatchName.opening c.walk.new.memos.own c.requires.asked.own_is c.requires.opening c.facts.ensures left.number left.idle left.reached)
 
@@ -36,9 +37,9 @@ returns-clause-asks g c =
     let site = site_in c.args.question in
     let q = c.args.question.query in
     let first = shards_in c.args.session in
-    let refused = is_budget c.in_ok-answer.answer in
+    let refused = is_budget c.in_ok-outcome.outcome in
     let new = shards_in c.walk.new.memos.session in
     let own = c.walk.new.memos.own.shard.journal in
     subst (λ (ms : List KeptShard). AsksRoots b opening site q first [] (shards_in ms) c.end_batch-journal.result.1.items refused) (sym c.into_shards.ensures)
     (subst (λ es. AsksRoots b opening site q first [] new es refused) (sym c.end_batch-journal.ensures.journal)
-    (subst (λ es. AsksRoots b opening site q first es new own refused) (ap (λ (m : KeptShard). m.shard.journal) c.begin.ensures) c.in_ok-answer.ensures.asks))
+    (subst (λ es. AsksRoots b opening site q first es new own refused) (ap (λ (m : KeptShard). m.shard.journal) c.begin.ensures) c.in_ok-outcome.ensures.asks))

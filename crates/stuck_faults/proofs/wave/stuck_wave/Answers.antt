@@ -1,6 +1,6 @@
 use Rattle.plan_core.specs.Parts.{shards_in}
 use Rattle.asked_cells.proofs.Unused.{unused-freed}
-use Rattle.stuck_faults.proofs.Turns.{if-ok}
+use Rattle.stuck_faults.proofs.Steps.{if-ok}
 use Rattle.stuck_faults.proofs.wave.stuck_wave.Goals as goal
 
 pub answer-requires-clause-unused : goal.answer-requires-clause-unused

@@ -16,7 +16,7 @@ use Rattle.design.specs.Joined.{Joined}
 use Rattle.stuck_faults.specs.inner.Both.{IsAsked, Rests, site_in}
 use Rattle.stuck_faults.proofs.Held.{window-within}
 use Rattle.stuck_faults.proofs.Resting.{rests-fed}
-use Rattle.stuck_faults.proofs.Turns.{extends-kept}
+use Rattle.stuck_faults.proofs.Steps.{extends-kept}
 use Rattle.stuck_faults.proofs.Walks.{AreRight, own-right, begins-walking, ends-later, goes-on, ends-closed}
 use Rattle.stuck_faults.proofs.wave.walk.Goals as goal
 
@@ -84,8 +84,8 @@ cells-preserved g c =
       design = c.hear_root.ensures.design ∙ c.cells.invariant.design;
     }
 
-pub returns-clause-answer : goal.returns-clause-answer
-returns-clause-answer g c =
+pub returns-clause-outcome : goal.returns-clause-outcome
+returns-clause-outcome g c =
     let b = g.B.BatchName.batch in
     let lawful = c.requires.asked.lawful in
     let question = c.args.question in

@@ -1,4 +1,4 @@
-use Rattle.std.proofs.Common.{◌≡◌, ◌≤◌, List, length, map, flat_map, refl, sym, subst}
+use Rattle.std.proofs.Common.{◌≡◌, ◌≤◌, List, Option, length, map, flat_map, refl, sym, subst}
 use Rattle.batch_meaning.specs.declared.Query.{Query}
 use Rattle.batch_meaning.specs.Lawful.{IsLawful}
 use Rattle.batch_meaning.specs.Pieces.{pieces}
@@ -9,7 +9,7 @@ use Rattle.unit_answers.specs.Crewed.{HasCrewed}
 use Rattle.unit_answers.specs.Stores.{setup_of, cells_of}
 use Rattle.unit_answers.specs.inner.Placed as places
 use Rattle.unit_answers.specs.inner.Runs.{asks, HasRun}
-use Rattle.unit_answers.proofs.Answering.{asked-by, replies-asked}
+use Rattle.unit_answers.proofs.Answering.{asked-by, outcomes-asked}
 use Rattle.unit_answers.proofs.Done.{batch-done}
 use Rattle.unit_answers.proofs.Few.{batch-few}
 use Rattle.unit_answers.proofs.Running.{lawful-items}
@@ -32,22 +32,22 @@ pub place_replies-requires : goal.place_replies-requires
 place_replies-requires g c =
     let d = c.args.design.now in
     let setup : Setup = setup_of d c.args.sizes in
-    let ran : HasRun (asks setup c.deref-2.result.now) (cells_of c.args.stores.items) c.in_ok-ran.ran.replies.items c.in_ok-ran.ran.lists.items c.in_ok-ran.ran.stores.items = c.in_ok-ran.ensures.run in
-    replies-asked d.circuit c.in_ok-verdicts.verdicts.items c.deref.result.now c.deref-3.result.now c.in_ok-queries.queries.items c.deref-2.result.now c.in_ok-ran.ran.replies.items
-    c.deref.ensures.value c.in_ok-queries.ensures c.deref-2.ensures.value c.deref-3.ensures.value ran.replies_are
+    let ran : HasRun (asks setup c.deref-2.result.now) (cells_of c.args.stores.items) c.in_ok-ran.ran.outcomes.items c.in_ok-ran.ran.lists.items c.in_ok-ran.ran.stores.items = c.in_ok-ran.ensures.run in
+    outcomes-asked d.circuit c.in_ok-verdicts.verdicts.items c.deref.result.now c.deref-3.result.now c.in_ok-queries.queries.items c.deref-2.result.now c.in_ok-ran.ran.outcomes.items
+    c.deref.ensures.value c.in_ok-queries.ensures c.deref-2.ensures.value c.deref-3.ensures.value ran.outcomes_are
 
 pub returns-clause-done : goal.returns-clause-done
 returns-clause-done g c =
     let d = c.args.design.now in
     let setup : Setup = setup_of d c.args.sizes in
     let queries = asked-by d c.args.items.now c.in_ok-verdicts.verdicts.items c.deref.result.now c.in_ok-queries.queries.items c.deref-2.result.now c.in_ok-verdicts.ensures c.deref.ensures.value c.in_ok-queries.ensures c.deref-2.ensures.value in
-    let rs = c.in_ok-ran.ran.replies.items in
-    let ran : HasRun (asks setup (queries_of d c.args.items.now)) (cells_of c.args.stores.items) rs c.in_ok-ran.ran.lists.items c.in_ok-ran.ran.stores.items =
-    subst (λ (qs : List Query). HasRun (asks setup qs) (cells_of c.args.stores.items) rs c.in_ok-ran.ran.lists.items c.in_ok-ran.ran.stores.items) queries c.in_ok-ran.ensures.run in
-    let placed : c.in_ok-replies.replies.items ≡ places.placed_replies (map (verdict_of d) c.args.items.now) rs =
-    subst (λ (vs : List Verdict). c.in_ok-replies.replies.items ≡ places.placed_replies vs rs) c.in_ok-verdicts.ensures
-    (subst (λ (vs : List Verdict). c.in_ok-replies.replies.items ≡ places.placed_replies vs rs) c.deref-3.ensures.value c.in_ok-replies.ensures) in
-    batch-done setup c.args.items.now c.args.stores.items rs c.in_ok-ran.ran.lists.items c.in_ok-ran.ran.stores.items ran c.requires.stores.sized c.in_ok-replies.replies.items placed
+    let os = c.in_ok-ran.ran.outcomes.items in
+    let ran : HasRun (asks setup (queries_of d c.args.items.now)) (cells_of c.args.stores.items) os c.in_ok-ran.ran.lists.items c.in_ok-ran.ran.stores.items =
+    subst (λ (qs : List Query). HasRun (asks setup qs) (cells_of c.args.stores.items) os c.in_ok-ran.ran.lists.items c.in_ok-ran.ran.stores.items) queries c.in_ok-ran.ensures.run in
+    let placed : c.in_ok-replies.replies.items ≡ places.placed_replies (map (verdict_of d) c.args.items.now) os =
+    subst (λ (vs : List (Option Verdict)). c.in_ok-replies.replies.items ≡ places.placed_replies vs os) c.in_ok-verdicts.ensures
+    (subst (λ (vs : List (Option Verdict)). c.in_ok-replies.replies.items ≡ places.placed_replies vs os) c.deref-3.ensures.value c.in_ok-replies.ensures) in
+    batch-done setup c.args.items.now c.args.stores.items os c.in_ok-ran.ran.lists.items c.in_ok-ran.ran.stores.items ran c.requires.stores.sized c.in_ok-replies.replies.items placed
 
 pub returns-clause-crewed : goal.returns-clause-crewed
 returns-clause-crewed g c =

@@ -12,14 +12,14 @@ run_question-requires-clause-named c =
     record {
       batch = refl;
       opens = refl;
-      lawful = question-lawful (setup_of c.args.design.now c.args.sizes) question.line question.asks c.in-Ask.asked
-          (subst (λ (d : Joined). IsAsked d question.line question.asks c.in-Ask.asked) c.design-plain.ensures c.in-Ask.ensures) (subst IsDesign c.design-plain.ensures c.facts.ensures) c.requires.stores.sized;
+      lawful = question-lawful (setup_of c.args.design.now c.args.sizes) question c.in-Ask.asked
+          (subst (λ (d : Joined). IsAsked d question c.in-Ask.asked) c.design-plain.ensures c.in-Ask.ensures) (subst IsDesign c.design-plain.ensures c.facts.ensures) c.requires.stores.sized;
     }
 
 -- nothing is asked
 pub returns-in_ok-lists-in-Tell-clause-done : goal.returns-in_ok-lists-in-Tell-clause-done
 returns-in_ok-lists-in-Tell-clause-done c =
     let question = c.args.question.now in
-    unasked-done (setup_of c.args.design.now c.args.sizes) question.line question.asks c.args.stores.items c.in-Tell.reply c.in_ok-lists-in-Tell.lists.items c.new.result.items c.requires.stores
-    (subst (λ (d : Joined). IsUnasked d question.line question.asks c.in-Tell.reply) c.design-plain.ensures c.in-Tell.ensures)
+    unasked-done (setup_of c.args.design.now c.args.sizes) question c.args.stores.items c.in-Tell.reply c.in_ok-lists-in-Tell.lists.items c.new.result.items c.requires.stores
+    (subst (λ (d : Joined). IsUnasked d question c.in-Tell.reply) c.design-plain.ensures c.in-Tell.ensures)
     (c.in_ok-lists-in-Tell.ensures ∙ ap (map none_for) c.deref.ensures.value) c.new.ensures.items

@@ -24,11 +24,11 @@ settle-requires-clause-heard g c told =
 
 pub returns-clause-run : goal.returns-clause-run
 returns-clause-run g c =
-    let rs = c.in_ok-replies.field-0.replies.items in
+    let os = c.in_ok-outcomes.field-0.outcomes.items in
     let lists = c.in_ok-lists.lists.items in
     let left = c.in_ok-lists.stores.items in
-    let run = has-run g.B.BatchName.batch g.B.BatchName.opening c.into_vec-handed.result.items c.in_ok-replies.field-0.shards.items rs lists left c.in_ok-replies.ensures c.in_ok-lists.ensures in
-    subst (λ (b : Batch). HasRun b (cells_of c.args.stores.items) rs lists left) c.requires.named.batch (subst (λ (o : ℕ → List SignalCell). HasRun g.B.BatchName.batch o rs lists left) c.requires.named.opens run)
+    let run = has-run g.B.BatchName.batch g.B.BatchName.opening c.into_vec-handed.result.items c.in_ok-outcomes.field-0.shards.items os lists left c.in_ok-outcomes.ensures c.in_ok-lists.ensures in
+    subst (λ (b : Batch). HasRun b (cells_of c.args.stores.items) os lists left) c.requires.named.batch (subst (λ (o : ℕ → List SignalCell). HasRun g.B.BatchName.batch o os lists left) c.requires.named.opens run)
 
 pub returns-clause-crewed : goal.returns-clause-crewed
 returns-clause-crewed g c =
@@ -36,11 +36,11 @@ returns-clause-crewed g c =
     let handed = c.into_vec-handed.result.items in
     let ran = c.in_ok-ran.ran in
     let e = c.in_ok-ran.ensures in
-    has-crewed b.circuit (flat_map pieces c.args.queries.now) c.in_ok-strands.strands.items c.in_ok-strands.ensures.strands ran.strands ran.counts e.ended b g.B.BatchName.opening handed c.in_ok-replies.field-0.shards.items c.in_ok-replies.field-0.replies.items c.in_ok-lists.lists.items
-    (g.C.Crew.is_open c.args.crew.now) c.in_ok-replies.ensures c.in_ok-lists.ensures.lists_are (subst (λ ms. sum ran.counts ≡ sum_by booked_in ms) (sym c.into_vec-handed.ensures) e.counted) (e.places ∙ c.in_ok-strands.strands.ok.0) (e.counts ∙ c.in_ok-strands.strands.ok.0) e.filled
+    has-crewed b.circuit (flat_map pieces c.args.queries.now) c.in_ok-strands.strands.items c.in_ok-strands.ensures.strands ran.strands ran.counts e.ended b g.B.BatchName.opening handed c.in_ok-outcomes.field-0.shards.items c.in_ok-outcomes.field-0.outcomes.items c.in_ok-lists.lists.items
+    (g.C.Crew.is_open c.args.crew.now) c.in_ok-outcomes.ensures c.in_ok-lists.ensures.lists_are (subst (λ ms. sum ran.counts ≡ sum_by booked_in ms) (sym c.into_vec-handed.ensures) e.counted) (e.places ∙ c.in_ok-strands.strands.ok.0) (e.counts ∙ c.in_ok-strands.strands.ok.0) e.filled
 
 pub settle-requires-clause-numbers : goal.settle-requires-clause-numbers
 settle-requires-clause-numbers g c = order-numbers c.into_vec-handed.result.items (subst AreInOrder (sym c.into_vec-handed.ensures) c.in_ok-ran.ensures.order)
 
 pub end_all-requires : goal.end_all-requires
-end_all-requires g c = settled-free g.B.BatchName.batch g.B.BatchName.opening c.into_vec-handed.result.items c.in_ok-replies.field-0.shards.items c.in_ok-replies.field-0.replies.items c.in_ok-replies.ensures
+end_all-requires g c = settled-free g.B.BatchName.batch g.B.BatchName.opening c.into_vec-handed.result.items c.in_ok-outcomes.field-0.shards.items c.in_ok-outcomes.field-0.outcomes.items c.in_ok-outcomes.ensures

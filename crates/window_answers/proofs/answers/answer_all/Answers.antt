@@ -1,6 +1,7 @@
 use Rattle.std.proofs.Common.{◌<◌, ◌+◌, [], List, false, length, take, drop, refl, sym, subst, arith}
 use Rattle.plan_core.specs.Parts.{shards_in}
-use Rattle.reply_lines.specs.declared.reply.Reply.{Reply}
+use Rattle.circuit_meaning.specs.declared.Run.{Run}
+use Rattle.reply_lines.specs.declared.reply.Outcome.{Outcome}
 use Rattle.window_answers.specs.inner.Phases.{IsWalking}
 use Rattle.batch_meaning.specs.declared.Query.{Query}
 use Rattle.window_answers.proofs.Turns.{WalksTo, turn-next, turn-last}
@@ -10,8 +11,8 @@ use Rattle.window_answers.proofs.answers.answer_all.Goals as goal
 pub loop-k-init : goal.loop-k-init
 loop-k-init g c = record {
   kept = c.requires.kept;
-  walked = λ start first h. subst (λ (rs : List Reply). IsWalking g.B.BatchName.batch start first (shards_in c.args.memo.now) [] rs c.args.queries.now c.args.fed.now) (sym c.new-replies.ensures.items) h;
-  asks = let ss = shards_in c.args.memo.now in subst (λ (rs : List Reply). WalksTo g.B.BatchName.batch g.B.BatchName.opening c.args.queries.now ss c.args.fed.now ss 0 rs) (sym c.new-replies.ensures.items) refl;
+  walked = λ start first h. subst (λ (rs : List (Outcome (List Run))). IsWalking g.B.BatchName.batch start first (shards_in c.args.memo.now) [] rs c.args.queries.now c.args.fed.now) (sym c.new-outcomes.ensures.items) h;
+  asks = let ss = shards_in c.args.memo.now in subst (λ (rs : List (Outcome (List Run))). WalksTo g.B.BatchName.batch g.B.BatchName.opening c.args.queries.now ss c.args.fed.now ss 0 rs) (sym c.new-outcomes.ensures.items) refl;
 }
 
 abbrev no_query : Query
@@ -22,7 +23,7 @@ answer_one-requires-clause-counts g c =
     let w = c.requires.fed in
     let n = c.requires.count in
     let high : c.loop-k.k < length c.args.fed.now = let t = c.loop-k-test.true in omega arith in
-    (walk-fed g.B.BatchName.batch c.requires.lawful w.0 w.1.0 c.args.queries.now c.requires.queries c.loop-k.k c.loop-k-test.true _ c.args.fed.now high _ (shards_in c.loop-k.memo) c.loop-k.replies.items (c.loop-k.invariant.walked w.0 w.1.0 w.1.1)).counts
+    (walk-fed g.B.BatchName.batch c.requires.lawful w.0 w.1.0 c.args.queries.now c.requires.queries c.loop-k.k c.loop-k-test.true _ c.args.fed.now high _ (shards_in c.loop-k.memo) c.loop-k.outcomes.items (c.loop-k.invariant.walked w.0 w.1.0 w.1.1)).counts
 
 pub loop-k-preserved : goal.loop-k-preserved
 loop-k-preserved g c =
@@ -34,26 +35,26 @@ loop-k-preserved g c =
     let k = c.loop-k.k in
     let n = c.requires.count in
     let high : k < length fs = let t = c.loop-k-test.true in omega arith in
-    let r = c.in_ok-reply.reply in
+    let r = c.in_ok-outcome.outcome in
     record {
-      kept = c.in_ok-reply.ensures.kept;
+      kept = c.in_ok-outcome.ensures.kept;
       walked = λ start first h.
           let was = c.loop-k.invariant.walked start first h in
-          let f = walk-fed b c.requires.lawful start first qs c.requires.queries k c.loop-k-test.true _ fs high _ (shards_in now) c.loop-k.replies.items was in
-          subst (λ (rs : List Reply). IsWalking b start first (shards_in new) (take (k + 1) qs) rs (drop (k + 1) qs) (drop (k + 1) fs)) (sym c.in_ok-push.ensures.items)
-          (walk-next b c.requires.lawful start first qs c.requires.queries k c.loop-k-test.true _ fs high (record { charge = 0; refused = false }) g.B.BatchName.opening (shards_in now) (shards_in new) c.loop-k.replies.items r was (c.in_ok-reply.ensures.settles start f) c.in_ok-reply.ensures.reply);
-      asks = subst (λ (rs : List Reply). WalksTo b g.B.BatchName.opening qs (shards_in c.args.memo.now) fs (shards_in new) (k + 1) rs) (sym c.in_ok-push.ensures.items)
-          (turn-next b g.B.BatchName.opening qs (shards_in c.args.memo.now) fs (shards_in now) (shards_in new) k no_query (record { charge = 0; refused = false }) c.loop-k.replies.items r c.loop-k-test.true high c.loop-k.invariant.asks c.in_ok-reply.ensures.asks);
+          let f = walk-fed b c.requires.lawful start first qs c.requires.queries k c.loop-k-test.true _ fs high _ (shards_in now) c.loop-k.outcomes.items was in
+          subst (λ (rs : List (Outcome (List Run))). IsWalking b start first (shards_in new) (take (k + 1) qs) rs (drop (k + 1) qs) (drop (k + 1) fs)) (sym c.in_ok-push.ensures.items)
+          (walk-next b c.requires.lawful start first qs c.requires.queries k c.loop-k-test.true _ fs high (record { charge = 0; refused = false }) g.B.BatchName.opening (shards_in now) (shards_in new) c.loop-k.outcomes.items r was (c.in_ok-outcome.ensures.settles start f) c.in_ok-outcome.ensures.outcome);
+      asks = subst (λ (rs : List (Outcome (List Run))). WalksTo b g.B.BatchName.opening qs (shards_in c.args.memo.now) fs (shards_in new) (k + 1) rs) (sym c.in_ok-push.ensures.items)
+          (turn-next b g.B.BatchName.opening qs (shards_in c.args.memo.now) fs (shards_in now) (shards_in new) k no_query (record { charge = 0; refused = false }) c.loop-k.outcomes.items r c.loop-k-test.true high c.loop-k.invariant.asks c.in_ok-outcome.ensures.asks);
     }
 
 pub returns-clause-settled : goal.returns-clause-settled
 returns-clause-settled g c = λ start first h.
     let t = c.loop-k-test.false in
     let n = c.requires.count in
-    walk-last g.B.BatchName.batch c.requires.lawful start first c.args.queries.now c.requires.queries (shards_in c.loop-k.memo) c.loop-k.k c.loop-k.replies.items c.args.fed.now (omega arith) (omega arith) (c.loop-k.invariant.walked start first h)
+    walk-last g.B.BatchName.batch c.requires.lawful start first c.args.queries.now c.requires.queries (shards_in c.loop-k.memo) c.loop-k.k c.loop-k.outcomes.items c.args.fed.now (omega arith) (omega arith) (c.loop-k.invariant.walked start first h)
 
 pub returns-clause-asks : goal.returns-clause-asks
 returns-clause-asks g c =
     let t = c.loop-k-test.false in
     let n = c.requires.count in
-    turn-last g.B.BatchName.batch g.B.BatchName.opening c.args.queries.now (shards_in c.args.memo.now) c.args.fed.now (shards_in c.loop-k.memo) c.loop-k.k c.loop-k.replies.items (omega arith) (omega arith) c.loop-k.invariant.asks
+    turn-last g.B.BatchName.batch g.B.BatchName.opening c.args.queries.now (shards_in c.args.memo.now) c.args.fed.now (shards_in c.loop-k.memo) c.loop-k.k c.loop-k.outcomes.items (omega arith) (omega arith) c.loop-k.invariant.asks

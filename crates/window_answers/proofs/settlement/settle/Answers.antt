@@ -57,13 +57,13 @@ returns g c =
     let w = fed-walks b (entries_of begun) (shards_in begun) now c.in_ok-fed.fed.items c.in_ok-fed.ensures.fed in
     let v : IsWalking b (entries_of begun) (shards_in begun) now [] [] c.args.queries.now c.deref.result.now = subst (λ (fs : List Fed). IsWalking b (entries_of begun) (shards_in begun) now [] [] c.args.queries.now fs) (sym c.deref.ensures.value)
     (subst (λ (qs : List Query). IsWalking b (entries_of begun) (shards_in begun) now [] [] qs c.in_ok-fed.fed.items) (sym c.requires.queries) w) in
-    subst (λ (ms : List KeptShard). HasSettled b g.B.BatchName.opening c.args.shards.items ms c.in_ok-replies.replies.items) (sym c.into_shards.ensures)
-    (has-settled b c.requires.lawful g.B.BatchName.opening c.args.shards.items begun c.in_ok-memo.ensures.shards c.in_ok-memo.ensures.freed new c.in_ok-replies.replies.items c.in_ok-replies.ensures.kept (c.in_ok-replies.ensures.settled (entries_of begun) (shards_in begun) v) (record {
+    subst (λ (ms : List KeptShard). HasSettled b g.B.BatchName.opening c.args.shards.items ms c.in_ok-outcomes.outcomes.items) (sym c.into_shards.ensures)
+    (has-settled b c.requires.lawful g.B.BatchName.opening c.args.shards.items begun c.in_ok-memo.ensures.shards c.in_ok-memo.ensures.freed new c.in_ok-outcomes.outcomes.items c.in_ok-outcomes.ensures.kept (c.in_ok-outcomes.ensures.settled (entries_of begun) (shards_in begun) v) (record {
       freed = shards_in begun;
       frees = c.in_ok-memo.ensures.freed;
       visited = now;
       refused_then = refused_in c.in_ok-fed.fed.items;
       visits = subst (λ (qs : List Query). AskInTurn b g.B.BatchName.opening qs (shards_in begun) (none_refused qs) now (refused_in c.in_ok-fed.fed.items)) c.requires.queries c.in_ok-fed.ensures.asks;
-      walks = subst (λ (qs : List Query). AskInTurn b g.B.BatchName.opening qs now (refused_in c.in_ok-fed.fed.items) (shards_in new) (refused_of c.in_ok-replies.replies.items)) c.requires.queries
-          (subst (λ (fs : List Fed). AskInTurn b g.B.BatchName.opening c.args.queries.now now (refused_in fs) (shards_in new) (refused_of c.in_ok-replies.replies.items)) c.deref.ensures.value c.in_ok-replies.ensures.asks);
+      walks = subst (λ (qs : List Query). AskInTurn b g.B.BatchName.opening qs now (refused_in c.in_ok-fed.fed.items) (shards_in new) (refused_of c.in_ok-outcomes.outcomes.items)) c.requires.queries
+          (subst (λ (fs : List Fed). AskInTurn b g.B.BatchName.opening c.args.queries.now now (refused_in fs) (shards_in new) (refused_of c.in_ok-outcomes.outcomes.items)) c.deref.ensures.value c.in_ok-outcomes.ensures.asks);
     }))

@@ -2,9 +2,9 @@ use Rattle.std.proofs.Common.{subst, Ok}
 use Rattle.memo_shards.specs.Steps.{OfStep}
 use Rattle.asked_cells.specs.Asked.{Nothing}
 use Rattle.stuck_faults.specs.Asks.{Own}
-use Rattle.stuck_faults.proofs.Turns.{own-heard, own-holds, own-filled, own-waits, own-spent}
-use Rattle.stuck_faults.proofs.turn.step_own.Goals as goal
-use Rattle.stuck_faults.proofs.turn.step_own.Goals.{in-Heard, in-Holds, in-Filled, in-Refused+in-Some+in_ok-spend-in-Refused}
+use Rattle.stuck_faults.proofs.Steps.{own-heard, own-holds, own-filled, own-waits, own-spent}
+use Rattle.stuck_faults.proofs.step.step_own.Goals as goal
+use Rattle.stuck_faults.proofs.step.step_own.Goals.{in-Heard, in-Holds, in-Filled, in-Refused+in-Some+in_ok-spend-in-Refused}
 
 pub unreachable-requires-in-Taken : goal.unreachable-requires-in-Taken
 unreachable-requires-in-Taken g c =
@@ -12,8 +12,8 @@ unreachable-requires-in-Taken g c =
     c.args.time c.args.memos.now.session c.args.memos.now.own c.args.strand.now c.requires.asks c.facts.ensures c.args.next c.requires.next c.requires.own
     c.step.new.self c.step.new.strand (subst (λ z. OfStep g.H.BatchName.batch c.args.memos.now.own c.step.new.self c.args.next c.args.strand.now c.step.new.strand (Ok z)) c.in-Taken.is c.in_ok-step.ensures)
 
-pub returns-clause-turn : goal.returns-clause-turn
-returns-clause-turn g c = elim c.match-branch-2.branch [
+pub returns-clause-after : goal.returns-clause-after
+returns-clause-after g c = elim c.match-branch-2.branch [
   | in-Heard w ↦ rw (w.memos-is, w.result-is) (
     Nothing,
     (own-heard g.B.BatchName.batch g.H.BatchName.batch g.B.BatchName.opening c.args.question c.args.design.now.circuit c.args.held.now.circuit c.requires.asked

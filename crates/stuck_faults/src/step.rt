@@ -6,10 +6,10 @@ ghost use Rattle.strand_meaning.specs.declared.Next.TheVariants.{Ask as AskNext}
 ghost use Rattle.asked_cells.specs.Memos.{IsChargedMemo, entries_of};
 ghost use Rattle.circuit_meaning.specs.Forced.{IsFree};
 ghost use Rattle.stuck_faults.specs.inner.Both.{IsAsked, Asks, AreKept, Extends};
-ghost use Rattle.stuck_faults.specs.inner.Turns.{OfTurn, IsOwnStep};
+ghost use Rattle.stuck_faults.specs.inner.Steps.{IsAfterStep, IsOwnStep};
 
 use crate::asked::AskedDesign;
-use crate::both::{Memos, Question};
+use crate::both::{Memos, StuckQuery};
 use asked_cells::reach;
 use batch_meaning::Query;
 use demand_points::{BatchName, Strand};
@@ -22,7 +22,7 @@ use valid_intervals::Point;
 
 /// What came of a step.
 #[derive(Clone, Copy)]
-pub enum Turn {
+pub enum AfterStep {
     /// The strand has another step.
     GoesOn,
     /// It has heard its root.
@@ -37,15 +37,15 @@ fn step_own<B: BatchName, H: BatchName>(
     strand: &mut Strand<H>,
     design: &Design,
     held: &Design,
-    question: Question,
+    question: StuckQuery,
     time: u32,
     next: Next,
-) -> Result<Turn, OutOfMemory>
+) -> Result<AfterStep, OutOfMemory>
     requires asked { IsAsked B.batch H.batch question design.now.circuit held.now.circuit }
     requires asks { Asks B.batch B.opening question time memos.old.session memos.old.own strand.old }
     requires next { next_of strand.old.strand ≡ next }
     requires own { IsOwnStep B.batch question next }
-    ensures turn { IfOk result (OfTurn B.batch B.opening H.batch question time memos.old.session
+    ensures after { IfOk result (IsAfterStep B.batch B.opening H.batch question time memos.old.session
         memos.new.session memos.new.own strand.old strand.new) }
     ensures extends { OnOk result (Extends memos.old.own.shard.journal
         memos.new.own.shard.journal) }
@@ -55,15 +55,15 @@ fn step_own<B: BatchName, H: BatchName>(
     strand.facts();
     memos.own.facts();
     match memos.own.step(strand, held, next)? {
-        Step::Heard => Ok(Turn::GoesOn),
-        Step::Holds => Ok(Turn::GoesOn),
-        Step::Filled(_) => Ok(Turn::GoesOn),
+        Step::Heard => Ok(AfterStep::GoesOn),
+        Step::Holds => Ok(AfterStep::GoesOn),
+        Step::Filled(_) => Ok(AfterStep::GoesOn),
         Step::Refused => {
             let Some(p) = step_point(next) else {
                 unreachable!();
             };
             memos.own.spend(strand, p)?;
-            Ok(Turn::Refused)
+            Ok(AfterStep::Refused)
         }
         Step::Taken => unreachable!(),
         Step::Dropped(_) => unreachable!(),
@@ -76,10 +76,10 @@ fn ask_session<B: BatchName, H: BatchName>(
     strand: &mut Strand<H>,
     design: &Design,
     held: &Design,
-    question: Question,
+    question: StuckQuery,
     time: u32,
     p: Point,
-) -> Result<Turn, OutOfMemory>
+) -> Result<AfterStep, OutOfMemory>
     requires asked { IsAsked B.batch H.batch question design.now.circuit held.now.circuit }
     requires session { IsChargedMemo B.batch B.opening memos.old.session question.query
         memos.old.charge }
@@ -88,7 +88,7 @@ fn ask_session<B: BatchName, H: BatchName>(
     requires free { IsFree B.batch.circuit question.site p.signal }
     ensures session { OnOk result (IsChargedMemo B.batch B.opening memos.new.session question.query
         memos.new.charge) }
-    ensures turn { IfOk result (OfTurn B.batch B.opening H.batch question time memos.old.session
+    ensures after { IfOk result (IsAfterStep B.batch B.opening H.batch question time memos.old.session
         memos.new.session memos.new.own strand.old strand.new) }
     ensures kept_session { OnOk result (AreKept (entries_of memos.old.session)
         (entries_of memos.new.session)) }
@@ -106,32 +106,32 @@ fn ask_session<B: BatchName, H: BatchName>(
     match reach(&mut memos.session, design, one, p.time, &mut memos.charge)? {
         Some(cell) => {
             strand.hear(held, cell);
-            Ok(Turn::GoesOn)
+            Ok(AfterStep::GoesOn)
         }
         None => {
             strand.give_up();
-            Ok(Turn::Refused)
+            Ok(AfterStep::Refused)
         }
     }
 }
 
 /// One step of the strand.
-pub fn take_turn<B: BatchName, H: BatchName>(
+pub fn take_step<B: BatchName, H: BatchName>(
     alloc: Global,
     memos: &mut Memos<B, H>,
     strand: &mut Strand<H>,
     design: &mut AskedDesign<'_>,
     held: &Design,
-    question: Question,
+    question: StuckQuery,
     time: u32,
-) -> Result<Turn, OutOfMemory>
+) -> Result<AfterStep, OutOfMemory>
     requires asked { IsAsked B.batch H.batch question design.old.circuit held.now.circuit }
     requires session { IsChargedMemo B.batch B.opening memos.old.session question.query
         memos.old.charge }
     requires asks { Asks B.batch B.opening question time memos.old.session memos.old.own strand.old }
     ensures session { OnOk result (IsChargedMemo B.batch B.opening memos.new.session question.query
         memos.new.charge) }
-    ensures turn { IfOk result (OfTurn B.batch B.opening H.batch question time memos.old.session
+    ensures after { IfOk result (IsAfterStep B.batch B.opening H.batch question time memos.old.session
         memos.new.session memos.new.own strand.old strand.new) }
     ensures kept_session { OnOk result (AreKept (entries_of memos.old.session)
         (entries_of memos.new.session)) }
@@ -141,7 +141,7 @@ pub fn take_turn<B: BatchName, H: BatchName>(
 {
     let plain = design.design();
     match strand.next_step(held) {
-        Next::Done => Ok(Turn::Ended),
+        Next::Done => Ok(AfterStep::Ended),
         Next::Fill(p) => step_own(memos, strand, plain, held, question, time, Next::Fill(p)),
         Next::Ask(p) => {
             strand.facts();

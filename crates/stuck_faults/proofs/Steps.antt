@@ -44,11 +44,11 @@ use Rattle.asked_cells.proofs.Asked.{reaches, root-covered}
 use Rattle.asked_cells.proofs.Asking.{asks-point}
 use Rattle.session_meaning.specs.StuckSignals.{held_batch}
 use Rattle.stuck_faults.specs.Asks.{RefusedBy, Session, Own}
-use Rattle.stuck_faults.specs.declared.both.Question.{Question}
+use Rattle.stuck_faults.specs.declared.both.StuckQuery.{StuckQuery}
 use Rattle.stuck_faults.specs.inner.Both.{IsAsked, Asks, IsGivingUpBy, GivesUp, AreKept, Extends, site_in, circuit_of, start_at}
-use Rattle.stuck_faults.specs.declared.turn.Turn.{Turn}
-use Rattle.stuck_faults.specs.declared.turn.Turn.TheVariants.{GoesOn, Ended, Refused}
-use Rattle.stuck_faults.specs.inner.Turns.{AsksFurther, IsOwnStep, OfTurn}
+use Rattle.stuck_faults.specs.declared.step.AfterStep.{AfterStep}
+use Rattle.stuck_faults.specs.declared.step.AfterStep.TheVariants.{GoesOn, Ended, Refused}
+use Rattle.stuck_faults.specs.inner.Steps.{AsksFurther, IsOwnStep, IsAfterStep}
 use Rattle.stuck_faults.proofs.Asking.{tells-on, claims-on, spends-on, fills-on, hears-on, refuses-on}
 use Rattle.stuck_faults.proofs.Lawful.{IsAskedOf, asked-of, free-cell, free-evaluable, free-needed}
 use Rattle.stuck_faults.proofs.Held.{asked-one, held-lawful}
@@ -72,7 +72,7 @@ of-drop b old new p w s (Ok (came.Filled woken)) f = absurd (cc f.0)
 of-drop b old new p w s (Ok (came.Dropped woken)) f = (woken.items, f.1)
 of-drop b old new p w s (Err e) f = absurd (f.0 refl)
 
-module _ (b h : Batch) (opening : ℕ → List SignalCell) (question : Question) (cd dd : Circuit) (asked : IsAsked b h question cd dd)
+module _ (b h : Batch) (opening : ℕ → List SignalCell) (question : StuckQuery) (cd dd : Circuit) (asked : IsAsked b h question cd dd)
     (time : ℕ) (ms : List KeptShard) (m : KeptShard) (s : Demand) (asks : Asks b opening question time ms m s) (knows : IsKnownStrand h s) where
   abbrev q : Query
   q = question.query
@@ -158,18 +158,18 @@ module _ (b h : Batch) (opening : ℕ → List SignalCell) (question : Question)
           )
 
   -- what it asks for
-  pub turn-asks : (p : Point) → next s.strand ≡ Ask p → IsAskedOf b asked.lawful site q asked.queries p
-  turn-asks p e = asked-of b asked.lawful site q asked.queries s.strand p is e
+  pub step-asks : (p : Point) → next s.strand ≡ Ask p → IsAskedOf b asked.lawful site q asked.queries p
+  step-asks p e = asked-of b asked.lawful site q asked.queries s.strand p is e
 
   -- a free point is asked of the session's memo
   module _ (p : Point) (e : next s.strand ≡ Ask p) (free : IsFree b.circuit question.site p.signal) (charge : ℕ) (counts : charge ≡ charge_of (entries_of ms) q) where
-    pub turn-starts : charge ≤ q.budget → IsEvaluable b.circuit p.signal p.time → IsStart b (child_start q p charge)
-    turn-starts few evaluable =
+    pub step-starts : charge ≤ q.budget → IsEvaluable b.circuit p.signal p.time → IsStart b (child_start q p charge)
+    step-starts few evaluable =
         child-start b asked.lawful q (asked-one b asked.lawful q asked.queries) p
-        (free-needed b asked.lawful site q asked.queries p free asked.site (turn-asks p e).needed) evaluable charge few
+        (free-needed b asked.lawful site q asked.queries p free asked.site (step-asks p e).needed) evaluable charge few
 
-    pub turn-cell : cell_at h.circuit p ≡ cell_at b.circuit p
-    turn-cell = ap (λ (z : Batch). cell_at z.circuit p) asked.own_is ∙ free-cell b asked.lawful site q asked.queries p free
+    pub step-cell : cell_at h.circuit p ≡ cell_at b.circuit p
+    step-cell = ap (λ (z : Batch). cell_at z.circuit p) asked.own_is ∙ free-cell b asked.lawful site q asked.queries p free
 
     for : IsAskedFor q (entries_of ms) p (child_start q p charge)
     for = subst (λ n. IsAskedFor q (entries_of ms) p (child_start q p n)) (sym counts) (child-asked q (entries_of ms) p)
@@ -179,25 +179,25 @@ module _ (b h : Batch) (opening : ℕ → List SignalCell) (question : Question)
       after = (reaches b asked.lawful opening q [] asks.first ms new (sub_query q p) p.time charge r asks.stands for has).0.stands
 
       -- it is one that the query needs
-      pub turn-session : AsksOn b opening q (shards_in ms) false (shards_in new) r
-      turn-session =
-          asks-point b opening q ms new charge counts r p (λ _. free-needed b asked.lawful site q asked.queries p free asked.site (turn-asks p e).needed) has
+      pub step-session : AsksOn b opening q (shards_in ms) false (shards_in new) r
+      step-session =
+          asks-point b opening q ms new charge counts r p (λ _. free-needed b asked.lawful site q asked.queries p free asked.site (step-asks p e).needed) has
 
-      pub turn-kept : AreKept (entries_of ms) (entries_of new)
-      turn-kept = has.journals.together.kept
+      pub step-kept : AreKept (entries_of ms) (entries_of new)
+      step-kept = has.journals.together.old_stay
 
-      pub turn-heard : r ≡ false → (t : Demand) → TakesStep after_answer s t → AsksFurther b opening h question time new m s t
-      turn-heard lacks t f =
+      pub step-heard : r ≡ false → (t : Demand) → TakesStep after_answer s t → AsksFurther b opening h question time new m s t
+      step-heard lacks t f =
           let whole = subst (HasAsked b opening (asked_at (sub_query q p) p.time charge) (shards_in ms) (shards_in new)) lacks has in
-          over new m t (hears-on b opening question time asked.lawful asked.queries ms m s asks is new asks.first (subst (λ z. IsStanding b opening q [] asks.first (standing new z)) lacks after) turn-kept t p e free
+          over new m t (hears-on b opening question time asked.lawful asked.queries ms m s asks is new asks.first (subst (λ z. IsStanding b opening q [] asks.first (standing new z)) lacks after) step-kept t p e free
           (said (root-covered b opening (sub_query q p) p.time charge (shards_in ms) (shards_in new) whole)) f)
         where
           said : IsCovered b.circuit (entries_of new) p → IsSaid (entries_of new) p
-          said (inl never) = absurd (never (free-evaluable b asked.lawful site q asked.queries p free (turn-asks p e).evaluable))
+          said (inl never) = absurd (never (free-evaluable b asked.lawful site q asked.queries p free (step-asks p e).evaluable))
           said (inr k) = k
 
-      pub turn-refused : r ≡ true → (t : Demand) → TakesStep given_up s t → GivesUp b question time new m t Session
-      turn-refused lacks t f =
+      pub step-refused : r ≡ true → (t : Demand) → TakesStep given_up s t → GivesUp b question time new m t Session
+      step-refused lacks t f =
           refuses-on b opening question time asked.lawful asked.queries ms m s asks is new t
           (subst (λ z. IsStanding b opening q [] asks.first (standing new z)) lacks after).state.0 f
 
@@ -212,7 +212,7 @@ pub extends-then : (a b c : List Entry) → Extends a b → Extends b c → Exte
 extends-then a b c x y = (x.0 ++ y.0, y.1 ∙ ap (λ l. l ++ y.0) x.1 ∙ append_assoc a x.0 y.0)
 
 -- base answers that are heard change nothing that is seen
-pub asks-same : (b : Batch) (opening : ℕ → List SignalCell) (question : Question) (time : ℕ) (ms : List KeptShard) (m : KeptShard) (s t : Demand) → TakesStep itself s t → Asks b opening question time ms m s → Asks b opening question time ms m t
+pub asks-same : (b : Batch) (opening : ℕ → List SignalCell) (question : StuckQuery) (time : ℕ) (ms : List KeptShard) (m : KeptShard) (s t : Demand) → TakesStep itself s t → Asks b opening question time ms m s → Asks b opening question time ms m t
 asks-same b opening question time ms m s t f asks = record {
   first = asks.first;
   stands = asks.stands;
@@ -243,15 +243,15 @@ session-kept ms new is e h = subst (λ z. Contains (entries_of z) e) (sym is) h
 pub own-extends : (m new : KeptShard) → new ≡ m → Extends m.shard.journal new.shard.journal
 own-extends m new is = subst (λ (z : KeptShard). Extends m.shard.journal z.shard.journal) (sym is) (extends-none m.shard.journal)
 
--- a turn after base answers were heard is a turn of the strand before
-pub turn-same : {E : Type 0} (b : Batch) (opening : ℕ → List SignalCell) (own : Batch) (question : Question) (time : ℕ) (old ms : List KeptShard) (m : KeptShard) (s t u : Demand) → TakesStep itself s t
-    → (r : Result Turn E) → IfOk r (OfTurn b opening own question time old ms m t u) → IfOk r (OfTurn b opening own question time old ms m s u)
-turn-same b opening own question time old ms m s t u f (Ok GoesOn) h = (h.0, record { asks = h.1.asks; less = subst (λ (z : Strand). turns_left own 1 u.strand < turns_left own 1 z) f.strand h.1.less })
-turn-same b opening own question time old ms m s t u f (Ok Ended) h = h
-turn-same b opening own question time old ms m s t u f (Ok Refused) h = h
-turn-same b opening own question time old ms m s t u f (Err e) h = tt
+-- a step after base answers were heard is a step of the strand before
+pub step-same : {E : Type 0} (b : Batch) (opening : ℕ → List SignalCell) (own : Batch) (question : StuckQuery) (time : ℕ) (old ms : List KeptShard) (m : KeptShard) (s t u : Demand) → TakesStep itself s t
+    → (r : Result AfterStep E) → IfOk r (IsAfterStep b opening own question time old ms m t u) → IfOk r (IsAfterStep b opening own question time old ms m s u)
+step-same b opening own question time old ms m s t u f (Ok GoesOn) h = (h.0, record { asks = h.1.asks; less = subst (λ (z : Strand). turns_left own 1 u.strand < turns_left own 1 z) f.strand h.1.less })
+step-same b opening own question time old ms m s t u f (Ok Ended) h = h
+step-same b opening own question time old ms m s t u f (Ok Refused) h = h
+step-same b opening own question time old ms m s t u f (Err e) h = tt
 
-pub gives-same : (b : Batch) (question : Question) (time : ℕ) (ms : List KeptShard) (m : KeptShard) (s t : Demand) → (who : RefusedBy) → TakesStep itself s t → GivesUp b question time ms m s who → GivesUp b question time ms m t who
+pub gives-same : (b : Batch) (question : StuckQuery) (time : ℕ) (ms : List KeptShard) (m : KeptShard) (s t : Demand) → (who : RefusedBy) → TakesStep itself s t → GivesUp b question time ms m s who → GivesUp b question time ms m t who
 gives-same b question time ms m s t who f gives = record {
   holds = record {
     held = λ p h. gives.holds.held p (subst (λ (z : Strand). IsOnStack z.stack p) f.strand h);
@@ -266,7 +266,7 @@ gives-same b question time ms m s t who f gives = record {
 }
 
 -- what is known of a strand, over the batch of its definition
-pub chain-of : (b h : Batch) (question : Question) (cd dd : Circuit) → IsAsked b h question cd dd → (s t : Demand) (time : ℕ) → s.to ≡ time + 1 → IsKnownStrand h s → TakesStep itself s t
+pub chain-of : (b h : Batch) (question : StuckQuery) (cd dd : Circuit) → IsAsked b h question cd dd → (s t : Demand) (time : ℕ) → s.to ≡ time + 1 → IsKnownStrand h s → TakesStep itself s t
     → IsChain (circuit_of b question) t.strand.roots t.strand.stack
 chain-of b h question cd dd asked s t time to knows f =
     let is : IsStrand (held_batch b.circuit (site_in question) question.query) s.strand = subst (λ z. IsStrand z s.strand) asked.own_is (knows.strand (omega (arith, to))) in

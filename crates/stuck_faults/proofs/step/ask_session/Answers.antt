@@ -6,29 +6,29 @@ use Rattle.asked_cells.specs.Asked.{AsksOn}
 use Rattle.asked_cells.specs.Memos.{is_missing}
 use Rattle.asked_cells.proofs.Alone.{some-of}
 use Rattle.stuck_faults.specs.Asks.{Session}
-use Rattle.stuck_faults.proofs.Turns.{turn-asks, turn-starts, turn-cell, turn-session, turn-heard, turn-refused}
-use Rattle.stuck_faults.proofs.turn.ask_session.Goals as goal
+use Rattle.stuck_faults.proofs.Steps.{step-asks, step-starts, step-cell, step-session, step-heard, step-refused}
+use Rattle.stuck_faults.proofs.step.ask_session.Goals as goal
 
 pub overflow_add-one : goal.overflow_add-one
 overflow_add-one g c =
-    let k = (turn-asks g.B.BatchName.batch g.H.BatchName.batch g.B.BatchName.opening c.args.question c.args.design.now.circuit c.args.held.now.circuit c.requires.asked
+    let k = (step-asks g.B.BatchName.batch g.H.BatchName.batch g.B.BatchName.opening c.args.question c.args.design.now.circuit c.args.held.now.circuit c.requires.asked
     c.args.time c.args.memos.now.session c.args.memos.now.own c.args.strand.now c.requires.asks c.facts.ensures c.args.p c.requires.next).time in
     let l = c.requires.asked.lawful.horizon in
     omega arith
 
 pub reach-requires-clause-signal : goal.reach-requires-clause-signal
 reach-requires-clause-signal g c =
-    (turn-asks g.B.BatchName.batch g.H.BatchName.batch g.B.BatchName.opening c.args.question c.args.design.now.circuit c.args.held.now.circuit c.requires.asked
+    (step-asks g.B.BatchName.batch g.H.BatchName.batch g.B.BatchName.opening c.args.question c.args.design.now.circuit c.args.held.now.circuit c.requires.asked
     c.args.time c.args.memos.now.session c.args.memos.now.own c.args.strand.now c.requires.asks c.facts.ensures c.args.p c.requires.next).signal
 
 pub reach-requires-clause-time : goal.reach-requires-clause-time
 reach-requires-clause-time g c =
-    (turn-asks g.B.BatchName.batch g.H.BatchName.batch g.B.BatchName.opening c.args.question c.args.design.now.circuit c.args.held.now.circuit c.requires.asked
+    (step-asks g.B.BatchName.batch g.H.BatchName.batch g.B.BatchName.opening c.args.question c.args.design.now.circuit c.args.held.now.circuit c.requires.asked
     c.args.time c.args.memos.now.session c.args.memos.now.own c.args.strand.now c.requires.asks c.facts.ensures c.args.p c.requires.next).time
 
 pub reach-requires-clause-start : goal.reach-requires-clause-start
 reach-requires-clause-start g c =
-    turn-starts g.B.BatchName.batch g.H.BatchName.batch g.B.BatchName.opening c.args.question c.args.design.now.circuit c.args.held.now.circuit c.requires.asked
+    step-starts g.B.BatchName.batch g.H.BatchName.batch g.B.BatchName.opening c.args.question c.args.design.now.circuit c.args.held.now.circuit c.requires.asked
     c.args.time c.args.memos.now.session c.args.memos.now.own c.args.strand.now c.requires.asks c.facts.ensures c.args.p c.requires.next c.requires.free c.args.memos.now.charge c.requires.session.counts
     (let n = c.requires.session.counts in omega arith)
 
@@ -37,30 +37,30 @@ hear-requires-clause-answer g c = (
   c.args.p,
   c.requires.next,
   some-of (λ (x : Cell). x ≡ cell_at g.B.BatchName.batch.circuit c.args.p) c.in_ok-cell.field-0 c.in-Some.cell c.in_ok-cell.ensures.cell c.in-Some.is
-      ∙ sym (turn-cell g.B.BatchName.batch g.H.BatchName.batch g.B.BatchName.opening c.args.question c.args.design.now.circuit c.args.held.now.circuit c.requires.asked
+      ∙ sym (step-cell g.B.BatchName.batch g.H.BatchName.batch g.B.BatchName.opening c.args.question c.args.design.now.circuit c.args.held.now.circuit c.requires.asked
       c.args.time c.args.memos.now.session c.args.memos.now.own c.args.strand.now c.requires.asks c.facts.ensures c.args.p c.requires.next c.requires.free c.args.memos.now.charge c.requires.session.counts),
 )
 
-pub returns-in-Some-clause-turn : goal.returns-in-Some-clause-turn
-returns-in-Some-clause-turn g c = (
+pub returns-in-Some-clause-after : goal.returns-in-Some-clause-after
+returns-in-Some-clause-after g c = (
   subst (λ o. AsksOn g.B.BatchName.batch g.B.BatchName.opening c.args.question.query (shards_in c.args.memos.now.session) false (shards_in c.reach.new.memo) (is_missing o)) c.in-Some.is
-      (turn-session g.B.BatchName.batch g.H.BatchName.batch g.B.BatchName.opening c.args.question c.args.design.now.circuit c.args.held.now.circuit c.requires.asked
+      (step-session g.B.BatchName.batch g.H.BatchName.batch g.B.BatchName.opening c.args.question c.args.design.now.circuit c.args.held.now.circuit c.requires.asked
       c.args.time c.args.memos.now.session c.args.memos.now.own c.args.strand.now c.requires.asks c.facts.ensures c.args.p c.requires.next c.requires.free c.args.memos.now.charge c.requires.session.counts
       c.reach.new.memo (is_missing c.in_ok-cell.field-0) c.in_ok-cell.ensures.asked),
-  turn-heard g.B.BatchName.batch g.H.BatchName.batch g.B.BatchName.opening c.args.question c.args.design.now.circuit c.args.held.now.circuit c.requires.asked
+  step-heard g.B.BatchName.batch g.H.BatchName.batch g.B.BatchName.opening c.args.question c.args.design.now.circuit c.args.held.now.circuit c.requires.asked
       c.args.time c.args.memos.now.session c.args.memos.now.own c.args.strand.now c.requires.asks c.facts.ensures c.args.p c.requires.next c.requires.free c.args.memos.now.charge c.requires.session.counts
       c.reach.new.memo (is_missing c.in_ok-cell.field-0) c.in_ok-cell.ensures.asked
       (ap is_missing c.in-Some.is) c.hear.new.self c.hear.ensures,
 )
 
-pub returns-in-None-clause-turn : goal.returns-in-None-clause-turn
-returns-in-None-clause-turn g c = (
+pub returns-in-None-clause-after : goal.returns-in-None-clause-after
+returns-in-None-clause-after g c = (
   Session,
   subst (λ o. AsksOn g.B.BatchName.batch g.B.BatchName.opening c.args.question.query (shards_in c.args.memos.now.session) false (shards_in c.reach.new.memo) (is_missing o)) c.in-None.is
-      (turn-session g.B.BatchName.batch g.H.BatchName.batch g.B.BatchName.opening c.args.question c.args.design.now.circuit c.args.held.now.circuit c.requires.asked
+      (step-session g.B.BatchName.batch g.H.BatchName.batch g.B.BatchName.opening c.args.question c.args.design.now.circuit c.args.held.now.circuit c.requires.asked
       c.args.time c.args.memos.now.session c.args.memos.now.own c.args.strand.now c.requires.asks c.facts.ensures c.args.p c.requires.next c.requires.free c.args.memos.now.charge c.requires.session.counts
       c.reach.new.memo (is_missing c.in_ok-cell.field-0) c.in_ok-cell.ensures.asked),
-  turn-refused g.B.BatchName.batch g.H.BatchName.batch g.B.BatchName.opening c.args.question c.args.design.now.circuit c.args.held.now.circuit c.requires.asked
+  step-refused g.B.BatchName.batch g.H.BatchName.batch g.B.BatchName.opening c.args.question c.args.design.now.circuit c.args.held.now.circuit c.requires.asked
       c.args.time c.args.memos.now.session c.args.memos.now.own c.args.strand.now c.requires.asks c.facts.ensures c.args.p c.requires.next c.requires.free c.args.memos.now.charge c.requires.session.counts
       c.reach.new.memo (is_missing c.in_ok-cell.field-0) c.in_ok-cell.ensures.asked
       (ap is_missing c.in-None.is) c.give_up.new.self c.give_up.ensures,
